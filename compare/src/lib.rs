@@ -1,0 +1,25 @@
+//! The original Rust (docs/src, built unchanged) asked about a text, with its
+//! answer given in the terms of document 01.
+//!
+//! `answer` is the way in; `generate` makes texts to ask about; `edge_cases`
+//! has the texts whose answers document 01 and READINGS state; `sample` writes
+//! answers down for a program that cannot run Rust.
+
+pub mod original;
+// The original sources name each other from the crate's root.
+pub use original::{ast, ir, lexer, parser};
+
+pub mod answer;
+pub mod deep;
+pub mod differences;
+pub mod edge_cases;
+pub mod generate;
+pub mod kinds;
+pub mod method_sets;
+pub mod nodes;
+pub mod parse;
+pub mod quiet;
+pub mod sample;
+pub mod scan;
+pub mod search;
+pub mod show;

@@ -1,0 +1,4 @@
+//! Glue: the original's `ir` module, of which only the context methods are used.
+
+#[path = "../../../docs/src/src/ir/ctx.rs"]
+pub mod ctx;

@@ -1,0 +1,19 @@
+//! Glue: the original's `parser` module.
+
+#[path = "../../../docs/src/src/parser/event.rs"]
+pub mod event;
+#[path = "../../../docs/src/src/parser/map.rs"]
+pub mod map;
+#[allow(clippy::module_inception)]
+#[path = "../../../docs/src/src/parser/parser.rs"]
+pub mod parser;
+#[path = "../../../docs/src/src/parser/program.rs"]
+pub mod program;
+#[path = "../../../docs/src/src/parser/token.rs"]
+pub mod token;
+#[path = "../../../docs/src/src/parser/unit.rs"]
+pub mod unit;
+
+pub use parser::{ParseError, Parser};
+pub use program::parse_program;
+pub use token::{SourceLoc, Token, TokenKind};

@@ -1,0 +1,231 @@
+-- "Kinds are `TokenKind` numbered in source order: KeywordUnit 0 to Eof 52, 16 to 20 never made."
+-- The reserved words and the signs, each with its spelling and kind.
+use mathlib.Core.Bool.{Bool, true, false, not, _&&_}
+use mathlib.Core.List.{List, [], _∷_}
+use Prim.Native.Nat.{ℕ}
+use lib.ListN.{length}
+use lib.Dec.{eqb, leb}
+use Rattle.rules.specs.Text.{within}
+
+abbrev pub KeywordUnit : ℕ
+KeywordUnit = 0
+
+abbrev pub KeywordSection : ℕ
+KeywordSection = 1
+
+abbrev pub KeywordLicense : ℕ
+KeywordLicense = 2
+
+abbrev pub KeywordReturn : ℕ
+KeywordReturn = 3
+
+abbrev pub KeywordReg : ℕ
+KeywordReg = 4
+
+abbrev pub KeywordImm : ℕ
+KeywordImm = 5
+
+abbrev pub KeywordMap : ℕ
+KeywordMap = 6
+
+abbrev pub KeywordType : ℕ
+KeywordType = 7
+
+abbrev pub KeywordKey : ℕ
+KeywordKey = 8
+
+abbrev pub KeywordValue : ℕ
+KeywordValue = 9
+
+abbrev pub KeywordMax : ℕ
+KeywordMax = 10
+
+abbrev pub KeywordIf : ℕ
+KeywordIf = 11
+
+abbrev pub KeywordElse : ℕ
+KeywordElse = 12
+
+abbrev pub KeywordGuard : ℕ
+KeywordGuard = 13
+
+abbrev pub KeywordHeap : ℕ
+KeywordHeap = 14
+
+abbrev pub KeywordEvent : ℕ
+KeywordEvent = 15
+
+abbrev pub TypeU32 : ℕ
+TypeU32 = 21
+
+abbrev pub TypeU64 : ℕ
+TypeU64 = 22
+
+abbrev pub TypeI32 : ℕ
+TypeI32 = 23
+
+abbrev pub TypeI64 : ℕ
+TypeI64 = 24
+
+abbrev pub LBrace : ℕ
+LBrace = 25
+
+abbrev pub RBrace : ℕ
+RBrace = 26
+
+abbrev pub LParen : ℕ
+LParen = 27
+
+abbrev pub RParen : ℕ
+RParen = 28
+
+abbrev pub Colon : ℕ
+Colon = 29
+
+abbrev pub Dot : ℕ
+Dot = 30
+
+abbrev pub Comma : ℕ
+Comma = 31
+
+abbrev pub Semicolon : ℕ
+Semicolon = 32
+
+abbrev pub LBracket : ℕ
+LBracket = 33
+
+abbrev pub RBracket : ℕ
+RBracket = 34
+
+abbrev pub Equals : ℕ
+Equals = 35
+
+abbrev pub PlusEquals : ℕ
+PlusEquals = 36
+
+abbrev pub MinusEquals : ℕ
+MinusEquals = 37
+
+abbrev pub StarEquals : ℕ
+StarEquals = 38
+
+abbrev pub SlashEquals : ℕ
+SlashEquals = 39
+
+abbrev pub PercentEquals : ℕ
+PercentEquals = 40
+
+abbrev pub Plus : ℕ
+Plus = 41
+
+abbrev pub Minus : ℕ
+Minus = 42
+
+abbrev pub Star : ℕ
+Star = 43
+
+abbrev pub Slash : ℕ
+Slash = 44
+
+abbrev pub Percent : ℕ
+Percent = 45
+
+abbrev pub Shr : ℕ
+Shr = 46
+
+abbrev pub Shl : ℕ
+Shl = 47
+
+abbrev pub Identifier : ℕ
+Identifier = 48
+
+abbrev pub StringLiteral : ℕ
+StringLiteral = 49
+
+abbrev pub Number : ℕ
+Number = 50
+
+abbrev pub KeywordBytes : ℕ
+KeywordBytes = 51
+
+abbrev pub Eof : ℕ
+Eof = 52
+
+-- the kinds that are made
+unfoldable pub isMade : ℕ → Bool
+isMade k = leb k Eof && not (within 16 20 k)
+
+pub record Spelt : Type 0 where
+  pub spelling : List ℕ
+  pub kind : ℕ
+
+-- The 21 reserved words form one constant table of spellings:
+-- unit section license return reg imm map type key value max if else guard heap event bytes u32 u64 i32 i64
+unfoldable pub reserved : List Spelt
+reserved =
+    record { spelling = 117 ∷ 110 ∷ 105 ∷ 116 ∷ []; kind = KeywordUnit }
+    ∷ record { spelling = 115 ∷ 101 ∷ 99 ∷ 116 ∷ 105 ∷ 111 ∷ 110 ∷ []; kind = KeywordSection }
+    ∷ record { spelling = 108 ∷ 105 ∷ 99 ∷ 101 ∷ 110 ∷ 115 ∷ 101 ∷ []; kind = KeywordLicense }
+    ∷ record { spelling = 114 ∷ 101 ∷ 116 ∷ 117 ∷ 114 ∷ 110 ∷ []; kind = KeywordReturn }
+    ∷ record { spelling = 114 ∷ 101 ∷ 103 ∷ []; kind = KeywordReg }
+    ∷ record { spelling = 105 ∷ 109 ∷ 109 ∷ []; kind = KeywordImm }
+    ∷ record { spelling = 109 ∷ 97 ∷ 112 ∷ []; kind = KeywordMap }
+    ∷ record { spelling = 116 ∷ 121 ∷ 112 ∷ 101 ∷ []; kind = KeywordType }
+    ∷ record { spelling = 107 ∷ 101 ∷ 121 ∷ []; kind = KeywordKey }
+    ∷ record { spelling = 118 ∷ 97 ∷ 108 ∷ 117 ∷ 101 ∷ []; kind = KeywordValue }
+    ∷ record { spelling = 109 ∷ 97 ∷ 120 ∷ []; kind = KeywordMax }
+    ∷ record { spelling = 105 ∷ 102 ∷ []; kind = KeywordIf }
+    ∷ record { spelling = 101 ∷ 108 ∷ 115 ∷ 101 ∷ []; kind = KeywordElse }
+    ∷ record { spelling = 103 ∷ 117 ∷ 97 ∷ 114 ∷ 100 ∷ []; kind = KeywordGuard }
+    ∷ record { spelling = 104 ∷ 101 ∷ 97 ∷ 112 ∷ []; kind = KeywordHeap }
+    ∷ record { spelling = 101 ∷ 118 ∷ 101 ∷ 110 ∷ 116 ∷ []; kind = KeywordEvent }
+    ∷ record { spelling = 98 ∷ 121 ∷ 116 ∷ 101 ∷ 115 ∷ []; kind = KeywordBytes }
+    ∷ record { spelling = 117 ∷ 51 ∷ 50 ∷ []; kind = TypeU32 }
+    ∷ record { spelling = 117 ∷ 54 ∷ 52 ∷ []; kind = TypeU64 }
+    ∷ record { spelling = 105 ∷ 51 ∷ 50 ∷ []; kind = TypeI32 }
+    ∷ record { spelling = 105 ∷ 54 ∷ 52 ∷ []; kind = TypeI64 }
+    ∷ []
+
+-- the signs: { } ( ) : . , ; [ ] = += -= *= /= %= + - * / % >> <<
+unfoldable pub signs : List Spelt
+signs =
+    record { spelling = 123 ∷ []; kind = LBrace }
+    ∷ record { spelling = 125 ∷ []; kind = RBrace }
+    ∷ record { spelling = 40 ∷ []; kind = LParen }
+    ∷ record { spelling = 41 ∷ []; kind = RParen }
+    ∷ record { spelling = 58 ∷ []; kind = Colon }
+    ∷ record { spelling = 46 ∷ []; kind = Dot }
+    ∷ record { spelling = 44 ∷ []; kind = Comma }
+    ∷ record { spelling = 59 ∷ []; kind = Semicolon }
+    ∷ record { spelling = 91 ∷ []; kind = LBracket }
+    ∷ record { spelling = 93 ∷ []; kind = RBracket }
+    ∷ record { spelling = 61 ∷ []; kind = Equals }
+    ∷ record { spelling = 43 ∷ 61 ∷ []; kind = PlusEquals }
+    ∷ record { spelling = 45 ∷ 61 ∷ []; kind = MinusEquals }
+    ∷ record { spelling = 42 ∷ 61 ∷ []; kind = StarEquals }
+    ∷ record { spelling = 47 ∷ 61 ∷ []; kind = SlashEquals }
+    ∷ record { spelling = 37 ∷ 61 ∷ []; kind = PercentEquals }
+    ∷ record { spelling = 43 ∷ []; kind = Plus }
+    ∷ record { spelling = 45 ∷ []; kind = Minus }
+    ∷ record { spelling = 42 ∷ []; kind = Star }
+    ∷ record { spelling = 47 ∷ []; kind = Slash }
+    ∷ record { spelling = 37 ∷ []; kind = Percent }
+    ∷ record { spelling = 62 ∷ 62 ∷ []; kind = Shr }
+    ∷ record { spelling = 60 ∷ 60 ∷ []; kind = Shl }
+    ∷ []
+
+unfoldable pub sameBytes : List ℕ → List ℕ → Bool
+sameBytes [] [] = true
+sameBytes [] (y ∷ ys) = false
+sameBytes (x ∷ xs) [] = false
+sameBytes (x ∷ xs) (y ∷ ys) = eqb x y && sameBytes xs ys
+
+-- the kind that a table gives a spelling, or d
+unfoldable pub kindIn : List Spelt → ℕ → List ℕ → ℕ
+kindIn [] d w = d
+kindIn (e ∷ es) d w = elim (sameBytes (e .spelling) w) [ true ↦ e .kind | false ↦ kindIn es d w ]
+
+-- how long the spelling is that a table has for a kind, or d
+unfoldable pub lengthIn : List Spelt → ℕ → ℕ → ℕ
+lengthIn [] d k = d
+lengthIn (e ∷ es) d k = elim (eqb (e .kind) k) [ true ↦ length (e .spelling) | false ↦ lengthIn es d k ]

@@ -1,0 +1,74 @@
+-- The scan of a text into rows and ending, and what a scan with so much room answers and leaves in lent memory.
+use mathlib.Core.Bool.{Bool, true, false, cond, not}
+use mathlib.Core.List.{List, [], _∷_, _++_}
+use Prim.Native.Nat.{ℕ, zero, suc, pred, _+_, _*_, _/_, min}
+use lib.ListN.{length, take, drop}
+use lib.Dec.{leb, ltb}
+use Rattle.rules.specs.declared.Cursor.{Cursor}
+use Rattle.rules.specs.declared.Lexical.{Lexical}
+use Rattle.rules.specs.declared.Ending.{Ending}
+use Rattle.rules.specs.declared.Ending.the-variants as ending
+use Rattle.rules.specs.declared.Outer.the-variants.{TextTooLong, BadByte, NoRowRoom}
+use Rattle.rules.specs.declared.Told.{Told}
+use Rattle.rules.specs.declared.Told.the-variants.{Rows, Refused}
+use Rattle.rules.specs.Text.{mostBytes, validBytes, valid, placeAt, startPlace}
+use Rattle.rules.specs.Rows.{Row, rowAt, eofRow, wordsOf}
+use Rattle.rules.specs.Lex.{Piece, blank, comment, row, refused, piece}
+
+-- A reading: rows, and then the end, which Eof's row stands before, or a refusal with its place and the offset of its deciding byte.
+pub data Reading : Type 0 where
+  put : Row → Reading → Reading
+  ends : Reading
+  stops : (why : Lexical) (place : Cursor) (decided : ℕ) → Reading
+
+unfoldable pub readRows : Reading → List Row
+readRows (put r l) = r ∷ readRows l
+readRows ends = []
+readRows (stops why p d) = []
+
+unfoldable pub readEnding : Reading → Ending
+readEnding (put r l) = readEnding l
+readEnding ends = ending.None
+readEnding (stops why p d) = ending.Refused why p
+
+-- The bytes from offset k on, of which the first n belong to the piece that was read last. `pos` gives places.
+module _ (pos : ℕ → Cursor) where
+  unfoldable pub read : ℕ → ℕ → List ℕ → Reading
+  read n k [] = put (eofRow (pos k)) ends
+  read (suc n) k (b ∷ s) = read n (suc k) s
+  read zero k (b ∷ s) =
+      elim (piece (b ∷ s)) [
+        | blank ↦ read zero (suc k) s
+        | comment n d ↦ read (pred n) (suc k) s
+        | row kind n bits d ↦ put (rowAt (pos k) kind (k + n) bits) (read (pred n) (suc k) s)
+        | refused why p d ↦ stops why (pos (k + p)) (k + d)
+      ]
+
+unfoldable pub scan : List ℕ → Reading
+scan t = read (placeAt t) 0 0 t
+
+-- ---- the answer, and the lent words afterwards
+
+-- Room is whole rows; a remainder is never written.
+unfoldable pub roomOf : List ℕ → ℕ
+roomOf ws = length ws / 8
+
+-- "4 standing where the row that finds no room is complete": the rows of a text of n bytes, into room for m
+unfoldable pub told : ℕ → ℕ → List Row → Ending → Told
+told n m rows e =
+    cond (leb (length rows) m) (Rows (record { count = length rows; length = n; ending = e })) (Refused NoRowRoom startPlace m)
+
+-- as many rows as there is room for, and then what was there
+unfoldable pub laid : List Row → List ℕ → List ℕ
+laid rows ws = wordsOf (take (roomOf ws) rows) ++ drop (8 * min (roomOf ws) (length rows)) ws
+
+-- Scan order: 1, 2, then reading order.
+unfoldable pub scanTold : List ℕ → ℕ → Told
+scanTold t m =
+    cond (ltb mostBytes (length t)) (Refused TextTooLong startPlace 0)
+    (cond (not (valid t)) (Refused BadByte (placeAt t (validBytes t)) 0)
+    (told (length t) m (readRows (scan t)) (readEnding (scan t))))
+
+-- 1, 2: rows untouched
+unfoldable pub scanLeaves : List ℕ → List ℕ → List ℕ
+scanLeaves t ws = cond (ltb mostBytes (length t)) ws (cond (not (valid t)) ws (laid (readRows (scan t)) ws))

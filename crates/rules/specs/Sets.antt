@@ -1,0 +1,71 @@
+-- `from_section`: the program kind of a section's text. `allowed_ctx_methods`: the set of methods of each kind.
+use mathlib.Core.Bool.{Bool, true, false, cond, _&&_, _||_}
+use mathlib.Core.List.{List, [], _∷_}
+use Prim.Native.Nat.{ℕ}
+use lib.ListN.{length, take, getD}
+use lib.Dec.{eqb, leb}
+use Rattle.rules.specs.Kinds.{sameBytes}
+
+-- The kinds of programs in source order: Xdp 0, Tc 1, Socket 2, Cgroup 3, Kprobe 4, Tracepoint 5, RawTracepoint 6, Fentry 7,
+-- Fexit 8, Lsm 9, Unknown 10.
+pub record Section : Type 0 where
+  pub whole : Bool
+  pub spelling : List ℕ
+  pub kind : ℕ
+
+-- a section's text is the spelling, or begins with it
+-- whole xdp, whole tc, whole classifier, tc, sk_, cgroup/, kprobe/, kretprobe/, tracepoint/, raw_tracepoint/, fentry/, fexit/, lsm/
+unfoldable pub sections : List Section
+sections =
+    record { whole = true; spelling = 120 ∷ 100 ∷ 112 ∷ []; kind = 0 }
+    ∷ record { whole = true; spelling = 116 ∷ 99 ∷ []; kind = 1 }
+    ∷ record { whole = true; spelling = 99 ∷ 108 ∷ 97 ∷ 115 ∷ 115 ∷ 105 ∷ 102 ∷ 105 ∷ 101 ∷ 114 ∷ []; kind = 1 }
+    ∷ record { whole = false; spelling = 116 ∷ 99 ∷ []; kind = 1 }
+    ∷ record { whole = false; spelling = 115 ∷ 107 ∷ 95 ∷ []; kind = 2 }
+    ∷ record { whole = false; spelling = 99 ∷ 103 ∷ 114 ∷ 111 ∷ 117 ∷ 112 ∷ 47 ∷ []; kind = 3 }
+    ∷ record { whole = false; spelling = 107 ∷ 112 ∷ 114 ∷ 111 ∷ 98 ∷ 101 ∷ 47 ∷ []; kind = 4 }
+    ∷ record { whole = false; spelling = 107 ∷ 114 ∷ 101 ∷ 116 ∷ 112 ∷ 114 ∷ 111 ∷ 98 ∷ 101 ∷ 47 ∷ []; kind = 4 }
+    ∷ record { whole = false; spelling = 116 ∷ 114 ∷ 97 ∷ 99 ∷ 101 ∷ 112 ∷ 111 ∷ 105 ∷ 110 ∷ 116 ∷ 47 ∷ []; kind = 5 }
+    ∷ record { whole = false; spelling = 114 ∷ 97 ∷ 119 ∷ 95 ∷ 116 ∷ 114 ∷ 97 ∷ 99 ∷ 101 ∷ 112 ∷ 111 ∷ 105 ∷ 110 ∷ 116 ∷ 47 ∷ []; kind = 6 }
+    ∷ record { whole = false; spelling = 102 ∷ 101 ∷ 110 ∷ 116 ∷ 114 ∷ 121 ∷ 47 ∷ []; kind = 7 }
+    ∷ record { whole = false; spelling = 102 ∷ 101 ∷ 120 ∷ 105 ∷ 116 ∷ 47 ∷ []; kind = 8 }
+    ∷ record { whole = false; spelling = 108 ∷ 115 ∷ 109 ∷ 47 ∷ []; kind = 9 }
+    ∷ []
+
+unfoldable pub fits : Section → List ℕ → Bool
+fits e w = sameBytes (e .spelling) (cond (e .whole) w (take (length (e .spelling)) w))
+
+unfoldable pub kindOfSection : List Section → List ℕ → ℕ
+kindOfSection [] w = 10
+kindOfSection (e ∷ es) w = elim (fits e w) [ true ↦ e .kind | false ↦ kindOfSection es w ]
+
+unfoldable pub fromSection : List ℕ → ℕ
+fromSection w = kindOfSection sections w
+
+-- The methods in source order: LoadU8 0, LoadU16 1, LoadU32 2, LoadU64 3, LoadI8 4, LoadI16 5, LoadI32 6, LoadI64 7, LoadBytes 8, GetPidTgid 9, GetUidGid 10, GetCurrentComm 11, GetCurrentTask 12, GetKtimeNs 13, ProbeReadUserStr 14, ProbeReadKernelStr 15.
+-- The methods that each kind allows, as the source lists them: Xdp first, Unknown last.
+unfoldable pub allowed : List (List ℕ)
+allowed =
+    (0 ∷ 1 ∷ 2 ∷ 3 ∷ 4 ∷ 5 ∷ 6 ∷ 7 ∷ [])
+    ∷ (0 ∷ 1 ∷ 2 ∷ 3 ∷ [])
+    ∷ (0 ∷ 1 ∷ 2 ∷ [])
+    ∷ (2 ∷ 3 ∷ [])
+    ∷ (3 ∷ 9 ∷ 10 ∷ 14 ∷ 15 ∷ [])
+    ∷ (0 ∷ 1 ∷ 2 ∷ 3 ∷ 4 ∷ 5 ∷ 6 ∷ 7 ∷ 8 ∷ 9 ∷ 10 ∷ 11 ∷ 12 ∷ 13 ∷ 14 ∷ 15 ∷ [])
+    ∷ (3 ∷ 14 ∷ 15 ∷ [])
+    ∷ (3 ∷ [])
+    ∷ (3 ∷ [])
+    ∷ (3 ∷ [])
+    ∷ []
+    ∷ []
+
+unfoldable pub member : ℕ → List ℕ → Bool
+member m [] = false
+member m (x ∷ xs) = eqb m x || member m xs
+
+-- "membership is by method 0 to 15, and the size of a kind's set is the number of ones"
+unfoldable pub allows : ℕ → ℕ → Bool
+allows kind method = member method (getD allowed kind [])
+
+unfoldable pub setSize : ℕ → ℕ
+setSize kind = length (getD allowed kind [])
