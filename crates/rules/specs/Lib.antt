@@ -6,3 +6,8 @@ pub mod Lex
 pub mod Scan
 pub mod Sets
 pub mod Edit
+pub mod Tree
+pub mod Nodes
+pub mod Parse
+pub mod Grammar
+pub mod Calls

@@ -1,0 +1,108 @@
+//! The original's answer about one text, in document 01's terms.
+//!
+//! What is compared, and what is not:
+//!
+//! - Rows: kind, start, end, line, column and value, up to the end or the
+//!   lexical refusal. Line and column are the original's own, except Eof's: the
+//!   original has 0:0 there, so the position counted in the text stands instead.
+//! - The lexical refusal: number and place. 15 is a panic of the original;
+//!   `scan` says how its place is found.
+//! - The parse: its refusal with number, place and what is told (21: wanted and
+//!   found kind, 29: the field), or its nodes. `parse` says how the places of
+//!   the panics 28, 29 (type) and 31 are found, `nodes` which words are known.
+//! - Not compared: texts that document 01 answers with 1 or 2, and parse
+//!   outcomes of texts that it refuses with 27 or 32 (`differences`).
+
+use crate::deep::on_deep_stack;
+use crate::nodes::Tree;
+use crate::parse::parse;
+use crate::scan::scan;
+
+/// The most bytes that a text may have.
+pub const LONGEST_TEXT: usize = 65_536;
+
+/// A position in a text: three counters, none of which stands for another.
+#[derive(Debug, Clone, Copy, PartialEq, Eq)]
+pub struct Place {
+    pub offset: u32,
+    pub line: u32,
+    pub column: u32,
+}
+
+/// A row of document 01; the value is zero unless the kind is Number.
+#[derive(Debug, Clone, Copy, PartialEq, Eq)]
+pub struct Row {
+    pub kind: u32,
+    pub start: u32,
+    pub end: u32,
+    pub line: u32,
+    pub column: u32,
+    pub value: i64,
+}
+
+impl Row {
+    pub fn place(&self) -> Place {
+        Place {
+            offset: self.start,
+            line: self.line,
+            column: self.column,
+        }
+    }
+}
+
+/// A refusal: its number, its place, and the two numbers it tells: wanted and
+/// found kind for 21, the field and zero for 29, two zeros for all others.
+#[derive(Debug, Clone, Copy, PartialEq, Eq)]
+pub struct Refusal {
+    pub number: u32,
+    pub place: Place,
+    pub told: [u32; 2],
+}
+
+/// What comes of parsing a text.
+#[derive(Debug, Clone, PartialEq, Eq)]
+pub enum Parsed {
+    /// The scan was refused; there is nothing to parse.
+    NotScanned,
+    /// Document 01 refuses with this number, 27 or 32, where the original reads on.
+    NotComparable { number: u32 },
+    Refused(Refusal),
+    Accepted(Tree),
+}
+
+/// The answer about a text.
+#[derive(Debug, Clone, PartialEq, Eq)]
+pub enum Answer {
+    /// Document 01 refuses the text with this number, 1 or 2, before any row;
+    /// the original is not asked.
+    NotCompared { number: u32 },
+    Compared {
+        rows: Vec<Row>,
+        ending: Option<Refusal>,
+        parsed: Parsed,
+    },
+}
+
+/// Asks the original about a text.
+pub fn answer(text: &[u8]) -> Answer {
+    if text.len() > LONGEST_TEXT {
+        return Answer::NotCompared { number: 1 };
+    }
+    match std::str::from_utf8(text) {
+        Ok(text) if text.is_ascii() => on_deep_stack(|| ask(text)),
+        _ => Answer::NotCompared { number: 2 },
+    }
+}
+
+fn ask(text: &str) -> Answer {
+    let scanned = scan(text);
+    let parsed = match scanned.ending {
+        Some(_) => Parsed::NotScanned,
+        None => parse(&scanned.tokens, &scanned.rows),
+    };
+    Answer::Compared {
+        rows: scanned.rows,
+        ending: scanned.ending,
+        parsed,
+    }
+}
