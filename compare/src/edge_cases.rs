@@ -1,0 +1,651 @@
+//! Texts whose answers document 01 and READINGS state, with these answers.
+//!
+//! The expectations are those papers' words, not output of the original. The
+//! edit is no part of the original: its example is here as the edited text only.
+
+use crate::answer::{Answer, Parsed, Refusal};
+use crate::generate::nesting::Construct::{Group, Star, Then};
+use crate::generate::nesting::{nested, opened, repeated};
+use crate::nodes::{Word, MISSING};
+
+/// What a paper says about a text.
+#[derive(Debug)]
+pub enum Expected {
+    /// The text scans, and these are its rows: kind, start, end, line, column, value.
+    Rows(Vec<[i64; 6]>),
+    /// The scan is refused behind rows of these kinds: number, offset, line, column.
+    Ending(Vec<u32>, [u32; 4]),
+    /// The parse is refused: number, offset, line, column and what is told.
+    Refused([u32; 6]),
+    /// The parse is accepted.
+    Accepted,
+    /// The parse is accepted, and these are the declarations' nodes.
+    Nodes(Vec<[Word; 8]>),
+    /// Document 01 answers 1 or 2, and the original is not asked.
+    NotCompared(u32),
+    /// Document 01 answers 27 or 32, which the original does not know.
+    NotComparable(u32),
+}
+
+use Expected::*;
+
+/// A text with what a paper says about it.
+pub struct EdgeCase {
+    /// The paper and the point in it.
+    pub source: &'static str,
+    pub text: Vec<u8>,
+    pub expected: Expected,
+}
+
+impl EdgeCase {
+    /// Whether an answer is the expected one.
+    pub fn is_met_by(&self, answer: &Answer) -> bool {
+        match (&self.expected, answer) {
+            (NotCompared(expected), Answer::NotCompared { number }) => expected == number,
+            (
+                expected,
+                Answer::Compared {
+                    rows,
+                    ending,
+                    parsed,
+                },
+            ) => match expected {
+                Rows(expected) => {
+                    ending.is_none() && rows.iter().map(row_numbers).eq(expected.iter().copied())
+                }
+                Ending(kinds, expected) => {
+                    ending.as_ref().map(number_and_place) == Some(*expected)
+                        && rows.iter().map(|row| row.kind).eq(kinds.iter().copied())
+                }
+                _ => parse_is_met(expected, parsed),
+            },
+            _ => false,
+        }
+    }
+}
+
+fn row_numbers(row: &crate::answer::Row) -> [i64; 6] {
+    [
+        row.kind.into(),
+        row.start.into(),
+        row.end.into(),
+        row.line.into(),
+        row.column.into(),
+        row.value,
+    ]
+}
+
+fn number_and_place(refusal: &Refusal) -> [u32; 4] {
+    let place = refusal.place;
+    [refusal.number, place.offset, place.line, place.column]
+}
+
+fn parse_is_met(expected: &Expected, parsed: &Parsed) -> bool {
+    match (expected, parsed) {
+        (Refused(expected), Parsed::Refused(refusal)) => {
+            let [number, offset, line, column] = number_and_place(refusal);
+            let [a, b] = refusal.told;
+            *expected == [number, offset, line, column, a, b]
+        }
+        (Accepted, Parsed::Accepted(_)) => true,
+        (Nodes(expected), Parsed::Accepted(tree)) => {
+            let nodes = tree.declarations.iter().flatten();
+            nodes
+                .map(|node| node.words())
+                .eq(expected.iter().copied())
+        }
+        (NotComparable(expected), Parsed::NotComparable { number }) => expected == number,
+        _ => false,
+    }
+}
+
+fn case(source: &'static str, text: impl Into<Vec<u8>>, expected: Expected) -> EdgeCase {
+    EdgeCase {
+        source,
+        text: text.into(),
+        expected,
+    }
+}
+
+/// A unit with this inside; it begins at row 3, offset 7, column 8.
+fn unit(inside: &str) -> String {
+    format!("unit u{{{inside}}}")
+}
+
+/// A ringbuf map with this `max`; it begins at row 12, offset 24, column 25.
+fn ringbuf(max: &str) -> String {
+    format!("map m{{type:.ringbuf;max:{max};}}")
+}
+
+/// Nodes all of whose words are known; words behind those given are zero.
+fn nodes(given: &[&[u32]]) -> Expected {
+    Nodes(given.iter().map(|words| known(words)).collect())
+}
+
+fn known(words: &[u32]) -> [Word; 8] {
+    std::array::from_fn(|index| Some(words.get(index).copied().unwrap_or(0)))
+}
+
+/// A refusal with nothing told, on line 1.
+fn refused(number: u32, offset: u32) -> Expected {
+    Refused([number, offset, 1, offset + 1, 0, 0])
+}
+
+/// 21 on line 1.
+fn unwanted(offset: u32, wanted: u32, found: u32) -> Expected {
+    Refused([21, offset, 1, offset + 1, wanted, found])
+}
+
+/// 29 on line 1.
+fn lacking(field: u32, offset: u32) -> Expected {
+    Refused([29, offset, 1, offset + 1, field, 0])
+}
+
+/// A refused scan on line 1 with no rows before it.
+fn unscanned(number: u32, offset: u32) -> Expected {
+    Ending(vec![], [number, offset, 1, offset + 1])
+}
+
+/// The text of document 01's lister example.
+pub const LISTER_TEXT: &[u8] = b"unit u{\n x+=-1;\n}\n";
+
+/// What document 01's lister prints for it.
+pub const LISTER_LINES: [&str; 16] = [
+    "rows 9",
+    "0 0 0 4 1 1 0",
+    "1 48 5 6 1 6 0",
+    "2 25 6 7 1 7 0",
+    "3 48 9 10 2 2 0",
+    "4 36 10 12 2 3 0",
+    "5 50 12 14 2 5 -1",
+    "6 32 14 15 2 7 0",
+    "7 26 16 17 3 1 0",
+    "8 52 18 18 4 1 0",
+    "nodes 5",
+    "0 1 3 3 0 0 0 0 0",
+    "1 2 5 4294967295 0 4294967295 4294967295 0 0",
+    "2 15 3 4294967295 2 0 0 0 0",
+    "3 25 0 1 1 10 4294967295 0 0",
+    "4 29 8 4294967295 1 0 0 0 0",
+];
+
+/// The method sets of READINGS 54, by program kind.
+pub const METHOD_SETS: [u16; 11] = [
+    0x00FF, 0x000F, 0x0007, 0x000C, 0xC608, 0xFFFF, 0xC008, 0x0008, 0x0008, 0x0008, 0x0000,
+];
+
+/// Section texts of READINGS 53 and of the original's table, with their program kinds.
+pub const SECTION_KINDS: [(&str, u32); 22] = [
+    ("xdp", 0),
+    ("xdp2", 10),
+    ("tc", 1),
+    ("tcx", 1),
+    ("classifier", 1),
+    ("classifier/x", 10),
+    ("sk_", 2),
+    ("sk", 10),
+    ("cgroup/", 3),
+    ("cgroup", 10),
+    ("kprobe/", 4),
+    ("kretprobe/f", 4),
+    ("kprobe", 10),
+    ("tracepoint/", 5),
+    ("raw_tracepoint/", 6),
+    ("raw_tracepoint", 10),
+    ("fentry/", 7),
+    ("fexit/", 8),
+    ("lsm/", 9),
+    ("LSM/", 10),
+    ("", 10),
+    ("q", 10),
+];
+
+/// Every case.
+pub fn edge_cases() -> Vec<EdgeCase> {
+    let mut cases = document_edges();
+    cases.extend(scan_readings());
+    cases.extend(wanted_readings());
+    cases.extend(map_readings());
+    cases.extend(event_readings());
+    cases.extend(call_readings());
+    cases.extend(nesting_readings());
+    cases.extend(node_readings());
+    cases
+}
+
+/// Document 01, "Both sides of each edge".
+fn document_edges() -> Vec<EdgeCase> {
+    let from = "document 01, edges";
+    let m = MISSING;
+    vec![
+        case(from, "", Rows(vec![[52, 0, 0, 1, 1, 0]])),
+        case(
+            from,
+            unit("a << 1 + b;"),
+            nodes(&[
+                &[1, 3, 3],
+                &[2, 5, m, 0, 1],
+                &[9, 3, m, 2],
+                &[1, 7, 7],
+                &[4, 3, m, 2],
+                &[13, 3, m, 1],
+                &[25, 0, 1, 1, 10, m],
+            ]),
+        ),
+        case(from, unit("a + b << 1;"), unwanted(13, 32, 47)),
+        case(from, unit("x -1;"), unwanted(9, 32, 50)),
+        case(
+            from,
+            unit("a--1;"),
+            nodes(&[
+                &[1, 3, 3],
+                &[2, 5, m, 0, u32::MAX, u32::MAX],
+                &[5, 3, m, 2],
+                &[13, 3, m, 1],
+                &[25, 0, 1, 1, 10, m],
+            ]),
+        ),
+        case(from, "0x", unscanned(11, 2)),
+        case(
+            from,
+            "0X10",
+            Rows(vec![
+                [50, 0, 1, 1, 1, 0],
+                [48, 1, 4, 1, 2, 0],
+                [52, 4, 4, 1, 5, 0],
+            ]),
+        ),
+        case(from, "/*/", unscanned(12, 2)),
+        case(
+            from,
+            "9223372036854775807",
+            Rows(vec![
+                [50, 0, 19, 1, 1, i64::MAX],
+                [52, 19, 19, 1, 20, 0],
+            ]),
+        ),
+        case(from, "-9223372036854775808", unscanned(15, 0)),
+        case(
+            from,
+            ringbuf("4294967295"),
+            nodes(&[&[28, 1, 1, 0, 3, 0, 0, 4294967295]]),
+        ),
+        case(from, ringbuf("1 << 32"), NotComparable(27)),
+        case(from, ringbuf("1 << 63"), refused(26, 31)),
+        case(from, ringbuf("1 << 64"), refused(28, 29)),
+        case(
+            from,
+            unit("(x).m();"),
+            nodes(&[
+                &[1, 4, 4],
+                &[11, 4, 7, 1],
+                &[13, 4, m, 1],
+                &[25, 0, 1, 1, 10, m],
+            ]),
+        ),
+        case(from, unit("a.b.c();"), refused(31, 11)),
+        case(
+            "document 01, edges: the edited text",
+            "unit u{\n x+=-12;\n}\n",
+            Rows(vec![
+                [0, 0, 4, 1, 1, 0],
+                [48, 5, 6, 1, 6, 0],
+                [25, 6, 7, 1, 7, 0],
+                [48, 9, 10, 2, 2, 0],
+                [36, 10, 12, 2, 3, 0],
+                [50, 12, 15, 2, 5, -12],
+                [32, 15, 16, 2, 8, 0],
+                [26, 17, 18, 3, 1, 0],
+                [52, 19, 19, 4, 1, 0],
+            ]),
+        ),
+    ]
+}
+
+/// READINGS 1 to 10.
+fn scan_readings() -> Vec<EdgeCase> {
+    vec![
+        case("READINGS 1", "unit", unwanted(4, 48, 52)),
+        case("READINGS 2", "\"\\\n\"", unscanned(14, 1)),
+        case("READINGS 2", "\"a\\", unscanned(13, 3)),
+        case("document 01, 13", "\"a\n\"", unscanned(13, 2)),
+        case(
+            "READINGS 3",
+            "\"\t\0\r\x7f\"",
+            Rows(vec![[49, 0, 6, 1, 1, 0], [52, 6, 6, 1, 7, 0]]),
+        ),
+        case(
+            "READINGS 4",
+            "\r\n\x0b@",
+            Ending(vec![], [11, 3, 2, 2]),
+        ),
+        case(
+            "READINGS 5",
+            "*/*",
+            Ending(vec![43], [12, 3, 1, 4]),
+        ),
+        case(
+            "READINGS 5",
+            "*//x",
+            Rows(vec![[43, 0, 1, 1, 1, 0], [52, 4, 4, 1, 5, 0]]),
+        ),
+        case("READINGS 5", "a<=b", Ending(vec![48], [11, 1, 1, 2])),
+        case(
+            "READINGS 6",
+            "12ab",
+            Rows(vec![
+                [50, 0, 2, 1, 1, 12],
+                [48, 2, 4, 1, 3, 0],
+                [52, 4, 4, 1, 5, 0],
+            ]),
+        ),
+        case(
+            "READINGS 6",
+            "0x1G",
+            Rows(vec![
+                [50, 0, 3, 1, 1, 1],
+                [48, 3, 4, 1, 4, 0],
+                [52, 4, 4, 1, 5, 0],
+            ]),
+        ),
+        case(
+            "READINGS 6",
+            "00x1",
+            Rows(vec![
+                [50, 0, 2, 1, 1, 0],
+                [48, 2, 4, 1, 3, 0],
+                [52, 4, 4, 1, 5, 0],
+            ]),
+        ),
+        case("READINGS 6", "-0x", unscanned(11, 3)),
+        case(
+            "READINGS 6",
+            "-0",
+            Rows(vec![[50, 0, 2, 1, 1, 0], [52, 2, 2, 1, 3, 0]]),
+        ),
+        case(
+            "READINGS 6",
+            "--1",
+            Rows(vec![
+                [42, 0, 1, 1, 1, 0],
+                [50, 1, 3, 1, 2, -1],
+                [52, 3, 3, 1, 4, 0],
+            ]),
+        ),
+        case(
+            "READINGS 7",
+            format!("{}1", "0".repeat(30)),
+            Rows(vec![[50, 0, 31, 1, 1, 1], [52, 31, 31, 1, 32, 0]]),
+        ),
+        case("READINGS 7", "-0x8000000000000000", unscanned(15, 0)),
+        case("READINGS 9", " ".repeat(65_537), NotCompared(1)),
+        case("READINGS 10", [0x80], NotCompared(2)),
+    ]
+}
+
+/// READINGS 19 and 20: what 21 tells.
+fn wanted_readings() -> Vec<EdgeCase> {
+    let from = "READINGS 19";
+    vec![
+        case(from, unit("a-=1;"), unwanted(8, 32, 37)),
+        case(from, unit("a=b=c;"), unwanted(10, 32, 35)),
+        case(from, unit("else"), unwanted(7, 48, 12)),
+        case(from, unit("a.m(1,);"), unwanted(13, 48, 28)),
+        case(from, unit("a.m(1 2);"), unwanted(13, 28, 50)),
+        case(from, unit("(a;"), unwanted(9, 28, 32)),
+        case(from, unit("a.1;"), unwanted(9, 48, 50)),
+        case(from, unit("return;"), unwanted(13, 48, 32)),
+        case(from, unit("if a"), unwanted(10, 13, 48)),
+        case(from, unit("if guard a"), unwanted(16, 27, 48)),
+        case(from, unit("if guard(1"), unwanted(16, 48, 50)),
+        case(from, unit("if guard(a;"), unwanted(17, 28, 32)),
+        case(from, unit("if guard(a)a"), unwanted(18, 25, 48)),
+        case(
+            from,
+            unit("if guard(a){}else if guard(a){}"),
+            unwanted(25, 25, 11),
+        ),
+        case(
+            from,
+            unit("if guard(a){section \"\";}"),
+            unwanted(19, 48, 1),
+        ),
+        case(from, unit("section x;"), unwanted(15, 49, 48)),
+        case(from, unit("license \"\"}"), unwanted(17, 32, 26)),
+        case(from, "map {", unwanted(4, 48, 25)),
+        case(from, "event e;", unwanted(7, 25, 32)),
+        case(from, "map m{key u32;", unwanted(10, 29, 21)),
+        case(from, "map m{type:hash;", unwanted(11, 30, 48)),
+        case(from, "map m{max:a;", unwanted(10, 50, 48)),
+        case("READINGS 20", "map m{", refused(23, 6)),
+        case("READINGS 20", "unit u{", unwanted(7, 48, 52)),
+        case("READINGS 20", "event e{", unwanted(8, 48, 52)),
+        case("READINGS 20", "unit u{if guard(a){", unwanted(19, 48, 52)),
+    ]
+}
+
+/// READINGS 21 to 23, 25 and 26: maps.
+fn map_readings() -> Vec<EdgeCase> {
+    vec![
+        case("READINGS 21", "map m{type:.q}", refused(24, 13)),
+        case("READINGS 21", "map m{type:.q", refused(24, 13)),
+        case("READINGS 21", "map m{type:.key;}", unwanted(12, 48, 8)),
+        case("READINGS 22", "map m{key:}", refused(25, 11)),
+        case("READINGS 22", "map m{key:", refused(25, 10)),
+        case("READINGS 22", "map m{key:bytes;}", refused(25, 15)),
+        case("READINGS 23", ringbuf("-1<<64"), refused(28, 28)),
+        case("READINGS 23", "map m{max:1<<64 q", refused(28, 13)),
+        case("READINGS 23", "map m{max:-1}", refused(26, 12)),
+        case("READINGS 23", "map m{max:4294967296}", NotComparable(27)),
+        case(
+            "READINGS 23",
+            ringbuf("1<<40>>40"),
+            nodes(&[&[28, 1, 1, 0, 3, 0, 0, 1]]),
+        ),
+        case(
+            "READINGS 23",
+            ringbuf("1<<63<<1"),
+            nodes(&[&[28, 1, 1, 0, 3, 0, 0, 0]]),
+        ),
+        case("READINGS 23", ringbuf("1<<63>>63"), refused(26, 33)),
+        case("READINGS 23", ringbuf("4294967296>>0"), NotComparable(27)),
+        case("READINGS 25", "map m{max:-1;max:1;}", refused(26, 12)),
+        case("READINGS 26", "map m{}", lacking(1, 7)),
+        case(
+            "READINGS 26",
+            "map m{type:.hash;}\nunit u{}",
+            Refused([29, 19, 2, 1, 2, 0]),
+        ),
+        case("READINGS 26", "map m{type:.hash;key:u32;}", lacking(3, 26)),
+        case(
+            "READINGS 26",
+            "map m{type:.hash;key:u32;value:u32;}",
+            lacking(4, 36),
+        ),
+        case("READINGS 26", "map m{type:.ringbuf;}", lacking(4, 21)),
+        case(
+            "READINGS 26",
+            "map m{type:.ringbuf;key:u64;value:i64;max:1;}",
+            nodes(&[&[28, 1, 1, 0, 3, 2, 4, 1]]),
+        ),
+    ]
+}
+
+/// READINGS 24 and 27: events.
+fn event_readings() -> Vec<EdgeCase> {
+    vec![
+        case("READINGS 24", "event e{a:u32[-1;", NotComparable(27)),
+        case("READINGS 27", "event e{a:", refused(30, 10)),
+        case("READINGS 27", "event e{a:q;}", refused(30, 10)),
+        case("READINGS 27", "event e{a:bytes;}", unwanted(15, 33, 32)),
+        case(
+            "document 01, event fields",
+            "event e{a:i32;b:bytes[9];c:u64[7];}",
+            nodes(&[
+                &[26, 3, 3, 0, 1, 3, 0],
+                &[26, 7, 7, 0, 2, 0, 9],
+                &[26, 14, 14, 0, 3, 2, 7],
+                &[27, 1, 1, 3],
+            ]),
+        ),
+    ]
+}
+
+/// READINGS 28: calls.
+fn call_readings() -> Vec<EdgeCase> {
+    let from = "READINGS 28";
+    vec![
+        case(from, unit("a.b.c(;"), unwanted(13, 48, 32)),
+        case(from, unit("a.b.c(1,);"), unwanted(15, 48, 28)),
+        case(from, unit("a.m(x.y.z());"), refused(31, 15)),
+        case(from, unit("1.m();"), refused(31, 9)),
+        case(from, unit("a.m().n();"), refused(31, 13)),
+        case(from, unit("(*a).m();"), refused(31, 12)),
+        case(from, unit("(a+b).m((c),d.e(f));"), refused(31, 13)),
+        case(from, unit("((x)).m();"), Accepted),
+        case(from, unit("*a.m();"), Accepted),
+        case(from, unit("a.m().f;"), Accepted),
+    ]
+}
+
+/// READINGS 29 and 30: nesting.
+fn nesting_readings() -> Vec<EdgeCase> {
+    let full = repeated(&[Group], 64);
+    let bodies = repeated(&[Then], 64);
+    let stars = repeated(&[Star], 62);
+    vec![
+        case("READINGS 29", nested(&full, "z.w()"), Accepted),
+        case("READINGS 29", nested(&full, "z.w(1)"), NotComparable(32)),
+        case("READINGS 29", opened(&full) + "(", NotComparable(32)),
+        case("READINGS 29", opened(&full) + "*", NotComparable(32)),
+        case("READINGS 29", nested(&full, "a.b.c(1)"), NotComparable(32)),
+        case("READINGS 29", nested(&full, "a.b.c()"), refused(31, 75)),
+        case("READINGS 30", nested(&bodies, ""), Accepted),
+        case(
+            "READINGS 30",
+            nested(&bodies, "if guard(a){}"),
+            NotComparable(32),
+        ),
+        case("READINGS 30", nested(&bodies, "if guard(1"), {
+            // 64 bodies of 12 bytes, then `if guard(` of 9.
+            unwanted(7 + 64 * 12 + 9, 48, 50)
+        }),
+        case("READINGS 30", nested(&stars, "*a.f(x)"), Accepted),
+        case("READINGS 30", nested(&stars, "**a.f(x)"), NotComparable(32)),
+    ]
+}
+
+/// READINGS 32 to 38: nodes.
+fn node_readings() -> Vec<EdgeCase> {
+    let m = MISSING;
+    let unit_of_one: &[u32] = &[25, 0, 1, 1, 10, m];
+    vec![
+        case(
+            "READINGS 32",
+            unit("return (x);"),
+            nodes(&[&[1, 5, 5], &[19, 4, m, 1], unit_of_one]),
+        ),
+        case(
+            "READINGS 32",
+            unit("return *x;"),
+            nodes(&[&[1, 5, 5], &[3, 5, m, 1], &[19, 4, m, 1], unit_of_one]),
+        ),
+        case(
+            "READINGS 32",
+            unit("(x);"),
+            nodes(&[&[1, 4, 4], &[13, 4, m, 1], unit_of_one]),
+        ),
+        case(
+            "READINGS 32",
+            unit("*x=1;"),
+            nodes(&[
+                &[1, 4, 4],
+                &[3, 4, m, 1],
+                &[2, 6, m, 0, 1],
+                &[14, 4, m, 2],
+                unit_of_one,
+            ]),
+        ),
+        case(
+            "READINGS 32",
+            unit("a.b=1;"),
+            nodes(&[
+                &[1, 3, 3],
+                &[12, 5, 5, 1],
+                &[2, 7, m, 0, 1],
+                &[14, 5, m, 2],
+                unit_of_one,
+            ]),
+        ),
+        case(
+            "READINGS 33",
+            unit("(a+b)*c;"),
+            nodes(&[
+                &[1, 4, 4],
+                &[1, 6, 6],
+                &[4, 4, m, 2],
+                &[1, 9, 9],
+                &[6, 4, m, 2],
+                &[13, 4, m, 1],
+                unit_of_one,
+            ]),
+        ),
+        case(
+            "READINGS 34",
+            unit("reg a=b;imm c=0;heap d=e;"),
+            nodes(&[
+                &[1, 6, 6],
+                &[16, 4, 4, 1],
+                &[2, 11, m, 0],
+                &[17, 9, 9, 1],
+                &[1, 16, 16],
+                &[18, 14, 14, 1],
+                &[25, 0, 1, 3, 10, m],
+            ]),
+        ),
+        case(
+            "document 01, if",
+            unit("if guard(a){b;}else{}"),
+            Nodes(vec![
+                known(&[1, 6, 6]),
+                known(&[1, 9, 9]),
+                known(&[13, 9, m, 1]),
+                [Some(21), None, Some(m), Some(1), Some(0), Some(0), Some(0), Some(0)],
+                [Some(22), None, Some(m), Some(0), Some(0), Some(0), Some(0), Some(0)],
+                known(&[20, 4, m, 3]),
+                known(unit_of_one),
+            ]),
+        ),
+        case(
+            "READINGS 36",
+            unit("a;section \"q\";section \"xdp\";"),
+            nodes(&[&[1, 3, 3], &[13, 3, m, 1], &[25, 0, 1, 3, 10, m]]),
+        ),
+        case(
+            "READINGS 37",
+            unit(r#"section "xdp\"";"#),
+            nodes(&[unit_of_one]),
+        ),
+        case(
+            "READINGS 37",
+            unit(r#"section "tc\"";"#),
+            nodes(&[&[25, 0, 1, 1, 1, m]]),
+        ),
+        case("READINGS 38", unit("1=2;"), Accepted),
+        case("READINGS 38", unit("a*=2;"), unwanted(8, 32, 38)),
+        case(
+            "document 01, licence",
+            unit("license \"MIT\";section \"xdp\";license \"GPL\";"),
+            Nodes(vec![[
+                Some(25),
+                Some(0),
+                Some(1),
+                None,
+                Some(0),
+                None,
+                Some(0),
+                Some(0),
+            ]]),
+        ),
+    ]
+}

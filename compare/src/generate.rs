@@ -2,10 +2,12 @@
 //!
 //! The shapes, each in a file of its own: every short text (`short`), token soup
 //! (`soup`), programs made by the grammar (`programs`), damaged programs
-//! (`damage`), numbers at their edges (`numbers`), nesting at its limit
-//! (`nesting`) and texts of limit length (`lengths`).
+//! (`damage`), fields of maps and events (`fields`), numbers at their edges
+//! (`numbers`), nesting at its limit (`nesting`) and texts of limit length
+//! (`lengths`).
 
 pub mod damage;
+pub mod fields;
 pub mod lengths;
 pub mod nesting;
 pub mod numbers;
@@ -15,11 +17,12 @@ pub mod short;
 pub mod soup;
 pub mod spelling;
 
+use crate::edge_cases::{edge_cases, Expected};
 use random::Random;
 use std::collections::HashSet;
 
-/// `count` different texts, or the fixed ones among them if these are more:
-/// first the fixed ones, which are every text of at most two bytes, the numbers
+/// `count` different texts, or the fixed ones alone if these are more. First the
+/// fixed ones: every text of at most two bytes, the edge cases, the fields, the numbers
 /// and the nesting; then random ones. Texts of limit length are not among them.
 pub fn sample_texts(count: usize, seed: u64) -> Vec<Vec<u8>> {
     let mut random = Random::new(seed);
@@ -37,25 +40,40 @@ pub fn sample_texts(count: usize, seed: u64) -> Vec<Vec<u8>> {
 
 fn fixed_texts() -> Vec<Vec<u8>> {
     let mut texts: Vec<Vec<u8>> = (0..=2).flat_map(short::texts_of_length).collect();
+    texts.extend(compared_edge_cases());
+    texts.extend(fields::texts());
     texts.extend(numbers::texts());
     texts.extend(nesting::texts());
     texts
 }
 
-/// A text of a random shape; one in 200 is large.
+/// The edge cases without those that document 01 answers with 1 or 2.
+fn compared_edge_cases() -> impl Iterator<Item = Vec<u8>> {
+    edge_cases()
+        .into_iter()
+        .filter(|case| !matches!(case.expected, Expected::NotCompared(_)))
+        .map(|case| case.text)
+}
+
+/// A text of a random shape.
 fn random_text(random: &mut Random) -> Vec<u8> {
-    let most_tokens = if random.one_in(200) {
-        250
-    } else if random.one_in(8) {
-        40
-    } else {
-        14
-    };
-    match random.below(100) {
-        0..=29 => short::random_text(random, 3),
-        30..=44 => soup::text(random, most_tokens.min(40)),
-        45..=64 => programs::text(random, most_tokens),
+    let most_tokens = random_size(random);
+    match random.below(200) {
+        0 => nesting::random_text(random),
+        1..=12 => short::quoting_text(random),
+        13..=70 => short::random_text(random, 3),
+        71..=105 => soup::text(random, most_tokens.min(40)),
+        106..=143 => programs::text(random, most_tokens),
         _ => damage::text(random, most_tokens),
+    }
+}
+
+/// How many tokens a text may have: mostly few, seldom many.
+fn random_size(random: &mut Random) -> usize {
+    match random.below(300) {
+        0 => 250,
+        1..=25 => 40,
+        _ => 10,
     }
 }
 

@@ -1,4 +1,5 @@
-//! Programs with one or two bytes or tokens deleted, inserted or replaced.
+//! Programs with a token or one or two bytes deleted, inserted or replaced, or cut
+//! short there.
 
 use super::programs;
 use super::random::Random;
@@ -20,6 +21,7 @@ pub fn text(random: &mut Random, size: usize) -> Vec<u8> {
     text
 }
 
+/// Deletes, inserts or replaces one token, or cuts the text there.
 fn damage_tokens(random: &mut Random, tokens: &mut Spellings) {
     let at = random.below(tokens.len());
     match random.below(5) {
@@ -32,7 +34,8 @@ fn damage_tokens(random: &mut Random, tokens: &mut Spellings) {
     }
 }
 
-fn damage_bytes(random: &mut Random, text: &mut Vec<u8>) {
+/// Deletes, inserts or replaces one byte, or cuts the text there.
+pub fn damage_bytes(random: &mut Random, text: &mut Vec<u8>) {
     if text.is_empty() {
         return;
     }

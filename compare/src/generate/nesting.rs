@@ -1,5 +1,8 @@
 //! Nesting at its limit: 63, 64 and 65 open constructs, of one sort and mixed.
 
+use super::damage::damage_bytes;
+use super::random::Random;
+
 /// A construct that counts towards the limit of 64, and how it is spelt.
 #[derive(Debug, Clone, Copy, PartialEq, Eq)]
 pub enum Construct {
@@ -109,4 +112,18 @@ pub fn texts() -> Vec<Vec<u8>> {
         .chain(left_again)
         .map(String::into_bytes)
         .collect()
+}
+
+/// Stars, groups and argument lists in any order, 62 to 66 deep, around a core
+/// that may open more; half of them damaged.
+pub fn random_text(random: &mut Random) -> Vec<u8> {
+    let depth = 62 + random.below(5);
+    let constructs: Vec<Construct> = (0..depth)
+        .map(|_| random.pick(&[Star, Star, Group, Arguments]))
+        .collect();
+    let mut text = nested(&constructs, random.pick(&AT_THE_LIMIT)).into_bytes();
+    if random.one_in(2) {
+        damage_bytes(random, &mut text);
+    }
+    text
 }

@@ -32,7 +32,8 @@ const LICENCES: [&str; 3] = ["\"GPL\"", "\"\"", "\"MIT\\\\\""];
 const TYPES: [&str; 4] = ["u32", "u64", "i32", "i64"];
 const MAP_TYPES: [&str; 5] = ["hash", "array", "ringbuf", "lru_hash", "prog_array"];
 const LENGTHS: [&str; 6] = ["0", "1", "16", "0x100", "4294967295", "-0"];
-const MAXIMA: [&str; 8] = ["0", "1", "1024", "0x10", "-0", "4294967295", "4294967296", "-1"];
+const MAXIMA: [&str; 6] = ["0", "1", "1024", "0x10", "-0", "4294967295"];
+const MAXIMA_OUT_OF_RANGE: [&str; 2] = ["4294967296", "-1"];
 const SHIFT_COUNTS: [&str; 8] = ["0", "1", "4", "31", "32", "62", "63", "64"];
 
 /// A program of about `size` tokens at most.
@@ -102,7 +103,7 @@ impl Maker<'_> {
     }
 
     fn map(&mut self) {
-        self.put_all(&["map"]);
+        self.put("map");
         self.put_one_of(&VARIABLES);
         self.put("{");
         let map_type = self.random.pick(&MAP_TYPES);
@@ -143,9 +144,9 @@ impl Maker<'_> {
     }
 
     fn maximum(&mut self) {
-        self.put_one_of(&MAXIMA[..6]);
         if self.random.one_in(12) {
-            self.tokens.pop();
+            self.put_one_of(&MAXIMA_OUT_OF_RANGE);
+        } else {
             self.put_one_of(&MAXIMA);
         }
         while self.random.one_in(3) {
@@ -309,10 +310,10 @@ impl Maker<'_> {
 
     fn primary(&mut self) -> Shape {
         let mut shape = self.operand();
-        while self.more(4) {
+        while self.more(3) {
             self.put(".");
             self.put_one_of(&METHODS);
-            let may_be_called = shape == Shape::Variable || self.random.one_in(30);
+            let may_be_called = shape == Shape::Variable || self.random.one_in(8);
             if may_be_called && self.random.one_in(2) {
                 self.arguments();
             }

@@ -1,4 +1,5 @@
-//! Every text of few bytes over an alphabet that has each scan rule's bytes.
+//! Every text of few bytes over an alphabet that has each scan rule's bytes, and
+//! random short texts.
 
 use super::random::Random;
 
@@ -27,6 +28,18 @@ fn text_at(index: usize, length: u32) -> Vec<u8> {
 /// A random text of exactly this length over the alphabet.
 pub fn random_text(random: &mut Random, length: usize) -> Vec<u8> {
     (0..length).map(|_| random.pick(ALPHABET)).collect()
+}
+
+/// Bytes that open, close and escape strings and comments.
+const QUOTING: &[u8; 10] = b"\"\"\\\\n/**\na";
+
+/// A string or comment from its opening on, closed or not, and what follows it.
+pub fn quoting_text(random: &mut Random) -> Vec<u8> {
+    let opening: &[u8] = random.pick(&[b"\"", b"\"", b"/*", b"//", b"a \""]);
+    let length = 1 + random.below(7);
+    let mut text = opening.to_vec();
+    text.extend((0..length).map(|_| random.pick(QUOTING)));
+    text
 }
 
 #[cfg(test)]

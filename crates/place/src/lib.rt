@@ -1,0 +1,34 @@
+// Places in a text: how far its bytes are valid, and the cursor behind some of them.
+use rules::Cursor;
+ghost use mathlib.Core.Path.{_≡_};
+ghost use Prim.Native.Nat.{_≤_};
+ghost use lib.ListN.{length, take};
+ghost use Rattle.rules.specs.Text.{validBytes, over, Roomy};
+
+// How many bytes at the front a text may have.
+pub fn valid_bytes(text: &[u8]) -> usize
+    ensures { λ r. ⌜ r ≡ validBytes (now (text .entry)) ⌝ }
+{
+    let mut i = 0;
+    while i < text.len() {
+        if 128 <= text[i] {
+            return i;
+        }
+        i += 1;
+    }
+    i
+}
+
+// The cursor behind the first n bytes, from the cursor before them.
+pub fn pass(text: &[u8], from: Cursor, n: usize) -> Cursor
+    requires { ⌜ (n ≤ length (now text)) × Roomy n from ⌝ }
+    ensures { λ r. ⌜ r ≡ over from (take n (now (text .entry))) ⌝ }
+{
+    let mut here = from;
+    let mut i = 0;
+    while i < n {
+        here = here.advance(text[i]);
+        i += 1;
+    }
+    here
+}
