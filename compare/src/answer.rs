@@ -65,7 +65,9 @@ pub enum Parsed {
     /// The scan was refused; there is nothing to parse.
     NotScanned,
     /// Document 01 refuses with this number, 27 or 32, where the original reads on.
-    NotComparable { number: u32 },
+    NotComparable {
+        number: u32,
+    },
     Refused(Refusal),
     Accepted(Tree),
 }

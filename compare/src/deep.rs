@@ -4,6 +4,7 @@ use std::cell::Cell;
 use std::panic;
 use std::thread;
 
+/// At least twice what 65,536 bytes of `(` take in any profile of Cargo.toml.
 const STACK_BYTES: usize = 512 * 1024 * 1024;
 
 thread_local! {

@@ -3,7 +3,7 @@
 //! The expectations are those papers' words, not output of the original. The
 //! edit is no part of the original: its example is here as the edited text only.
 
-use crate::answer::{Answer, Parsed, Refusal};
+use crate::answer::{Answer, Parsed, Refusal, Row};
 use crate::generate::nesting::Construct::{Group, Star, Then};
 use crate::generate::nesting::{nested, opened, repeated};
 use crate::nodes::{Word, MISSING};
@@ -64,7 +64,7 @@ impl EdgeCase {
     }
 }
 
-fn row_numbers(row: &crate::answer::Row) -> [i64; 6] {
+fn row_numbers(row: &Row) -> [i64; 6] {
     [
         row.kind.into(),
         row.start.into(),
@@ -90,9 +90,7 @@ fn parse_is_met(expected: &Expected, parsed: &Parsed) -> bool {
         (Accepted, Parsed::Accepted(_)) => true,
         (Nodes(expected), Parsed::Accepted(tree)) => {
             let nodes = tree.declarations.iter().flatten();
-            nodes
-                .map(|node| node.words())
-                .eq(expected.iter().copied())
+            nodes.map(|node| node.words()).eq(expected.iter().copied())
         }
         (NotComparable(expected), Parsed::NotComparable { number }) => expected == number,
         _ => false,
@@ -259,10 +257,7 @@ fn document_edges() -> Vec<EdgeCase> {
         case(
             from,
             "9223372036854775807",
-            Rows(vec![
-                [50, 0, 19, 1, 1, i64::MAX],
-                [52, 19, 19, 1, 20, 0],
-            ]),
+            Rows(vec![[50, 0, 19, 1, 1, i64::MAX], [52, 19, 19, 1, 20, 0]]),
         ),
         case(from, "-9223372036854775808", unscanned(15, 0)),
         case(
@@ -314,16 +309,8 @@ fn scan_readings() -> Vec<EdgeCase> {
             "\"\t\0\r\x7f\"",
             Rows(vec![[49, 0, 6, 1, 1, 0], [52, 6, 6, 1, 7, 0]]),
         ),
-        case(
-            "READINGS 4",
-            "\r\n\x0b@",
-            Ending(vec![], [11, 3, 2, 2]),
-        ),
-        case(
-            "READINGS 5",
-            "*/*",
-            Ending(vec![43], [12, 3, 1, 4]),
-        ),
+        case("READINGS 4", "\r\n\x0b@", Ending(vec![], [11, 3, 2, 2])),
+        case("READINGS 5", "*/*", Ending(vec![43], [12, 3, 1, 4])),
         case(
             "READINGS 5",
             "*//x",
@@ -512,6 +499,8 @@ fn call_readings() -> Vec<EdgeCase> {
 fn nesting_readings() -> Vec<EdgeCase> {
     let full = repeated(&[Group], 64);
     let bodies = repeated(&[Then], 64);
+    // Each body opens with 12 bytes.
+    let behind_bodies = 7 + 64 * 12;
     let stars = repeated(&[Star], 62);
     vec![
         case("READINGS 29", nested(&full, "z.w()"), Accepted),
@@ -526,10 +515,11 @@ fn nesting_readings() -> Vec<EdgeCase> {
             nested(&bodies, "if guard(a){}"),
             NotComparable(32),
         ),
-        case("READINGS 30", nested(&bodies, "if guard(1"), {
-            // 64 bodies of 12 bytes, then `if guard(` of 9.
-            unwanted(7 + 64 * 12 + 9, 48, 50)
-        }),
+        case(
+            "READINGS 30",
+            nested(&bodies, "if guard(1"),
+            unwanted(behind_bodies + 9, 48, 50),
+        ),
         case("READINGS 30", nested(&stars, "*a.f(x)"), Accepted),
         case("READINGS 30", nested(&stars, "**a.f(x)"), NotComparable(32)),
     ]
@@ -610,8 +600,26 @@ fn node_readings() -> Vec<EdgeCase> {
                 known(&[1, 6, 6]),
                 known(&[1, 9, 9]),
                 known(&[13, 9, m, 1]),
-                [Some(21), None, Some(m), Some(1), Some(0), Some(0), Some(0), Some(0)],
-                [Some(22), None, Some(m), Some(0), Some(0), Some(0), Some(0), Some(0)],
+                [
+                    Some(21),
+                    None,
+                    Some(m),
+                    Some(1),
+                    Some(0),
+                    Some(0),
+                    Some(0),
+                    Some(0),
+                ],
+                [
+                    Some(22),
+                    None,
+                    Some(m),
+                    Some(0),
+                    Some(0),
+                    Some(0),
+                    Some(0),
+                    Some(0),
+                ],
                 known(&[20, 4, m, 3]),
                 known(unit_of_one),
             ]),

@@ -5,6 +5,7 @@
 //! has the texts whose answers document 01 and READINGS state; `sample` writes
 //! answers down for a program that cannot run Rust.
 
+#[allow(clippy::all)]
 pub mod original;
 // The original sources name each other from the crate's root.
 pub use original::{ast, ir, lexer, parser};

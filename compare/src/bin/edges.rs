@@ -1,8 +1,8 @@
-//! Prints document 01's edges and lister example and the examples of READINGS
-//! with the original's answers. The exit status is 1 if any answer is not the
-//! expected one.
+//! Prints document 01's edges and lister example, the examples of READINGS and
+//! texts of limit length with the original's answers. The exit status is 1 if any
+//! answer is not the expected one.
 
-use compare::answer::answer;
+use compare::answer::{answer, Answer, LONGEST_TEXT};
 use compare::deep::on_deep_stack;
 use compare::edge_cases::{
     edge_cases, EdgeCase, LISTER_LINES, LISTER_TEXT, METHOD_SETS, SECTION_KINDS,
@@ -14,9 +14,12 @@ use std::process::ExitCode;
 
 fn main() -> ExitCode {
     let mismatches = on_deep_stack(|| {
-        print_lister_example() + print_edge_cases() + print_sections() + print_method_sets()
+        print_lister_example()
+            + print_edge_cases()
+            + print_sections()
+            + print_method_sets()
+            + print_limit_lengths()
     });
-    on_deep_stack(print_limit_lengths);
     println!("mismatches: {mismatches}");
     if mismatches == 0 {
         ExitCode::SUCCESS
@@ -53,7 +56,7 @@ fn print_edge_case(case: &EdgeCase) -> usize {
 
 /// The text with escapes, cut if it is long.
 fn shown_text(text: &[u8]) -> String {
-    match text.get(..100) {
+    match text.get(..60) {
         Some(beginning) => format!("`{}`.. ({} bytes)", beginning.escape_ascii(), text.len()),
         None => format!("`{}`", text.escape_ascii()),
     }
@@ -82,12 +85,17 @@ fn print_method_sets() -> usize {
         .sum()
 }
 
-/// Texts of limit length: their answers, for which no paper states more than 1.
-fn print_limit_lengths() {
-    for text in lengths::texts() {
-        println!("limit length: {}", shown_text(&text[..]));
-        println!("    {}", one_line(&answer(&text)));
-    }
+/// Of these a paper states only that the longer ones are 1.
+fn print_limit_lengths() -> usize {
+    lengths::texts()
+        .map(|text| {
+            let answer = answer(&text);
+            println!("limit length: {}", shown_text(&text));
+            println!("    {}", one_line(&answer));
+            let is_refused = answer == Answer::NotCompared { number: 1 };
+            verdict(is_refused == (text.len() > LONGEST_TEXT))
+        })
+        .sum()
 }
 
 fn verdict(met: bool) -> usize {

@@ -38,10 +38,13 @@ pub fn texts() -> Vec<Vec<u8>> {
 
 fn maps() -> impl Iterator<Item = String> {
     MAP_FIELDS.into_iter().enumerate().flat_map(|(row, first)| {
-        MAP_FIELDS.into_iter().enumerate().map(move |(column, second)| {
-            let end = MAP_ENDS[(row + column) % MAP_ENDS.len()];
-            format!("map m{{{first}{second}{end}")
-        })
+        MAP_FIELDS
+            .into_iter()
+            .enumerate()
+            .map(move |(column, second)| {
+                let end = MAP_ENDS[(row + column) % MAP_ENDS.len()];
+                format!("map m{{{first}{second}{end}")
+            })
     })
 }
 

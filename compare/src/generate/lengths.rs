@@ -10,7 +10,7 @@ struct Filling {
     last: &'static str,
 }
 
-const FILLINGS: [Filling; 12] = [
+const FILLINGS: [Filling; 15] = [
     filling("", " ", ""),
     filling("", "\n", ""),
     filling("", "a", ""),
@@ -22,7 +22,10 @@ const FILLINGS: [Filling; 12] = [
     filling("/*", "*", ""),
     filling("unit u{", " x+=1;\n", "}"),
     filling("unit u{a", "+a", ";}"),
+    filling("unit u{a", ".b", ";}"),
+    filling("unit u{", "*", "x;}"),
     filling("unit u{", "(", ""),
+    filling("unit u{", "(", "1.m()"),
 ];
 
 const fn filling(first: &'static str, repeated: &'static str, last: &'static str) -> Filling {

@@ -8,7 +8,15 @@ use super::spelling::{joined, Spellings};
 const VARIABLES: [&str; 6] = ["a", "b", "ctx", "x1", "_v", "hash"];
 const METHODS: [&str; 4] = ["m", "get", "load_u32", "_"];
 const NUMBERS: [&str; 9] = [
-    "0", "1", "2", "14", "-1", "-0", "0xFf", "-9223372036854775807", "9223372036854775807",
+    "0",
+    "1",
+    "2",
+    "14",
+    "-1",
+    "-0",
+    "0xFf",
+    "-9223372036854775807",
+    "9223372036854775807",
 ];
 const SECTIONS: [&str; 16] = [
     "\"xdp\"",

@@ -13,18 +13,77 @@ struct Pot {
 const UNIT: Pot = Pot {
     beginning: &["unit", "u", "{"],
     inside: &[
-        "a", "b", "1", "-1", "(", ")", "(", ")", ".", ".m(", ".f", "*", "+", "-", "<<", ">>", "/",
-        "%", "=", "+=", ";", ";", ";", ",", "return", "reg a=", "imm", "heap b", "if guard(a){",
-        "if", "guard", "}else{", "else", "{", "}", "section \"xdp\";", "license", "\"q\"",
+        "a",
+        "b",
+        "1",
+        "-1",
+        "(",
+        ")",
+        "(",
+        ")",
+        ".",
+        ".m(",
+        ".f",
+        "*",
+        "+",
+        "-",
+        "<<",
+        ">>",
+        "/",
+        "%",
+        "=",
+        "+=",
+        ";",
+        ";",
+        ";",
+        ",",
+        "return",
+        "reg a=",
+        "imm",
+        "heap b",
+        "if guard(a){",
+        "if",
+        "guard",
+        "}else{",
+        "else",
+        "{",
+        "}",
+        "section \"xdp\";",
+        "license",
+        "\"q\"",
     ],
 };
 
 const MAP: Pot = Pot {
     beginning: &["map", "m", "{"],
     inside: &[
-        "type:.", "type:.hash;", "type:.ringbuf;", "type", "key:", "key", "value:", "max:", "max",
-        ":", ".", ";", ";", ";", "hash", "q", "u32", "u32;", "i64;", "1", "1;", "-1", "64", "<<",
-        ">>", "}", "}",
+        "type:.",
+        "type:.hash;",
+        "type:.ringbuf;",
+        "type",
+        "key:",
+        "key",
+        "value:",
+        "max:",
+        "max",
+        ":",
+        ".",
+        ";",
+        ";",
+        ";",
+        "hash",
+        "q",
+        "u32",
+        "u32;",
+        "i64;",
+        "1",
+        "1;",
+        "-1",
+        "64",
+        "<<",
+        ">>",
+        "}",
+        "}",
     ],
 };
 
@@ -41,9 +100,7 @@ const EVENT: Pot = Pot {
 pub fn text(random: &mut Random, most_tokens: usize) -> Vec<u8> {
     let count = 1 + random.below(most_tokens);
     let tokens = match random.below(5) {
-        0 => (0..count)
-            .map(|_| any_token(random).to_string())
-            .collect(),
+        0 => (0..count).map(|_| any_token(random).to_string()).collect(),
         1 | 2 => from_pot(random, &UNIT, count),
         3 => from_pot(random, &MAP, count),
         _ => from_pot(random, &EVENT, count),
@@ -52,7 +109,11 @@ pub fn text(random: &mut Random, most_tokens: usize) -> Vec<u8> {
 }
 
 fn from_pot(random: &mut Random, pot: &Pot, count: usize) -> Spellings {
-    let mut tokens: Spellings = pot.beginning.iter().map(|token| token.to_string()).collect();
+    let mut tokens: Spellings = pot
+        .beginning
+        .iter()
+        .map(|token| token.to_string())
+        .collect();
     for _ in 0..count {
         let token = if random.one_in(20) {
             any_token(random)

@@ -21,12 +21,29 @@ pub const NAMES: [&str; 12] = [
 ];
 
 pub const NUMBERS: [&str; 14] = [
-    "0", "1", "2", "7", "63", "64", "-1", "-0", "0x1F", "-0xa", "4294967295", "4294967296",
-    "007", "9223372036854775807",
+    "0",
+    "1",
+    "2",
+    "7",
+    "63",
+    "64",
+    "-1",
+    "-0",
+    "0x1F",
+    "-0xa",
+    "4294967295",
+    "4294967296",
+    "007",
+    "9223372036854775807",
 ];
 
 pub const STRINGS: [&str; 6] = [
-    "\"\"", "\"xdp\"", "\"GPL\"", "\"a\\\"b\"", "\"\\\\\\n\"", "\"tc/x\"",
+    "\"\"",
+    "\"xdp\"",
+    "\"GPL\"",
+    "\"a\\\"b\"",
+    "\"\\\\\\n\"",
+    "\"tc/x\"",
 ];
 
 const GAPS: [&str; 10] = [
@@ -97,7 +114,9 @@ mod tests {
     fn joined_tokens_stay_themselves() {
         let mut random = Random::new(3);
         for _ in 0..2000 {
-            let tokens: Spellings = (0..12).map(|_| any_token(&mut random).to_string()).collect();
+            let tokens: Spellings = (0..12)
+                .map(|_| any_token(&mut random).to_string())
+                .collect();
             let text = String::from_utf8(joined(&mut random, &tokens)).unwrap();
             let read = scan(&text).tokens;
             let spelt: Spellings = read.into_iter().map(|token| token.lexeme).collect();

@@ -1,9 +1,12 @@
 //! Glue: the original's `ast` module, and the `Program` that its sources lack.
 
+#[rustfmt::skip]
 #[path = "../../../docs/src/src/ast/event.rs"]
 pub mod event;
+#[rustfmt::skip]
 #[path = "../../../docs/src/src/ast/map.rs"]
 pub mod map;
+#[rustfmt::skip]
 #[path = "../../../docs/src/src/ast/unit.rs"]
 pub mod unit;
 

@@ -1,0 +1,2 @@
+-- Laws of rows, trees and node memory; the parser's definitions by cases; and the theorems between the parser and the grammar.
+pub mod Laws
