@@ -1,6 +1,6 @@
 -- Laws of rows, of a tree's numbers and of node memory.
-use mathlib.Core.Path.{_≡_, refl, sym, ap, _∙_}
-use mathlib.Core.Bool.{Bool, true, false, true≢false}
+use mathlib.Core.Path.{_≡_, refl, sym, ap, _∙_, subst}
+use mathlib.Core.Bool.{Bool, true, false, _||_, true≢false}
 use mathlib.Core.List.{List, [], _∷_, _++_, append-assoc}
 use Prim.Native.Nat.{ℕ, zero, suc, pred, _+_, _*_, _/_, _%_, _^_, _≤_, _<_, zero-le, suc-le-suc}
 use native.Mathlib.Nat.{add-suc, suc-add, not-suc-le-zero, le-of-suc-le-suc, add-zero}
@@ -9,7 +9,7 @@ use native.Mathlib.Omega.{arith}
 use lib.Dec.{eqb}
 use lib.ListN.{length, getD, drop, set, length-append}
 use lib.Seq.{sets, drop-cons}
-use borrow.Author.Tests.{eqb-false}
+use borrow.Author.Tests.{eqb-true, eqb-false}
 use Rattle.rules.specs.Kinds.{Eof, KeywordKey, KeywordValue}
 use Rattle.rules.specs.Tree.{Tok, sign, kindOf, Tree, none, num, var, star, group, field, call, bin, one, more, decl, ret, plain, assign, guard, thenBody, elseBody, seq, text, unit, mapType, typed, limit, first, shifted, mapDecl, plainField, bytesField, arrayField, event, program, yield, count, unitKind, typeNumber, typeOf, typedBy, limitOf}
 use Rattle.rules.specs.Nodes.{Node, node, factNode, missing, width, placeOf, licenceRow, binaryNode, declNode, assignNode, textNode, nodesOf, size, nodeWords, wordsOfNodes, treeWords}
@@ -41,6 +41,23 @@ test-here (x ∷ xs) (suc i) test e b = suc-le-suc (test-here xs i test e b)
 -- what stands from a row on
 pub from : (ts : List Tok) (i : ℕ) → i < length ts → drop i ts ≡ tokAt ts i ∷ drop (i + 1) ts
 from ts i h = drop-cons ts i (sign Eof) h ∙ rw add-one
+
+-- ---- kinds
+
+-- what holds of each kind that a test names holds of a kind that passes it
+pub either-kind : (C : ℕ → Type 0) (k x y : ℕ) → eqb k x || eqb k y ≡ true → C x → C y → C k
+either-kind C k x y b p q = go (eqb k x) refl b
+  where
+    go : (c : Bool) → eqb k x ≡ c → c || eqb k y ≡ true → C k
+    go true e b = subst C (sym (eqb-true k x e)) p
+    go false e b = subst C (sym (eqb-true k y b)) q
+
+pub three-kinds : (C : ℕ → Type 0) (k x y z : ℕ) → (eqb k x || eqb k y) || eqb k z ≡ true → C x → C y → C z → C k
+three-kinds C k x y z b p q r = go (eqb k x || eqb k y) refl b
+  where
+    go : (c : Bool) → eqb k x || eqb k y ≡ c → c || eqb k z ≡ true → C k
+    go true e b = either-kind C k x y e p q
+    go false e b = subst C (sym (eqb-true k z b)) r
 
 -- ---- memory
 

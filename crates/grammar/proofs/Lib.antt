@@ -1,2 +1,3 @@
 -- Laws of rows, trees and node memory; the parser's definitions by cases; and the theorems between the parser and the grammar.
 pub mod Laws
+pub mod Cases

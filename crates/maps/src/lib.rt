@@ -5,6 +5,7 @@ use nodes::Words;
 use rules::Syntax;
 ghost use mathlib.Core.Path.{_≡_};
 ghost use Prim.Native.Nat.{_+_, _*_, _≤_, _<_};
+ghost use Rattle.rules.specs.Tree.{mapTypeNumber, lacking};
 ghost use Rattle.rules.specs.Parse.{mapAt};
 ghost use Rattle.nodes.specs.Post.{Met, AsksOpen, Tells};
 
@@ -55,18 +56,6 @@ fn bits_at(rows: &[u32], row: usize) -> u64
 {
     let at = row * 8;
     (rows[at + 6] as u64) * 4294967296 + (rows[at + 5] as u64)
-}
-
-// 2 to the n.
-fn power(n: u64) -> u64
-{
-    let mut p: u64 = 1;
-    let mut i: u64 = 0;
-    while i < n {
-        p = p * 2;
-        i += 1;
-    }
-    p
 }
 
 // x shifted by c, left or right, in 64-bit two's complement.
@@ -203,4 +192,192 @@ fn typed_field(rows: &[u32], count: usize, f: Fields, kind: u32) -> Fielded
         value: number,
         limit: f.limit,
     })
+}
+
+// The map types' spellings, padded to sixteen bytes, and their lengths: hash, array, ringbuf, lru_hash, prog_array.
+const SPELLINGS: [u8; 80] = [104, 97, 115, 104, 0, 0, 0, 0, 0, 0, 0, 0, 0, 0, 0, 0, 97, 114, 114, 97, 121, 0, 0, 0, 0, 0, 0, 0, 0, 0, 0, 0, 114, 105, 110, 103, 98, 117, 102, 0, 0, 0, 0, 0, 0, 0, 0, 0, 108, 114, 117, 95, 104, 97, 115, 104, 0, 0, 0, 0, 0, 0, 0, 0, 112, 114, 111, 103, 95, 97, 114, 114, 97, 121, 0, 0, 0, 0, 0, 0];
+
+const LENGTHS: [usize; 5] = [4, 5, 7, 8, 10];
+
+// Whether a word is the spelling of a map type, from 0.
+fn spells(word: &[u8], k: usize) -> bool
+    requires { ⌜ k < 5 ⌝ }
+{
+    let n = LENGTHS[k];
+    if word.len() != n {
+        return false;
+    }
+    let mut i = 0;
+    while i < n {
+        if word[i] != SPELLINGS[k * 16 + i] {
+            return false;
+        }
+        i += 1;
+    }
+    true
+}
+
+// A map type's number, 1 to 5, or 0.
+fn type_number(word: &[u8]) -> u32
+    ensures { λ r. ⌜ r ≡ mapTypeNumber (now (word .entry)) ⌝ }
+{
+    let mut k: usize = 0;
+    while k < 5 {
+        if spells(word, k) {
+            return (k as u32) + 1;
+        }
+        k += 1;
+    }
+    0
+}
+
+// `type` at the fields' row. The rows' spellings lie inside the text.
+fn type_field(text: &[u8], rows: &[u32], count: usize, f: Fields) -> Fielded
+{
+    let colon = f.row + 1;
+    let k1 = nodes::kind_at(rows, count, colon);
+    if k1 != COLON {
+        return Fielded::Refused(Syntax::Wanted(COLON, k1), colon);
+    }
+    let dot = colon + 1;
+    let k2 = nodes::kind_at(rows, count, dot);
+    if k2 != DOT {
+        return Fielded::Refused(Syntax::Wanted(DOT, k2), dot);
+    }
+    let name = dot + 1;
+    let k3 = nodes::kind_at(rows, count, name);
+    if k3 != IDENTIFIER {
+        return Fielded::Refused(Syntax::Wanted(IDENTIFIER, k3), name);
+    }
+    let a = rows[name * 8 + 1] as usize;
+    let e = rows[name * 8 + 2] as usize;
+    let number = type_number(&text[a..e]);
+    let end = name + 1;
+    if number == 0 {
+        return Fielded::Refused(Syntax::MapTypeUnknown, end);
+    }
+    let k4 = nodes::kind_at(rows, count, end);
+    if k4 != SEMICOLON {
+        return Fielded::Refused(Syntax::Wanted(SEMICOLON, k4), end);
+    }
+    Fielded::Done(Fields {
+        row: end + 1,
+        kind: number,
+        key: f.key,
+        value: f.value,
+        limit: f.limit,
+    })
+}
+
+// A field at the fields' row.
+fn field(text: &[u8], rows: &[u32], count: usize, f: Fields) -> Fielded
+{
+    let at = f.row;
+    let k = nodes::kind_at(rows, count, at);
+    match k {
+        7 => type_field(text, rows, count, f),
+        8 | 9 => typed_field(rows, count, f, k),
+        10 => max_field(rows, count, f),
+        _ => Fielded::Refused(Syntax::NotMapField, at),
+    }
+}
+
+// Fields from the row on, up to `}`, which is not taken.
+fn fields(text: &[u8], rows: &[u32], count: usize, row: usize) -> Fielded
+{
+    let mut f = Fields {
+        row,
+        kind: 0,
+        key: 0,
+        value: 0,
+        limit: 0,
+    };
+    loop {
+        let at = f.row;
+        if nodes::kind_at(rows, count, at) == RBRACE {
+            return Fielded::Done(f);
+        }
+        match field(text, rows, count, f) {
+            Fielded::Done(g) => {
+                f = g;
+            }
+            Fielded::Refused(why, r) => {
+                return Fielded::Refused(why, r);
+            }
+        }
+    }
+}
+
+// The field that a map lacks, 1 to 4, or 0.
+fn lacks(f: Fields) -> u32
+    ensures { λ r. ⌜ r ≡ lacking (f .kind) (f .key) (f .value) (f .limit) ⌝ }
+{
+    if f.kind == 0 {
+        return 1;
+    }
+    if f.kind == 3 {
+        if f.limit == 0 {
+            return 4;
+        }
+        return 0;
+    }
+    if f.key == 0 {
+        return 2;
+    }
+    if f.value == 0 {
+        return 3;
+    }
+    if f.limit == 0 { 4 } else { 0 }
+}
+
+// The map's node, whose name is at a row, from fields that lack nothing.
+fn map_node(nodes: &mut [u32], node: usize, name: usize, f: Fields)
+{
+    let at = name as u32;
+    nodes::store(
+        nodes,
+        node,
+        Words {
+            kind: 28,
+            place: at,
+            name: at,
+            children: 0,
+            fact0: f.kind,
+            fact1: f.key,
+            fact2: f.value,
+            fact3: (f.limit - 1) as u32,
+        },
+    );
+}
+
+// The map whose word is at the row.
+pub fn map(text: &[u8], rows: &[u32], count: usize, nodes: &mut [u32], row: usize, node: usize) -> Got
+{
+    let name = row + 1;
+    let k1 = nodes::kind_at(rows, count, name);
+    if k1 != IDENTIFIER {
+        return Got::Refused(Syntax::Wanted(IDENTIFIER, k1), name);
+    }
+    let open = name + 1;
+    let k2 = nodes::kind_at(rows, count, open);
+    if k2 != LBRACE {
+        return Got::Refused(Syntax::Wanted(LBRACE, k2), open);
+    }
+    match fields(text, rows, count, open + 1) {
+        Fielded::Done(f) => {
+            let next = f.row + 1;
+            let missing = lacks(f);
+            if missing != 0 {
+                return Got::Refused(Syntax::MapLacks(missing), next);
+            }
+            map_node(nodes, node, name, f);
+            Got::Done(At {
+                row: next,
+                node: node + 1,
+                place: name,
+                tag: 0,
+            })
+        }
+        Fielded::Refused(why, r) => Got::Refused(why, r),
+    }
 }
