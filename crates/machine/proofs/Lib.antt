@@ -5,3 +5,7 @@ pub mod Words
 pub mod Comments
 pub mod Strings
 pub mod Numbers
+pub mod Signs
+pub mod Pieces
+pub mod Scans
+pub mod Same

@@ -119,10 +119,14 @@ single b decided =
     (cond (eqb (kindIn signs Kinds.Eof (b ∷ [])) Kinds.Eof) (refused NoRowBegins 0 decided)
     (row (kindIn signs Kinds.Eof (b ∷ [])) 1 0 decided))
 
+-- the two bytes at the front; 0 where the text has ended, which is in no sign
+abbrev pub frontTwo : List ℕ → List ℕ
+frontTwo s = getD s 0 0 ∷ getD s 1 0 ∷ []
+
 unfoldable pub sign : List ℕ → Piece
 sign s =
     cond (maybeTwo (getD s 0 0))
-    (cond (eqb (kindIn signs Kinds.Eof (take 2 s)) Kinds.Eof) (single (getD s 0 0) 1) (row (kindIn signs Kinds.Eof (take 2 s)) 2 0 1))
+    (cond (eqb (kindIn signs Kinds.Eof (frontTwo s)) Kinds.Eof) (single (getD s 0 0) 1) (row (kindIn signs Kinds.Eof (frontTwo s)) 2 0 1))
     (single (getD s 0 0) 0)
 
 -- ---- all of it
