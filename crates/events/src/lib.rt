@@ -11,15 +11,25 @@ ghost use Rattle.rules.specs.Parse.{eventField, eventAt};
 ghost use Rattle.nodes.specs.Post.{Answers, Asks, AsksOpen};
 
 const TYPE_U32: u32 = 21;
+
 const TYPE_I64: u32 = 24;
+
 const LBRACE: u32 = 25;
+
 const RBRACE: u32 = 26;
+
 const COLON: u32 = 29;
+
 const SEMICOLON: u32 = 32;
+
 const LBRACKET: u32 = 33;
+
 const RBRACKET: u32 = 34;
+
 const IDENTIFIER: u32 = 48;
+
 const NUMBER: u32 = 50;
+
 const BYTES: u32 = 51;
 
 // A field's facts and the row behind it.
@@ -36,8 +46,7 @@ pub enum Shaped {
 }
 
 // The length at the row, `]` and `;`, of a field of a form and element.
-fn length_at(rows: &[u32], count: usize, row: usize, form: u32, element: u32) -> Shaped
-{
+fn length_at(rows: &[u32], count: usize, row: usize, form: u32, element: u32) -> Shaped {
     let k1 = nodes::kind_at(rows, count, row);
     if k1 != NUMBER {
         return Shaped::Refused(Syntax::Wanted(NUMBER, k1), row);
@@ -66,8 +75,7 @@ fn length_at(rows: &[u32], count: usize, row: usize, form: u32, element: u32) ->
 }
 
 // The type at the row, with a length or without, and `;`.
-fn typed_at(rows: &[u32], count: usize, row: usize, kind: u32) -> Shaped
-{
+fn typed_at(rows: &[u32], count: usize, row: usize, kind: u32) -> Shaped {
     let next = row + 1;
     let k = nodes::kind_at(rows, count, next);
     if k == LBRACKET {
@@ -85,8 +93,7 @@ fn typed_at(rows: &[u32], count: usize, row: usize, kind: u32) -> Shaped
 }
 
 // What stands behind a field's colon.
-fn shape_at(rows: &[u32], count: usize, row: usize) -> Shaped
-{
+fn shape_at(rows: &[u32], count: usize, row: usize) -> Shaped {
     let k = nodes::kind_at(rows, count, row);
     if k == BYTES {
         let open = row + 1;
@@ -148,8 +155,14 @@ fn field(rows: &[u32], count: usize, nodes: &mut [u32], row: usize, node: usize)
 }
 
 // Fields from s on, up to `}`, and the event's node, whose name is at a row.
-fn fields(rows: &[u32], count: usize, nodes: &mut [u32], first: usize, node: usize, name: usize) -> Got
-{
+fn fields(
+    rows: &[u32],
+    count: usize,
+    nodes: &mut [u32],
+    first: usize,
+    node: usize,
+    name: usize,
+) -> Got {
     let mut s = At {
         row: first,
         node,

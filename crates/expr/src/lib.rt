@@ -14,17 +14,29 @@ ghost use Rattle.nodes.specs.Post.{Answers, Onward, Asks, AsksAt, AsksOpen};
 ghost use Rattle.expr.specs.Calls.{CallEnd};
 
 const LPAREN: u32 = 27;
+
 const RPAREN: u32 = 28;
+
 const DOT: u32 = 30;
+
 const COMMA: u32 = 31;
+
 const PLUS: u32 = 41;
+
 const MINUS: u32 = 42;
+
 const STAR: u32 = 43;
+
 const SLASH: u32 = 44;
+
 const PERCENT: u32 = 45;
+
 const SHR: u32 = 46;
+
 const SHL: u32 = 47;
+
 const IDENTIFIER: u32 = 48;
+
 const NUMBER: u32 = 50;
 
 fn is_add(k: u32) -> bool
@@ -97,7 +109,14 @@ fn field_end(nodes: &mut [u32], s: At) -> At
     }
 }
 
-pub fn add(rows: &[u32], count: usize, nodes: &mut [u32], row: usize, node: usize, left: usize) -> Got
+pub fn add(
+    rows: &[u32],
+    count: usize,
+    nodes: &mut [u32],
+    row: usize,
+    node: usize,
+    left: usize,
+) -> Got
     requires { ⌜ Asks (now rows) count row node left ⌝ }
     ensures { λ r. ⌜ Answers (λ ts. add ts (inner ts left) row) (now (rows .entry)) count row node (now (nodes .entry)) (now (nodes .exit)) r ⌝ }
 {

@@ -10,20 +10,35 @@ ghost use Rattle.rules.specs.Parse.{mapAt};
 ghost use Rattle.nodes.specs.Post.{Met, AsksOpen, Tells};
 
 const TYPE: u32 = 7;
+
 const KEY: u32 = 8;
+
 const VALUE: u32 = 9;
+
 const MAX: u32 = 10;
+
 const TYPE_U32: u32 = 21;
+
 const TYPE_I64: u32 = 24;
+
 const LBRACE: u32 = 25;
+
 const RBRACE: u32 = 26;
+
 const COLON: u32 = 29;
+
 const DOT: u32 = 30;
+
 const SEMICOLON: u32 = 32;
+
 const SHR: u32 = 46;
+
 const SHL: u32 = 47;
+
 const IDENTIFIER: u32 = 48;
+
 const NUMBER: u32 = 50;
+
 const EOF: u32 = 52;
 
 // What the fields so far give, 0 for none, `limit` one more than max; and the next row.
@@ -52,15 +67,13 @@ pub enum Summed {
 }
 
 // The value's bits of the number at a row of the table.
-fn bits_at(rows: &[u32], row: usize) -> u64
-{
+fn bits_at(rows: &[u32], row: usize) -> u64 {
     let at = row * 8;
     (rows[at + 6] as u64) * 4294967296 + (rows[at + 5] as u64)
 }
 
 // x shifted by c, left or right, in 64-bit two's complement.
-fn shifted(kind: u32, x: u64, c: u64) -> u64
-{
+fn shifted(kind: u32, x: u64, c: u64) -> u64 {
     if kind == SHL {
         return x << c;
     }
@@ -71,8 +84,7 @@ fn shifted(kind: u32, x: u64, c: u64) -> u64
 }
 
 // A shift whose sign is at the sum's row.
-fn shift_step(rows: &[u32], count: usize, s: Sum, kind: u32) -> Summed
-{
+fn shift_step(rows: &[u32], count: usize, s: Sum, kind: u32) -> Summed {
     let number = s.row + 1;
     let k = nodes::kind_at(rows, count, number);
     if k != NUMBER {
@@ -89,8 +101,7 @@ fn shift_step(rows: &[u32], count: usize, s: Sum, kind: u32) -> Summed
 }
 
 // A number and shifts by numbers, from the row on.
-fn sum(rows: &[u32], count: usize, row: usize) -> Summed
-{
+fn sum(rows: &[u32], count: usize, row: usize) -> Summed {
     let k = nodes::kind_at(rows, count, row);
     if k != NUMBER {
         return Summed::Refused(Syntax::Wanted(NUMBER, k), row);
@@ -119,8 +130,7 @@ fn sum(rows: &[u32], count: usize, row: usize) -> Summed
 }
 
 // `max` at the fields' row.
-fn max_field(rows: &[u32], count: usize, f: Fields) -> Fielded
-{
+fn max_field(rows: &[u32], count: usize, f: Fields) -> Fielded {
     let colon = f.row + 1;
     let k1 = nodes::kind_at(rows, count, colon);
     if k1 != COLON {
@@ -152,8 +162,7 @@ fn max_field(rows: &[u32], count: usize, f: Fields) -> Fielded
 }
 
 // `key` or `value`, which the kind says, at the fields' row.
-fn typed_field(rows: &[u32], count: usize, f: Fields, kind: u32) -> Fielded
-{
+fn typed_field(rows: &[u32], count: usize, f: Fields, kind: u32) -> Fielded {
     let colon = f.row + 1;
     let k1 = nodes::kind_at(rows, count, colon);
     if k1 != COLON {
@@ -195,7 +204,88 @@ fn typed_field(rows: &[u32], count: usize, f: Fields, kind: u32) -> Fielded
 }
 
 // The map types' spellings, padded to sixteen bytes, and their lengths: hash, array, ringbuf, lru_hash, prog_array.
-const SPELLINGS: [u8; 80] = [104, 97, 115, 104, 0, 0, 0, 0, 0, 0, 0, 0, 0, 0, 0, 0, 97, 114, 114, 97, 121, 0, 0, 0, 0, 0, 0, 0, 0, 0, 0, 0, 114, 105, 110, 103, 98, 117, 102, 0, 0, 0, 0, 0, 0, 0, 0, 0, 108, 114, 117, 95, 104, 97, 115, 104, 0, 0, 0, 0, 0, 0, 0, 0, 112, 114, 111, 103, 95, 97, 114, 114, 97, 121, 0, 0, 0, 0, 0, 0];
+const SPELLINGS: [u8; 80] = [
+    104,
+    97,
+    115,
+    104,
+    0,
+    0,
+    0,
+    0,
+    0,
+    0,
+    0,
+    0,
+    0,
+    0,
+    0,
+    0,
+    97,
+    114,
+    114,
+    97,
+    121,
+    0,
+    0,
+    0,
+    0,
+    0,
+    0,
+    0,
+    0,
+    0,
+    0,
+    0,
+    114,
+    105,
+    110,
+    103,
+    98,
+    117,
+    102,
+    0,
+    0,
+    0,
+    0,
+    0,
+    0,
+    0,
+    0,
+    0,
+    108,
+    114,
+    117,
+    95,
+    104,
+    97,
+    115,
+    104,
+    0,
+    0,
+    0,
+    0,
+    0,
+    0,
+    0,
+    0,
+    112,
+    114,
+    111,
+    103,
+    95,
+    97,
+    114,
+    114,
+    97,
+    121,
+    0,
+    0,
+    0,
+    0,
+    0,
+    0,
+];
 
 const LENGTHS: [usize; 5] = [4, 5, 7, 8, 10];
 
@@ -232,8 +322,7 @@ fn type_number(word: &[u8]) -> u32
 }
 
 // `type` at the fields' row. The rows' spellings lie inside the text.
-fn type_field(text: &[u8], rows: &[u32], count: usize, f: Fields) -> Fielded
-{
+fn type_field(text: &[u8], rows: &[u32], count: usize, f: Fields) -> Fielded {
     let colon = f.row + 1;
     let k1 = nodes::kind_at(rows, count, colon);
     if k1 != COLON {
@@ -270,8 +359,7 @@ fn type_field(text: &[u8], rows: &[u32], count: usize, f: Fields) -> Fielded
 }
 
 // A field at the fields' row.
-fn field(text: &[u8], rows: &[u32], count: usize, f: Fields) -> Fielded
-{
+fn field(text: &[u8], rows: &[u32], count: usize, f: Fields) -> Fielded {
     let at = f.row;
     let k = nodes::kind_at(rows, count, at);
     match k {
@@ -283,8 +371,7 @@ fn field(text: &[u8], rows: &[u32], count: usize, f: Fields) -> Fielded
 }
 
 // Fields from the row on, up to `}`, which is not taken.
-fn fields(text: &[u8], rows: &[u32], count: usize, row: usize) -> Fielded
-{
+fn fields(text: &[u8], rows: &[u32], count: usize, row: usize) -> Fielded {
     let mut f = Fields {
         row,
         kind: 0,
@@ -331,8 +418,7 @@ fn lacks(f: Fields) -> u32
 }
 
 // The map's node, whose name is at a row, from fields that lack nothing.
-fn map_node(nodes: &mut [u32], node: usize, name: usize, f: Fields)
-{
+fn map_node(nodes: &mut [u32], node: usize, name: usize, f: Fields) {
     let at = name as u32;
     nodes::store(
         nodes,
@@ -351,8 +437,14 @@ fn map_node(nodes: &mut [u32], node: usize, name: usize, f: Fields)
 }
 
 // The map whose word is at the row.
-pub fn map(text: &[u8], rows: &[u32], count: usize, nodes: &mut [u32], row: usize, node: usize) -> Got
-{
+pub fn map(
+    text: &[u8],
+    rows: &[u32],
+    count: usize,
+    nodes: &mut [u32],
+    row: usize,
+    node: usize,
+) -> Got {
     let name = row + 1;
     let k1 = nodes::kind_at(rows, count, name);
     if k1 != IDENTIFIER {

@@ -9,6 +9,7 @@ ghost use Rattle.rules.specs.Nodes.{node, factNode, nodeWords, missing};
 ghost use Rattle.nodes.specs.Post.{kindWord};
 
 pub const MISSING: u32 = 4294967295;
+
 pub const EOF: u32 = 52;
 
 // Where the parser stands: the next row, the next node, the place of what was read, and 1 if that is a variable or, of a list, how

@@ -2,12 +2,12 @@
 // leaves node memory as it was.
 use nodes::At;
 use nodes::Got;
+use rules::Column;
 use rules::Cursor;
 use rules::Ending;
 use rules::Judged;
-use rules::Offset;
 use rules::Line;
-use rules::Column;
+use rules::Offset;
 use rules::Outer;
 use rules::Parsed;
 use rules::Reason;
@@ -17,13 +17,15 @@ ghost use mathlib.Core.Path.{_≡_};
 ghost use Rattle.rules.specs.Calls.{parseTold, parseLeaves, nodeRoom, placeOfRow};
 
 const UNIT: u32 = 0;
+
 const MAP: u32 = 6;
+
 const EVENT: u32 = 15;
+
 const EOF: u32 = 52;
 
 // A map, an event or a unit at the row.
-fn top(text: &[u8], rows: &[u32], count: usize, nodes: &mut [u32], row: usize, node: usize) -> Got
-{
+fn top(text: &[u8], rows: &[u32], count: usize, nodes: &mut [u32], row: usize, node: usize) -> Got {
     match nodes::kind_at(rows, count, row) {
         6 => maps::map(text, rows, count, nodes, row, node),
         0 => units::unit(text, rows, count, nodes, row, node),
@@ -33,8 +35,7 @@ fn top(text: &[u8], rows: &[u32], count: usize, nodes: &mut [u32], row: usize, n
 }
 
 // The program of the rows.
-fn program(text: &[u8], rows: &[u32], count: usize, nodes: &mut [u32]) -> Got
-{
+fn program(text: &[u8], rows: &[u32], count: usize, nodes: &mut [u32]) -> Got {
     let mut s = At {
         row: 0,
         node: 0,
@@ -58,8 +59,7 @@ fn program(text: &[u8], rows: &[u32], count: usize, nodes: &mut [u32]) -> Got
 }
 
 // The place of a row.
-fn place_of(rows: &[u32], row: usize) -> Cursor
-{
+fn place_of(rows: &[u32], row: usize) -> Cursor {
     let at = row * 8;
     Cursor {
         offset: Offset(rows[at + 1]),
@@ -68,14 +68,12 @@ fn place_of(rows: &[u32], row: usize) -> Cursor
     }
 }
 
-fn outer(why: Outer) -> Parsed
-{
+fn outer(why: Outer) -> Parsed {
     Parsed::Refused(Reason::Outer(why), Cursor::start())
 }
 
 // The program of a sound table with no refused ending, into enough room.
-fn twice(text: &[u8], rows: &[u32], count: usize, nodes: &mut [u32]) -> Parsed
-{
+fn twice(text: &[u8], rows: &[u32], count: usize, nodes: &mut [u32]) -> Parsed {
     match program(text, rows, count, &mut nodes[..0]) {
         Got::Done(t) => {
             program(text, rows, count, nodes);

@@ -11,19 +11,33 @@ ghost use Rattle.nodes.specs.Post.{Answers, Asks, AsksOpen};
 ghost use Rattle.stmt.specs.Bodies.{BodyAnswers};
 
 const RETURN: u32 = 3;
+
 const REG: u32 = 4;
+
 const IMM: u32 = 5;
+
 const IF: u32 = 11;
+
 const ELSE: u32 = 12;
+
 const GUARD: u32 = 13;
+
 const HEAP: u32 = 14;
+
 const LBRACE: u32 = 25;
+
 const RBRACE: u32 = 26;
+
 const LPAREN: u32 = 27;
+
 const RPAREN: u32 = 28;
+
 const SEMICOLON: u32 = 32;
+
 const EQUALS: u32 = 35;
+
 const PLUS_EQUALS: u32 = 36;
+
 const IDENTIFIER: u32 = 48;
 
 fn decl_node(k: u32) -> u32
@@ -57,7 +71,14 @@ fn named_end(nodes: &mut [u32], t: At, kind: u32, name: usize) -> At
 }
 
 // `reg`, `imm` or `heap` at the row: name `=` expression `;`.
-fn declare(rows: &[u32], count: usize, nodes: &mut [u32], row: usize, node: usize, left: usize) -> Got
+fn declare(
+    rows: &[u32],
+    count: usize,
+    nodes: &mut [u32],
+    row: usize,
+    node: usize,
+    left: usize,
+) -> Got
     requires { ⌜ AsksOpen (now rows) count row node left ⌝ }
     ensures { λ r. ⌜ Answers (λ ts. stmtBy ts left (body ts left) declaring row) (now (rows .entry)) count row node (now (nodes .entry)) (now (nodes .exit)) r ⌝ }
 {
@@ -104,8 +125,7 @@ fn give(rows: &[u32], count: usize, nodes: &mut [u32], row: usize, node: usize, 
 }
 
 // The value and `;` behind the target t and the sign k at t's row.
-fn assigned(rows: &[u32], count: usize, nodes: &mut [u32], t: At, k: u32, left: usize) -> Got
-{
+fn assigned(rows: &[u32], count: usize, nodes: &mut [u32], t: At, k: u32, left: usize) -> Got {
     match expr::add(rows, count, nodes, t.row + 1, t.node, left) {
         Got::Done(u) => {
             let j = u.row;
@@ -120,7 +140,14 @@ fn assigned(rows: &[u32], count: usize, nodes: &mut [u32], t: At, k: u32, left: 
 }
 
 // An expression, or one and `=` or `+=` and another; then `;`.
-fn effect(rows: &[u32], count: usize, nodes: &mut [u32], row: usize, node: usize, left: usize) -> Got
+fn effect(
+    rows: &[u32],
+    count: usize,
+    nodes: &mut [u32],
+    row: usize,
+    node: usize,
+    left: usize,
+) -> Got
     requires { ⌜ Asks (now rows) count row node left ⌝ }
     ensures { λ r. ⌜ Answers (λ ts. stmtBy ts left (body ts left) expression row) (now (rows .entry)) count row node (now (nodes .entry)) (now (nodes .exit)) r ⌝ }
 {
@@ -150,8 +177,7 @@ pub enum Head {
 }
 
 // `guard ( name ) {` behind the `if` at the row.
-fn head(rows: &[u32], count: usize, row: usize) -> Head
-{
+fn head(rows: &[u32], count: usize, row: usize) -> Head {
     let guard = row + 1;
     let k1 = nodes::kind_at(rows, count, guard);
     if k1 != GUARD {
@@ -180,7 +206,14 @@ fn head(rows: &[u32], count: usize, row: usize) -> Head
     Head::Brace(brace)
 }
 
-pub fn stmt(rows: &[u32], count: usize, nodes: &mut [u32], row: usize, node: usize, left: usize) -> Got
+pub fn stmt(
+    rows: &[u32],
+    count: usize,
+    nodes: &mut [u32],
+    row: usize,
+    node: usize,
+    left: usize,
+) -> Got
     requires { ⌜ Asks (now rows) count row node left ⌝ }
     ensures { λ r. ⌜ Answers (λ ts. stmt ts left (body ts left) row) (now (rows .entry)) count row node (now (nodes .entry)) (now (nodes .exit)) r ⌝ }
 {
@@ -193,7 +226,14 @@ pub fn stmt(rows: &[u32], count: usize, nodes: &mut [u32], row: usize, node: usi
 }
 
 // `if` at the row.
-fn branch(rows: &[u32], count: usize, nodes: &mut [u32], row: usize, node: usize, left: usize) -> Got
+fn branch(
+    rows: &[u32],
+    count: usize,
+    nodes: &mut [u32],
+    row: usize,
+    node: usize,
+    left: usize,
+) -> Got
     requires { ⌜ AsksOpen (now rows) count row node left ⌝ }
     ensures { λ r. ⌜ Answers (λ ts. stmtBy ts left (body ts left) branching row) (now (rows .entry)) count row node (now (nodes .entry)) (now (nodes .exit)) r ⌝ }
 {
@@ -210,8 +250,14 @@ fn branch(rows: &[u32], count: usize, nodes: &mut [u32], row: usize, node: usize
 }
 
 // Behind a then body at t: an else body, if there is one, and the node of the `if` whose guard is at `guard`.
-fn otherwise(rows: &[u32], count: usize, nodes: &mut [u32], t: At, guard: usize, left: usize) -> Got
-{
+fn otherwise(
+    rows: &[u32],
+    count: usize,
+    nodes: &mut [u32],
+    t: At,
+    guard: usize,
+    left: usize,
+) -> Got {
     let j = t.row;
     if nodes::kind_at(rows, count, j) != ELSE {
         return Got::Done(nodes::shut(nodes, t, 20, guard, 2));
@@ -228,7 +274,15 @@ fn otherwise(rows: &[u32], count: usize, nodes: &mut [u32], t: At, guard: usize,
 }
 
 // The body whose brace is at the row: its statements, and its node, of a kind: 21 then, 22 else.
-fn body(rows: &[u32], count: usize, nodes: &mut [u32], row: usize, node: usize, left: usize, kind: u32) -> Got
+fn body(
+    rows: &[u32],
+    count: usize,
+    nodes: &mut [u32],
+    row: usize,
+    node: usize,
+    left: usize,
+    kind: u32,
+) -> Got
     requires { ⌜ AsksOpen (now rows) count row node left ⌝ }
     ensures { λ r. ⌜ BodyAnswers (λ ts. body ts left row) kind (now (rows .entry)) count row node (now (nodes .entry)) (now (nodes .exit)) r ⌝ }
 {

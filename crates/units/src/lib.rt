@@ -7,14 +7,23 @@ ghost use mathlib.Core.Path.{_≡_};
 ghost use Prim.Native.Nat.{_+_, _*_, _≤_, _<_};
 
 const SECTION: u32 = 1;
+
 const LICENSE: u32 = 2;
+
 const LBRACE: u32 = 25;
+
 const RBRACE: u32 = 26;
+
 const SEMICOLON: u32 = 32;
+
 const IDENTIFIER: u32 = 48;
+
 const STRING: u32 = 49;
+
 const QUOTE: u8 = 34;
+
 const UNKNOWN: u32 = 10;
+
 const NO_SECTION: u32 = 11;
 
 // Where the parser stands in a unit, the kind that the first section gives (11 while there is none), and the last licence's row.
@@ -30,8 +39,7 @@ pub enum Went {
 }
 
 // The kind of the section whose string is text from a to e, its quotes with it.
-fn kind_of_string(text: &[u8], a: usize, e: usize) -> u32
-{
+fn kind_of_string(text: &[u8], a: usize, e: usize) -> u32 {
     let from = a + 1;
     let to = e - 1;
     if from < to {
@@ -44,8 +52,14 @@ fn kind_of_string(text: &[u8], a: usize, e: usize) -> u32
 }
 
 // A section or a licence at the unit's row.
-fn text_item(text: &[u8], rows: &[u32], count: usize, nodes: &mut [u32], u: Unit, word: u32) -> Went
-{
+fn text_item(
+    text: &[u8],
+    rows: &[u32],
+    count: usize,
+    nodes: &mut [u32],
+    u: Unit,
+    word: u32,
+) -> Went {
     let here = u.at;
     let string = here.row + 1;
     let k1 = nodes::kind_at(rows, count, string);
@@ -87,8 +101,7 @@ fn text_item(text: &[u8], rows: &[u32], count: usize, nodes: &mut [u32], u: Unit
 }
 
 // A statement, a section or a licence at the unit's row.
-fn item(text: &[u8], rows: &[u32], count: usize, nodes: &mut [u32], u: Unit) -> Went
-{
+fn item(text: &[u8], rows: &[u32], count: usize, nodes: &mut [u32], u: Unit) -> Went {
     let here = u.at;
     let row = here.row;
     let k = nodes::kind_at(rows, count, row);
@@ -112,8 +125,14 @@ fn item(text: &[u8], rows: &[u32], count: usize, nodes: &mut [u32], u: Unit) -> 
 }
 
 // The contents from the row on, up to `}`, which is not taken.
-fn items(text: &[u8], rows: &[u32], count: usize, nodes: &mut [u32], row: usize, node: usize) -> Went
-{
+fn items(
+    text: &[u8],
+    rows: &[u32],
+    count: usize,
+    nodes: &mut [u32],
+    row: usize,
+    node: usize,
+) -> Went {
     let mut u = Unit {
         at: At {
             row,
@@ -141,8 +160,7 @@ fn items(text: &[u8], rows: &[u32], count: usize, nodes: &mut [u32], row: usize,
 }
 
 // The unit's node, whose word is at a row.
-fn unit_node(nodes: &mut [u32], row: usize, u: Unit) -> At
-{
+fn unit_node(nodes: &mut [u32], row: usize, u: Unit) -> At {
     let here = u.at;
     let n = here.node;
     let mut kind = u.kind;
@@ -172,8 +190,14 @@ fn unit_node(nodes: &mut [u32], row: usize, u: Unit) -> At
 }
 
 // The unit whose word is at the row.
-pub fn unit(text: &[u8], rows: &[u32], count: usize, nodes: &mut [u32], row: usize, node: usize) -> Got
-{
+pub fn unit(
+    text: &[u8],
+    rows: &[u32],
+    count: usize,
+    nodes: &mut [u32],
+    row: usize,
+    node: usize,
+) -> Got {
     let name = row + 1;
     let k1 = nodes::kind_at(rows, count, name);
     if k1 != IDENTIFIER {
