@@ -1,0 +1,5 @@
+-- What the proofs of a parser's functions use: the rows and the tokens that they tell, a call's answer and a loop's turn, and the
+-- state and the memory behind a tree from those behind its parts.
+pub mod Rows
+pub mod Turn
+pub mod Steps
