@@ -1,0 +1,19 @@
+-- The theorems on edits.
+pub mod Places
+pub mod Steps
+pub mod Stand
+pub mod Kept
+pub mod From
+pub mod Moved
+pub mod Look
+pub mod Flat
+pub mod Gap
+pub mod Short
+pub mod Meeting
+pub mod Bytes
+pub mod Tokens
+pub mod Well
+pub mod Lines
+pub mod LookItem
+pub mod WellFormed
+pub mod Fresh

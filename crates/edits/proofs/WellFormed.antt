@@ -1,0 +1,139 @@
+-- What a scan gives is a well-formed table.
+use Prim.Native.Nat.{ℕ, zero, suc, _+_, _-_, _*_, _≤_, _<_}
+use native.Mathlib.Nat.{le-refl}
+use native.Mathlib.Omega.{arith}
+use mathlib.Core.Bool.{Bool, true, false, cond, not, _&&_, _||_, true≢false}
+use mathlib.Core.List.{List, [], _∷_, _++_}
+use mathlib.Core.Path.{_≡_, refl, ap, sym, _∙_, subst}
+use lib.Dec.{eqb, leb}
+use lib.ListN.{length, take, drop, getD, length-append}
+use borrow.Author.Tests.{eq-eqb, le-leb}
+use Rattle.rules.specs.declared.Cursor.{Cursor}
+use Rattle.rules.specs.declared.Lexical.{Lexical}
+use Rattle.rules.specs.declared.Ending.{Ending}
+use Rattle.rules.specs.declared.Ending.the-variants as ending
+use Rattle.rules.specs.declared.Table.{Table}
+use Rattle.rules.specs.Kinds
+use Rattle.rules.specs.Kinds.{isMade}
+use Rattle.rules.specs.Text.{mostBytes, placeAt}
+use Rattle.rules.specs.Rows.{Row, rowWords, rowIn, rowsIn, wordsOf, rowAt, eofRow, rowPlace, valueBits, every, chained, lengthFits, spansFit, valueFits, placeFits, linesFit, rowFits, follows, lastRow, endsBehind, isEof, eofLast, endingFits, rowsFit, wellFormed}
+use Rattle.rules.specs.Scan.{Reading, put, ends, stops, readRows, readEnding, scan}
+use Rattle.machine.specs.Machine.{Token}
+use Rattle.edits.proofs.Lines.{place-fits, places-fit}
+use Rattle.edits.proofs.Tokens.{Fit}
+use Rattle.edits.proofs.Well.{Well, well-row, well-eof, well-stops, scan-well}
+
+both : {p q : Bool} → p ≡ true → q ≡ true → (p && q) ≡ true
+both {p} {q} e f = rw (e, f)
+
+module _ (T : List ℕ) where
+  -- ---- each row
+
+  row-fits : (t k : ℕ) (x : Token) → Fit x k → rowFits (rowAt (placeAt T t) (x .kind) (t + k) (x .bits)) ≡ true
+  unfolding rowFits spansFit rowPlace rowAt placeAt
+  row-fits t k x f =
+      let e : t + k - t ≡ k = omega arith in
+      both (both (both (f .made) refl) (f .value (placeAt T t) (t + k))) (both (both (le-leb t (t + k) (omega arith)) (rw e (f .long))) (place-fits T t))
+
+  eof-fits : (n : ℕ) → rowFits (eofRow (placeAt T n)) ≡ true
+  unfolding rowFits spansFit rowPlace eofRow rowAt placeAt isMade lengthFits valueFits
+  eof-fits n = both refl (both (both (le-leb n n (omega arith)) (eq-eqb (n - n) 0 (omega arith))) (place-fits T n))
+
+  every-fits : {lo : ℕ} {l : Reading} → Well T lo l → every rowFits (readRows l) ≡ true
+  unfolding every readRows
+  every-fits (well-row {t = t} {k = k} {x = x} a h f w) = both (row-fits t k x f) (every-fits w)
+  every-fits (well-eof {n = n} a h) = both (eof-fits n) refl
+  every-fits (well-stops a h) = refl
+
+  -- ---- each row and the next
+
+  pair-fits : (t k j lo : ℕ) (x : Token) (kind end bits : ℕ) → t ≤ lo → lo ≤ j → j ≤ length T → follows (rowAt (placeAt T t) (x .kind) lo (x .bits)) (rowAt (placeAt T j) kind end bits) ≡ true
+  unfolding follows rowPlace rowAt placeAt
+  pair-fits t k j lo x kind end bits a h l = both (le-leb lo j h) (places-fit T t j (omega arith) l)
+
+  chained-put : (t k : ℕ) (x : Token) {l : Reading} → Well T (t + k) l → chained follows (readRows l) ≡ true
+      → chained follows (readRows (put (rowAt (placeAt T t) (x .kind) (t + k) (x .bits)) l)) ≡ true
+  unfolding chained readRows eofRow
+  chained-put t k x (well-row {t = j} {k = i} {x = y} a h f w) c = both (pair-fits t k j (t + k) x (y .kind) (j + i) (y .bits) (omega arith) a (omega arith)) c
+  chained-put t k x (well-eof {n = n} a h) c = both (pair-fits t k n (t + k) x Kinds.Eof _ 0 (omega arith) a (omega arith)) c
+  chained-put t k x (well-stops a h) c = refl
+
+  chained-fits : {lo : ℕ} {l : Reading} → Well T lo l → chained follows (readRows l) ≡ true
+  unfolding chained readRows
+  chained-fits (well-row {t = t} {k = k} {x = x} a h f w) = chained-put t k x w (chained-fits w)
+  chained-fits (well-eof a h) = refl
+  chained-fits (well-stops a h) = refl
+
+  -- ---- the ending
+
+  not-eof : (t e : ℕ) (x : Token) {k : ℕ} → Fit x k → not (isEof (rowAt (placeAt T t) (x .kind) e (x .bits))) ≡ true
+  unfolding isEof rowAt
+  not-eof t e x f = rw (f .proper)
+
+  eof-put : (r : Row) (n : ℕ) (rs : List Row) → not (isEof r) ≡ true → eofLast n rs ≡ true → eofLast n (r ∷ rs) ≡ true
+  unfolding eofLast
+  eof-put r n [] e h = absurd (true≢false (sym h))
+  eof-put r n (q ∷ rs) e h = both e h
+
+  eof-last : {lo : ℕ} {l : Reading} → Well T lo l → readEnding l ≡ ending.None → eofLast (length T) (readRows l) ≡ true
+  unfolding readRows readEnding eofLast isEof eofRow rowAt placeAt
+  eof-last (well-row {t = t} {k = k} {x = x} {l = l} a h f w) e = eof-put _ (length T) (readRows l) (not-eof t (t + k) x f) (eof-last w e)
+  eof-last (well-eof {n = n} a h) e = eq-eqb n (length T) h
+  eof-last (well-stops a h) e = absurd (let z : _≡_ {A = ℕ} 0 1 = cc in let y : ⊥ = omega arith in y)
+
+  -- a refused ending: it stands at a place of the text, behind the rows, of which none is Eof
+  record Stopped (lo : ℕ) (rs : List Row) (p : Cursor) : Type 0 where
+    far : lo ≤ p .offset .0
+    inside : p .offset .0 ≤ length T
+    place : p ≡ placeAt T (p .offset .0)
+    rows : every (λ (r : Row). not (isEof r)) rs ≡ true
+    last : endsBehind (lastRow rs) p ≡ true
+
+  last-put : (r : Row) (rs : List Row) (p : Cursor) → endsBehind (r ∷ []) p ≡ true → endsBehind (lastRow rs) p ≡ true → endsBehind (lastRow (r ∷ rs)) p ≡ true
+  unfolding lastRow
+  last-put r [] p e h = e
+  last-put r (q ∷ rs) p e h = h
+
+  stopped-row : (lo t k : ℕ) (x : Token) (rs : List Row) (p : Cursor) → lo ≤ t → Fit x k → Stopped (t + k) rs p → Stopped lo (rowAt (placeAt T t) (x .kind) (t + k) (x .bits) ∷ rs) p
+  unfolding every endsBehind rowPlace rowAt placeAt
+  stopped-row lo t k x rs p a f s =
+      let g : t + k ≤ p .offset .0 = s .far in
+      record {
+        far = omega arith;
+        inside = s .inside;
+        place = s .place;
+        rows = both (not-eof t (t + k) x f) (s .rows);
+        last = last-put _ rs p
+            (both (le-leb (t + k) (p .offset .0) g) (rw (s .place) (places-fit T t (p .offset .0) (omega arith) (s .inside)))) (s .last);
+      }
+
+  stopped : {lo : ℕ} {l : Reading} → Well T lo l → (why : Lexical) (p : Cursor) → readEnding l ≡ ending.Refused why p → Stopped lo (readRows l) p
+  unfolding readRows readEnding every lastRow endsBehind placeAt
+  stopped {lo} (well-row {t = t} {k = k} {x = x} {l = l} a h f w) why p e = stopped-row lo t k x (readRows l) p a f (stopped w why p e)
+  stopped (well-eof a h) why p e = absurd (let z : _≡_ {A = ℕ} 0 1 = cc in let y : ⊥ = omega arith in y)
+  stopped {lo} (well-stops {m = m} a h) why p e =
+      let c : placeAt T m ≡ p = cc in
+      subst (λ (y : Cursor). Stopped lo [] y) c (record { far = a; inside = h; place = refl; rows = refl; last = refl })
+
+  ending-fits : {lo : ℕ} {l : Reading} → Well T lo l → (x : Ending) → readEnding l ≡ x → endingFits (length T) (readRows l) x ≡ true
+  unfolding endingFits
+  ending-fits w ending.None e = eof-last w e
+  ending-fits w (ending.Refused why p) e =
+      let s : Stopped _ _ p = stopped w why p e in
+      both (s .rows) (both (both (le-leb (p .offset .0) (length T) (s .inside)) (rw (s .place) (place-fits T (p .offset .0)))) (s .last))
+
+  pub scan-fits : rowsFit (length T) (readRows (scan T)) (readEnding (scan T)) ≡ true
+  unfolding rowsFit
+  scan-fits = both (every-fits (scan-well T)) (both (chained-fits (scan-well T)) (ending-fits (scan-well T) (readEnding (scan T)) refl))
+
+-- ---- the words of rows
+
+length-words : (rs : List Row) → length (wordsOf rs) ≡ length rs * 8
+unfolding wordsOf rowWords
+length-words [] = refl
+length-words (r ∷ rs) = rw (length-words rs) (omega arith)
+
+pub rows-in-words : (rs : List Row) (ws : List ℕ) → rowsIn (length rs) (wordsOf rs ++ ws) ≡ rs
+unfolding wordsOf rowWords rowsIn rowIn
+rows-in-words [] ws = refl
+rows-in-words (r ∷ rs) ws = ap (λ (l : List Row). r ∷ l) (rows-in-words rs ws)
