@@ -1,22 +1,22 @@
 -- The edit by the machine: from the old rows and a window of the new text it gives the rows and ending of a fresh scan of the new text, and it is
 -- short exactly if the window shows nothing.
-use Prim.Native.Nat.{ℕ, zero, suc, _+_, _-_, _≤_, _<_}
+use Prim.Native.Nat.{ℕ, _+_, _-_, _≤_, _<_}
 use native.Mathlib.Nat.{le-refl}
 use native.Mathlib.Omega.{arith}
-use mathlib.Core.Bool.{Bool, true, false, cond}
+use mathlib.Core.Bool.{Bool, true, false}
 use mathlib.Core.List.{List, [], _∷_, _++_, map}
 use mathlib.Core.Path.{_≡_, refl, ap, sym, _∙_}
 use lib.Dec.{ltb}
-use lib.ListN.{length, drop, take}
+use lib.ListN.{length}
 use borrow.Author.Tests.{lt-leb, ltb-true}
 use Rattle.rules.specs.declared.Cursor.{Cursor}
 use Rattle.rules.specs.declared.Ending.{Ending}
 use Rattle.rules.specs.Text.{placeAt}
 use Rattle.rules.specs.Rows.{Row}
-use Rattle.rules.specs.Scan.{Reading, put, ends, stops, readRows, readEnding, scan}
+use Rattle.rules.specs.Scan.{Reading, put, readRows, readEnding, scan}
 use Rattle.rules.specs.Edit.{kept, restart, from, firstPlace, carryRow, carryEnding, meets, windowPlace, Seen, sees, over′, met, short, isShort, seenRows, seenEnding}
 use Rattle.machine.specs.Machine.{gap, run}
-use Rattle.edits.specs.Shows.{Starts, Decided, Shows, meeting, refusal}
+use Rattle.edits.specs.Shows.{Shows, meeting, refusal}
 use Rattle.edits.proofs.Stand.{At, at-same, rest, rest-at, puts, puts-rows, puts-ending}
 use Rattle.edits.proofs.Places.{place-window}
 use Rattle.edits.proofs.Kept.{kept-scan}
@@ -24,7 +24,7 @@ use Rattle.edits.proofs.Look.{lookBytes, fillRows, fillEnding, Says, lo
 use Rattle.edits.proofs.Flat.{Flat, flat-put, flat-ends, flat-stops, scan-flat}
 use Rattle.edits.proofs.Short
 use Rattle.edits.proofs.Short.{Quiet, quiet-put, waits, short-quiet, Meets, row-starts, meets-puts, part-meets, quiet-shows}
-use Rattle.edits.proofs.Meeting.{restart-place, meets-is, meets-behind, meets-starts, Follows, follows, starts-there, plain}
+use Rattle.edits.proofs.Meeting.{restart-place, meets-is, meets-behind, meets-starts, follows, starts-there, plain}
 
 -- the window's scan by the machine
 unfoldable pub seenBytes : List Row → Ending → (a b n : ℕ) → List ℕ → Bool → Seen
@@ -52,7 +52,8 @@ module _ (rows : List Row) (e : Ending) (a b n : ℕ) (w : List ℕ) where
   seen-ending short = refl
 
 -- the kept rows show nothing: they start before a
-quiet-kept : {T : List ℕ} (meet : ℕ → Bool) (hi a : ℕ) → ((m : ℕ) → m < a → meet m ≡ false) → {l : Reading} → Flat T l → (k : Reading) → Quiet meet hi k → Quiet meet hi (puts (kept a (readRows l)) k)
+quiet-kept : {T : List ℕ} (meet : ℕ → Bool) (hi a : ℕ) → ((m : ℕ) → m < a → meet m ≡ false) → {l : Reading} → Flat T l → (k : Reading)
+    → Quiet meet hi k → Quiet meet hi (puts (kept a (readRows l)) k)
 unfolding kept readRows puts
 quiet-kept meet hi a h (flat-put {r} {l} o f x) k y = by (ltb (r .end) a) refl (quiet-kept meet hi a h x k y)
   where
@@ -117,7 +118,8 @@ module _ (p o i q w z : List ℕ) where
     module _ (whole : Bool) (ends-text : whole ≡ true → z ≡ []) where
       says : Says (rowsFrom rows e a b n w) (endingFrom rows e a b n w) (bytes whole) (run (placeAt T′) (w ++ z) s0 0 gap)
       unfolding seenBytes
-      says = look-says T′ pos s0 hi agree meet _ _ rows-meet ending-meets whole w z ends-text s0 0 gap (le-refl s0) (omega arith) (at-same d (omega arith))
+      says =
+          look-says T′ pos s0 hi agree meet _ _ rows-meet ending-meets whole w z ends-text s0 0 gap (le-refl s0) (omega arith) (at-same d (omega arith))
 
       pub fresh-rows : isShort (bytes whole) ≡ false
           → kept a rows ++ seenRows rows e a b n w (bytes whole) ≡ readRows (scan T′)

@@ -1,19 +1,19 @@
 -- No row holds a newline: where a row ends, the line is its start's and the column its start's and its length.
-use Prim.Native.Nat.{ℕ, zero, suc, _+_, _-_, _≤_, _<_}
+use Prim.Native.Nat.{ℕ, suc, _+_, _-_, _≤_}
 use native.Mathlib.Nat.{add-zero, add-suc}
 use native.Mathlib.Omega.{arith}
-use mathlib.Core.Bool.{Bool, true, false, cond, true≢false}
-use mathlib.Core.List.{List, [], _∷_, _++_}
+use mathlib.Core.Bool.{Bool, true, false, true≢false}
+use mathlib.Core.List.{List, [], _∷_}
 use mathlib.Core.Path.{_≡_, refl, ap, sym, _∙_, subst}
 use lib.Dec.{eqb}
-use lib.ListN.{length, drop, take}
+use lib.ListN.{drop, take}
 use borrow.Author.Tests.{eqb-true}
 use Rattle.rules.specs.declared.Cursor.{Cursor}
 use Rattle.rules.specs.declared.Lexical.{Lexical}
 use Rattle.rules.specs.Text
-use Rattle.rules.specs.Text.{place, placeAt, moved, along}
+use Rattle.rules.specs.Text.{placeAt, moved, along}
 use Rattle.rules.specs.Rows.{Row, rowAt, eofRow}
-use Rattle.rules.specs.Scan.{Reading, put, ends, stops, readRows, scan}
+use Rattle.rules.specs.Scan.{Reading, put, ends, stops, scan}
 use Rattle.rules.specs.Edit.{endPlace}
 use Rattle.machine.specs.Machine.{Token, St, gap, First, go, clear, over, bad, Spot, Move, fresh, on, back, Last, clean, ended, cut, begin, step, finish, after, move, close, run, scanBytes}
 use Rattle.machine.proofs.Same.{same-scan}
@@ -51,7 +51,9 @@ module _ (T : List ℕ) where
   unfolding rowAt endPlace along placeAt
   flat-row x t k l h f =
       let n : t ≤ t + k = omega arith in
-      flat-put {r = rowAt (placeAt T t) (x .kind) (t + k) (x .bits)} n (place-eq _ _ refl (ap (λ (c : Cursor). c .line .0) (sym h)) (let e : t + k - t ≡ k = omega arith in rw e (ap (λ (c : Cursor). c .column .0) (sym h)))) f
+      let m : t + k - t ≡ k = omega arith in
+      flat-put {r = rowAt (placeAt T t) (x .kind) (t + k) (x .bits)} n
+      (place-eq _ _ refl (ap (λ (c : Cursor). c .line .0) (sym h)) (rw m (ap (λ (c : Cursor). c .column .0) (sym h)))) f
 
   flat-eof : (n : ℕ) → Flat (put (eofRow (placeAt T n)) ends)
   unfolding eofRow rowAt endPlace placeAt
@@ -102,7 +104,8 @@ module _ (T : List ℕ) where
     after-flat t k (bad why x) d fell = flat-stops
 
     begin-flat : (b n : ℕ) → At T (b ∷ s) n → Flat (after (placeAt T) r n 0 (begin b))
-    begin-flat b n d = after-flat n 0 (begin b) (at-next d (omega arith)) (led-near s n 0 b (begin b) (at-same d (omega arith)) (begin-newline b) (on-none n))
+    begin-flat b n d =
+        after-flat n 0 (begin b) (at-next d (omega arith)) (led-near s n 0 b (begin b) (at-same d (omega arith)) (begin-newline b) (on-none n))
 
     move-flat : (b t k : ℕ) (st : St) (m : Move) → step st k b ≡ m → At T (b ∷ s) (t + k) → Ok t k st → Flat (move (placeAt T) r b t k m)
     unfolding move ceases stays

@@ -1,13 +1,13 @@
 -- The edit gives exactly the rows and ending of a fresh scan of the new text, and a window is short exactly if it ends before the new bytes do, or
 -- does not end the text and shows nothing. The theorems are `edit-fresh`, `short-exactly`, `whole-suffices` and `longer-suffices`.
-use Prim.Native.Nat.{ℕ, zero, suc, _+_, _-_, _≤_, _<_}
+use Prim.Native.Nat.{ℕ, _+_, _-_, _≤_, _<_}
 use native.Mathlib.Omega.{arith}
-use mathlib.Core.Bool.{Bool, true, false, cond, _||_, true≢false}
-use mathlib.Core.List.{List, [], _∷_, _++_, append-assoc}
+use mathlib.Core.Bool.{Bool, true, false, _||_, true≢false}
+use mathlib.Core.List.{List, [], _∷_, _++_}
 use mathlib.Core.Logic.{_⊎_, inl, inr, _↔_}
 use mathlib.Core.Path.{_≡_, refl, ap, sym, _∙_}
 use lib.Dec.{ltb, eqb}
-use lib.ListN.{length, drop, length-append, length-drop}
+use lib.ListN.{length, length-append, length-drop}
 use borrow.Author.Tests.{ltb-true, lt-ltb, eqb-true, eqb-false, ne-eqb}
 use Rattle.rules.specs.declared.Ending.{Ending}
 use Rattle.rules.specs.Rows.{Row}
@@ -15,7 +15,7 @@ use Rattle.rules.specs.Scan.{Reading, readRows, readEnding, scan}
 use Rattle.rules.specs.Edit
 use Rattle.rules.specs.Edit.{seen, newRows, newEnding, newLength, windowShort}
 use Rattle.edits.specs.Shows.{Shows, meeting, refusal}
-use Rattle.edits.specs.Change.{Change, oldText, newText, a, b, n, oldRows, oldEnding, starts, stops, Window, isShort, endsText, editRows, editEnding}
+use Rattle.edits.specs.Change.{Change, oldText, newText, a, b, n, oldRows, oldEnding, starts, stops, Window, isShort, TooShort, endsText, editRows, editEnding}
 use Rattle.edits.proofs.Stand.{At}
 use Rattle.edits.proofs.Kept.{restart-le}
 use Rattle.edits.proofs.LookItem.{same-look}
@@ -79,33 +79,29 @@ module _ (c : Change) where
     unfolding newRows
     rows-fresh h =
         rw (whole-is, same-seen (oldRows c) (oldEnding c) (a c) (b c) (n c) w whole)
-        (fresh-rows (c .before) (c .removed) (c .inserted) (c .behind) w (v .rest) at whole (nothing-behind whole refl) (or-right (ltb (stops c w) (a c + n c)) _ (sym short-is ∙ h)))
+        (fresh-rows (c .before) (c .removed) (c .inserted) (c .behind) w (v .rest) at whole (nothing-behind whole refl)
+        (or-right (ltb (stops c w) (a c + n c)) _ (sym short-is ∙ h)))
 
     ending-fresh : isShort c w ≡ false → editEnding c w ≡ readEnding (scan (newText c))
     unfolding newEnding
     ending-fresh h =
         rw (whole-is, same-seen (oldRows c) (oldEnding c) (a c) (b c) (n c) w whole)
-        (fresh-ending (c .before) (c .removed) (c .inserted) (c .behind) w (v .rest) at whole (nothing-behind whole refl) (or-right (ltb (stops c w) (a c + n c)) _ (sym short-is ∙ h)))
-
-    -- The window ends before the new bytes do; or it doesn't end the text, and shows neither a meeting place nor a refusal.
-    abbrev pub TooShort : Type 0
-    TooShort =
-        (stops c w < a c + n c)
-        ⊎ ((stops c w ≡ length (newText c) → ⊥) × (Shows (scan (oldText c)) (scan (newText c)) (a c) (b c) (n c) (stops c w) → ⊥))
+        (fresh-ending (c .before) (c .removed) (c .inserted) (c .behind) w (v .rest) at whole (nothing-behind whole refl)
+        (or-right (ltb (stops c w) (a c + n c)) _ (sym short-is ∙ h)))
 
     never : shortBytes true ≡ false
     unfolding seenBytes
     never = never-short _ _ w _ 0 _
 
-    too-short : isShort c w ≡ true → TooShort
+    too-short : isShort c w ≡ true → TooShort c w
     too-short h = by (ltb (stops c w) (a c + n c)) refl whole refl (sym short-is ∙ h)
       where
-        by : (x : Bool) → ltb (stops c w) (a c + n c) ≡ x → (y : Bool) → whole ≡ y → (x || shortBytes y) ≡ true → TooShort
+        by : (x : Bool) → ltb (stops c w) (a c + n c) ≡ x → (y : Bool) → whole ≡ y → (x || shortBytes y) ≡ true → TooShort c w
         by true x y f h = inl (ltb-true _ _ x)
         by false x true f h = absurd (true≢false (sym h ∙ never))
         by false x false f h = inr (eqb-false _ _ f, short-none (c .before) (c .removed) (c .inserted) (c .behind) w (v .rest) at false h)
 
-    is-short : TooShort → isShort c w ≡ true
+    is-short : TooShort c w → isShort c w ≡ true
     is-short (inl h) = rw (short-is, lt-ltb (stops c w) (a c + n c) h)
     is-short (inr h) = rw (short-is, ne-eqb (stops c w) (length (newText c)) (h .0)) (by (ltb (stops c w) (a c + n c)) (shortBytes false) refl)
       where
@@ -135,7 +131,7 @@ whole-suffices c w v e = by (isShort c w) refl
     long : length (newText c) ≡ a c + (n c + length (c .behind))
     long = simp length-append
 
-    no : TooShort c w v → ⊥
+    no : TooShort c w → ⊥
     no (inl h) = omega (arith, long)
     no (inr h) = h .0 e
 
@@ -153,7 +149,7 @@ longer-suffices c w u v v′ h = by (isShort c (w ++ u)) refl
     l : stops c (w ++ u) + length (v′ .rest) ≡ length (newText c)
     l = inside c (w ++ u) v′
 
-    shorter : TooShort c (w ++ u) v′ → TooShort c w v
+    shorter : TooShort c (w ++ u) → TooShort c w
     shorter (inl x) = inl (omega (arith, long))
     shorter (inr x) = inr (λ e. x .0 (omega (arith, long, l)), λ s. x .1 (shows-more (omega (arith, long)) s))
 

@@ -1,11 +1,11 @@
 -- The rows of a scan from the one that starts at m on, and its ending, are what a scan from m gives.
-use Prim.Native.Nat.{ℕ, zero, suc, _+_, _-_, _≤_, _<_}
+use Prim.Native.Nat.{ℕ, suc, _+_}
 use native.Mathlib.Omega.{arith}
-use mathlib.Core.Bool.{Bool, true, false, cond, true≢false}
-use mathlib.Core.List.{List, [], _∷_, _++_}
+use mathlib.Core.Bool.{Bool, true, false, true≢false}
+use mathlib.Core.List.{List, [], _∷_}
 use mathlib.Core.Path.{_≡_, refl, ap, sym, _∙_}
 use lib.Dec.{eqb}
-use borrow.Author.Tests.{eqb-true, eqb-false, eq-eqb}
+use borrow.Author.Tests.{eqb-true, eq-eqb}
 use Rattle.rules.specs.declared.Cursor.{Cursor}
 use Rattle.rules.specs.declared.Lexical.{Lexical}
 use Rattle.rules.specs.Text.{placeAt}
@@ -41,7 +41,8 @@ starts-some {m} (later {r} {rs} s) = by (eqb (r .start) m) refl (starts-some s)
 
 pub data Found (T : List ℕ) (m : ℕ) (l : Reading) : Type 0 where
   nowhere : from m (readRows l) ≡ [] → Found T m l
-  found : from m (readRows l) ≡ readRows (rest T m) → readEnding l ≡ readEnding (rest T m) → firstPlace (from m (readRows l)) ≡ placeAt T m → Found T m l
+  found : from m (readRows l) ≡ readRows (rest T m) → readEnding l ≡ readEnding (rest T m) → firstPlace (from m (readRows l)) ≡ placeAt T m
+      → Found T m l
 
 module _ (T : List ℕ) (m : ℕ) where
   found-row : (r : Row) (l : Reading) → rowPlace r ≡ placeAt T (r .start) → rest T (r .start) ≡ put r l → Found T m l → Found T m (put r l)

@@ -1,18 +1,17 @@
 -- No row starts where a gap goes on.
-use Prim.Native.Nat.{ℕ, zero, suc, _+_, _-_, _≤_, _<_}
+use Prim.Native.Nat.{ℕ, suc, _+_, _<_}
 use native.Mathlib.Omega.{arith}
-use mathlib.Core.Bool.{Bool, true, false, cond, true≢false}
-use mathlib.Core.List.{List, [], _∷_, _++_}
-use mathlib.Core.Path.{_≡_, refl, ap, sym, _∙_}
-use lib.Dec.{eqb}
+use mathlib.Core.Bool.{true, true≢false}
+use mathlib.Core.List.{List, [], _∷_}
+use mathlib.Core.Path.{_≡_, refl, sym}
 use borrow.Author.Tests.{ne-eqb}
 use Rattle.rules.specs.declared.Cursor.{Cursor}
 use Rattle.rules.specs.declared.Lexical.{Lexical}
-use Rattle.rules.specs.Text.{place, placeAt}
-use Rattle.rules.specs.Rows.{Row, rowAt, eofRow}
+use Rattle.rules.specs.Text.{placeAt}
+use Rattle.rules.specs.Rows.{rowAt, eofRow}
 use Rattle.rules.specs.Scan.{Reading, put, ends, stops, readRows}
 use Rattle.rules.specs.Edit.{from, opens}
-use Rattle.machine.specs.Machine.{Token, St, gap, slash, First, go, clear, over, bad, Move, fresh, on, back, Last, clean, ended, cut, begin, step, finish, after, move, close, run}
+use Rattle.machine.specs.Machine.{Token, St, gap, First, go, clear, over, bad, Move, fresh, on, back, Last, clean, ended, cut, begin, step, finish, after, move, close, run}
 use Rattle.edits.proofs.Steps.{comment, stays, closes, comment-stays, comment-closes, Opens, blank, opening, opens-is}
 use Rattle.edits.proofs.Stand.{At, rest, rest-begin}
 

@@ -1,20 +1,20 @@
 -- The rows that end before a are the same in every text that has the same bytes before a, and the rest of a scan is a scan
 -- from the last such row's end.
-use Prim.Native.Nat.{ℕ, zero, suc, _+_, _-_, _≤_, _<_}
+use Prim.Native.Nat.{ℕ, suc, _+_, _≤_, _<_}
 use native.Mathlib.Omega.{arith}
-use mathlib.Core.Bool.{Bool, true, false, cond}
+use mathlib.Core.Bool.{Bool, true, false}
 use mathlib.Core.List.{List, [], _∷_, _++_}
 use mathlib.Core.Path.{_≡_, refl, ap, sym, _∙_}
 use lib.Dec.{ltb}
 use borrow.Author.Tests.{le-ltb, ltb-true}
-use lib.ListN.{length, drop}
+use lib.ListN.{length}
 use lib.Seq.{take-append-le}
 use Rattle.rules.specs.declared.Cursor.{Cursor}
-use Rattle.rules.specs.Text.{lineAt, columnAt, place, placeAt, startPlace}
+use Rattle.rules.specs.Text.{lineAt, columnAt, placeAt, startPlace}
 use Rattle.rules.specs.Rows.{Row, rowAt, eofRow}
-use Rattle.rules.specs.Scan.{Reading, put, ends, stops, readRows, readEnding, scan}
+use Rattle.rules.specs.Scan.{Reading, put, readRows, scan}
 use Rattle.rules.specs.Edit.{kept, endPlace, lastEnd, restart}
-use Rattle.machine.specs.Machine.{Token, St, gap, First, go, clear, over, bad, Move, fresh, on, back, Last, clean, ended, cut, begin, step, finish, after, move, close, run, scanBytes}
+use Rattle.machine.specs.Machine.{St, gap, First, go, clear, over, bad, Move, fresh, on, back, Last, clean, ended, cut, begin, step, finish, after, move, close, run, scanBytes}
 use Rattle.machine.proofs.Same.{same-scan}
 use Rattle.edits.proofs.Stand.{At, at-next, at-same, rest, rest-at, rest-begin, puts}
 
@@ -60,7 +60,9 @@ unfolding kept lastEnd puts readRows
 keeps-row T a c r r′ old new g e h = by (ltb (r .end) a) refl
   where
     by : (q : Bool) → ltb (r .end) a ≡ q → Keeps T a c (put r old) (put r′ new)
-    by true q = record { same = rw (kept, q, lastEnd) (ap (λ (l : Reading). put r′ l) (h .same) ∙ ap (λ (x : Row). put x (puts (kept a (readRows old)) (rest T (lastEnd (endPlace r) (kept a (readRows old)) .offset .0)))) (sym (g (ltb-true (r .end) a q)))) }
+    by true q =
+        let f : r ≡ r′ = g (ltb-true (r .end) a q) in
+        record { same = rw (kept, q, lastEnd) (ap (λ (x : Row). put x new) (sym f) ∙ ap (put r) (h .same)) }
     by false q = record { same = rw (kept, q, lastEnd) (sym e) }
 
 module _ (X T : List ℕ) (a : ℕ) (agree : (n : ℕ) → n ≤ a → placeAt X n ≡ placeAt T n) where
@@ -69,7 +71,8 @@ module _ (X T : List ℕ) (a : ℕ) (agree : (n : ℕ) → n ≤ a → placeAt X
 
   module _ (u y : List ℕ) (ro rn : ℕ → ℕ → St → Reading) (rn-is : rn ≡ run (placeAt T) (u ++ y))
       (ih : (t k : ℕ) (st : St) (c : Cursor) → a ≡ t + k + length u → At T (u ++ y) (t + k) → rest T (c .offset .0) ≡ rn t k st → Keeps T a c (ro t k st) (rn t k st)) where
-    after-kept : (t k : ℕ) (x : First) (c : Cursor) → a ≡ t + suc k + length u → At T (u ++ y) (t + suc k) → rest T (c .offset .0) ≡ after (placeAt T) rn t k x
+    after-kept : (t k : ℕ) (x : First) (c : Cursor) → a ≡ t + suc k + length u → At T (u ++ y) (t + suc k)
+        → rest T (c .offset .0) ≡ after (placeAt T) rn t k x
         → Keeps T a c (after (placeAt X) ro t k x) (after (placeAt T) rn t k x)
     unfolding after kept readRows endPlace rowAt
     after-kept t k (go st) c h d e = ih t (suc k) st c h d e
@@ -79,7 +82,8 @@ module _ (X T : List ℕ) (a : ℕ) (agree : (n : ℕ) → n ≤ a → placeAt X
         (ih (t + suc k) 0 gap _ (omega arith) (at-same d (omega arith)) (rest-at d ∙ rw rn-is))
     after-kept t k (bad why x) c h d e = keeps-none T a c _ _ refl e
 
-    move-kept : (b t k : ℕ) (m : Move) (c : Cursor) → a ≡ t + k + suc (length u) → At T (b ∷ (u ++ y)) (t + k) → rest T (c .offset .0) ≡ move (placeAt T) rn b t k m
+    move-kept : (b t k : ℕ) (m : Move) (c : Cursor) → a ≡ t + k + suc (length u) → At T (b ∷ (u ++ y)) (t + k)
+        → rest T (c .offset .0) ≡ move (placeAt T) rn b t k m
         → Keeps T a c (move (placeAt X) ro b t k m) (move (placeAt T) rn b t k m)
     unfolding move endPlace rowAt
     move-kept b t k fresh c h d e = after-kept (t + k) 0 (begin b) c (omega arith) (at-next d (omega arith)) e
@@ -88,11 +92,13 @@ module _ (X T : List ℕ) (a : ℕ) (agree : (n : ℕ) → n ≤ a → placeAt X
         keeps-row T a c _ _ _ _ (λ l. same-row t (t + k) (x .kind) (x .bits) (omega arith) l) e
         (after-kept (t + k) 0 (begin b) _ (omega arith) (at-next d (omega arith)) (rest-begin d ∙ rw rn-is))
 
-  kept-run : (u x y : List ℕ) (t k : ℕ) (st : St) (c : Cursor) → a ≡ t + k + length u → At T (u ++ y) (t + k) → rest T (c .offset .0) ≡ run (placeAt T) (u ++ y) t k st
+  kept-run : (u x y : List ℕ) (t k : ℕ) (st : St) (c : Cursor) → a ≡ t + k + length u → At T (u ++ y) (t + k)
+      → rest T (c .offset .0) ≡ run (placeAt T) (u ++ y) t k st
       → Keeps T a c (run (placeAt X) (u ++ x) t k st) (run (placeAt T) (u ++ y) t k st)
   unfolding run
   kept-run [] x y t k st c h d e = keeps-none T a c _ _ (late X a x t k st (omega arith)) e
-  kept-run (b ∷ u) x y t k st c h d e = move-kept u y (run (placeAt X) (u ++ x)) (run (placeAt T) (u ++ y)) refl (kept-run u x y) b t k (step st k b) c h d e
+  kept-run (b ∷ u) x y t k st c h d e =
+      move-kept u y (run (placeAt X) (u ++ x)) (run (placeAt T) (u ++ y)) refl (kept-run u x y) b t k (step st k b) c h d e
 
 pub place-agree : (u x y : List ℕ) (n : ℕ) → n ≤ length u → placeAt (u ++ x) n ≡ placeAt (u ++ y) n
 unfolding placeAt lineAt columnAt
@@ -101,7 +107,8 @@ place-agree u x y n h = rw (take-append-le n u x h, take-append-le n u y h)
 kept-bytes : (u x y : List ℕ)
     → scanBytes (u ++ y) ≡ puts (kept (length u) (readRows (scanBytes (u ++ x)))) (rest (u ++ y) (restart (readRows (scanBytes (u ++ x))) (length u) .offset .0))
 unfolding scanBytes rest restart
-kept-bytes u x y = kept-run (u ++ x) (u ++ y) (length u) (place-agree u x y) u x y 0 0 gap startPlace (omega arith) (record { text = refl }) refl .same
+kept-bytes u x y =
+    kept-run (u ++ x) (u ++ y) (length u) (place-agree u x y) u x y 0 0 gap startPlace (omega arith) (record { text = refl }) refl .same
 
 -- The rows of u ++ x that end inside u begin the scan of u ++ y too, which goes on from the last one's end.
 pub kept-scan : (u x y : List ℕ)

@@ -1,15 +1,15 @@
 -- Lines and columns of a text are under the line rules of a well-formed table.
-use Prim.Native.Nat.{ℕ, zero, suc, _+_, _-_, _≤_, _<_, min}
+use Prim.Native.Nat.{ℕ, suc, _+_, _-_, _≤_}
 use native.Mathlib.Omega.{arith}
-use mathlib.Core.Bool.{Bool, true, false, cond, not, _&&_, _||_}
-use mathlib.Core.List.{List, [], _∷_, _++_, reverse}
-use mathlib.Core.Path.{_≡_, refl, ap, sym, _∙_}
-use lib.Dec.{eqb, leb}
+use mathlib.Core.Bool.{Bool, true, false, cond, not, _||_}
+use mathlib.Core.List.{List, [], _∷_, reverse}
+use mathlib.Core.Path.{_≡_, refl, ap, _∙_}
+use lib.Dec.{eqb}
 use lib.ListN.{length, drop, take, length-take, length-drop, length-reverse}
 use lib.Seq.{length-take-le}
 use borrow.Author.Tests.{eqb-true, eq-eqb, le-leb}
 use Rattle.rules.specs.declared.Cursor.{Cursor}
-use Rattle.rules.specs.Text.{front, newlines, notNewline, lineAt, columnAt, place, placeAt, moved, over}
+use Rattle.rules.specs.Text.{front, newlines, notNewline, lineAt, columnAt, placeAt, moved, over}
 use Rattle.rules.specs.Rows.{placeFits, linesFit}
 use Rattle.edits.proofs.Places.{place-eq, place-add, over-offset}
 
@@ -59,7 +59,12 @@ lines-moved b c d h = by (eqb b 10) refl
   where
     by : (q : Bool) → eqb b 10 ≡ q → Lines c (moved d b)
     by true q = rw (moved, q) (record { past = omega arith; down = omega arith; along = λ e. absurd (let z : ⊥ = omega arith in z) })
-    by false q = rw (moved, q) (record { past = omega arith; down = h .down; along = λ e. let l : d .column .0 + c .offset .0 ≡ c .column .0 + d .offset .0 = h .along e in omega arith })
+    by false q =
+        rw (moved, q) (record {
+          past = omega arith;
+          down = h .down;
+          along = λ e. let l : d .column .0 + c .offset .0 ≡ c .column .0 + d .offset .0 = h .along e in omega arith;
+        })
 
 lines-over : (s : List ℕ) (c d : Cursor) → Lines c d → Lines c (over d s)
 unfolding over

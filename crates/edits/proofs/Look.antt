@@ -1,6 +1,6 @@
 -- The machine's scan of a window, which may stop short of the text's end, with the places where it may leave off because old rows
 -- follow. Where it is not short, it says what the scan of every text that begins so says.
-use Prim.Native.Nat.{ℕ, zero, suc, _+_, _-_, _≤_, _<_}
+use Prim.Native.Nat.{ℕ, suc, _+_, _≤_, _<_}
 use native.Mathlib.Omega.{arith}
 use mathlib.Core.Bool.{Bool, true, false, cond, not, _&&_, true≢false}
 use mathlib.Core.List.{List, [], _∷_, _++_}
@@ -11,12 +11,12 @@ use Rattle.rules.specs.declared.Lexical.{Lexical}
 use Rattle.rules.specs.declared.Ending.{Ending}
 use Rattle.rules.specs.declared.Ending.the-variants as ending
 use Rattle.rules.specs.Text.{placeAt}
-use Rattle.rules.specs.Rows.{Row, rowAt, eofRow}
+use Rattle.rules.specs.Rows.{Row, rowAt}
 use Rattle.rules.specs.Scan.{Reading, put, ends, stops, readRows, readEnding}
 use Rattle.rules.specs.Edit.{opens, Seen, sees, over′, met, short, isShort}
-use Rattle.machine.specs.Machine.{Token, St, gap, First, go, clear, over, bad, Move, fresh, on, back, Last, clean, ended, cut, spot, begin, step, finish, after, move, close, run}
+use Rattle.machine.specs.Machine.{St, gap, First, go, clear, over, bad, Move, fresh, on, back, Last, clean, ended, cut, spot, begin, step, finish, after, move, close, run}
 use Rattle.edits.proofs.Steps.{and-left, spot-le}
-use Rattle.edits.proofs.Stand.{At, at-next, at-same, rest, rest-at, rest-begin}
+use Rattle.edits.proofs.Stand.{At, at-next, at-same, rest, rest-begin}
 
 -- a reading to the text's end, as the window's scan tells it
 unfoldable pub listed : Reading → Seen
@@ -92,7 +92,8 @@ module _ (T : List ℕ) (pos : ℕ → Cursor) (lo hi : ℕ) (agree : (n : ℕ) 
     (meets-ending : (m : ℕ) → lo ≤ m → m < hi → meet m ≡ true → readEnding (rest T m) ≡ h m) where
   module _ (w z : List ℕ) (rf : ℕ → ℕ → St → Reading) (rs : ℕ → ℕ → St → Seen) (rf-is : rf ≡ run (placeAt T) (w ++ z))
       (ih : (t k : ℕ) (st : St) → lo ≤ t → t + k + length w ≡ hi → At T (w ++ z) (t + k) → Says g h (rs t k st) (rf t k st)) where
-    after-says : (t k : ℕ) (x : First) → lo ≤ t → t + suc k + length w ≡ hi → At T (w ++ z) (t + suc k) → Says g h (seeAfter pos meet rs t k x) (after (placeAt T) rf t k x)
+    after-says : (t k : ℕ) (x : First) → lo ≤ t → t + suc k + length w ≡ hi → At T (w ++ z) (t + suc k)
+        → Says g h (seeAfter pos meet rs t k x) (after (placeAt T) rf t k x)
     unfolding after seeAfter
     after-says t k (go st) l e d = ih t (suc k) st l e d
     after-says t k clear l e d = ih (t + suc k) 0 gap (omega arith) (omega arith) (at-same d (omega arith))
@@ -102,7 +103,8 @@ module _ (T : List ℕ) (pos : ℕ → Cursor) (lo hi : ℕ) (agree : (n : ℕ) 
         let p : spot x k ≤ k = spot-le x k in
         rw (agree (t + spot x k) (omega arith) (omega arith)) (says-stops why (pos (t + spot x k)) (t + k))
 
-    at-says : (b n : ℕ) → lo ≤ n → n + suc (length w) ≡ hi → At T (b ∷ (w ++ z)) n → Says g h (seeAt pos meet w rs b n) (after (placeAt T) rf n 0 (begin b))
+    at-says : (b n : ℕ) → lo ≤ n → n + suc (length w) ≡ hi → At T (b ∷ (w ++ z)) n
+        → Says g h (seeAt pos meet w rs b n) (after (placeAt T) rf n 0 (begin b))
     unfolding seeAt
     at-says b n l e d = by (meet n && not (opens (b ∷ w))) refl
       where
@@ -115,11 +117,13 @@ module _ (T : List ℕ) (pos : ℕ → Cursor) (lo hi : ℕ) (agree : (n : ℕ) 
             rw q (says-met n _ (ap readRows (sym is) ∙ meets-rows n l (omega arith) c) (ap readEnding (sym is) ∙ meets-ending n l (omega arith) c))
         by false q = rw q (after-says n 0 (begin b) l (omega arith) (at-next d (omega arith)))
 
-    move-says : (b t k : ℕ) (x : Move) → lo ≤ t → t + k + suc (length w) ≡ hi → At T (b ∷ (w ++ z)) (t + k) → Says g h (seeMove pos meet w rs b t k x) (move (placeAt T) rf b t k x)
+    move-says : (b t k : ℕ) (x : Move) → lo ≤ t → t + k + suc (length w) ≡ hi → At T (b ∷ (w ++ z)) (t + k)
+        → Says g h (seeMove pos meet w rs b t k x) (move (placeAt T) rf b t k x)
     unfolding move seeMove
     move-says b t k fresh l e d = at-says b (t + k) (omega arith) e d
     move-says b t k (on x) l e d = after-says t k x l (omega arith) (at-next d (omega arith))
-    move-says b t k (back x) l e d = rw (agree t l (omega arith)) (says-put (rowAt (pos t) (x .kind) (t + k) (x .bits)) (at-says b (t + k) (omega arith) e d))
+    move-says b t k (back x) l e d =
+        rw (agree t l (omega arith)) (says-put (rowAt (pos t) (x .kind) (t + k) (x .bits)) (at-says b (t + k) (omega arith) e d))
 
   close-says : (t k : ℕ) (x : Last) → lo ≤ t → t + k ≡ hi → close (placeAt T) t k x ≡ close pos t k x
   unfolding close
@@ -127,9 +131,11 @@ module _ (T : List ℕ) (pos : ℕ → Cursor) (lo hi : ℕ) (agree : (n : ℕ) 
   close-says t k (ended x) l e = rw (agree t l (omega arith), agree (t + k) (omega arith) (omega arith))
   close-says t k (cut why x) l e = let p : spot x k ≤ k = spot-le x k in rw (agree (t + spot x k) (omega arith) (omega arith))
 
-  pub look-says : (whole : Bool) (w z : List ℕ) → (whole ≡ true → z ≡ []) → (t k : ℕ) (st : St) → lo ≤ t → t + k + length w ≡ hi → At T (w ++ z) (t + k)
+  pub look-says : (whole : Bool) (w z : List ℕ) → (whole ≡ true → z ≡ []) → (t k : ℕ) (st : St) → lo ≤ t → t + k + length w ≡ hi
+      → At T (w ++ z) (t + k)
       → Says g h (lookBytes pos meet whole w t k st) (run (placeAt T) (w ++ z) t k st)
   unfolding lookBytes run
   look-says true [] z c t k st l e d = rw (c refl, close-says t k (finish st k) l (omega arith)) (says-listed (close pos t k (finish st k)))
   look-says false [] z c t k st l e d = says-short _
-  look-says whole (b ∷ w) z c t k st l e d = move-says w z (run (placeAt T) (w ++ z)) (lookBytes pos meet whole w) refl (look-says whole w z c) b t k (step st k b) l e d
+  look-says whole (b ∷ w) z c t k st l e d =
+      move-says w z (run (placeAt T) (w ++ z)) (lookBytes pos meet whole w) refl (look-says whole w z c) b t k (step st k b) l e d

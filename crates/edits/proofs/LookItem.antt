@@ -10,8 +10,8 @@ use lib.ListN.{length}
 use Rattle.rules.specs.declared.Cursor.{Cursor}
 use Rattle.rules.specs.declared.Ending.the-variants as ending
 use Rattle.rules.specs.Rows.{Row, rowAt, eofRow}
-use Rattle.rules.specs.Lex.{Piece, blank, comment, row, refused, Item, known, end, unknown, piece, decidedAt, item}
-use Rattle.rules.specs.Edit.{opens, Seen, sees, over′, met, short, look}
+use Rattle.rules.specs.Lex.{blank, comment, row, refused, Item, known, end, unknown, piece, decidedAt, item}
+use Rattle.rules.specs.Edit.{opens, Seen, sees, over′, short, look}
 use Rattle.machine.specs.Machine.{St, gap, First, go, clear, over, bad, Move, fresh, on, back, Last, clean, ended, cut, begin, step, finish, close}
 use Rattle.machine.specs.Items.{cleared, itemFirst, itemGap, itemMove, itemLast, firstBytes, itemBytes}
 use Rattle.machine.proofs.Spans.{Spans, blank-spans, comment-spans, row-spans, refused-spans, end-spans, unknown-spans, run-spans}
@@ -64,7 +64,8 @@ module _ (pos : ℕ → Cursor) (meet : ℕ → Bool) (whole : Bool) where
         rw (e, f) (sym (pass n t 0 h))
 
     -- no old rows follow at t
-    looks-piece : {m : ℕ} (t : ℕ) (x : Item) → item whole (b ∷ s) ≡ x → (meet t && not (opens (b ∷ s))) ≡ false → Spans 1 0 m x → looks t 0 (b ∷ s) x ≡ look pos meet whole 0 t (b ∷ s)
+    looks-piece : {m : ℕ} (t : ℕ) (x : Item) → item whole (b ∷ s) ≡ x → (meet t && not (opens (b ∷ s))) ≡ false → Spans 1 0 m x
+        → looks t 0 (b ∷ s) x ≡ look pos meet whole 0 t (b ∷ s)
     unfolding looks look
     looks-piece t x e c (blank-spans r) = rw (look, c, e) (first-byte 1 t (omega arith))
     looks-piece t x e c (comment-spans n d r) = rw (look, c, e) (first-byte n t (r .long))
@@ -86,7 +87,8 @@ module _ (pos : ℕ → Cursor) (meet : ℕ → Bool) (whole : Bool) where
     first-item = rw (itemBytes, firstBytes, step-gap, itemMove, itemGap) at (same-item whole (b ∷ s))
 
     module _ (ih : Same s) where
-      after-looks : (t k : ℕ) (x : First) → seeAfter pos meet (lookBytes pos meet whole s) t k x ≡ looks t k (b ∷ s) (itemFirst (firstBytes whole s) k x)
+      after-looks : (t k : ℕ) (x : First)
+          → seeAfter pos meet (lookBytes pos meet whole s) t k x ≡ looks t k (b ∷ s) (itemFirst (firstBytes whole s) k x)
       unfolding seeAfter itemFirst cleared looks
       after-looks t k (go st) = ih .inside t (suc k) st (omega arith) ∙ looks-on t k (run-spans whole s (suc k) st)
       after-looks t zero clear = ih .begins (t + 1) ∙ pass-last t 0
@@ -102,7 +104,8 @@ module _ (pos : ℕ → Cursor) (meet : ℕ → Bool) (whole : Bool) where
           by true q = rw (seeAt, look, q)
           by false q = rw (seeAt, q) (after-looks t 0 (begin b) ∙ rw first-item (looks-piece t (item whole (b ∷ s)) refl q item-spans))
 
-      move-looks : (t k : ℕ) (x : Move) → 0 < k → seeMove pos meet s (lookBytes pos meet whole s) b t k x ≡ looks t k (b ∷ s) (itemMove (firstBytes whole s) b k x)
+      move-looks : (t k : ℕ) (x : Move) → 0 < k
+          → seeMove pos meet s (lookBytes pos meet whole s) b t k x ≡ looks t k (b ∷ s) (itemMove (firstBytes whole s) b k x)
       unfolding seeMove itemMove itemGap looks
       move-looks t zero fresh h = absurd (let y : ⊥ = omega arith in y)
       move-looks t (suc k) fresh h = rw (sub-self (suc k)) (at-looks (t + suc k))
@@ -134,7 +137,8 @@ module _ (pos : ℕ → Cursor) (meet : ℕ → Bool) (whole : Bool) where
     begins = λ t. rw (lookBytes, finish-gap, close, listed, add-zero) (sym (look-end t));
   }
     where
-      by : (q : Bool) → whole ≡ q → (t k : ℕ) (st : St) → 0 < k → cond q (listed (close pos t k (finish st k))) short ≡ looks t k [] (cond q (itemLast k (finish st k)) unknown)
+      by : (q : Bool) → whole ≡ q → (t k : ℕ) (st : St) → 0 < k
+          → cond q (listed (close pos t k (finish st k))) short ≡ looks t k [] (cond q (itemLast k (finish st k)) unknown)
       by true q t k st h = close-looks q t k (finish st k) h
       by false q t k st h = refl
 

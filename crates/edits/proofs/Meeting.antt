@@ -1,22 +1,22 @@
 -- Old bytes o between p and q become i. Where an old row starts, moved, at an offset behind the inserted bytes, the scan of the new text goes
 -- on as the old one did, moved; and reading restarts at a place of the new text.
-use Prim.Native.Nat.{ℕ, zero, suc, _+_, _-_, _≤_, _<_}
+use Prim.Native.Nat.{ℕ, _+_, _-_, _≤_, _<_}
 use native.Mathlib.Nat.{add-assoc}
 use native.Mathlib.Omega.{arith}
-use mathlib.Core.Bool.{Bool, true, false, cond, _&&_, true≢false}
-use mathlib.Core.List.{List, [], _∷_, _++_, map}
+use mathlib.Core.Bool.{Bool, true, false, true≢false}
+use mathlib.Core.List.{List, _∷_, _++_, map}
 use mathlib.Core.Path.{_≡_, refl, ap, sym, _∙_}
 use lib.Dec.{leb, ltb, eqb}
-use lib.ListN.{length, drop, take}
+use lib.ListN.{length, drop}
 use lib.Seq.{drop-append-add}
 use borrow.Author.Tests.{leb-true, le-leb, ltb-true, eqb-true, eq-eqb}
 use Rattle.rules.specs.declared.Cursor.{Cursor}
 use Rattle.rules.specs.declared.Ending.{Ending}
-use Rattle.rules.specs.Text.{front, newlines, lineAt, columnAt, place, placeAt, startPlace}
+use Rattle.rules.specs.Text.{front, newlines, lineAt, columnAt, placeAt, startPlace}
 use Rattle.rules.specs.Rows.{Row, rowPlace}
-use Rattle.rules.specs.Scan.{Reading, put, ends, stops, readRows, readEnding, scan}
-use Rattle.rules.specs.Edit.{kept, endPlace, lastEnd, restart, opens, from, some, firstPlace, carry, carryRow, carryEnding, oldOffset, meets}
-use Rattle.machine.specs.Machine.{gap, run}
+use Rattle.rules.specs.Scan.{Reading, put, readRows, readEnding, scan}
+use Rattle.rules.specs.Edit.{kept, endPlace, lastEnd, restart, opens, from, some, firstPlace, carry, carryRow, carryEnding, meets}
+use Rattle.machine.specs.Machine.{gap}
 use Rattle.edits.specs.Shows.{Starts, first, later}
 use Rattle.edits.proofs.Steps.{and-left, and-right}
 use Rattle.edits.proofs.Stand.{At, rest}
@@ -29,12 +29,14 @@ use Rattle.edits.proofs.Gap.{opens-none}
 
 -- ---- the place where reading restarts
 
-restart-run : (T X : List ℕ) (a : ℕ) → ((n : ℕ) → n ≤ a → placeAt T n ≡ placeAt X n) → {l : Reading} → Flat T l → (c : Cursor) → c ≡ placeAt X (c .offset .0)
+restart-run : (T X : List ℕ) (a : ℕ) → ((n : ℕ) → n ≤ a → placeAt T n ≡ placeAt X n) → {l : Reading} → Flat T l → (c : Cursor)
+    → c ≡ placeAt X (c .offset .0)
     → lastEnd c (kept a (readRows l)) ≡ placeAt X (lastEnd c (kept a (readRows l)) .offset .0)
 unfolding kept lastEnd readRows endPlace
 restart-run T X a g (flat-put {r} {l} h f x) c i = by (ltb (r .end) a) refl (restart-run T X a g x (endPlace r))
   where
-    by : (q : Bool) → ltb (r .end) a ≡ q → (endPlace r ≡ placeAt X (r .end) → lastEnd (endPlace r) (kept a (readRows l)) ≡ placeAt X (lastEnd (endPlace r) (kept a (readRows l)) .offset .0))
+    by : (q : Bool) → ltb (r .end) a ≡ q
+        → (endPlace r ≡ placeAt X (r .end) → lastEnd (endPlace r) (kept a (readRows l)) ≡ placeAt X (lastEnd (endPlace r) (kept a (readRows l)) .offset .0))
         → lastEnd c (kept a (readRows (put r l))) ≡ placeAt X (lastEnd c (kept a (readRows (put r l))) .offset .0)
     by true q ih = let y : r .end < a = ltb-true (r .end) a q in rw q (ih (f ∙ g (r .end) (omega arith)))
     by false q ih = rw q i
@@ -45,7 +47,8 @@ place-zero : (X : List ℕ) → startPlace ≡ placeAt X 0
 unfolding placeAt lineAt columnAt newlines front
 place-zero X = refl
 
-starts-carried : {m m′ : ℕ} (o p : Cursor) → m + p .offset .0 - o .offset .0 ≡ m′ → {rs : List Row} → Starts m rs → Starts m′ (map (carryRow o p) (from m rs))
+starts-carried : {m m′ : ℕ} (o p : Cursor) → m + p .offset .0 - o .offset .0 ≡ m′ → {rs : List Row} → Starts m rs
+    → Starts m′ (map (carryRow o p) (from m rs))
 unfolding from carryRow carry rowPlace
 starts-carried {m} o p e (first {r} {rs} s) = rw (eq-eqb (r .start) m s) (first (ap (λ (x : ℕ). x + p .offset .0 - o .offset .0) s ∙ e))
 starts-carried {m} {m′} o p e (later {r} {rs} s) = by (eqb (r .start) m) refl (starts-carried o p e s)

@@ -1,11 +1,11 @@
 -- The scan of one stretch from two offsets gives the same rows and ending, moved. Nothing here opens `step`, `begin` or `finish`.
-use Prim.Native.Nat.{ℕ, zero, suc, _+_, _-_, _≤_, _<_}
+use Prim.Native.Nat.{ℕ, suc, _+_, _-_, _≤_}
 use native.Mathlib.Omega.{arith}
-use mathlib.Core.List.{List, [], _∷_, _++_, map}
-use mathlib.Core.Path.{_≡_, refl, ap, ap₂, sym, _∙_}
+use mathlib.Core.List.{List, [], _∷_, map}
+use mathlib.Core.Path.{_≡_, refl, ap, ap₂, _∙_}
 use Rattle.rules.specs.declared.Cursor.{Cursor}
 use Rattle.rules.specs.declared.Lexical.{Lexical}
-use Rattle.rules.specs.Text.{place, placeAt}
+use Rattle.rules.specs.Text.{placeAt}
 use Rattle.rules.specs.Rows.{Row, rowAt, eofRow, rowPlace}
 use Rattle.rules.specs.Scan.{Reading, put, ends, stops, readRows, readEnding}
 use Rattle.rules.specs.Edit.{carry, carryRow, carryEnding}
@@ -36,7 +36,8 @@ module _ (X X′ : List ℕ) (o p : Cursor) (slides : (n : ℕ) → o .offset .0
   f-add : (t j : ℕ) → o .offset .0 ≤ t → f t + j ≡ f (t + j)
   f-add t j h = omega arith
 
-  row-carried : (x : Token) (t j : ℕ) → o .offset .0 ≤ t → rowAt (placeAt X′ (f t)) (x .kind) (f t + j) (x .bits) ≡ carryRow o p (rowAt (placeAt X t) (x .kind) (t + j) (x .bits))
+  row-carried : (x : Token) (t j : ℕ) → o .offset .0 ≤ t
+      → rowAt (placeAt X′ (f t)) (x .kind) (f t + j) (x .bits) ≡ carryRow o p (rowAt (placeAt X t) (x .kind) (t + j) (x .bits))
   unfolding carryRow rowAt rowPlace
   row-carried x t j h = rw (slides t h, f-add t j h)
 
@@ -44,7 +45,8 @@ module _ (X X′ : List ℕ) (o p : Cursor) (slides : (n : ℕ) → o .offset .0
   unfolding carryRow rowAt eofRow rowPlace carry
   eof-carried t h = rw (slides t h)
 
-  stops-carried : (why : Lexical) (t i k : ℕ) → o .offset .0 ≤ t → stops why (placeAt X′ (f t + i)) (f t + k) ≡ carried o p (stops why (placeAt X (t + i)) (t + k))
+  stops-carried : (why : Lexical) (t i k : ℕ) → o .offset .0 ≤ t
+      → stops why (placeAt X′ (f t + i)) (f t + k) ≡ carried o p (stops why (placeAt X (t + i)) (t + k))
   unfolding carried
   stops-carried why t i k h = rw (f-add t i h, f-add t k h, slides (t + i) (omega arith))
 
@@ -71,7 +73,8 @@ module _ (X X′ : List ℕ) (o p : Cursor) (slides : (n : ℕ) → o .offset .0
       ap₂ put (row-carried x t k h) (ap (λ (n : ℕ). put (eofRow (placeAt X′ n)) ends) (f-add t k h) ∙ ap (λ (r : Row). put r ends) (eof-carried (t + k) (omega arith)))
   close-carried t k (cut why x) h = stops-carried why t (spot x k) k h
 
-  pub run-carried : (s : List ℕ) (t k : ℕ) (st : St) → o .offset .0 ≤ t → run (placeAt X′) s (t + p .offset .0 - o .offset .0) k st ≡ carried o p (run (placeAt X) s t k st)
+  pub run-carried : (s : List ℕ) (t k : ℕ) (st : St) → o .offset .0 ≤ t
+      → run (placeAt X′) s (t + p .offset .0 - o .offset .0) k st ≡ carried o p (run (placeAt X) s t k st)
   unfolding run
   run-carried [] t k st h = close-carried t k (finish st k) h
   run-carried (b ∷ s) t k st h = move-carried (run (placeAt X) s) (run (placeAt X′) s) (run-carried s) b t k (step st k b) h

@@ -1,15 +1,14 @@
 -- Places of a text: counted in the text they are what a cursor has that walked over it; and what becomes of a place where the
 -- bytes before it change.
-use Prim.Native.Nat.{ℕ, zero, suc, _+_, _-_, _≤_, _<_}
-use native.Mathlib.Nat.{add-zero, add-suc}
+use Prim.Native.Nat.{ℕ, suc, _+_, _-_, _≤_}
 use native.Mathlib.Omega.{arith}
-use mathlib.Core.Bool.{Bool, true, false, cond, not, _&&_, _||_}
-use mathlib.Core.List.{List, [], _∷_, _++_, reverse, reverseAux, reverseAux-eq, append-assoc, append-nil}
-use mathlib.Core.Path.{_≡_, refl, ap, sym, _∙_, subst}
+use mathlib.Core.Bool.{Bool, true, false, cond}
+use mathlib.Core.List.{List, [], _∷_, _++_, reverse, reverseAux, append-assoc, append-nil}
+use mathlib.Core.Path.{_≡_, refl, ap, sym, _∙_}
 use lib.Dec.{eqb}
-use lib.ListN.{length, drop, take, length-append, length-drop}
+use lib.ListN.{length, drop, take, length-append}
 use lib.Seq.{take-add, take-append-le, length-take-le}
-use borrow.Author.Tests.{eqb-true, eqb-false, eq-eqb, ne-eqb}
+use borrow.Author.Tests.{eqb-true, eq-eqb, ne-eqb}
 use Rattle.rules.specs.declared.Cursor.{Cursor}
 use Rattle.rules.specs.Text.{front, newlines, notNewline, lineAt, columnAt, place, placeAt, startPlace, moved, over}
 use Rattle.rules.specs.Edit.{carry}
@@ -101,7 +100,8 @@ moved-behind b o x h = by (eqb b 10) refl
   where
     by : (q : Bool) → eqb b 10 ≡ q → Behind o (moved x b)
     by true q = rw (moved, q) (record { past = omega arith; down = omega arith; along = λ e. absurd (let z : ⊥ = omega arith in z) })
-    by false q = rw (moved, q) (record { past = omega arith; down = h .down; along = λ e. let l : o .column .0 ≤ x .column .0 = h .along e in omega arith })
+    by false q =
+        rw (moved, q) (record { past = omega arith; down = h .down; along = λ e. let l : o .column .0 ≤ x .column .0 = h .along e in omega arith })
 
 moved-carry : (b : ℕ) (o p x : Cursor) → Behind o x → moved (carry o p x) b ≡ carry o p (moved x b)
 unfolding moved carry
@@ -109,7 +109,8 @@ moved-carry b o p x h = by (eqb b 10) refl (eqb (x .line .0) (o .line .0)) refl
   where
     by : (q : Bool) → eqb b 10 ≡ q → (r : Bool) → eqb (x .line .0) (o .line .0) ≡ r → moved (carry o p x) b ≡ carry o p (moved x b)
     by true q r e = rw (moved, q) (place-eq _ _ (omega arith) (omega arith) (rw (ne-eqb (x .line .0 + 1) (o .line .0) (λ z. omega arith))))
-    by false q true e = let l : o .column .0 ≤ x .column .0 = h .along (eqb-true _ _ e) in rw (moved, q) (place-eq _ _ (omega arith) refl (rw e (omega arith)))
+    by false q true e =
+        let l : o .column .0 ≤ x .column .0 = h .along (eqb-true _ _ e) in rw (moved, q) (place-eq _ _ (omega arith) refl (rw e (omega arith)))
     by false q false e = rw (moved, q) (place-eq _ _ (omega arith) refl (rw e))
 
 over-carry : (s : List ℕ) (o p x : Cursor) → Behind o x → over (carry o p x) s ≡ carry o p (over x s)
@@ -121,7 +122,8 @@ pub over-carried : (s : List ℕ) (o p : Cursor) → over p s ≡ carry o p (ove
 over-carried s o p = rw (carry-self o p) at (over-carry s o p o (record { past = omega arith; down = omega arith; along = λ e. omega arith }))
 
 -- two texts that are the same from m′ and from m on
-pub place-carried : (t t′ : List ℕ) (m m′ j : ℕ) → drop m′ t ≡ drop m t′ → placeAt t′ (m + j) ≡ carry (placeAt t m′) (placeAt t′ m) (placeAt t (m′ + j))
+pub place-carried : (t t′ : List ℕ) (m m′ j : ℕ) → drop m′ t ≡ drop m t′
+    → placeAt t′ (m + j) ≡ carry (placeAt t m′) (placeAt t′ m) (placeAt t (m′ + j))
 unfolding carry placeAt
 place-carried t t′ m m′ j h =
     let o : Cursor = placeAt t m′ in
@@ -131,7 +133,8 @@ place-carried t t′ m m′ j h =
     place-add t′ m j ∙ ap (at (m + j)) (over-carried s o p) ∙ e ∙ ap (carry o p) (sym (place-add t m′ j ∙ rw h))
 
 -- a window's places from the place where it starts
-pub place-window : (t w z : List ℕ) (e : ℕ) → drop e t ≡ w ++ z → (c : Cursor) → c ≡ placeAt t e → (n : ℕ) → e ≤ n → n ≤ e + length w → placeAt t n ≡ over c (take (n - e) w)
+pub place-window : (t w z : List ℕ) (e : ℕ) → drop e t ≡ w ++ z → (c : Cursor) → c ≡ placeAt t e → (n : ℕ) → e ≤ n → n ≤ e + length w
+    → placeAt t n ≡ over c (take (n - e) w)
 unfolding placeAt
 place-window t w z e d c f n l h =
     let q : n ≡ e + (n - e) = omega arith in

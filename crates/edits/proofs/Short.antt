@@ -1,5 +1,5 @@
 -- When a window is short: exactly if it shows nothing.
-use Prim.Native.Nat.{ℕ, zero, suc, _+_, _-_, _≤_, _<_}
+use Prim.Native.Nat.{ℕ, suc, _+_, _≤_, _<_}
 use native.Mathlib.Omega.{arith}
 use mathlib.Core.Bool.{Bool, true, false, cond, not, _&&_, true≢false}
 use mathlib.Core.List.{List, [], _∷_, _++_}
@@ -10,8 +10,8 @@ use Rattle.rules.specs.declared.Lexical.{Lexical}
 use Rattle.rules.specs.Text.{placeAt}
 use Rattle.rules.specs.Rows.{Row, rowAt, eofRow}
 use Rattle.rules.specs.Scan.{Reading, put, ends, stops, readRows}
-use Rattle.rules.specs.Edit.{opens, Seen, sees, over′, met, short, isShort}
-use Rattle.machine.specs.Machine.{Token, St, gap, First, go, clear, over, bad, Move, fresh, on, back, Last, clean, ended, cut, spot, begin, step, finish, after, move, close, run}
+use Rattle.rules.specs.Edit.{opens, Seen, met, isShort}
+use Rattle.machine.specs.Machine.{Token, St, gap, First, go, clear, over, bad, Move, fresh, on, back, Last, clean, ended, cut, begin, step, finish, after, move, close, run}
 use Rattle.edits.specs.Shows.{Starts, first, later, Decided, here, behind}
 use Rattle.edits.proofs.Steps.{and-left, step-gap, finish-gap, opens-more}
 use Rattle.edits.proofs.Stand.{At, at-next, at-same, rest, rest-begin, puts}
@@ -64,7 +64,8 @@ abbrev pub Plain : List ℕ → (ℕ → Bool) → Type 0
 Plain T meet = (m b : ℕ) (s : List ℕ) → At T (b ∷ s) m → meet m ≡ true → opens (b ∷ s) ≡ false
 
 module _ (T : List ℕ) (meet : ℕ → Bool) (hi : ℕ) where
-  quiet-row : (x : Token) (t e : ℕ) (l : Reading) → (t < hi → meet t ≡ false) → Quiet meet hi l → Quiet meet hi (put (rowAt (placeAt T t) (x .kind) e (x .bits)) l)
+  quiet-row : (x : Token) (t e : ℕ) (l : Reading) → (t < hi → meet t ≡ false) → Quiet meet hi l
+      → Quiet meet hi (put (rowAt (placeAt T t) (x .kind) e (x .bits)) l)
   unfolding rowAt placeAt
   quiet-row x t e l h q = quiet-put {r = rowAt (placeAt T t) (x .kind) e (x .bits)} h q
 
@@ -102,14 +103,16 @@ module _ (T : List ℕ) (meet : ℕ → Bool) (hi : ℕ) where
   module _ (posw : ℕ → Cursor) (plain : Plain T meet) where
     module _ (w z : List ℕ) (rf : ℕ → ℕ → St → Reading) (rs : ℕ → ℕ → St → Seen)
         (ih : (t k : ℕ) (st : St) → t + k + length w ≡ hi → At T (w ++ z) (t + k) → Checked meet hi t st → isShort (rs t k st) ≡ true → Quiet meet hi (rf t k st)) where
-      after-quiet : (t k : ℕ) (x : First) → t + suc k + length w ≡ hi → At T (w ++ z) (t + suc k) → (t < hi → meet t ≡ false) → isShort (seeAfter posw meet rs t k x) ≡ true → Quiet meet hi (after (placeAt T) rf t k x)
+      after-quiet : (t k : ℕ) (x : First) → t + suc k + length w ≡ hi → At T (w ++ z) (t + suc k) → (t < hi → meet t ≡ false)
+          → isShort (seeAfter posw meet rs t k x) ≡ true → Quiet meet hi (after (placeAt T) rf t k x)
       unfolding after seeAfter isShort
       after-quiet t k (go st) h d c i = ih t (suc k) st h d (passed c) i
       after-quiet t k clear h d c i = ih (t + suc k) 0 gap (omega arith) (at-same d (omega arith)) (waits refl) i
       after-quiet t k (over x) h d c i = quiet-row x t (t + suc k) _ c (ih (t + suc k) 0 gap (omega arith) (at-same d (omega arith)) (waits refl) i)
       after-quiet t k (bad why x) h d c i = absurd (true≢false (sym i))
 
-      at-quiet : (b m : ℕ) → m + suc (length w) ≡ hi → At T (b ∷ (w ++ z)) m → isShort (seeAt posw meet w rs b m) ≡ true → Quiet meet hi (after (placeAt T) rf m 0 (begin b))
+      at-quiet : (b m : ℕ) → m + suc (length w) ≡ hi → At T (b ∷ (w ++ z)) m → isShort (seeAt posw meet w rs b m) ≡ true
+          → Quiet meet hi (after (placeAt T) rf m 0 (begin b))
       unfolding seeAt isShort
       at-quiet b m h d i = by (meet m) refl (opens (b ∷ w)) refl
         where
@@ -118,19 +121,22 @@ module _ (T : List ℕ) (meet : ℕ → Bool) (hi : ℕ) where
           by true q false o = absurd (true≢false (sym (rw (q, o) at i)))
           by false q r o = after-quiet m 0 (begin b) (omega arith) (at-next d (omega arith)) (λ l. q) (rw q at i)
 
-      move-quiet : (b t k : ℕ) (st : St) (m : Move) → step st k b ≡ m → t + k + suc (length w) ≡ hi → At T (b ∷ (w ++ z)) (t + k) → Checked meet hi t st → isShort (seeMove posw meet w rs b t k m) ≡ true → Quiet meet hi (move (placeAt T) rf b t k m)
+      move-quiet : (b t k : ℕ) (st : St) (m : Move) → step st k b ≡ m → t + k + suc (length w) ≡ hi → At T (b ∷ (w ++ z)) (t + k)
+          → Checked meet hi t st → isShort (seeMove posw meet w rs b t k m) ≡ true → Quiet meet hi (move (placeAt T) rf b t k m)
       unfolding move seeMove isShort isFresh
       move-quiet b t k st fresh e h d c i = at-quiet b (t + k) h d i
       move-quiet b t k st (on x) e h d c i = after-quiet t k x (omega arith) (at-next d (omega arith)) (checked c (not-gap st k b (on x) e refl)) i
       move-quiet b t k st (back x) e h d c i = quiet-row x t (t + k) _ (checked c (not-gap st k b (back x) e refl)) (at-quiet b (t + k) h d i)
 
     -- a short window: the text goes on behind it, and nothing was to be seen in it
-    pub short-quiet : (whole : Bool) (w z : List ℕ) (t k : ℕ) (st : St) → t + k + length w ≡ hi → At T (w ++ z) (t + k) → Checked meet hi t st → isShort (lookBytes posw meet whole w t k st) ≡ true
+    pub short-quiet : (whole : Bool) (w z : List ℕ) (t k : ℕ) (st : St) → t + k + length w ≡ hi → At T (w ++ z) (t + k) → Checked meet hi t st
+        → isShort (lookBytes posw meet whole w t k st) ≡ true
         → Quiet meet hi (run (placeAt T) (w ++ z) t k st)
     unfolding lookBytes run
     short-quiet true [] z t k st h d c i = absurd (true≢false (sym i ∙ not-listed _))
     short-quiet false [] z t k st h d c i = beyond z t k st (omega arith) c
-    short-quiet whole (b ∷ w) z t k st h d c i = move-quiet w z (run (placeAt T) (w ++ z)) (lookBytes posw meet whole w) (short-quiet whole w z) b t k st (step st k b) refl h d c i
+    short-quiet whole (b ∷ w) z t k st h d c i =
+        move-quiet w z (run (placeAt T) (w ++ z)) (lookBytes posw meet whole w) (short-quiet whole w z) b t k st (step st k b) refl h d c i
 
 -- a window that ends the text is never short
 module _ (posw : ℕ → Cursor) (meet : ℕ → Bool) where
@@ -179,32 +185,38 @@ meets-puts (r ∷ rs) h = meets-put r (meets-puts rs h)
 module _ (T : List ℕ) (posw : ℕ → Cursor) (meet : ℕ → Bool) (hi : ℕ) (starts : (m : ℕ) → meet m ≡ true → Starts m (readRows (rest T m))) where
   module _ (w z : List ℕ) (rf : ℕ → ℕ → St → Reading) (rs : ℕ → ℕ → St → Seen) (rf-is : rf ≡ run (placeAt T) (w ++ z))
       (ih : (t k : ℕ) (st : St) → t + k + length w ≡ hi → At T (w ++ z) (t + k) → isShort (rs t k st) ≡ false → Meets meet hi (rf t k st)) where
-    after-meets : (t k : ℕ) (x : First) → t + suc k + length w ≡ hi → At T (w ++ z) (t + suc k) → isShort (seeAfter posw meet rs t k x) ≡ false → Meets meet hi (after (placeAt T) rf t k x)
+    after-meets : (t k : ℕ) (x : First) → t + suc k + length w ≡ hi → At T (w ++ z) (t + suc k) → isShort (seeAfter posw meet rs t k x) ≡ false
+        → Meets meet hi (after (placeAt T) rf t k x)
     unfolding after seeAfter isShort
     after-meets t k (go st) h d i = ih t (suc k) st h d i
     after-meets t k clear h d i = ih (t + suc k) 0 gap (omega arith) (at-same d (omega arith)) i
     after-meets t k (over x) h d i = meets-put _ (ih (t + suc k) 0 gap (omega arith) (at-same d (omega arith)) i)
     after-meets t k (bad why x) h d i = refusal (t + k) (omega arith) (here refl)
 
-    at-meets : (b m : ℕ) → m + suc (length w) ≡ hi → At T (b ∷ (w ++ z)) m → isShort (seeAt posw meet w rs b m) ≡ false → Meets meet hi (after (placeAt T) rf m 0 (begin b))
+    at-meets : (b m : ℕ) → m + suc (length w) ≡ hi → At T (b ∷ (w ++ z)) m → isShort (seeAt posw meet w rs b m) ≡ false
+        → Meets meet hi (after (placeAt T) rf m 0 (begin b))
     unfolding seeAt isShort
     at-meets b m h d i = by (meet m && not (opens (b ∷ w))) refl
       where
         by : (q : Bool) → (meet m && not (opens (b ∷ w))) ≡ q → Meets meet hi (after (placeAt T) rf m 0 (begin b))
-        by true q = let e : meet m ≡ true = and-left (meet m) (not (opens (b ∷ w))) q in row-starts m (omega arith) e (rw rf-is (rw (rest-begin d) at (starts m e)))
+        by true q =
+            let e : meet m ≡ true = and-left (meet m) (not (opens (b ∷ w))) q in row-starts m (omega arith) e (rw rf-is (rw (rest-begin d) at (starts m e)))
         by false q = after-meets m 0 (begin b) (omega arith) (at-next d (omega arith)) (rw q at i)
 
-    move-meets : (b t k : ℕ) (x : Move) → t + k + suc (length w) ≡ hi → At T (b ∷ (w ++ z)) (t + k) → isShort (seeMove posw meet w rs b t k x) ≡ false → Meets meet hi (move (placeAt T) rf b t k x)
+    move-meets : (b t k : ℕ) (x : Move) → t + k + suc (length w) ≡ hi → At T (b ∷ (w ++ z)) (t + k) → isShort (seeMove posw meet w rs b t k x) ≡ false
+        → Meets meet hi (move (placeAt T) rf b t k x)
     unfolding move seeMove isShort
     move-meets b t k fresh h d i = at-meets b (t + k) h d i
     move-meets b t k (on x) h d i = after-meets t k x (omega arith) (at-next d (omega arith)) i
     move-meets b t k (back x) h d i = meets-put _ (at-meets b (t + k) h d i)
 
   -- a window that is not short, though the text goes on behind it, shows something
-  pub part-meets : (w z : List ℕ) (t k : ℕ) (st : St) → t + k + length w ≡ hi → At T (w ++ z) (t + k) → isShort (lookBytes posw meet false w t k st) ≡ false → Meets meet hi (run (placeAt T) (w ++ z) t k st)
+  pub part-meets : (w z : List ℕ) (t k : ℕ) (st : St) → t + k + length w ≡ hi → At T (w ++ z) (t + k)
+      → isShort (lookBytes posw meet false w t k st) ≡ false → Meets meet hi (run (placeAt T) (w ++ z) t k st)
   unfolding lookBytes run isShort
   part-meets [] z t k st h d i = absurd (true≢false i)
-  part-meets (b ∷ w) z t k st h d i = move-meets w z (run (placeAt T) (w ++ z)) (lookBytes posw meet false w) refl (part-meets w z) b t k (step st k b) h d i
+  part-meets (b ∷ w) z t k st h d i =
+      move-meets w z (run (placeAt T) (w ++ z)) (lookBytes posw meet false w) refl (part-meets w z) b t k (step st k b) h d i
 
 -- ---- what is quiet shows nothing
 

@@ -1,16 +1,15 @@
 -- A scan that stands behind a row, or in a gap, goes on as a scan that begins there.
-use Prim.Native.Nat.{ℕ, zero, suc, _+_, _-_, _≤_, _<_}
+use Prim.Native.Nat.{ℕ, suc}
 use native.Mathlib.Nat.{add-zero}
 use native.Mathlib.Numerals.{add-one}
 use mathlib.Core.List.{List, [], _∷_, _++_}
 use mathlib.Core.Path.{_≡_, refl, ap, sym, _∙_}
-use lib.ListN.{length, drop}
+use lib.ListN.{drop}
 use lib.Seq.{drop-drop}
 use Rattle.rules.specs.Text.{placeAt}
 use Rattle.rules.specs.Rows.{Row, eofRow}
-use Rattle.rules.specs.Scan.{Reading, put, ends, stops, readRows, readEnding}
-use Rattle.rules.specs.declared.Ending.{Ending}
-use Rattle.machine.specs.Machine.{St, gap, begin, after, move, close, run}
+use Rattle.rules.specs.Scan.{Reading, put, ends, readRows, readEnding}
+use Rattle.machine.specs.Machine.{gap, begin, after, move, close, run}
 use Rattle.edits.proofs.Steps.{step-gap, finish-gap}
 
 -- the text T from offset n on is s

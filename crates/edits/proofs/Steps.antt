@@ -1,10 +1,10 @@
 -- All that the theorems on edits know of `begin`, `step` and `finish`: a machine in a gap only begins, no row holds a newline, and no row
 -- starts where a gap goes on.
-use Prim.Native.Nat.{ℕ, zero, suc, _+_, _-_, _*_, _≤_, min}
+use Prim.Native.Nat.{ℕ, _≤_}
 use native.Mathlib.Omega.{arith}
 use mathlib.Core.Bool.{Bool, true, false, cond, not, _&&_, _||_, true≢false}
 use mathlib.Core.List.{List, [], _∷_, _++_}
-use mathlib.Core.Path.{_≡_, refl, sym, _∙_, ap}
+use mathlib.Core.Path.{_≡_, refl, sym, _∙_}
 use lib.Dec.{eqb, leb}
 use borrow.Author.Tests.{eqb-true}
 use Rattle.rules.specs.Text.{isBlank}
@@ -12,7 +12,7 @@ use Rattle.rules.specs.Kinds
 use Rattle.rules.specs.Kinds.{Spelt, signs, sameBytes, kindIn}
 use Rattle.rules.specs.Lex.{isDigit, isLetter, isWord, isHexDigit, isEscape, largest, isLone}
 use Rattle.rules.specs.Edit.{opens, slashOrStar}
-use Rattle.machine.specs.Machine.{St, gap, slash, line, block, star, minus, str, esc, two, name, zer, hex0, dec, hex, Spot, mark, opened, here, before, First, go, clear, over, bad, Move, fresh, on, back, Last, clean, ended, cut, spot, number, numberEnd, twoSign, begin, step, finish}
+use Rattle.machine.specs.Machine.{St, gap, slash, line, block, star, minus, str, esc, two, name, zer, hex0, dec, hex, Spot, mark, opened, here, before, First, go, clear, over, bad, Move, fresh, on, back, Last, clean, ended, cut, spot, number, begin, step, finish}
 
 pub and-left : (x y : Bool) → (x && y) ≡ true → x ≡ true
 and-left true y h = refl
@@ -21,6 +21,9 @@ and-left false y h = h
 pub and-right : (x y : Bool) → (x && y) ≡ true → y ≡ true
 and-right true y h = h
 and-right false y h = absurd (true≢false (sym h))
+
+pub and-both : {x y : Bool} → x ≡ true → y ≡ true → (x && y) ≡ true
+and-both {x} {y} e f = rw (e, f)
 
 pub spot-le : (x : Spot) (k : ℕ) → spot x k ≤ k
 unfolding spot

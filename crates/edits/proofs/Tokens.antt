@@ -1,5 +1,5 @@
 -- What the machine makes of the bytes of a row is as a well-formed row has it: its kind is made and has that length, its value is in range.
-use Prim.Native.Nat.{ℕ, zero, suc, _+_, _-_, _*_, _/_, _%_, _^_, _≤_, _<_}
+use Prim.Native.Nat.{ℕ, zero, suc, _-_, _^_, _≤_, _<_}
 use native.Mathlib.Nat.{div-add-mod', mod-eq-of-lt}
 use native.Mathlib.Omega.{arith}
 use mathlib.Core.Bool.{Bool, true, false, cond, not, _&&_, _||_, true≢false}
@@ -7,15 +7,15 @@ use mathlib.Core.List.{List, [], _∷_, _++_}
 use mathlib.Core.Path.{_≡_, refl, ap, sym, _∙_}
 use lib.Dec.{eqb, leb}
 use lib.ListN.{length, length-append}
-use borrow.Author.Tests.{eqb-true, eqb-false, eq-eqb, ne-eqb, leb-true, le-leb}
+use borrow.Author.Tests.{eqb-true, eq-eqb, ne-eqb, leb-true, le-leb}
 use Rattle.rules.specs.declared.Cursor.{Cursor}
 use Rattle.rules.specs.declared.Lexical.{Lexical}
 use Rattle.rules.specs.Kinds
 use Rattle.rules.specs.Kinds.{Identifier, StringLiteral, Number, SlashEquals, Slash, MinusEquals, Minus, isMade, Spelt, reserved, signs, sameBytes, kindIn, lengthIn}
-use Rattle.rules.specs.Rows.{Row, bitsOf, valueBits, rowAt, lengthFits, valueFits}
+use Rattle.rules.specs.Rows.{bitsOf, valueBits, rowAt, lengthFits, valueFits}
 use Rattle.rules.specs.Text.{isBlank}
 use Rattle.rules.specs.Lex.{isDigit, isLetter, isWord, isHexDigit, isEscape, largest, isLone, maybeTwo}
-use Rattle.machine.specs.Machine.{Token, tok, St, gap, slash, line, block, star, minus, str, esc, two, name, zer, hex0, dec, hex, Spot, mark, First, go, clear, over, bad, Move, fresh, on, back, Last, clean, ended, cut, word, number, numberEnd, oneSign, twoSign, begin, step, finish}
+use Rattle.machine.specs.Machine.{Token, tok, St, gap, slash, line, block, star, minus, str, esc, two, name, zer, hex0, dec, hex, Spot, First, go, clear, over, bad, Move, fresh, on, back, Last, clean, ended, cut, word, number, numberEnd, oneSign, twoSign, begin, step, finish}
 use Rattle.edits.proofs.Steps.{and-left, and-right}
 
 -- a row of n bytes may have this kind and value

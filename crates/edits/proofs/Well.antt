@@ -1,14 +1,13 @@
 -- A scan's rows are in order and inside the text, each with its start's place and as long as its kind asks; Eof stands at the text's end.
-use Prim.Native.Nat.{ℕ, zero, suc, _+_, _-_, _≤_, _<_}
-use native.Mathlib.Nat.{add-zero, add-suc}
+use Prim.Native.Nat.{ℕ, suc, _+_, _≤_}
 use native.Mathlib.Omega.{arith}
-use mathlib.Core.Bool.{Bool, true, false, cond, true≢false}
-use mathlib.Core.List.{List, [], _∷_, _++_}
-use mathlib.Core.Path.{_≡_, refl, ap, sym, _∙_}
+use mathlib.Core.Bool.{true}
+use mathlib.Core.List.{List, [], _∷_}
+use mathlib.Core.Path.{_≡_, refl}
 use lib.ListN.{length}
 use Rattle.rules.specs.declared.Lexical.{Lexical}
 use Rattle.rules.specs.Text.{placeAt}
-use Rattle.rules.specs.Rows.{Row, rowAt, eofRow}
+use Rattle.rules.specs.Rows.{rowAt, eofRow}
 use Rattle.rules.specs.Scan.{Reading, put, ends, stops, scan}
 use Rattle.machine.specs.Machine.{Token, St, gap, First, go, clear, over, bad, Move, fresh, on, back, Last, clean, ended, cut, spot, begin, step, finish, after, move, close, run, scanBytes}
 use Rattle.machine.proofs.Same.{same-scan}
@@ -18,7 +17,8 @@ use Rattle.edits.proofs.Tokens.{Fit, good, GoodFirst, good-go, good-cle
 module _ (T : List ℕ) where
   -- a reading from lo on
   pub data Well : ℕ → Reading → Type 0 where
-    well-row : {lo t k : ℕ} {x : Token} {l : Reading} → lo ≤ t → t + k ≤ length T → Fit x k → Well (t + k) l → Well lo (put (rowAt (placeAt T t) (x .kind) (t + k) (x .bits)) l)
+    well-row : {lo t k : ℕ} {x : Token} {l : Reading} → lo ≤ t → t + k ≤ length T → Fit x k → Well (t + k) l
+        → Well lo (put (rowAt (placeAt T t) (x .kind) (t + k) (x .bits)) l)
     well-eof : {lo n : ℕ} → lo ≤ n → n ≡ length T → Well lo (put (eofRow (placeAt T n)) ends)
     well-stops : {lo m d : ℕ} {why : Lexical} → lo ≤ m → m ≤ length T → Well lo (stops why (placeAt T m) d)
 

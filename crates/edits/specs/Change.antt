@@ -1,7 +1,8 @@
 -- A change of a text, a window of the new text, and the edit of what a scan of the old text gave.
-use Prim.Native.Nat.{ℕ, _+_}
+use Prim.Native.Nat.{ℕ, _+_, _<_}
 use mathlib.Core.Bool.{Bool}
 use mathlib.Core.List.{List, _++_}
+use mathlib.Core.Logic.{_⊎_}
 use mathlib.Core.Path.{_≡_}
 use lib.ListN.{length, drop}
 use Rattle.rules.specs.declared.Ending.{Ending}
@@ -9,6 +10,7 @@ use Rattle.rules.specs.Rows.{Row}
 use Rattle.rules.specs.Scan.{readRows, readEnding, scan}
 use Rattle.rules.specs.Edit
 use Rattle.rules.specs.Edit.{restart, newRows, newEnding, windowShort}
+use Rattle.edits.specs.Shows.{Shows}
 
 -- The bytes `removed`, which stand between `before` and `behind`, become `inserted`.
 pub record Change : Type 0 where
@@ -52,8 +54,16 @@ module _ (c : Change) where
     pub rest : List ℕ
     pub text : drop starts newText ≡ w ++ rest
 
+  -- the rules' test for 7
   abbrev pub isShort : List ℕ → Bool
   isShort w = windowShort oldRows oldEnding (length oldText) a b n w
+
+  -- When it is: the window ends before the new bytes do; or it doesn't end the new text, and shows neither a meeting place nor a refusal with
+  -- its deciding byte.
+  abbrev pub TooShort : List ℕ → Type 0
+  TooShort w =
+      (stops w < a + n)
+      ⊎ ((stops w ≡ length newText → ⊥) × (Shows (scan oldText) (scan newText) a b n (stops w) → ⊥))
 
   abbrev pub endsText : List ℕ → Bool
   endsText w = Edit.ends oldRows (length oldText) a b n w

@@ -1,2 +1,5 @@
 pub mod Shows
 pub mod Change
+pub mod Scanned
+pub mod Demand3
+pub mod Whole
