@@ -4,3 +4,5 @@ pub mod Cases
 pub mod Runs
 pub mod Sound
 pub mod Ends
+pub mod Complete
+pub mod Same

@@ -71,7 +71,7 @@ Listing Q ts stop p whole i n m s m′ = Turn (Listed i Q) ts (λ r. not (eqb (k
 
 module _ (Q : Tree → Type 0) (ts : List Tok) (stop : ℕ) (p : P) (whole : Out) (i n : ℕ) (m : List ℕ) (s : At) where
   pub list-start : whole ≡ Parse.listTo ts stop p i → i ≤ length ts → s ≡ record { row = i; node = n; place = i; tag = 0 } → Q none → Listing Q ts stop p whole i n m s m
-  unfolding Parse.listTo width placeOf isVariable count
+  unfolding Parse.listTo Parse.loop width placeOf isVariable count
   list-start e h q g =
       let r : s .row ≡ i = ap (λ (x : At). x .row) q in
       start (Listed i Q) ts _ _ whole i n m s m none (rw r e) (stands-none i n m s q) (omega (arith, r)) (omega arith) (record { place = refl; bare = refl; known = g })
@@ -95,10 +95,10 @@ module _ (Q : Tree → Type 0) (ts : List Tok) (stop : ℕ) (p : P) (whole : Out
       list-fails why q m″ f = fails (Listed i Q) ts _ _ whole i n m s m′ c goes-on why q m″ (rw f)
 
       -- one thing more, with which the list has the property R
-      pub list-again : (R : Tree → Type 0) (s₂ : At) (m₂ : List ℕ) (s₃ : At) → (v : Came ts (p (s .row)) (s .row) (s .node) m′ s₂ m₂) → s .row < s₂ .row
+      pub list-again : (R : Tree → Type 0) (C : Tree → ℕ → Type 0) (s₂ : At) (m₂ : List ℕ) (s₃ : At) → (v : Came C ts (p (s .row)) (s .row) (s .node) m′ s₂ m₂) → s .row < s₂ .row
           → s₃ ≡ record { row = s₂ .row; node = s₂ .node; place = s .place; tag = s .tag + 1 } → R (seq (c .tree) (v .tree)) → Listing R ts stop p whole i n m s₃ m₂
       unfolding Parse.listStep then width count placeOf isVariable
-      list-again R s₂ m₂ s₃ v up f g =
+      list-again R C s₂ m₂ s₃ v up f g =
           let r : s₃ .row ≡ s₂ .row = ap (λ (x : At). x .row) f in
           again (Listed i Q) ts _ _ whole i n m s m′ c goes-on (Listed i R) (seq (c .tree) (v .tree)) s₃ m₂ (rw (v .is, r))
           (stands-seq i n m s m′ (c .tree) s₂ m₂ (v .tree) s₃ (c .stands) (v .stands) f (c .known .place) (c .known .bare))

@@ -9,9 +9,12 @@ use lib.Seq.{length-sets}
 use Rattle.rules.specs.declared.Syntax.{Syntax}
 use Rattle.rules.specs.Tree.{Tok, Tree, isVariable, count}
 use Rattle.rules.specs.Nodes.{width, size, placeOf, treeWords}
-use Rattle.rules.specs.Parse
 use Rattle.rules.specs.Parse.{Out, ok, no, P, then, many}
-use Rattle.grammar.proofs.Laws.{nodes-within-rows, place-width}
+use Rattle.rules.specs.Grammar.{Nt}
+use Rattle.grammar.proofs.Laws.{nodes-within-rows, place-width, is-count}
+use Rattle.grammar.proofs.Runs.{All}
+use Rattle.grammar.proofs.Sound.{Reads}
+use Rattle.grammar.proofs.Ends.{Ends}
 use Rattle.nodes.specs.Post.{tagOf, behind, Met, Stands}
 use Rattle.nodes.specs.declared.At.{At}
 use Rattle.nodes.specs.declared.Got.{Got}
@@ -23,17 +26,6 @@ same-len i n t m s m′ h = ap length (h .mem) ∙ length-sets m (8 * n) (treeWo
 
 -- ---- a call's answer, taken apart
 
--- where a tree ends that is read from row i on, and that it has no more things than rows
-pub record Ends (ts : List Tok) (i : ℕ) (t : Tree) (j : ℕ) : Type 0 where
-  pub next : j ≡ i + width t
-  pub inside : j ≤ length ts
-  pub counts : count t ≤ width t
-
--- the same of whatever tree an answer gives
-abbrev pub EndsAll : List Tok → ℕ → Out → Type 0
-EndsAll ts i (ok t j) = Ends ts i t j
-EndsAll ts i (no why p) = Unit {0}
-
 pub tag-width : (t : Tree) → count t ≤ width t → tagOf t ≤ width t + 1
 unfolding tagOf
 tag-width t h = go (isVariable t)
@@ -42,8 +34,8 @@ tag-width t h = go (isVariable t)
     go true = omega arith
     go false = omega arith
 
--- the call gave s, and behind it stands the tree
-pub record Came (ts : List Tok) (o : Out) (i n : ℕ) (m : List ℕ) (s : At) (m′ : List ℕ) : Type 0 where
+-- the call gave s, and behind it stands a tree with the property C
+pub record Came (C : Tree → ℕ → Type 0) (ts : List Tok) (o : Out) (i n : ℕ) (m : List ℕ) (s : At) (m′ : List ℕ) : Type 0 where
   pub tree : Tree
   pub is : o ≡ ok tree (s .row)
   pub stands : Stands i n tree m s m′
@@ -52,22 +44,34 @@ pub record Came (ts : List Tok) (o : Out) (i n : ℕ) (m : List ℕ) (s : At) (m
   pub near : placeOf i tree ≤ i + width tree
   pub counts : count tree ≤ width tree
   pub tags : tagOf tree ≤ width tree + 1
+  pub known : C tree (s .row)
 
-pub came : (ts : List Tok) (o : Out) (i n : ℕ) (m m′ : List ℕ) (r : Got) (s : At) → EndsAll ts i o → Met o i n m m′ r → r ≡ Done s → Came ts o i n m s m′
-came ts (ok t j) i n m m′ r s f h e =
+pub came : (C : Tree → ℕ → Type 0) (ts : List Tok) (o : Out) (i n : ℕ) (m m′ : List ℕ) (r : Got) (s : At) → All C o → ((t : Tree) (j : ℕ) → C t j → Ends ts i t j)
+    → Met o i n m m′ r → r ≡ Done s → Came C ts o i n m s m′
+came C ts (ok t j) i n m m′ r s a g h e =
+    let f : Ends ts i t j = g t j a in
     let q : s ≡ behind i n t j = cc (h .0, e) in
     let row : s .row ≡ j = ap (λ (x : At). x .row) q in
     record {
       tree = t;
       is = ap (λ (k : ℕ). ok t k) (sym row);
-      stands = record { rows = row ∙ f .next; nodes = ap (λ (x : At). x .node) q; place = ap (λ (x : At). x .place) q; tag = ap (λ (x : At). x .tag) q; mem = h .1 };
-      inside = omega (arith, row, f .inside);
+      stands = record { rows = row ∙ f .0; nodes = ap (λ (x : At). x .node) q; place = ap (λ (x : At). x .place) q; tag = ap (λ (x : At). x .tag) q; mem = h .1 };
+      inside = omega (arith, row, f .1);
       few = nodes-within-rows t;
       near = place-width i t;
-      counts = f .counts;
-      tags = tag-width t (f .counts);
+      counts = f .2;
+      tags = tag-width t (f .2);
+      known = subst (C t) (sym row) a;
     }
-came ts (no why p) i n m m′ r s f h e = let z : _≡_ {A = ℕ} 0 1 = cc (h, e) in absurd (omega arith)
+came C ts (no why p) i n m m′ r s a g h e = let z : _≡_ {A = ℕ} 0 1 = cc (h, e) in absurd (omega arith)
+
+-- the same where only its end is known, and where it is a tree of the grammar
+pub came-ends : (ts : List Tok) (o : Out) (i n : ℕ) (m m′ : List ℕ) (r : Got) (s : At) → All (Ends ts i) o → Met o i n m m′ r → r ≡ Done s → Came (Ends ts i) ts o i n m s m′
+came-ends ts o i n m m′ r s a h e = came (Ends ts i) ts o i n m m′ r s a (λ t j f. f) h e
+
+pub came-reads : (ts : List Tok) (N : Nt) (d : ℕ) (o : Out) (i n : ℕ) (m m′ : List ℕ) (r : Got) (s : At) → All (Reads ts N d i) o → Met o i n m m′ r → r ≡ Done s
+    → Came (Reads ts N d i) ts o i n m s m′
+came-reads ts N d o i n m m′ r s a h e = came (Reads ts N d i) ts o i n m m′ r s a (λ t j f. (f .next, f .inside, is-count (f .is))) h e
 
 pub refused : (o : Out) (i n : ℕ) (m m′ : List ℕ) (r : Got) (why : Syntax) (p : ℕ) → Met o i n m m′ r → r ≡ Refused why p → o ≡ no why p
 refused (ok t j) i n m m′ r why p h e = let z : _≡_ {A = ℕ} 0 1 = cc (h .0, e) in absurd (omega arith)
@@ -102,8 +106,7 @@ pub record Turn (Q : Tree → Type 0) (ts : List Tok) (test : ℕ → Bool) (ste
   pub known : Q tree
 
 module _ (Q : Tree → Type 0) (ts : List Tok) (test : ℕ → Bool) (step : Tree → P) (whole : Out) (i n : ℕ) (m : List ℕ) (s : At) (m′ : List ℕ) where
-  pub start : (t : Tree) → whole ≡ Parse.loop ts test step t (s .row) → Stands i n t m s m′ → s .row ≤ length ts → count t ≤ width t → Q t → Turn Q ts test step whole i n m s m′
-  unfolding Parse.loop
+  pub start : (t : Tree) → whole ≡ many test step (suc (length ts)) (test (s .row)) t (s .row) → Stands i n t m s m′ → s .row ≤ length ts → count t ≤ width t → Q t → Turn Q ts test step whole i n m s m′
   start t e h l g q = record {
     tree = t;
     fuel = suc (length ts);

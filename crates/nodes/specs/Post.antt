@@ -74,7 +74,7 @@ pub record Stands (i n : ℕ) (t : Tree) (m : List ℕ) (s : At) (m′ : List �
   pub tag : s .tag ≡ tagOf t
   pub mem : m′ ≡ sets m (8 * n) (treeWords i t)
 
--- what a function that goes on from a state answers: whatever tree was read before
+-- what a function that goes on from a state answers: whatever was read before, if it is no list
 abbrev pub Onward : (List Tok → Tree → Out) → List ℕ → ℕ → At → List ℕ → List ℕ → Got → Type 0
 Onward f ws n s m m′ r =
-    (ts : List Tok) → Tells ts ws n → (i nd : ℕ) (t : Tree) (m₀ : List ℕ) → Stands i nd t m₀ s m → Met (f ts t) i nd m₀ m′ r
+    (ts : List Tok) → Tells ts ws n → (i nd : ℕ) (t : Tree) (m₀ : List ℕ) → Stands i nd t m₀ s m → count t ≡ 0 → Met (f ts t) i nd m₀ m′ r

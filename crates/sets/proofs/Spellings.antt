@@ -1,18 +1,18 @@
 -- Laws of bytes that are compared one by one, and of the table of sections.
 use mathlib.Core.Path.{_≡_, refl, sym, ap, _∙_}
-use mathlib.Core.Bool.{Bool, true, false, cond, _&&_}
+use mathlib.Core.Bool.{Bool, true, false, _&&_}
 use mathlib.Core.List.{List, [], _∷_}
-use Prim.Native.Nat.{ℕ, zero, suc, _+_, _*_, _≤_, _<_}
+use Prim.Native.Nat.{ℕ, zero, suc, _+_, _≤_, _<_}
 use native.Mathlib.Nat.{not-suc-le-zero}
 use native.Mathlib.Numerals.{add-one}
 use native.Mathlib.Decide.{ℕ-discrete}
 use native.Mathlib.Omega.{arith}
 use lib.ListN.{length, getD, take, drop, drop-of-length-le}
-use lib.Seq.{drop-cons, getD-drop, getD-take, take-all}
+use lib.Seq.{drop-cons, getD-take, take-all}
 use lib.Dec.{eqb, leb}
 use borrow.Author.Tests.{eqb-true, leb-true, eq-eqb, ne-eqb}
 use Rattle.rules.specs.Kinds.{sameBytes}
-use Rattle.rules.specs.Sets.{Section, sections, fits, kindOfSection, fromSection}
+use Rattle.rules.specs.Sets.{sections, fits, kindOfSection, fromSection}
 use Rattle.sets.specs.Entries.{noSection, sectionAt}
 
 pub both-true : (p q : Bool) → (p && q) ≡ true → (p ≡ true) × (q ≡ true)

@@ -1,11 +1,11 @@
 -- `allows` meets its contract: a bit of the mask is the membership that the set says.
 use Prim.Native.Nat.{_^_}
 use Rattle.rules.specs.declared.Asked.the-variants.{Is}
-use mathlib.Core.Path.{_≡_, refl, sym, ap, _∙_}
+use mathlib.Core.Path.{ap}
 use native.Mathlib.Omega.{arith}
 use borrow.Author.Tests.{le-leb, lt-leb}
 use Rattle.rules.specs.Calls.{memberAsked}
-use Rattle.sets.proofs.Masks.{masks, mask-bit, mask-part}
+use Rattle.sets.proofs.Masks.{mask-bit, mask-part}
 use borrow.Author.Needs.{needs}
 use Rattle.sets.proofs.allows.Statement.{statement}
 use Rattle.sets.proofs.allows.Tie as tie

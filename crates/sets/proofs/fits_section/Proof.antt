@@ -1,6 +1,5 @@
 -- `fits_section` meets its contract: the whole text, or as much of it as the spelling is long.
-use mathlib.Core.Path.{_≡_, refl, sym, ap, _∙_}
-use native.Mathlib.Omega.{arith}
+use mathlib.Core.Path.{sym, _∙_}
 use lib.Seq.{length-take-le}
 use Rattle.sets.proofs.Spellings.{fits-whole, fits-front, fits-short}
 use borrow.Author.Needs.{needs}

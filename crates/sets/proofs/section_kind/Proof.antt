@@ -1,8 +1,8 @@
 -- `section_kind` meets its contract. At the loop's head the sections from k on give the kind.
-use mathlib.Core.Path.{_≡_, refl, sym, ap, _∙_}
-use Prim.Native.Nat.{ℕ, _+_, _-_, _*_, _<_, _≤_}
+use mathlib.Core.Path.{_≡_, refl, sym, _∙_}
+use Prim.Native.Nat.{_-_, _≤_}
 use native.Mathlib.Omega.{arith}
-use lib.ListN.{length, drop, getD}
+use lib.ListN.{drop}
 use Rattle.rules.specs.Sets.{sections, kindOfSection}
 use Rattle.sets.proofs.Spellings.{kind-on, kind-at, kind-end, kind-start}
 use Rattle.sets.proofs.section_kind.Statement.{statement}

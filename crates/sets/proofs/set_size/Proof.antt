@@ -1,9 +1,8 @@
 -- `set_size` meets its contract: the ones of the mask are as many as the set has methods.
-use mathlib.Core.Path.{_≡_, refl, sym, ap, _∙_}
 use native.Mathlib.Omega.{arith}
 use borrow.Author.Tests.{le-leb, lt-leb}
 use Rattle.rules.specs.Calls.{sizeAsked}
-use Rattle.sets.proofs.Masks.{masks, mask-ones}
+use Rattle.sets.proofs.Masks.{mask-ones}
 use borrow.Author.Needs.{needs}
 use Rattle.sets.proofs.set_size.Statement.{statement}
 use Rattle.sets.proofs.set_size.Tie as tie

@@ -1,8 +1,8 @@
 -- `spells` meets its contract. At the loop's head the bytes from i on decide the answer.
-use mathlib.Core.Path.{_≡_, refl, sym, ap, _∙_}
-use Prim.Native.Nat.{ℕ, _+_, _-_, _*_, _<_, _≤_}
+use mathlib.Core.Path.{_≡_, refl, sym, _∙_}
+use Prim.Native.Nat.{_-_, _≤_}
 use native.Mathlib.Omega.{arith}
-use lib.ListN.{length, drop, getD}
+use lib.ListN.{length, drop}
 use Rattle.rules.specs.Kinds.{sameBytes}
 use Rattle.sets.specs.Entries.{sectionAt}
 use Rattle.sets.proofs.Spellings.{entry-right, spelling-at, same-length, same-on, same-off, same-end}

@@ -1,0 +1,165 @@
+-- Laws of lists of rows: a test of every row, of each row and the next, and of the last row, said for each number of a row;
+-- and the row of a number in a list of words.
+use mathlib.Core.Path.{_≡_, refl, sym, ap, _∙_}
+use mathlib.Core.Bool.{Bool, true, false, not, _&&_}
+use mathlib.Core.List.{List, [], _∷_}
+use Prim.Native.Nat.{ℕ, zero, suc, _+_, _*_, _<_}
+use native.Mathlib.Nat.{not-suc-le-zero, le-of-suc-le-suc}
+use native.Mathlib.Numerals.{add-one}
+use native.Mathlib.Decide.{ℕ-discrete}
+use native.Mathlib.Omega.{arith}
+use lib.ListN.{length, getD, drop}
+use lib.Seq.{drop-drop}
+use lib.Dec.{eqb}
+use borrow.Author.Tests.{eqb-true, eq-eqb, not-true}
+use Rattle.rules.specs.declared.Cursor.{Cursor}
+use Rattle.rules.specs.Rows.{Row, rowsIn, every, chained, lastRow, endsBehind, isEof, eofLast}
+use Rattle.rows.specs.Shape.{rowNo, behind, allBelow}
+
+pub both-true : (p q : Bool) → (p && q) ≡ true → (p ≡ true) × (q ≡ true)
+both-true true q e = (refl, e)
+both-true false q e = (e, let z : _≡_ {A = Bool} false true = e in cc)
+
+pub true-both : (p q : Bool) → p ≡ true → q ≡ true → (p && q) ≡ true
+true-both p q e f = rw (e, f)
+
+pub false-by : (p : Bool) → (p ≡ true → ⊥) → p ≡ false
+false-by true h = absurd (h refl)
+false-by false h = refl
+
+pub same-bool : (p q : Bool) → (p ≡ true → q ≡ true) → (q ≡ true → p ≡ true) → p ≡ q
+same-bool true q f g = sym (f refl)
+same-bool false true f g = g refl
+same-bool false false f g = refl
+
+-- ---- each number below n
+
+pub below : (f : ℕ → Bool) (n : ℕ) → allBelow f n ≡ true → (k : ℕ) → k < n → f k ≡ true
+unfolding allBelow
+below f zero e k h = absurd (not-suc-le-zero h)
+below f (suc n) e k h =
+    let b = both-true (f n) (allBelow f n) e in
+    pick (ℕ-discrete k n) (b .0) (below f n (b .1) k)
+  where
+    pick : Dec (k ≡ n) → f n ≡ true → (k < n → f k ≡ true) → f k ≡ true
+    pick (yes p) b r = rw p b
+    pick (no p) b r = r (omega arith)
+
+pub below-by : (f : ℕ → Bool) (n : ℕ) → ((k : ℕ) → k < n → f k ≡ true) → allBelow f n ≡ true
+unfolding allBelow
+below-by f zero h = refl
+below-by f (suc n) h = true-both (f n) (allBelow f n) (h n (omega arith)) (below-by f n (λ k l. h k (omega arith)))
+
+pub below-one : (f : ℕ → Bool) (n : ℕ) → allBelow f n ≡ true → f n ≡ true → allBelow f (n + 1) ≡ true
+unfolding allBelow
+below-one f n e h = rw add-one (true-both (f n) (allBelow f n) h e)
+
+pub below-not : (f : ℕ → Bool) (n k : ℕ) → k < n → f k ≡ false → allBelow f n ≡ false
+below-not f n k h e = false-by (allBelow f n) (λ a. let z : _≡_ {A = Bool} false true = sym e ∙ below f n a k h in absurd (let y : _≡_ {A = ℕ} 0 1 = cc in omega arith))
+
+-- ---- every row
+
+pub every-at : (p : Row → Bool) (d : Row) (rs : List Row) → every p rs ≡ true → (i : ℕ) → i < length rs → p (getD rs i d) ≡ true
+unfolding every
+every-at p d [] e i h = absurd (not-suc-le-zero h)
+every-at p d (r ∷ rs) e zero h = both-true (p r) (every p rs) e .0
+every-at p d (r ∷ rs) e (suc i) h = every-at p d rs (both-true (p r) (every p rs) e .1) i (le-of-suc-le-suc h)
+
+pub every-by : (p : Row → Bool) (d : Row) (rs : List Row) → ((i : ℕ) → i < length rs → p (getD rs i d) ≡ true) → every p rs ≡ true
+unfolding every
+every-by p d [] f = refl
+every-by p d (r ∷ rs) f =
+    true-both (p r) (every p rs) (f 0 (omega arith)) (every-by p d rs (λ i h. f (suc i) (omega arith)))
+
+-- ---- each row and the next
+
+pub chained-at : (p : Row → Row → Bool) (d : Row) (rs : List Row) → chained p rs ≡ true → (i : ℕ) → suc i < length rs → p (getD rs i d) (getD rs (suc i) d) ≡ true
+unfolding chained
+chained-at p d [] e i h = absurd (not-suc-le-zero h)
+chained-at p d (r ∷ []) e i h = absurd (not-suc-le-zero (le-of-suc-le-suc h))
+chained-at p d (r ∷ q ∷ rs) e zero h = both-true (p r q) (chained p (q ∷ rs)) e .0
+chained-at p d (r ∷ q ∷ rs) e (suc i) h = chained-at p d (q ∷ rs) (both-true (p r q) (chained p (q ∷ rs)) e .1) i (le-of-suc-le-suc h)
+
+pub chained-by : (p : Row → Row → Bool) (d : Row) (rs : List Row) → ((i : ℕ) → suc i < length rs → p (getD rs i d) (getD rs (suc i) d) ≡ true) → chained p rs ≡ true
+unfolding chained
+chained-by p d [] f = refl
+chained-by p d (r ∷ []) f = refl
+chained-by p d (r ∷ q ∷ rs) f =
+    true-both (p r q) (chained p (q ∷ rs)) (f 0 (omega arith)) (chained-by p d (q ∷ rs) (λ i h. f (suc i) (omega arith)))
+
+-- ---- the last row
+
+-- Eof is the last row, at n, and no other row
+pub record Closed (n : ℕ) (d : Row) (rs : List Row) : Type 0 where
+  pub some : 0 < length rs
+  pub middle : (i : ℕ) → suc i < length rs → isEof (getD rs i d) ≡ false
+  pub last : (i : ℕ) → suc i ≡ length rs → isEof (getD rs i d) ≡ true
+  pub start : (i : ℕ) → suc i ≡ length rs → getD rs i d .start ≡ n
+
+not-self : {i : ℕ} → suc (suc i) ≡ 1 → ⊥
+not-self e = omega arith
+
+pub closed : (n : ℕ) (d : Row) (rs : List Row) → eofLast n rs ≡ true → Closed n d rs
+unfolding eofLast
+closed n d [] e = absurd (let z : _≡_ {A = ℕ} 0 1 = cc in omega arith)
+closed n d (r ∷ []) e =
+    let b = both-true (isEof r) (eqb (r .start) n) e in
+    record {
+      some = omega arith;
+      middle = λ i h. absurd (not-suc-le-zero (le-of-suc-le-suc h));
+      last = elim [ zero ↦ λ h. b .0 | suc i ↦ λ h. absurd (not-self h) ];
+      start = elim [ zero ↦ λ h. eqb-true (r .start) n (b .1) | suc i ↦ λ h. absurd (not-self h) ];
+    }
+closed n d (r ∷ q ∷ rs) e =
+    let b = both-true (not (isEof r)) (eofLast n (q ∷ rs)) e in
+    let c = closed n d (q ∷ rs) (b .1) in
+    record {
+      some = omega arith;
+      middle = elim [ zero ↦ λ h. not-true (isEof r) (b .0) | suc i ↦ λ h. c .middle i (omega arith) ];
+      last = elim [ zero ↦ λ h. absurd (omega arith) | suc i ↦ λ h. c .last i (omega arith) ];
+      start = elim [ zero ↦ λ h. absurd (omega arith) | suc i ↦ λ h. c .start i (omega arith) ];
+    }
+
+pub closes : (n : ℕ) (d : Row) (rs : List Row) → Closed n d rs → eofLast n rs ≡ true
+unfolding eofLast
+closes n d [] c = absurd (not-suc-le-zero (c .some))
+closes n d (r ∷ []) c =
+    true-both (isEof r) (eqb (r .start) n) (c .last 0 refl) (eq-eqb (r .start) n (c .start 0 refl))
+closes n d (r ∷ q ∷ rs) c =
+    true-both (not (isEof r)) (eofLast n (q ∷ rs)) (ap not (c .middle 0 (omega arith)))
+    (closes n d (q ∷ rs) (record {
+      some = omega arith;
+      middle = λ i h. c .middle (suc i) (omega arith);
+      last = λ i h. c .last (suc i) (omega arith);
+      start = λ i h. c .start (suc i) (omega arith);
+    }))
+
+module _ (p : Cursor) (d : Row) where
+  pub behind-at : (rs : List Row) → endsBehind (lastRow rs) p ≡ true → (i : ℕ) → suc i ≡ length rs → behind (getD rs i d) p ≡ true
+  unfolding lastRow endsBehind behind
+  behind-at [] e i h = absurd (omega arith)
+  behind-at (r ∷ []) e zero h = e
+  behind-at (r ∷ []) e (suc i) h = absurd (not-self h)
+  behind-at (r ∷ q ∷ rs) e zero h = absurd (omega arith)
+  behind-at (r ∷ q ∷ rs) e (suc i) h = behind-at (q ∷ rs) e i (omega arith)
+
+  pub behind-by : (rs : List Row) → ((i : ℕ) → suc i ≡ length rs → behind (getD rs i d) p ≡ true) → endsBehind (lastRow rs) p ≡ true
+  unfolding lastRow endsBehind behind
+  behind-by [] f = refl
+  behind-by (r ∷ []) f = f 0 refl
+  behind-by (r ∷ q ∷ rs) f = behind-by (q ∷ rs) (λ i h. f (suc i) (omega arith))
+
+-- ---- the rows of a list of words
+
+pub rowsIn-length : (n : ℕ) (ws : List ℕ) → length (rowsIn n ws) ≡ n
+unfolding rowsIn
+rowsIn-length zero ws = refl
+rowsIn-length (suc n) ws = ap suc (rowsIn-length n (drop 8 ws))
+
+pub rowsIn-at : (n : ℕ) (ws : List ℕ) (d : Row) (i : ℕ) → i < n → getD (rowsIn n ws) i d ≡ rowNo ws i
+unfolding rowsIn
+rowsIn-at zero ws d i h = absurd (not-suc-le-zero h)
+rowsIn-at (suc n) ws d zero h = refl
+rowsIn-at (suc n) ws d (suc i) h =
+    let e : 8 + 8 * i ≡ 8 * suc i = omega arith in
+    rowsIn-at n (drop 8 ws) d i (le-of-suc-le-suc h) ∙ rw (drop-drop, e)

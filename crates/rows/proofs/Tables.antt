@@ -1,0 +1,225 @@
+-- Laws of a table's tests: each case of what stands at a row, and the test of a table from the tests of its rows and its ending.
+use mathlib.Core.Path.{_≡_, refl, sym, _∙_}
+use mathlib.Core.Bool.{true, false, cond, not, _&&_}
+use mathlib.Core.List.{List}
+use Prim.Native.Nat.{ℕ, zero, suc, _-_, _*_, _≤_, _<_}
+use native.Mathlib.Omega.{arith}
+use lib.ListN.{length}
+use lib.Dec.{eqb, leb}
+use borrow.Author.Tests.{eqb-true, eq-eqb, ne-eqb, leb-true, le-leb, lt-leb, not-true}
+use borrow.Author.Count.{below-more}
+use Rattle.rules.specs.declared.Cursor.{Cursor}
+use Rattle.rules.specs.declared.Lexical.{Lexical}
+use Rattle.rules.specs.declared.Ending.the-variants.{None, Refused}
+use Rattle.rules.specs.declared.Table.{Table}
+use Rattle.rules.specs.Text.{mostBytes}
+use Rattle.rules.specs.Kinds.{Eof}
+use Rattle.rules.specs.Rows.{Row, rowFits, follows, placeFits, isEof, wellFormed}
+use Rattle.rows.specs.Shape.{rowNo, behind, joined, stands, allBelow, closes, breaks}
+use Rattle.rows.proofs.Lists.{both-true, true-both, same-bool, below, below-by}
+use Rattle.rows.proofs.Inside.{clean, broken, Fine, fine, well, not-well, clean-of, broken-of}
+
+-- ---- a row and the row before it
+
+module _ (ws : List ℕ) (i : ℕ) where
+  pub joined-first : i ≡ 0 → joined ws i ≡ true
+  unfolding joined
+  joined-first e = rw (eq-eqb i 0 e)
+
+  pub joined-next : (i ≡ 0 → ⊥) → joined ws i ≡ follows (rowNo ws (i - 1)) (rowNo ws i)
+  unfolding joined
+  joined-next e = rw (ne-eqb i 0 e)
+
+  -- row i, read as q
+  module _ (q : Row) (e : q ≡ rowNo ws i) where
+    pub stands-eof : q .kind ≡ Eof → stands ws i ≡ false
+    unfolding stands isEof
+    stands-eof k = rw (← e, eq-eqb (q .kind) Eof k)
+
+    pub stands-fit : (q .kind ≡ Eof → ⊥) → rowFits q ≡ true → stands ws i ≡ joined ws i
+    unfolding stands isEof
+    stands-fit k f = rw (← e, ne-eqb (q .kind) Eof k, f)
+
+    pub stands-not : (q .kind ≡ Eof → ⊥) → rowFits q ≡ false → stands ws i ≡ false
+    unfolding stands isEof
+    stands-not k f = rw (← e, ne-eqb (q .kind) Eof k, f)
+
+    module _ (n : ℕ) where
+      pub closes-plain : (q .kind ≡ Eof → ⊥) → closes ws n i ≡ false
+      unfolding closes isEof
+      closes-plain k = rw (← e, ne-eqb (q .kind) Eof k)
+
+      pub closes-apart : q .kind ≡ Eof → (q .start ≡ n → ⊥) → closes ws n i ≡ false
+      unfolding closes isEof
+      closes-apart k s = rw (← e, eq-eqb (q .kind) Eof k, ne-eqb (q .start) n s)
+
+      pub closes-fit : q .kind ≡ Eof → q .start ≡ n → rowFits q ≡ true → closes ws n i ≡ joined ws i
+      unfolding closes isEof
+      closes-fit k s f = rw (← e, eq-eqb (q .kind) Eof k, eq-eqb (q .start) n s, f)
+
+      pub closes-not : q .kind ≡ Eof → q .start ≡ n → rowFits q ≡ false → closes ws n i ≡ false
+      unfolding closes isEof
+      closes-not k s f = rw (← e, eq-eqb (q .kind) Eof k, eq-eqb (q .start) n s, f)
+
+-- ---- a place behind the rows
+
+module _ (ws : List ℕ) (n count : ℕ) (p : Cursor) where
+  pub breaks-over : n < p .offset .0 → breaks ws n count p ≡ false
+  unfolding breaks
+  breaks-over h = rw (lt-leb (p .offset .0) n h)
+
+  pub breaks-not : p .offset .0 ≤ n → placeFits p ≡ false → breaks ws n count p ≡ false
+  unfolding breaks
+  breaks-not h f = rw (le-leb (p .offset .0) n h, f)
+
+  pub breaks-none : p .offset .0 ≤ n → placeFits p ≡ true → count ≡ 0 → breaks ws n count p ≡ true
+  unfolding breaks
+  breaks-none h f e = rw (le-leb (p .offset .0) n h, f, eq-eqb count 0 e)
+
+  pub breaks-last : p .offset .0 ≤ n → placeFits p ≡ true → (count ≡ 0 → ⊥) → breaks ws n count p ≡ behind (rowNo ws (count - 1)) p
+  unfolding breaks
+  breaks-last h f e = rw (le-leb (p .offset .0) n h, f, ne-eqb count 0 e)
+
+-- ---- the rows of a table
+
+-- the facts of a row that stands, and of one that closes
+record Stands (ws : List ℕ) (i : ℕ) : Type 0 where
+  plain : isEof (rowNo ws i) ≡ false
+  fit : rowFits (rowNo ws i) ≡ true
+  join : joined ws i ≡ true
+
+stands-of : (ws : List ℕ) (i : ℕ) → stands ws i ≡ true → Stands ws i
+unfolding stands
+stands-of ws i e =
+    let a = both-true (not (isEof (rowNo ws i)) && rowFits (rowNo ws i)) (joined ws i) e in
+    let b = both-true (not (isEof (rowNo ws i))) (rowFits (rowNo ws i)) (a .0) in
+    record { plain = not-true (isEof (rowNo ws i)) (b .0); fit = b .1; join = a .1 }
+
+of-stands : (ws : List ℕ) (i : ℕ) → Stands ws i → stands ws i ≡ true
+unfolding stands
+of-stands ws i s = rw (s .plain, s .fit, s .join)
+
+record Closes (ws : List ℕ) (n i : ℕ) : Type 0 where
+  eof : isEof (rowNo ws i) ≡ true
+  start : rowNo ws i .start ≡ n
+  fit : rowFits (rowNo ws i) ≡ true
+  join : joined ws i ≡ true
+
+closes-of : (ws : List ℕ) (n i : ℕ) → closes ws n i ≡ true → Closes ws n i
+unfolding closes
+closes-of ws n i e =
+    let a = both-true ((isEof (rowNo ws i) && eqb (rowNo ws i .start) n) && rowFits (rowNo ws i)) (joined ws i) e in
+    let b = both-true (isEof (rowNo ws i) && eqb (rowNo ws i .start) n) (rowFits (rowNo ws i)) (a .0) in
+    let c = both-true (isEof (rowNo ws i)) (eqb (rowNo ws i .start) n) (b .0) in
+    record { eof = c .0; start = eqb-true (rowNo ws i .start) n (c .1); fit = b .1; join = a .1 }
+
+of-closes : (ws : List ℕ) (n i : ℕ) → Closes ws n i → closes ws n i ≡ true
+unfolding closes
+of-closes ws n i s = rw (s .eof, eq-eqb (rowNo ws i .start) n (s .start), s .fit, s .join)
+
+record Breaks (ws : List ℕ) (n count : ℕ) (p : Cursor) : Type 0 where
+  within : p .offset .0 ≤ n
+  place : placeFits p ≡ true
+  last : (i : ℕ) → suc i ≡ count → behind (rowNo ws i) p ≡ true
+
+breaks-of : (ws : List ℕ) (n count : ℕ) (p : Cursor) → breaks ws n count p ≡ true → Breaks ws n count p
+unfolding breaks
+breaks-of ws n count p e =
+    let a = both-true (leb (p .offset .0) n && placeFits p) (cond (eqb count 0) true (behind (rowNo ws (count - 1)) p)) e in
+    let b = both-true (leb (p .offset .0) n) (placeFits p) (a .0) in
+    record { within = leb-true (p .offset .0) n (b .0); place = b .1; last = λ i h. last i h (a .1) }
+  where
+    last : (i : ℕ) → suc i ≡ count → cond (eqb count 0) true (behind (rowNo ws (count - 1)) p) ≡ true → behind (rowNo ws i) p ≡ true
+    last i h f =
+        let z : eqb count 0 ≡ false = ne-eqb count 0 (λ q. omega arith) in
+        let j : count - 1 ≡ i = omega arith in
+        rw (z, j) at f
+
+of-breaks : (ws : List ℕ) (n count : ℕ) (p : Cursor) → Breaks ws n count p → breaks ws n count p ≡ true
+of-breaks ws n zero p b = breaks-none ws n 0 p (b .within) (b .place) refl
+of-breaks ws n (suc i) p b =
+    breaks-last ws n (suc i) p (b .within) (b .place) (λ e. omega arith)
+    ∙ (let j : suc i - 1 ≡ i = omega arith in rw j (b .last i refl))
+
+-- rows that follow one another, and rows that are joined
+join-next : (ws : List ℕ) (i : ℕ) → joined ws (suc i) ≡ follows (rowNo ws i) (rowNo ws (suc i))
+join-next ws i = joined-next ws (suc i) (λ e. omega arith) ∙ (let j : suc i - 1 ≡ i = omega arith in rw j)
+
+join-by : (ws : List ℕ) (count : ℕ) → ((i : ℕ) → suc i < count → follows (rowNo ws i) (rowNo ws (suc i)) ≡ true) → (i : ℕ) → i < count → joined ws i ≡ true
+join-by ws count f zero h = joined-first ws 0 refl
+join-by ws count f (suc i) h = join-next ws i ∙ f i h
+
+-- ---- the test of a table
+
+module _ (ws : List ℕ) (t : Table) where
+  pub well-unlent : length ws < t .count * 8 → wellFormed ws t ≡ false
+  well-unlent h = not-well ws t (λ f. omega (arith, f .lent))
+
+  pub well-long : mostBytes < t .length → wellFormed ws t ≡ false
+  well-long h = not-well ws t (λ f. omega (arith, f .short))
+
+  module _ (lent : t .count * 8 ≤ length ws) (short : t .length ≤ mostBytes) where
+    -- the ending is none, and row i is the last
+    module _ (e : t .ending ≡ None) (i : ℕ) (h : suc i ≡ t .count) where
+      none-to : Fine ws t → (allBelow (stands ws) i && closes ws (t .length) i) ≡ true
+      none-to f =
+          let c = clean-of f e in
+          let join = join-by ws (t .count) (f .chain) in
+          true-both (allBelow (stands ws) i) (closes ws (t .length) i)
+          (below-by (stands ws) i (λ k l. of-stands ws k (record { plain = c .middle k (omega arith); fit = f .fit k (omega arith); join = join k (omega arith) })))
+          (of-closes ws (t .length) i (record { eof = c .last i h; start = c .start i h; fit = f .fit i (omega arith); join = join i (omega arith) }))
+
+      none-from : (allBelow (stands ws) i && closes ws (t .length) i) ≡ true → Fine ws t
+      none-from b =
+          let a = both-true (allBelow (stands ws) i) (closes ws (t .length) i) b in
+          let z = closes-of ws (t .length) i (a .1) in
+          let s : (k : ℕ) → k < i → Stands ws k = λ k l. stands-of ws k (below (stands ws) i (a .0) k l) in
+          record {
+            lent = lent;
+            short = short;
+            fit = λ k l. upto (λ (m : ℕ). rowFits (rowNo ws m) ≡ true) (λ m o. s m o .fit) (z .fit) k l;
+            chain = λ k l. sym (join-next ws k) ∙ upto (λ (m : ℕ). joined ws m ≡ true) (λ m o. s m o .join) (z .join) (suc k) l;
+            ends = rw e (clean (record {
+              some = omega arith;
+              middle = λ k l. s k (omega arith) .plain;
+              last = λ k l. let o : k ≡ i = omega arith in rw o (z .eof);
+              start = λ k l. let o : k ≡ i = omega arith in rw o (z .start);
+            }));
+          }
+        where
+          upto : (P : ℕ → Type 0) → ((k : ℕ) → k < i → P k) → P i → (k : ℕ) → k < t .count → P k
+          upto P f g k l = below-more P i f g k (omega arith)
+
+      pub well-none : wellFormed ws t ≡ (allBelow (stands ws) i && closes ws (t .length) i)
+      well-none =
+          same-bool (wellFormed ws t) (allBelow (stands ws) i && closes ws (t .length) i) (λ w. none-to (fine ws t w)) (λ b. well ws t (none-from b))
+
+    -- the ending is refused at p
+    module _ (why : Lexical) (p : Cursor) (e : t .ending ≡ Refused why p) where
+      refused-to : Fine ws t → (allBelow (stands ws) (t .count) && breaks ws (t .length) (t .count) p) ≡ true
+      refused-to f =
+          let b = broken-of f e in
+          let join = join-by ws (t .count) (f .chain) in
+          true-both (allBelow (stands ws) (t .count)) (breaks ws (t .length) (t .count) p)
+          (below-by (stands ws) (t .count) (λ k l. of-stands ws k (record { plain = b .plain k l; fit = f .fit k l; join = join k l })))
+          (of-breaks ws (t .length) (t .count) p (record { within = b .within; place = b .place; last = b .last }))
+
+      refused-from : (allBelow (stands ws) (t .count) && breaks ws (t .length) (t .count) p) ≡ true → Fine ws t
+      refused-from b =
+          let a = both-true (allBelow (stands ws) (t .count)) (breaks ws (t .length) (t .count) p) b in
+          let z = breaks-of ws (t .length) (t .count) p (a .1) in
+          let s : (k : ℕ) → k < t .count → Stands ws k = λ k l. stands-of ws k (below (stands ws) (t .count) (a .0) k l) in
+          record {
+            lent = lent;
+            short = short;
+            fit = λ k l. s k l .fit;
+            chain = λ k l. sym (join-next ws k) ∙ s (suc k) l .join;
+            ends = rw e (broken (record { plain = λ k l. s k l .plain; within = z .within; place = z .place; last = z .last }));
+          }
+
+      pub well-refused : wellFormed ws t ≡ (allBelow (stands ws) (t .count) && breaks ws (t .length) (t .count) p)
+      well-refused =
+          same-bool (wellFormed ws t) (allBelow (stands ws) (t .count) && breaks ws (t .length) (t .count) p) (λ w. refused-to (fine ws t w)) (λ b. well ws t (refused-from b))
+
+    pub well-empty : t .ending ≡ None → t .count ≡ 0 → wellFormed ws t ≡ false
+    well-empty e h = not-well ws t (λ f. omega (arith, clean-of f e .some))

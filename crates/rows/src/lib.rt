@@ -1,0 +1,180 @@
+// Row tables: the words of a row, when a table is well formed, what a call over a table is told, and spellings.
+use rules::Cursor;
+use rules::Ending;
+use rules::Judged;
+use rules::Outer;
+use rules::Table;
+ghost use mathlib.Core.Path.{_≡_};
+ghost use Prim.Native.Nat.{_+_, _*_, _≤_};
+ghost use lib.ListN.{length};
+ghost use Rattle.rules.specs.Rows.{wellFormed};
+ghost use Rattle.rules.specs.Calls.{judged, spellingJudged, spellingPart};
+ghost use Rattle.rows.specs.Shape.{joined, stands, allBelow, closes, breaks};
+
+pub mod shape;
+
+// Whether row i may follow the row before it.
+fn row_joined(rows: &[u32], i: usize) -> bool
+    requires { ⌜ i * 8 + 8 ≤ length (now rows) ⌝ }
+    ensures { λ r. ⌜ r ≡ joined (now (rows .entry)) i ⌝ }
+{
+    if i == 0 {
+        return true;
+    }
+    let q = shape::row_at(rows, i);
+    let r = shape::row_at(rows, i - 1);
+    shape::row_follows(r, q)
+}
+
+// Whether row i fits where it stands, and is not Eof.
+fn row_stands(rows: &[u32], i: usize) -> bool
+    requires { ⌜ i * 8 + 8 ≤ length (now rows) ⌝ }
+    ensures { λ r. ⌜ r ≡ stands (now (rows .entry)) i ⌝ }
+{
+    let r = shape::row_at(rows, i);
+    if r.kind == 52 {
+        return false;
+    }
+    if shape::row_fits(r) {
+        return row_joined(rows, i);
+    }
+    false
+}
+
+// Whether the first n rows fit where they stand, none of them Eof.
+fn rows_stand(rows: &[u32], n: usize) -> bool
+    requires { ⌜ n * 8 ≤ length (now rows) ⌝ }
+    ensures { λ r. ⌜ r ≡ allBelow (stands (now (rows .entry))) n ⌝ }
+{
+    let mut i = 0;
+    while i < n {
+        if !row_stands(rows, i) {
+            return false;
+        }
+        i += 1;
+    }
+    true
+}
+
+// Whether row i fits where it stands, and is Eof at the text's size.
+fn row_closes(rows: &[u32], size: u32, i: usize) -> bool
+    requires { ⌜ i * 8 + 8 ≤ length (now rows) ⌝ }
+    ensures { λ r. ⌜ r ≡ closes (now (rows .entry)) size i ⌝ }
+{
+    let r = shape::row_at(rows, i);
+    if r.kind != 52 {
+        return false;
+    }
+    if r.start != size {
+        return false;
+    }
+    if shape::row_fits(r) {
+        return row_joined(rows, i);
+    }
+    false
+}
+
+// Whether a refused ending's place fits behind so many rows, within the text's size.
+fn place_breaks(rows: &[u32], size: u32, count: usize, p: Cursor) -> bool
+    requires { ⌜ count * 8 ≤ length (now rows) ⌝ }
+    ensures { λ r. ⌜ r ≡ breaks (now (rows .entry)) size count p ⌝ }
+{
+    let offset = p.offset.0;
+    if size < offset {
+        return false;
+    }
+    if !shape::place_fits(p) {
+        return false;
+    }
+    if count == 0 {
+        return true;
+    }
+    let r = shape::row_at(rows, count - 1);
+    shape::place_behind(r, p)
+}
+
+// Whether a table is well formed.
+pub fn well_formed(rows: &[u32], table: Table) -> bool
+    ensures { λ r. ⌜ r ≡ wellFormed (now (rows .entry)) table ⌝ }
+{
+    let count = table.count as usize;
+    let size = table.length;
+    if rows.len() < count * 8 {
+        return false;
+    }
+    if 65536 < size {
+        return false;
+    }
+    let ending = table.ending;
+    match ending {
+        Ending::None => {
+            if count == 0 {
+                return false;
+            }
+            if !rows_stand(rows, count - 1) {
+                return false;
+            }
+            row_closes(rows, size, count - 1)
+        }
+        Ending::Refused(_, p) => {
+            if !rows_stand(rows, count) {
+                return false;
+            }
+            place_breaks(rows, size, count, p)
+        }
+    }
+}
+
+// What a call over a text and its table is told before anything else: 1, 2 or 3, or that all is well.
+pub fn judge(text: &[u8], rows: &[u32], table: Table) -> Judged
+    ensures { λ r. ⌜ r ≡ judged (now (text .entry)) (now (rows .entry)) table ⌝ }
+{
+    if 65536 < text.len() {
+        return Judged::Refused(Outer::TextTooLong, Cursor::start());
+    }
+    let n = place::valid_bytes(text);
+    if n < text.len() {
+        let at = place::pass(text, Cursor::start(), n);
+        return Judged::Refused(Outer::BadByte, at);
+    }
+    let size = table.length as usize;
+    if size != text.len() {
+        return Judged::Refused(Outer::NotWellFormed, Cursor::start());
+    }
+    if well_formed(rows, table) {
+        return Judged::Fine;
+    }
+    Judged::Refused(Outer::NotWellFormed, Cursor::start())
+}
+
+// What a call for a row's spelling is told: a row number from the count on is refused.
+pub fn spelling_judge(text: &[u8], rows: &[u32], table: Table, row: u32) -> Judged
+    ensures { λ r. ⌜ r ≡ spellingJudged (now (text .entry)) (now (rows .entry)) table row ⌝ }
+{
+    let verdict = judge(text, rows, table);
+    match verdict {
+        Judged::Refused(why, at) => Judged::Refused(why, at),
+        Judged::Fine => {
+            if row < table.count {
+                return Judged::Fine;
+            }
+            Judged::Refused(Outer::NotWellFormed, Cursor::start())
+        }
+    }
+}
+
+// A row's spelling: the text's part from the row's start to its end, and the empty part at 0 where the call is refused.
+pub fn spelling<'a>(text: &'a [u8], rows: &[u32], table: Table, row: u32) -> &'a [u8]
+    ensures { λ r. ⌜ now r ≡ spellingPart (now (text .entry)) (now (rows .entry)) table row ⌝ }
+{
+    let verdict = spelling_judge(text, rows, table, row);
+    match verdict {
+        Judged::Fine => {
+            let r = shape::row_at(rows, row as usize);
+            let start = r.start as usize;
+            let end = r.end as usize;
+            &text[start..end]
+        }
+        Judged::Refused(_, _) => &text[0..0],
+    }
+}

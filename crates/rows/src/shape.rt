@@ -1,0 +1,210 @@
+// One row: its words, and the tests that a well-formed table makes of it, of the next row and of a place behind it.
+use rules::Column;
+use rules::Cursor;
+use rules::Line;
+use rules::Offset;
+ghost use mathlib.Core.Path.{_≡_};
+ghost use Prim.Native.Nat.{_+_, _*_, _≤_};
+ghost use lib.ListN.{length, drop};
+ghost use Rattle.rules.specs.Kinds.{isMade};
+ghost use Rattle.rules.specs.Rows.{rowIn, rowPlace, lengthFits, spansFit, valueFits, placeFits, linesFit, rowFits, follows};
+ghost use Rattle.rows.specs.Shape.{asRow, behind};
+
+// A row is eight words.
+pub struct Row {
+    pub kind: u32,
+    pub start: u32,
+    pub end: u32,
+    pub line: u32,
+    pub column: u32,
+    pub low: u32,
+    pub high: u32,
+    pub spare: u32,
+}
+
+// How long the spelling of each kind is; of identifiers, strings and numbers, how long at least.
+const LENGTHS: [u32; 53] = [
+    4,
+    7,
+    7,
+    6,
+    3,
+    3,
+    3,
+    4,
+    3,
+    5,
+    3,
+    2,
+    4,
+    5,
+    4,
+    5,
+    0,
+    0,
+    0,
+    0,
+    0,
+    3,
+    3,
+    3,
+    3,
+    1,
+    1,
+    1,
+    1,
+    1,
+    1,
+    1,
+    1,
+    1,
+    1,
+    1,
+    2,
+    2,
+    2,
+    2,
+    2,
+    1,
+    1,
+    1,
+    1,
+    1,
+    2,
+    2,
+    1,
+    2,
+    1,
+    5,
+    0,
+];
+
+fn wide(x: u32) -> u64
+    ensures { λ r. ⌜ r ≡ x ⌝ }
+{
+    x as u64
+}
+
+// Row i.
+pub fn row_at(rows: &[u32], i: usize) -> Row
+    requires { ⌜ i * 8 + 8 ≤ length (now rows) ⌝ }
+    ensures { λ r. ⌜ asRow r ≡ rowIn (drop (8 * i) (now (rows .entry))) ⌝ }
+{
+    let base = i * 8;
+    Row {
+        kind: rows[base],
+        start: rows[base + 1],
+        end: rows[base + 2],
+        line: rows[base + 3],
+        column: rows[base + 4],
+        low: rows[base + 5],
+        high: rows[base + 6],
+        spare: rows[base + 7],
+    }
+}
+
+// Where a row starts.
+pub fn row_place(r: Row) -> Cursor
+    ensures { λ p. ⌜ p ≡ rowPlace (asRow r) ⌝ }
+{
+    Cursor {
+        offset: Offset(r.start),
+        line: Line(r.line),
+        column: Column(r.column),
+    }
+}
+
+// Whether a kind is made.
+fn is_made(kind: u32) -> bool
+    ensures { λ r. ⌜ r ≡ isMade kind ⌝ }
+{
+    (kind <= 52) & !((16 <= kind) & (kind <= 20))
+}
+
+// Whether a kind's spelling may be n bytes long.
+fn length_fits(kind: u32, n: u32) -> bool
+    requires { ⌜ kind ≤ 52 ⌝ }
+    ensures { λ r. ⌜ r ≡ lengthFits kind n ⌝ }
+{
+    let own = LENGTHS[kind as usize];
+    if kind < 48 {
+        return n == own;
+    }
+    if 50 < kind {
+        return n == own;
+    }
+    own <= n
+}
+
+// Whether a row's bytes are in order and as many as its kind has.
+fn spans_fit(r: Row) -> bool
+    requires { ⌜ r .kind ≤ 52 ⌝ }
+    ensures { λ b. ⌜ b ≡ spansFit (asRow r) ⌝ }
+{
+    let start = r.start;
+    let end = r.end;
+    if end < start {
+        return false;
+    }
+    length_fits(r.kind, end - start)
+}
+
+// Whether a row's value is one of 64 bits but the least, and zero unless Number.
+fn value_fits(r: Row) -> bool
+    ensures { λ b. ⌜ b ≡ valueFits (asRow r) ⌝ }
+{
+    if r.kind == 50 {
+        return wide(r.high) * 4294967296 + wide(r.low) != 9223372036854775808;
+    }
+    (r.low == 0) & (r.high == 0)
+}
+
+// Whether a place has a line and a column of 1 or more, and neither over its offset + 1.
+pub fn place_fits(p: Cursor) -> bool
+    ensures { λ b. ⌜ b ≡ placeFits p ⌝ }
+{
+    let most = wide(p.offset.0) + 1;
+    let line = p.line.0;
+    let column = p.column.0;
+    ((1 <= line) & (1 <= column)) & ((wide(line) <= most) & (wide(column) <= most))
+}
+
+// Whether lines don't fall from a place to the next, and the columns of one line go with the offsets.
+fn lines_fit(p: Cursor, q: Cursor) -> bool
+    ensures { λ b. ⌜ b ≡ linesFit p q ⌝ }
+{
+    let from = p.line.0;
+    let to = q.line.0;
+    let left = wide(q.column.0) + wide(p.offset.0);
+    let right = wide(p.column.0) + wide(q.offset.0);
+    (from <= to) & (!(from == to) | (left == right))
+}
+
+// Whether a row fits by itself.
+pub fn row_fits(r: Row) -> bool
+    ensures { λ b. ⌜ b ≡ rowFits (asRow r) ⌝ }
+{
+    if !is_made(r.kind) {
+        return false;
+    }
+    let p = row_place(r);
+    ((r.spare == 0) & value_fits(r)) & (spans_fit(r) & place_fits(p))
+}
+
+// Whether row q may follow row r.
+pub fn row_follows(r: Row, q: Row) -> bool
+    ensures { λ b. ⌜ b ≡ follows (asRow r) (asRow q) ⌝ }
+{
+    let from = row_place(r);
+    let to = row_place(q);
+    (r.end <= q.start) & lines_fit(from, to)
+}
+
+// Whether a place may stand behind row r.
+pub fn place_behind(r: Row, p: Cursor) -> bool
+    ensures { λ b. ⌜ b ≡ behind (asRow r) p ⌝ }
+{
+    let from = row_place(r);
+    let offset = p.offset.0;
+    (r.end <= offset) & lines_fit(from, p)
+}
