@@ -1,7 +1,7 @@
 -- The parser's definitions, case by case, as the code and the grammar go through them.
-use mathlib.Core.Path.{_≡_, refl, sym, ap, _∙_}
-use mathlib.Core.Bool.{Bool, true, false, not, cond, _&&_, _||_, true≢false}
-use mathlib.Core.List.{List, [], _∷_}
+use mathlib.Core.Path.{_≡_, refl, ap, _∙_}
+use mathlib.Core.Bool.{Bool, true, false, not, true≢false}
+use mathlib.Core.List.{List}
 use Prim.Native.Nat.{ℕ, zero, suc, _+_, _-_, _^_}
 use native.Mathlib.Numerals.{sub-one}
 use lib.Dec.{eqb, leb}
@@ -10,9 +10,9 @@ use borrow.Author.Tests.{ne-eqb, eq-eqb}
 use Rattle.rules.specs.declared.Syntax.{Syntax}
 use Rattle.rules.specs.declared.Syntax.the-variants.{Wanted, NotTopLevel, NotMapField, MapTypeUnknown, NotType, MaxNegative, OutOfRange, ShiftCount, MapLacks, NotEventType, CallOnOther, TooDeep}
 use Rattle.rules.specs.Kinds.{KeywordUnit, KeywordReturn, KeywordMap, KeywordType, KeywordKey, KeywordValue, KeywordMax, KeywordIf, KeywordElse, KeywordGuard, KeywordEvent, LBrace, RBrace, LParen, RParen, Colon, Dot, Comma, Semicolon, LBracket, RBracket, Equals, Star, Identifier, StringLiteral, Number, KeywordBytes, Eof}
-use Rattle.rules.specs.Tree.{Tok, sign, kindOf, spellingOf, bitsIn, Tree, none, num, var, star, group, field, call, bin, one, more, decl, ret, plain, assign, guard, thenBody, elseBody, seq, text, unit, mapType, typed, limit, first, shifted, mapDecl, plainField, bytesField, arrayField, event, program, isVariable, mapTypeNumber, maxBits, typeOf, typedBy, limitOf, lacking}
+use Rattle.rules.specs.Tree.{Tok, spellingOf, bitsIn, Tree, none, num, var, star, group, field, call, bin, one, more, decl, ret, plain, assign, guard, thenBody, elseBody, seq, text, unit, mapType, typed, limit, first, shifted, mapDecl, plainField, bytesField, arrayField, event, program, isVariable, mapTypeNumber, maxBits, typeOf, typedBy, limitOf, lacking}
 use Rattle.rules.specs.Parse
-use Rattle.rules.specs.Parse.{Out, ok, no, P, then, pick, many, isAdd, isShift, isMul, isAssign, isDeclaring, isText, isType, isTyped, most32, Sort, operand, whole, tokAt, kindAt}
+use Rattle.rules.specs.Parse.{Out, ok, no, P, then, many, isAdd, isShift, isMul, isAssign, isDeclaring, isText, isType, isTyped, most32, declaring, returning, branching, expression, Sort, operand, whole, tokAt, kindAt}
 use Rattle.grammar.proofs.Laws.{either-kind}
 
 -- ---- answers and loops
@@ -262,6 +262,42 @@ module _ (ts : List Tok) where
           → Parse.stmt ts d p i ≡ then (Parse.expr ts d i) (λ e j. Parse.assignBy ts d p (isAssign (kindAt ts j)) e j)
       unfolding Parse.stmt Parse.stmtBy Parse.stmtLead
       stmt-expression a b c = rw (a, ne-eqb (kindAt ts i) KeywordReturn b, ne-eqb (kindAt ts i) KeywordIf c)
+
+      -- the same, by the lead alone
+      pub lead-declaring : isDeclaring (kindAt ts i) ≡ true → Parse.stmt ts d p i ≡ Parse.stmtBy ts d p declaring i
+      unfolding Parse.stmt Parse.stmtLead
+      lead-declaring b = rw b
+
+      pub lead-returning : kindAt ts i ≡ KeywordReturn → Parse.stmt ts d p i ≡ Parse.stmtBy ts d p returning i
+      unfolding Parse.stmt Parse.stmtLead
+      lead-returning e = rw e
+
+      pub lead-branching : kindAt ts i ≡ KeywordIf → Parse.stmt ts d p i ≡ Parse.stmtBy ts d p branching i
+      unfolding Parse.stmt Parse.stmtLead
+      lead-branching e = rw e
+
+      pub lead-expression : isDeclaring (kindAt ts i) ≡ false → (kindAt ts i ≡ KeywordReturn → ⊥) → (kindAt ts i ≡ KeywordIf → ⊥)
+          → Parse.stmt ts d p i ≡ Parse.stmtBy ts d p expression i
+      unfolding Parse.stmt Parse.stmtLead
+      lead-expression a b c = rw (a, ne-eqb (kindAt ts i) KeywordReturn b, ne-eqb (kindAt ts i) KeywordIf c)
+
+      pub declaring-is : Parse.stmtBy ts d p declaring i
+          ≡ Parse.named ts (λ w. Parse.want ts Equals (λ j. then (Parse.expr ts d j) (λ e k. Parse.want ts Semicolon (ok (decl (kindAt ts i) w e)) k))) (i + 1)
+      unfolding Parse.stmtBy
+      declaring-is = refl
+
+      pub returning-is : Parse.stmtBy ts d p returning i ≡ then (Parse.expr ts d (i + 1)) (λ e k. Parse.want ts Semicolon (ok (ret e)) k)
+      unfolding Parse.stmtBy
+      returning-is = refl
+
+      pub branching-is : Parse.stmtBy ts d p branching i
+          ≡ Parse.want ts KeywordGuard (Parse.want ts LParen (Parse.named ts (λ w. Parse.want ts RParen (Parse.bodies ts d p w)))) (i + 1)
+      unfolding Parse.stmtBy
+      branching-is = refl
+
+      pub expression-is : Parse.stmtBy ts d p expression i ≡ then (Parse.expr ts d i) (λ e j. Parse.assignBy ts d p (isAssign (kindAt ts j)) e j)
+      unfolding Parse.stmtBy
+      expression-is = refl
 
   pub body-none : (o d : ℕ) → d ≡ 0 → Parse.body ts d o ≡ no TooDeep o
   unfolding Parse.body

@@ -1,22 +1,22 @@
 -- The parser is complete for the grammar: where the rows from a row on are the tokens of a tree of the grammar, within the nesting and
 -- the checks, and no row follows with which it goes on, the parser gives that tree.
 use mathlib.Core.Path.{_≡_, refl, sym, ap, _∙_, subst}
-use mathlib.Core.Bool.{Bool, true, false, not, _&&_, _||_, true≢false, and-eq-true-iff}
+use mathlib.Core.Bool.{Bool, true, false, not, _&&_, _||_, and-eq-true-iff}
 use mathlib.Core.List.{List, [], _∷_, _++_, append-assoc, append-nil}
 use Prim.Native.Nat.{ℕ, zero, suc, _+_, _^_, _≤_, _<_}
-use native.Mathlib.Nat.{add-zero, le-of-lt}
+use native.Mathlib.Nat.{add-zero}
 use native.Mathlib.Omega.{arith}
 use lib.Dec.{eqb, leb}
 use lib.ListN.{length, getD, drop, length-drop, length-append}
 use lib.Seq.{drop-drop, drop-append-seam, getD-drop}
 use borrow.Author.Tests.{eqb-true, eqb-false, eq-eqb, not-true}
-use Rattle.rules.specs.Kinds.{KeywordUnit, KeywordSection, KeywordLicense, KeywordReturn, KeywordReg, KeywordImm, KeywordMap, KeywordType, KeywordKey, KeywordValue, KeywordMax, KeywordIf, KeywordElse, KeywordGuard, KeywordHeap, KeywordEvent, LBrace, RBrace, LParen, RParen, Colon, Dot, Comma, Semicolon, LBracket, RBracket, Equals, PlusEquals, Plus, Minus, Star, Slash, Percent, Shr, Shl, Identifier, StringLiteral, Number, KeywordBytes, Eof}
+use Rattle.rules.specs.Kinds.{KeywordUnit, KeywordSection, KeywordLicense, KeywordReturn, KeywordReg, KeywordImm, KeywordMap, KeywordKey, KeywordValue, KeywordMax, KeywordIf, KeywordElse, KeywordGuard, KeywordHeap, KeywordEvent, LBrace, RBrace, LParen, RParen, Colon, Dot, Comma, Semicolon, LBracket, RBracket, Equals, PlusEquals, Plus, Minus, Star, Slash, Percent, Shr, Shl, Identifier, Number, Eof}
 use Rattle.rules.specs.Tree.{Tok, sign, name, string, value, kindOf, spellingOf, bitsIn, Tree, none, num, var, star, group, field, call, bin, one, more, decl, ret, plain, assign, guard, thenBody, elseBody, seq, text, unit, mapType, typed, limit, first, shifted, mapDecl, plainField, bytesField, arrayField, event, program, yield, isVariable, mapTypeNumber, maxBits, typeOf, typedBy, limitOf, lacking}
 use Rattle.rules.specs.Nodes.{width}
 use Rattle.rules.specs.Parse
-use Rattle.rules.specs.Parse.{Out, ok, no, P, then, many, isAdd, isShift, isMul, isAssign, isDeclaring, isText, isType, isTyped, most32, Sort, operand, whole, tokAt, kindAt}
+use Rattle.rules.specs.Parse.{Out, ok, P, then, many, isAdd, isShift, isMul, isAssign, isDeclaring, isText, isType, isTyped, most32, Sort, tokAt, kindAt}
 use Rattle.rules.specs.Grammar.{Nt, Add, Shift, Mul, Unary, Basic, Args, Stmt, Stmts, Item, Items, Chain, MapField, MapFields, EventField, EventFields, Decl, Decls, Program, Is, i-num, i-var, i-group, i-field, i-bare, i-call, i-one, i-more, i-prim, i-star, i-unary, i-mul, i-lone, i-shift, i-up, i-add, i-decl, i-ret, i-plain, i-assign, i-if, i-if-else, i-no-stmts, i-stmts, i-stmt, i-text, i-no-items, i-items, i-first, i-shifted, i-type, i-typed, i-limit, i-no-fields, i-fields, i-plain-field, i-bytes-field, i-array-field, i-no-event-fields, i-event-fields, i-unit, i-map, i-event, i-no-decls, i-decls, i-program}
-use Rattle.grammar.proofs.Laws.{here, test-here, either-kind, three-kinds, yield-width, is-wide}
+use Rattle.grammar.proofs.Laws.{either-kind, three-kinds, yield-width, is-wide}
 use Rattle.grammar.proofs.Cases
 
 -- the kind of the first of some tokens
@@ -211,7 +211,10 @@ opens (i-add {k = k} {l = l} {r = r} h b v) ys = rw (append-assoc (yield l)) (op
 opens (i-decl {k = k} b h) ys = three-kinds (Opens Stmt) k KeywordReg KeywordImm KeywordHeap b (refl, refl, refl) (refl, refl, refl) (refl, refl, refl)
 opens (i-ret h) ys = (refl, refl, refl)
 opens (i-plain {e = e} h) ys = rw (append-assoc (yield e)) (start-stmt (front (yield e ++ (sign Semicolon ∷ ys))) (opens h (sign Semicolon ∷ ys)))
-opens (i-assign {k = k} {l = l} {r = r} b h v) ys = rw (append-assoc (yield l)) (start-stmt (front (yield l ++ (sign k ∷ ((yield r ++ (sign Semicolon ∷ [])) ++ ys)))) (opens h (sign k ∷ ((yield r ++ (sign Semicolon ∷ [])) ++ ys))))
+opens (i-assign {k = k} {l = l} {r = r} b h v) ys =
+    rw (append-assoc (yield l))
+    (start-stmt (front (yield l ++ (sign k ∷ ((yield r ++ (sign Semicolon ∷ [])) ++ ys))))
+    (opens h (sign k ∷ ((yield r ++ (sign Semicolon ∷ [])) ++ ys))))
 opens (i-if h) ys = (refl, refl, refl)
 opens (i-if-else h v) ys = (refl, refl, refl)
 opens i-no-stmts ys = tt
@@ -501,7 +504,8 @@ module _ (ts : List Tok) where
   run-if-else : (d : ℕ) (w : List ℕ) (l r : Tree) → Claim Stmts d l → Claim Stmts d r → Claim Stmt (suc d) (guard w (thenBody l) (elseBody r))
   unfolding yield width Parse.bodies
   run-if-else d w l r c v i ys e s =
-      let e1 : From ts i (sign KeywordIf ∷ sign KeywordGuard ∷ sign LParen ∷ name w ∷ sign RParen ∷ sign LBrace ∷ (yield l ++ (sign RBrace ∷ sign KeywordElse ∷ sign LBrace ∷ (yield r ++ (sign RBrace ∷ ys))))) = regroup e (simp append-assoc) in
+      let other : List Tok = sign KeywordElse ∷ sign LBrace ∷ (yield r ++ (sign RBrace ∷ ys)) in
+      let e1 : From ts i (sign KeywordIf ∷ sign KeywordGuard ∷ sign LParen ∷ name w ∷ sign RParen ∷ sign LBrace ∷ (yield l ++ (sign RBrace ∷ other))) = regroup e (simp append-assoc) in
       guard-run (suc d) w i _ _ e1 (λ a.
       let f : From ts (i + 1 + 1 + 1 + 1 + 1 + 1 + width l + 1) (sign KeywordElse ∷ sign LBrace ∷ (yield r ++ (sign RBrace ∷ ys))) = tail-of (after l (tail-of a)) in
       then-run _ (need-run _ a (body-ends d _ l _ c a))

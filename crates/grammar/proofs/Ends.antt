@@ -1,5 +1,5 @@
 -- Where what the parser reads ends: for each function of the parser, the row behind its tree, whatever the tokens hold.
-use mathlib.Core.Path.{_≡_, refl, sym, ap, _∙_}
+use mathlib.Core.Path.{_≡_, refl}
 use mathlib.Core.Bool.{Bool, true, false}
 use mathlib.Core.List.{List, [], _∷_, _++_}
 use Prim.Native.Nat.{ℕ, zero, suc, _+_, _≤_, _<_}
@@ -7,16 +7,16 @@ use native.Mathlib.Omega.{arith}
 use lib.Dec.{eqb}
 use lib.ListN.{length, length-append}
 use borrow.Author.Tests.{eqb-true}
-use Rattle.rules.specs.declared.Syntax.the-variants.{CallOnOther, MapLacks}
+use Rattle.rules.specs.declared.Syntax.the-variants.{CallOnOther}
 use Rattle.rules.specs.Kinds.{KeywordKey, KeywordValue, LBrace, RBrace, LParen, RParen, Identifier, Eof}
-use Rattle.rules.specs.Tree.{Tok, sign, name, spellingOf, Tree, none, field, call, unit, mapDecl, event, yield, isVariable, count, typeOf, typedBy, limitOf, lacking}
+use Rattle.rules.specs.Tree.{Tok, sign, name, spellingOf, Tree, none, call, yield, isVariable, count, typeOf, typedBy, limitOf, lacking}
 use Rattle.rules.specs.Nodes.{width}
 use Rattle.rules.specs.Parse
-use Rattle.rules.specs.Parse.{Out, ok, no, P, pick, tokAt, kindAt}
-use Rattle.rules.specs.Grammar.{Nt, Add, Shift, Mul, Unary, Basic, Args, Stmt, Stmts, Item, Items, Chain, MapField, MapFields, EventField, EventFields, Decl, Decls, Is, i-no-stmts, i-stmts, i-no-items, i-items, i-no-fields, i-fields, i-no-event-fields, i-event-fields}
+use Rattle.rules.specs.Parse.{Out, ok, no, pick, tokAt, kindAt}
+use Rattle.rules.specs.Grammar.{Nt, Add, Shift, Mul, Unary, Basic, Args, Stmt, Stmts, Item, Items, Chain, MapField, MapFields, EventField, EventFields, Decl, Decls, i-no-stmts, i-stmts, i-no-items, i-items, i-no-fields, i-fields, i-no-event-fields, i-event-fields}
 use Rattle.grammar.proofs.Laws.{here, yield-width, fewest, is-wide, is-count}
 use Rattle.grammar.proofs.Runs.{Run, All, then-all, map-all, want-all, named-all}
-use Rattle.grammar.proofs.Sound.{Reads, Under, Body, BodyUnder, atom-sound, prim-sound, unary-sound, mul-sound, shift-sound, add-sound, args-sound, inner-sound, expr-sound, list-sound, stmt-sound, body-sound, braced-sound, item-sound, chain-sound, map-field-sound, event-field-sound, top-sound, decls-sound}
+use Rattle.grammar.proofs.Sound.{Reads, Under, BodyUnder, atom-sound, prim-sound, unary-sound, mul-sound, shift-sound, add-sound, args-sound, inner-sound, expr-sound, list-sound, stmt-sound, body-sound, braced-sound, item-sound, chain-sound, map-field-sound, event-field-sound, top-sound, decls-sound, Accepts, program-sound}
 
 -- where a tree ends, of what is read from row i on
 abbrev pub Ends : List Tok → ℕ → Tree → ℕ → Type 0
@@ -207,3 +207,7 @@ module _ (ts : List Tok) where
   pub ends-decls : All (λ l j. Ends ts 0 l j × (kindAt ts j ≡ Eof)) (Parse.listTo ts Eof (Parse.top ts) 0)
   ends-decls =
       list-ends ts Decls 64 0 Eof (Parse.listTo ts Eof (Parse.top ts) 0) (decls-sound ts)
+
+  -- a program, where the table has an Eof: its rows are in the table
+  pub ends-parse : (e : ℕ) → e < length ts → kindAt ts e ≡ Eof → All (λ t j. (j ≡ width t) × (j ≤ length ts)) (Parse.parse ts)
+  ends-parse e h f = map-all (Accepts ts) (λ t j. (j ≡ width t) × (j ≤ length ts)) (Parse.parse ts) (program-sound ts e h f) (λ t j a. (a .next, a .inside))

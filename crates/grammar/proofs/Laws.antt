@@ -418,7 +418,8 @@ module _ (i : ℕ) where
   unfolding treeWords nodesOf wordsOfNodes nodeWords
   words-assign k l r = words-append (nodesOf i l) _ ∙ ap (λ (ws : List ℕ). treeWords i l ++ ws) (words-append (nodesOf (i + width l + 1) r) _)
 
-  pub words-guard : (w : List ℕ) (b e : Tree) → treeWords i (guard w b e) ≡ nodeWords (node 1 (i + 3) (i + 3) 0) ++ (treeWords (i + 5) b ++ (treeWords (i + 5 + width b) e ++ nodeWords (node 20 (i + 1) missing (2 + count e))))
+  pub words-guard : (w : List ℕ) (b e : Tree)
+      → treeWords i (guard w b e) ≡ nodeWords (node 1 (i + 3) (i + 3) 0) ++ (treeWords (i + 5) b ++ (treeWords (i + 5 + width b) e ++ nodeWords (node 20 (i + 1) missing (2 + count e))))
   unfolding treeWords nodesOf wordsOfNodes nodeWords
   words-guard w b e = ap (λ (ws : List ℕ). nodeWords (node 1 (i + 3) (i + 3) 0) ++ ws) (words-append (nodesOf (i + 5) b) _ ∙ ap (λ (ws : List ℕ). treeWords (i + 5) b ++ ws) (words-append (nodesOf (i + 5 + width b) e) _))
 

@@ -2,7 +2,10 @@
 pub mod Laws
 pub mod Cases
 pub mod Runs
+pub mod Leads
 pub mod Sound
 pub mod Ends
+pub mod Refused
 pub mod Complete
 pub mod Same
+pub mod Tables

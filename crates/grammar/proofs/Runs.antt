@@ -1,14 +1,14 @@
 -- A run of rows: which tokens stand from a row on up to another. And what holds of an answer of the parser, if it is a tree.
 use mathlib.Core.Path.{_≡_, refl, sym, ap, _∙_, subst}
-use mathlib.Core.Bool.{Bool, true, false, not, _&&_, _||_, true≢false}
+use mathlib.Core.Bool.{Bool, true, false, not, _&&_, true≢false}
 use mathlib.Core.List.{List, [], _∷_, _++_, append-assoc}
 use Prim.Native.Nat.{ℕ, zero, suc, _+_, _≤_, _<_}
 use native.Mathlib.Omega.{arith}
 use lib.Dec.{eqb, ltb}
 use lib.ListN.{length, drop, length-append}
 use borrow.Author.Tests.{eqb-true, ltb-true, ltb-false}
-use Rattle.rules.specs.Kinds.{LBrace, RBrace, Identifier, StringLiteral, Number, Eof}
-use Rattle.rules.specs.Tree.{Tok, sign, name, string, value, kindOf, spellingOf, bitsIn, Tree, none, seq, yield}
+use Rattle.rules.specs.Kinds.{Identifier, StringLiteral, Number, Eof}
+use Rattle.rules.specs.Tree.{Tok, sign, name, string, value, kindOf, spellingOf, bitsIn, Tree}
 use Rattle.rules.specs.Parse
 use Rattle.rules.specs.Parse.{Out, ok, no, P, then, many, tokAt, kindAt}
 use Rattle.grammar.specs.Tokens.{isSign, isProper, Proper}

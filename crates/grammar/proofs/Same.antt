@@ -1,9 +1,9 @@
 -- What follows from soundness and completeness together: the grammar is unambiguous, what is refused is no program, and the same tokens
 -- from a row on give the same declaration, wherever they stand and whatever follows.
-use mathlib.Core.Path.{_≡_, refl, sym, ap, _∙_}
+use mathlib.Core.Path.{_≡_, sym, ap, _∙_}
 use mathlib.Core.Bool.{true}
 use mathlib.Core.Logic.{_↔_}
-use mathlib.Core.List.{List, [], _∷_, _++_, append-nil}
+use mathlib.Core.List.{List, [], _++_, append-nil}
 use Prim.Native.Nat.{ℕ, _+_}
 use native.Mathlib.Omega.{arith}
 use lib.ListN.{length, drop}
@@ -15,7 +15,7 @@ use Rattle.rules.specs.Parse.{Out, ok, no}
 use Rattle.rules.specs.Grammar.{Add, Args, Stmt, Decl, Program, Is}
 use Rattle.grammar.specs.Tokens.{Whole}
 use Rattle.grammar.proofs.Laws.{yield-width}
-use Rattle.grammar.proofs.Runs.{All, all-ok}
+use Rattle.grammar.proofs.Runs.{all-ok}
 use Rattle.grammar.proofs.Sound.{Reads, expr-sound, stmt-sound, top-sound, parse-whole}
 use Rattle.grammar.proofs.Complete.{Stop, front, expr-complete, stmt-complete, top-complete, program-complete, parse-complete}
 

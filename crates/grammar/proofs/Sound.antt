@@ -1,23 +1,24 @@
 -- The parser is sound for the grammar: what it accepts is a tree of the grammar, within the nesting and the checks, and the rows that
 -- it passed are that tree's tokens.
 use mathlib.Core.Path.{_≡_, refl, sym, ap, _∙_, subst}
-use mathlib.Core.Bool.{Bool, true, false, not, cond, _&&_, _||_, true≢false, and-eq-true-iff}
+use mathlib.Core.Bool.{Bool, true, false, not}
 use mathlib.Core.List.{List, [], _∷_, _++_, append-assoc, append-nil}
 use Prim.Native.Nat.{ℕ, zero, suc, _+_, _^_, _≤_, _<_}
 use native.Mathlib.Omega.{arith}
 use lib.Dec.{eqb, leb, ltb}
 use lib.ListN.{length, drop}
 use lib.Seq.{drop-length}
-use borrow.Author.Tests.{eqb-true, ne-eqb, eq-eqb, leb-true, ltb-true, ltb-false, not-false}
-use Rattle.rules.specs.declared.Syntax.the-variants.{CallOnOther, MapTypeUnknown, NotType, ShiftCount, OutOfRange, MaxNegative}
-use Rattle.rules.specs.Kinds.{KeywordUnit, KeywordSection, KeywordLicense, KeywordReturn, KeywordReg, KeywordImm, KeywordMap, KeywordType, KeywordKey, KeywordValue, KeywordMax, KeywordIf, KeywordElse, KeywordGuard, KeywordHeap, KeywordEvent, LBrace, RBrace, LParen, RParen, Colon, Dot, Comma, Semicolon, LBracket, RBracket, Equals, PlusEquals, Plus, Minus, Star, Slash, Percent, Shr, Shl, Identifier, StringLiteral, Number, KeywordBytes, Eof}
-use Rattle.rules.specs.Tree.{Tok, sign, name, string, value, kindOf, spellingOf, bitsIn, Tree, none, num, var, star, group, field, call, bin, one, more, decl, ret, plain, assign, guard, thenBody, elseBody, seq, text, unit, mapType, typed, limit, first, shifted, mapDecl, plainField, bytesField, arrayField, event, program, yield, isVariable, count, mapTypeNumber, maxBits, typeOf, typedBy, limitOf, lacking}
+use borrow.Author.Tests.{eqb-true, eq-eqb, ltb-true, ltb-false, not-false}
+use Rattle.rules.specs.declared.Syntax.the-variants.{CallOnOther}
+use Rattle.rules.specs.Kinds.{KeywordUnit, KeywordReturn, KeywordMap, KeywordType, KeywordKey, KeywordValue, KeywordMax, KeywordIf, KeywordElse, KeywordGuard, KeywordEvent, LBrace, RBrace, LParen, RParen, Colon, Dot, Comma, Semicolon, LBracket, RBracket, Equals, Star, Identifier, Number, KeywordBytes, Eof}
+use Rattle.rules.specs.Tree.{Tok, sign, name, spellingOf, bitsIn, Tree, none, star, group, call, bin, one, more, decl, ret, plain, assign, guard, thenBody, elseBody, seq, text, mapType, typed, limit, first, plainField, bytesField, arrayField, program, yield, isVariable, mapTypeNumber, maxBits, typeOf, typedBy, limitOf, lacking}
 use Rattle.rules.specs.Nodes.{width}
 use Rattle.rules.specs.Parse
-use Rattle.rules.specs.Parse.{Out, ok, no, P, then, pick, isAdd, isShift, isMul, isAssign, isDeclaring, isText, isType, isTyped, most32, Lead, number, identifier, paren, other, lead, StmtLead, declaring, returning, branching, expression, stmtLead, FieldLead, typing, keying, limiting, nothing, fieldLead, EventLead, typeLead, bytesLead, noLead, eventLead, TopLead, mapLead, unitLead, eventTop, noTop, topLead, Sort, operand, whole, tokAt, kindAt}
+use Rattle.rules.specs.Parse.{ok, no, P, then, pick, isAdd, isShift, isMul, isAssign, isText, isType, isTyped, most32, Lead, number, identifier, paren, other, lead, StmtLead, declaring, returning, branching, expression, stmtLead, FieldLead, typing, keying, limiting, nothing, fieldLead, EventLead, typeLead, bytesLead, noLead, eventLead, TopLead, mapLead, unitLead, eventTop, noTop, topLead, Sort, operand, whole, tokAt, kindAt}
 use Rattle.rules.specs.Grammar.{Nt, Add, Shift, Mul, Unary, Basic, Args, Stmt, Stmts, Item, Items, Chain, MapField, MapFields, EventField, EventFields, Decl, Decls, Program, Is, i-num, i-var, i-group, i-field, i-bare, i-call, i-one, i-more, i-prim, i-star, i-unary, i-mul, i-lone, i-shift, i-up, i-add, i-decl, i-ret, i-plain, i-assign, i-if, i-if-else, i-no-stmts, i-stmts, i-stmt, i-text, i-no-items, i-items, i-first, i-shifted, i-type, i-typed, i-limit, i-no-fields, i-fields, i-plain-field, i-bytes-field, i-array-field, i-no-event-fields, i-event-fields, i-unit, i-map, i-event, i-no-decls, i-decls, i-program}
 use Rattle.grammar.specs.Tokens.{Proper, Whole}
-use Rattle.grammar.proofs.Laws.{here, test-here, from, either-kind, three-kinds, yield-width, fewest, is-wide, is-count}
+use Rattle.grammar.proofs.Laws.{here, from, yield-width, fewest, is-wide}
+use Rattle.grammar.proofs.Leads.{LeadIs, lead-is, StmtIs, stmt-is, FieldIs, field-is, EventIs, event-is, TopIs, top-is, add-mark, shift-mark, mul-mark, assign-mark, declaring-mark, text-mark, typed-mark, type-mark}
 use Rattle.grammar.proofs.Runs.{Run, isMark, run-none, row, name-row, string-row, value-row, _▸_, sign-of, All, all-ok, then-all, map-all, loop-all, loop-ends, want-all, need-all, named-all, quoted-all, valued-all}
 
 -- What is read at row i up to row j: a tree of the nonterminal, whose tokens the rows are.
@@ -57,116 +58,6 @@ pub record Body (ts : List Tok) (d o : ℕ) (l : Tree) (j : ℕ) : Type 0 where
 abbrev pub BodyUnder : List Tok → ℕ → ℕ → Tree → ℕ → Type 0
 BodyUnder ts zero o l j = ⊥
 BodyUnder ts (suc d) o l j = Body ts d o l j
-
--- ---- kinds by what they begin or join
-
-add-mark : (k : ℕ) → isAdd k ≡ true → isMark k ≡ true
-add-mark k b = either-kind (λ x. isMark x ≡ true) k Plus Minus b refl refl
-
-shift-mark : (k : ℕ) → isShift k ≡ true → isMark k ≡ true
-shift-mark k b = either-kind (λ x. isMark x ≡ true) k Shl Shr b refl refl
-
-mul-mark : (k : ℕ) → isMul k ≡ true → isMark k ≡ true
-mul-mark k b = three-kinds (λ x. isMark x ≡ true) k Star Slash Percent b refl refl refl
-
-assign-mark : (k : ℕ) → isAssign k ≡ true → isMark k ≡ true
-assign-mark k b = either-kind (λ x. isMark x ≡ true) k Equals PlusEquals b refl refl
-
-declaring-mark : (k : ℕ) → isDeclaring k ≡ true → isMark k ≡ true
-declaring-mark k b = three-kinds (λ x. isMark x ≡ true) k KeywordReg KeywordImm KeywordHeap b refl refl refl
-
-text-mark : (k : ℕ) → isText k ≡ true → isMark k ≡ true
-text-mark k b = either-kind (λ x. isMark x ≡ true) k KeywordSection KeywordLicense b refl refl
-
-typed-mark : (k : ℕ) → isTyped k ≡ true → isMark k ≡ true
-typed-mark k b = either-kind (λ x. isMark x ≡ true) k KeywordKey KeywordValue b refl refl
-
-type-mark : (k : ℕ) → isType k ≡ true → isMark k ≡ true
-type-mark k b =
-    let h : (leb 21 k ≡ true) × (leb k 24 ≡ true) = and-eq-true-iff (leb 21 k) (leb k 24) .0 b in
-    let l : k ≤ 24 = leb-true k 24 (h .1) in
-    rw (ne-eqb k Identifier (λ e. omega arith), ne-eqb k StringLiteral (λ e. omega arith), ne-eqb k Number (λ e. omega arith), ne-eqb k Eof (λ e. omega arith))
-
-abbrev LeadIs : ℕ → Lead → Type 0
-LeadIs k number = k ≡ Number
-LeadIs k identifier = k ≡ Identifier
-LeadIs k paren = k ≡ LParen
-LeadIs k other = Unit {0}
-
-lead-is : (k : ℕ) → LeadIs k (lead k)
-unfolding lead
-lead-is k = go (eqb k Number) (eqb k LParen) (eqb k Identifier) refl refl refl
-  where
-    go : (a b c : Bool) → eqb k Number ≡ a → eqb k LParen ≡ b → eqb k Identifier ≡ c → LeadIs k (cond a number (cond b paren (cond c identifier other)))
-    go true b c p q r = eqb-true k Number p
-    go false true c p q r = eqb-true k LParen q
-    go false false true p q r = eqb-true k Identifier r
-    go false false false p q r = tt
-
-abbrev StmtIs : ℕ → StmtLead → Type 0
-StmtIs k declaring = isDeclaring k ≡ true
-StmtIs k returning = k ≡ KeywordReturn
-StmtIs k branching = k ≡ KeywordIf
-StmtIs k expression = Unit {0}
-
-stmt-is : (k : ℕ) → StmtIs k (stmtLead k)
-unfolding stmtLead
-stmt-is k = go (isDeclaring k) (eqb k KeywordReturn) (eqb k KeywordIf) refl refl refl
-  where
-    go : (a b c : Bool) → isDeclaring k ≡ a → eqb k KeywordReturn ≡ b → eqb k KeywordIf ≡ c
-        → StmtIs k (cond a declaring (cond b returning (cond c branching expression)))
-    go true b c p q r = p
-    go false true c p q r = eqb-true k KeywordReturn q
-    go false false true p q r = eqb-true k KeywordIf r
-    go false false false p q r = tt
-
-abbrev FieldIs : ℕ → FieldLead → Type 0
-FieldIs k typing = k ≡ KeywordType
-FieldIs k keying = isTyped k ≡ true
-FieldIs k limiting = k ≡ KeywordMax
-FieldIs k nothing = Unit {0}
-
-field-is : (k : ℕ) → FieldIs k (fieldLead k)
-unfolding fieldLead
-field-is k = go (eqb k KeywordType) (isTyped k) (eqb k KeywordMax) refl refl refl
-  where
-    go : (a b c : Bool) → eqb k KeywordType ≡ a → isTyped k ≡ b → eqb k KeywordMax ≡ c
-        → FieldIs k (cond a typing (cond b keying (cond c limiting nothing)))
-    go true b c p q r = eqb-true k KeywordType p
-    go false true c p q r = q
-    go false false true p q r = eqb-true k KeywordMax r
-    go false false false p q r = tt
-
-abbrev EventIs : ℕ → EventLead → Type 0
-EventIs k typeLead = isType k ≡ true
-EventIs k bytesLead = k ≡ KeywordBytes
-EventIs k noLead = Unit {0}
-
-event-is : (k : ℕ) → EventIs k (eventLead k)
-unfolding eventLead
-event-is k = go (isType k) (eqb k KeywordBytes) refl refl
-  where
-    go : (a b : Bool) → isType k ≡ a → eqb k KeywordBytes ≡ b → EventIs k (cond a typeLead (cond b bytesLead noLead))
-    go true b p q = p
-    go false true p q = eqb-true k KeywordBytes q
-    go false false p q = tt
-
-abbrev TopIs : ℕ → TopLead → Type 0
-TopIs k mapLead = k ≡ KeywordMap
-TopIs k unitLead = k ≡ KeywordUnit
-TopIs k eventTop = k ≡ KeywordEvent
-TopIs k noTop = Unit {0}
-
-top-is : (k : ℕ) → TopIs k (topLead k)
-unfolding topLead
-top-is k = go (eqb k KeywordMap) (eqb k KeywordUnit) (eqb k KeywordEvent) refl refl refl
-  where
-    go : (a b c : Bool) → eqb k KeywordMap ≡ a → eqb k KeywordUnit ≡ b → eqb k KeywordEvent ≡ c
-        → TopIs k (cond a mapLead (cond b unitLead (cond c eventTop noTop)))
-    go true b c p q r = eqb-true k KeywordMap p
-    go false true c p q r = eqb-true k KeywordUnit q
-    go false false true p q r = eqb-true k KeywordEvent r
-    go false false false p q r = tt
 
 -- ---- what is read, from a run of rows and back
 
@@ -624,6 +515,12 @@ module _ (ts : List Tok) where
   -- the declarations of a program, up to the row that ends them
   pub decls-sound : All (λ l j. Reads ts Decls 64 0 l j × (kindAt ts j ≡ Eof)) (Parse.listTo ts Eof (Parse.top ts) 0)
   decls-sound = list-sound Decls Decl 64 i-no-decls (λ l s a b. i-decls a b) (omega arith) Eof (Parse.top ts) top-sound 0 (omega arith)
+
+  -- what is accepted is a program, of any tokens
+  pub accepted-is : All (λ t j. Is true Program 64 t) (Parse.parse ts)
+  unfolding Parse.parse
+  accepted-is =
+      then-all (λ l j. Reads ts Decls 64 0 l j × (kindAt ts j ≡ Eof)) (λ t j. Is true Program 64 t) (Parse.listTo ts Eof (Parse.top ts) 0) _ decls-sound (λ l j r. i-program (r .0 .is))
 
   -- the same, with the ending row, where the table has an Eof
   module _ (e : ℕ) (inside : e < length ts) (eof : kindAt ts e ≡ Eof) where

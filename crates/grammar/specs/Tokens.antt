@@ -1,7 +1,7 @@
 -- Token lists as rows give them. A name, a string and a number are never given as a bare sign; a table that is not refused has one
 -- Eof, its last.
 use mathlib.Core.Path.{_≡_}
-use mathlib.Core.Bool.{Bool, true, not, _&&_, _||_}
+use mathlib.Core.Bool.{Bool, true, not, _||_}
 use mathlib.Core.List.{List}
 use Prim.Native.Nat.{ℕ, _+_, _<_}
 use lib.Dec.{eqb}

@@ -1,0 +1,255 @@
+//! A text with its rows, which follow every change of the text.
+
+use crate::lent::{self, Change, Words, NODE_WORDS, ROW_WORDS};
+use crate::refusal::{Place, Reason, Refusal};
+use crate::row::{Row, Rows};
+use crate::tree::Tree;
+use crate::LONGEST_TEXT;
+use std::fmt;
+use std::ops::Range;
+
+/// How many bytes behind the new ones the first window of an edit shows.
+const FIRST_WINDOW: usize = 256;
+
+/// How many times longer each further window is.
+const WINDOW_GROWTH: usize = 4;
+
+/// An open text and its rows. The text is ASCII and has at most 65,536 bytes; the rows are always those of a fresh reading.
+///
+/// Two documents are equal if their texts, rows and refusals are.
+#[derive(Clone)]
+pub struct Document {
+    text: String,
+    /// The rows' words, and behind them room that no row has.
+    rows: Vec<u32>,
+    /// Where the next edit writes; it then changes places with `rows`.
+    spare: Vec<u32>,
+    /// What stands beside the rows, in the words in which the library told it.
+    table: Words,
+}
+
+impl Document {
+    /// Reads a text. Refused are a text that is too long (1) and one that is not ASCII (2). A text that scans only up to a
+    /// place is open with its rows up to there, and [`Document::refusal`] tells the rest.
+    pub fn open(text: impl Into<Vec<u8>>) -> Result<Document, Refusal> {
+        let text = text.into();
+        let mut rows = vec![0; room_for(text.len().min(LONGEST_TEXT))];
+        let table = lent::scan(&text, &mut rows);
+        taken(&table)?;
+        Ok(Document {
+            text: ascii(text),
+            rows,
+            spare: Vec::new(),
+            table,
+        })
+    }
+
+    /// The text.
+    pub fn text(&self) -> &str {
+        &self.text
+    }
+
+    /// The rows in order; without a refusal the last is Eof.
+    pub fn rows(&self) -> Rows<'_> {
+        Rows::new(self.row_words())
+    }
+
+    /// The row with this number.
+    pub fn row(&self, row: usize) -> Option<Row> {
+        self.rows().nth(row)
+    }
+
+    /// The refusal, 11 to 15, at which the rows end; nothing if the whole text scans.
+    pub fn refusal(&self) -> Option<Refusal> {
+        Refusal::from_words(&self.table)
+    }
+
+    /// The part of the text that a row spells; empty for Eof. A row that is not there is 3.
+    pub fn spelling(&self, row: usize) -> Result<&str, Refusal> {
+        let row = u32::try_from(row).map_err(|_| at_start(Reason::NotWellFormed))?;
+        let answer = lent::spelling(self.text.as_bytes(), self.row_words(), &self.table, row);
+        match Refusal::from_words(&answer) {
+            Some(refusal) => Err(refusal),
+            None => Ok(&self.text[answer[lent::FIRST] as usize..answer[lent::SECOND] as usize]),
+        }
+    }
+
+    /// The program's tree, or the first refusal: that of the rows (11 to 15), or one of 21 to 32.
+    pub fn tree(&self) -> Result<Tree, Refusal> {
+        let mut nodes = vec![0; self.count() * NODE_WORDS];
+        let answer = lent::parse(self.text.as_bytes(), self.row_words(), &self.table, &mut nodes);
+        match Refusal::from_words(&answer) {
+            Some(refusal) => Err(refusal),
+            None => {
+                nodes.truncate(answer[lent::COUNT] as usize * NODE_WORDS);
+                Ok(Tree::from_words(&nodes))
+            }
+        }
+    }
+
+    /// Puts new bytes in the place of the text's bytes in `range`. Refused are a range that is not in the text (6), a
+    /// change after which the text is too long (1), and new bytes that are not ASCII (2, with the place in the new text);
+    /// the document is then as it was.
+    pub fn replace(&mut self, range: Range<usize>, new_bytes: &[u8]) -> Result<(), Refusal> {
+        let change = self.change(&range, new_bytes.len())?;
+        let restart = lent::restart(self.row_words(), &self.table, change.a);
+        if let Some(refusal) = Refusal::from_words(&restart) {
+            return Err(refusal);
+        }
+        let new_length = self.text.len() - range.len() + new_bytes.len();
+        let words = room_for(new_length);
+        if self.spare.len() < words {
+            self.spare.resize(words, 0);
+        }
+        let edit = Edit {
+            change,
+            start: restart[lent::OFFSET],
+            window: Window::new(&self.text, restart[lent::OFFSET] as usize, range.clone(), new_bytes),
+        };
+        let table = self.edited(edit)?;
+        self.text.replace_range(range, str_of(new_bytes));
+        self.table = table;
+        std::mem::swap(&mut self.rows, &mut self.spare);
+        Ok(())
+    }
+
+    /// The change in the library's numbers, if the range and the new length are sensible.
+    fn change(&self, range: &Range<usize>, new_bytes: usize) -> Result<Change, Refusal> {
+        if range.start > range.end || range.end > self.text.len() {
+            return Err(at_start(Reason::EditNotSensible));
+        }
+        if new_bytes > LONGEST_TEXT || self.text.len() - range.len() + new_bytes > LONGEST_TEXT {
+            return Err(at_start(Reason::TextTooLong));
+        }
+        Ok(Change {
+            a: range.start as u32,
+            b: range.end as u32,
+            n: new_bytes as u32,
+        })
+    }
+
+    /// The table behind an edit, whose rows then are in `spare`; longer windows are shown until one suffices.
+    fn edited(&mut self, mut edit: Edit) -> Result<Words, Refusal> {
+        loop {
+            let words = self.count() * ROW_WORDS;
+            let answer = lent::edit(
+                &self.rows[..words],
+                &self.table,
+                edit.change,
+                edit.start,
+                &edit.window.bytes,
+                &mut self.spare,
+            );
+            match taken(&answer) {
+                Err(refusal) if refusal.reason == Reason::WindowShort => {
+                    assert!(edit.window.grow(), "a window to the text's end is never short");
+                }
+                Err(refusal) => return Err(refusal),
+                Ok(()) => return Ok(answer),
+            }
+        }
+    }
+
+    fn count(&self) -> usize {
+        self.table[lent::COUNT] as usize
+    }
+
+    fn row_words(&self) -> &[u32] {
+        &self.rows[..self.count() * ROW_WORDS]
+    }
+}
+
+impl PartialEq for Document {
+    fn eq(&self, other: &Document) -> bool {
+        self.text == other.text
+            && self.table == other.table
+            && self.row_words() == other.row_words()
+    }
+}
+
+impl Eq for Document {}
+
+impl fmt::Debug for Document {
+    fn fmt(&self, out: &mut fmt::Formatter<'_>) -> fmt::Result {
+        out.debug_struct("Document")
+            .field("text", &self.text)
+            .field("rows", &self.rows().collect::<Vec<Row>>())
+            .field("refusal", &self.refusal())
+            .finish()
+    }
+}
+
+/// An edit as the library is asked for it.
+struct Edit<'a> {
+    change: Change,
+    start: u32,
+    window: Window<'a>,
+}
+
+/// A part of the new text, which need not be there as a whole: it starts at the restart place, and goes some way behind the
+/// new bytes.
+struct Window<'a> {
+    bytes: Vec<u8>,
+    /// The old text's bytes behind what the window shows.
+    rest: &'a [u8],
+    /// How many of them the window showed last behind the new ones.
+    shown: usize,
+}
+
+impl<'a> Window<'a> {
+    fn new(old: &'a str, start: usize, range: Range<usize>, new_bytes: &[u8]) -> Window<'a> {
+        let old = old.as_bytes();
+        let mut window = Window {
+            bytes: [&old[start..range.start], new_bytes].concat(),
+            rest: &old[range.end..],
+            shown: 0,
+        };
+        window.show(FIRST_WINDOW);
+        window
+    }
+
+    fn show(&mut self, count: usize) {
+        let count = count.min(self.rest.len());
+        let (more, rest) = self.rest.split_at(count);
+        self.bytes.extend_from_slice(more);
+        self.rest = rest;
+        self.shown += count;
+    }
+
+    /// Makes the window longer; false if it ends the text already.
+    fn grow(&mut self) -> bool {
+        let goes_on = !self.rest.is_empty();
+        self.show(self.shown * (WINDOW_GROWTH - 1));
+        goes_on
+    }
+}
+
+/// How many words the rows of a text of so many bytes need: every row but Eof has a byte.
+fn room_for(length: usize) -> usize {
+    (length + 1) * ROW_WORDS
+}
+
+/// Whether an answer of a scan or an edit is a table, which may end in a refusal from 11 on.
+fn taken(answer: &Words) -> Result<(), Refusal> {
+    match Refusal::from_words(answer) {
+        Some(refusal) if refusal.number() < 11 => Err(refusal),
+        _ => Ok(()),
+    }
+}
+
+fn at_start(reason: Reason) -> Refusal {
+    Refusal {
+        reason,
+        place: Place::START,
+    }
+}
+
+/// A text that the library has taken, which is ASCII.
+fn ascii(text: Vec<u8>) -> String {
+    String::from_utf8(text).expect("the library takes ASCII alone")
+}
+
+/// New bytes that the library has seen in a window, which are ASCII.
+fn str_of(bytes: &[u8]) -> &str {
+    std::str::from_utf8(bytes).expect("the library takes ASCII alone")
+}

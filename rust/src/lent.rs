@@ -1,0 +1,170 @@
+//! The library's calls over lent slices, as they are: every answer is eight words in the layout below.
+//!
+//! Every call answers for every argument, so nothing here can go wrong but what the answer says. Lengths travel with the
+//! slices; a table is lent in the words in which [`scan`] or [`edit`] told it.
+
+use crate::ffi;
+
+/// An answer, or what stands beside a table's rows: the words at [`NUMBER`] to [`LENGTH`].
+pub type Words = [u32; 8];
+
+/// The refusal's number, 0 if there is none.
+pub const NUMBER: usize = 0;
+/// The refusal's place: its offset, line and column.
+pub const OFFSET: usize = 1;
+/// The line of the refusal's place.
+pub const LINE: usize = 2;
+/// The column of the refusal's place.
+pub const COLUMN: usize = 3;
+/// The wanted kind of 21, the field of 29, a spelling's start, or the number that was asked for.
+pub const FIRST: usize = 4;
+/// The found kind of 21, or a spelling's end.
+pub const SECOND: usize = 5;
+/// How many rows or nodes were written.
+pub const COUNT: usize = 6;
+/// The text's length; 0 where a scan or an edit is refused below 11.
+pub const LENGTH: usize = 7;
+
+/// The words of a row: kind, start, end, line, column, value low, value high, zero.
+pub const ROW_WORDS: usize = 8;
+
+/// The words of a node: kind, place row, name row, children, four facts.
+pub const NODE_WORDS: usize = 8;
+
+/// A row that is missing.
+pub const MISSING: u32 = u32::MAX;
+
+// Every unsafe block below is sound for the same reasons. Each pointer is that of a reference, which stays valid through the
+// call, and the length beside it is the slice's own, so the library may read all of it; it writes only through pointers that
+// come from `&mut`, which nothing else refers to during the call. It keeps no pointer. It is proved to read and write
+// inside what it is lent for every content of it, so there is nothing else to ask for. The words of an answer are a
+// `[u32; 8]`, as the header wants.
+
+/// Scans a text into rows. Number 0 or 11 to 15: a table of so many rows, which ends so. 4: as many rows as there is room
+/// for are written. 1, 2: the rows are untouched.
+pub fn scan(text: &[u8], rows: &mut [u32]) -> Words {
+    let mut answer = [0; 8];
+    // SAFETY: `text` is lent for reading and `rows` and `answer` for writing, with their own lengths.
+    unsafe {
+        ffi::spoonharbor_scan(
+            text.as_ptr(),
+            text.len(),
+            rows.as_mut_ptr(),
+            rows.len(),
+            &mut answer,
+        );
+    }
+    answer
+}
+
+/// Whether a table is well formed.
+pub fn well_formed(rows: &[u32], table: &Words) -> bool {
+    // SAFETY: `rows`, with its own length, and `table` are lent for reading.
+    unsafe { ffi::spoonharbor_well_formed(rows.as_ptr(), rows.len(), table) == 1 }
+}
+
+/// The part of the text that a row spells, from the word at [`FIRST`] to that at [`SECOND`]. Refusals 1, 2, 3.
+pub fn spelling(text: &[u8], rows: &[u32], table: &Words, row: u32) -> Words {
+    let mut answer = [0; 8];
+    // SAFETY: `text` and `rows`, with their own lengths, and `table` are lent for reading, `answer` for writing.
+    unsafe {
+        ffi::spoonharbor_spelling(
+            text.as_ptr(),
+            text.len(),
+            rows.as_ptr(),
+            rows.len(),
+            table,
+            row,
+            &mut answer,
+        );
+    }
+    answer
+}
+
+/// Parses a table into nodes, or leaves node memory untouched. Room for as many nodes as rows suffices.
+pub fn parse(text: &[u8], rows: &[u32], table: &Words, nodes: &mut [u32]) -> Words {
+    let mut answer = [0; 8];
+    // SAFETY: `text`, `rows` and `table` are lent for reading, `nodes` and `answer` for writing, with their own lengths.
+    unsafe {
+        ffi::spoonharbor_parse(
+            text.as_ptr(),
+            text.len(),
+            rows.as_ptr(),
+            rows.len(),
+            table,
+            nodes.as_mut_ptr(),
+            nodes.len(),
+            &mut answer,
+        );
+    }
+    answer
+}
+
+/// What an edit did: old bytes `a` to `b` (`b` not included) became `n` new ones.
+#[derive(Debug, Clone, Copy, PartialEq, Eq)]
+pub struct Change {
+    pub a: u32,
+    pub b: u32,
+    pub n: u32,
+}
+
+/// Writes the new table behind a change. The window is a part of the new text that starts at the restart place, whose offset
+/// is `start`. 7: show a longer window.
+pub fn edit(
+    old: &[u32],
+    table: &Words,
+    change: Change,
+    start: u32,
+    window: &[u8],
+    new: &mut [u32],
+) -> Words {
+    let mut answer = [0; 8];
+    // SAFETY: `old`, `table` and `window` are lent for reading, `new` and `answer` for writing, with their own lengths.
+    unsafe {
+        ffi::spoonharbor_edit(
+            old.as_ptr(),
+            old.len(),
+            table,
+            change.a,
+            change.b,
+            change.n,
+            start,
+            window.as_ptr(),
+            window.len(),
+            new.as_mut_ptr(),
+            new.len(),
+            &mut answer,
+        );
+    }
+    answer
+}
+
+/// Where the window of an edit at `a` must start: offset, line and column with number 0. Refusals 3, 6.
+pub fn restart(old: &[u32], table: &Words, a: u32) -> Words {
+    let mut answer = [0; 8];
+    // SAFETY: `old`, with its own length, and `table` are lent for reading, `answer` for writing.
+    unsafe { ffi::spoonharbor_restart(old.as_ptr(), old.len(), table, a, &mut answer) };
+    answer
+}
+
+/// At [`FIRST`] 1 if a program kind (0 to 10) allows a context method (0 to 15), else 0. Refusal 3.
+pub fn allows(kind: u32, method: u32) -> Words {
+    let mut answer = [0; 8];
+    // SAFETY: `answer` is lent for writing.
+    unsafe { ffi::spoonharbor_allows(kind, method, &mut answer) };
+    answer
+}
+
+/// At [`FIRST`] how many context methods a program kind allows. Refusal 3.
+pub fn set_size(kind: u32) -> Words {
+    let mut answer = [0; 8];
+    // SAFETY: `answer` is lent for writing.
+    unsafe { ffi::spoonharbor_set_size(kind, &mut answer) };
+    answer
+}
+
+/// The program kind of a section's text, 0 to 10.
+pub fn section_kind(text: &[u8]) -> u32 {
+    // SAFETY: `text` is lent for reading with its own length.
+    unsafe { ffi::spoonharbor_section_kind(text.as_ptr(), text.len()) }
+}

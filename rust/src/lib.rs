@@ -1,0 +1,40 @@
+//! Spoonharbor for Rust: scanner, parser and edit call for Solnix probes.
+//!
+//! A [`Document`] holds a text and its rows. [`Document::replace`] changes bytes and patches the rows; the rows are then those
+//! that a fresh reading gives, which is proved of the library below. [`Document::tree`] parses.
+//!
+//! ```
+//! use spoonharbor::{Document, Kind};
+//!
+//! let mut document = Document::open("unit u{ x = 1; }")?;
+//! document.replace(8..9, b"counter")?;
+//! assert_eq!(document.text(), "unit u{ counter = 1; }");
+//! assert_eq!(document.rows().nth(3).unwrap().kind, Kind::Identifier);
+//! assert_eq!(document.tree()?.len(), 5);
+//! # Ok::<(), spoonharbor::Refusal>(())
+//! ```
+//!
+//! [`lent`] has the library's calls themselves, over slices, for those who keep their own memory.
+
+mod document;
+mod ffi;
+mod kind;
+pub mod lent;
+mod refusal;
+mod row;
+mod sets;
+mod tree;
+
+pub use document::Document;
+pub use kind::Kind;
+pub use refusal::{MapField, Place, Reason, Refusal};
+pub use row::{Row, Rows};
+pub use sets::{allows, section_kind, set_size, Method, ProgramKind};
+pub use tree::{FieldType, MapType, Node, NodeKind, Operator, Tree, Type};
+
+/// The most bytes that a text may have.
+pub const LONGEST_TEXT: usize = 65_536;
+
+/// The archive that this crate was linked with.
+#[doc(hidden)]
+pub const ARCHIVE_FILE: &str = env!("SPOONHARBOR_ARCHIVE_FILE");

@@ -1,0 +1,301 @@
+//! Refusals: a number, a place, and what is told besides.
+
+use crate::kind::Kind;
+use crate::lent::{self, Words};
+use std::error::Error;
+use std::fmt;
+
+/// A position in a text. Offsets count from 0, lines and columns from 1; columns count bytes.
+#[derive(Debug, Clone, Copy, PartialEq, Eq, Hash)]
+pub struct Place {
+    pub offset: usize,
+    pub line: usize,
+    pub column: usize,
+}
+
+/// A field that a map must have.
+#[derive(Debug, Clone, Copy, PartialEq, Eq, Hash)]
+pub enum MapField {
+    Type,
+    Key,
+    Value,
+    Max,
+}
+
+/// Why a text is refused.
+#[derive(Debug, Clone, Copy, PartialEq, Eq, Hash)]
+pub enum Reason {
+    /// 1: over 65,536 bytes.
+    TextTooLong,
+    /// 2: a byte of 128 or more.
+    BadByte,
+    /// 3: a table, a row or a set number that is not well formed.
+    NotWellFormed,
+    /// 4: more rows than lent room.
+    NoRowRoom,
+    /// 5: node room below the row count.
+    NoNodeRoom,
+    /// 6: an edit that is not sensible.
+    EditNotSensible,
+    /// 7: the window is short.
+    WindowShort,
+    /// 11: a byte that begins no row, a lone `<` or `>`, or no hex digit behind `0x`.
+    NoRowBegins,
+    /// 12: a comment that is not closed.
+    OpenComment,
+    /// 13: a string that is not closed.
+    OpenString,
+    /// 14: an escape other than `\"`, `\\` and `\n`.
+    BadEscape,
+    /// 15: digits over 2^63 - 1.
+    NumberTooLarge,
+    /// 21: another kind was wanted.
+    Wanted { wanted: Kind, found: Kind },
+    /// 22: none of `map`, `event` and `unit`.
+    NotTopLevel,
+    /// 23: none of `type`, `key`, `value` and `max`.
+    NotMapField,
+    /// 24: the map type behind the dot is unknown.
+    MapTypeUnknown,
+    /// 25: a key or a value without a type.
+    NotType,
+    /// 26: a negative `max`.
+    MaxNegative,
+    /// 27: a `max` over 2^32 - 1, or a length outside 0 to 2^32 - 1.
+    OutOfRange,
+    /// 28: a shift count outside 0 to 63.
+    ShiftCount,
+    /// 29: a map without this field.
+    MapLacks(MapField),
+    /// 30: an event field without a type.
+    NotEventType,
+    /// 31: a method called on anything but a variable.
+    CallOnOther,
+    /// 32: the 65th open construct.
+    TooDeep,
+}
+
+/// A refusal and where it stands.
+#[derive(Debug, Clone, Copy, PartialEq, Eq, Hash)]
+pub struct Refusal {
+    pub reason: Reason,
+    pub place: Place,
+}
+
+impl MapField {
+    fn from_number(number: u32) -> Option<MapField> {
+        match number {
+            1 => Some(MapField::Type),
+            2 => Some(MapField::Key),
+            3 => Some(MapField::Value),
+            4 => Some(MapField::Max),
+            _ => None,
+        }
+    }
+
+    /// The field's word in the language.
+    pub fn word(self) -> &'static str {
+        match self {
+            MapField::Type => "type",
+            MapField::Key => "key",
+            MapField::Value => "value",
+            MapField::Max => "max",
+        }
+    }
+}
+
+impl Reason {
+    /// The refusal's number.
+    pub fn number(self) -> u32 {
+        match self {
+            Reason::TextTooLong => 1,
+            Reason::BadByte => 2,
+            Reason::NotWellFormed => 3,
+            Reason::NoRowRoom => 4,
+            Reason::NoNodeRoom => 5,
+            Reason::EditNotSensible => 6,
+            Reason::WindowShort => 7,
+            Reason::NoRowBegins => 11,
+            Reason::OpenComment => 12,
+            Reason::OpenString => 13,
+            Reason::BadEscape => 14,
+            Reason::NumberTooLarge => 15,
+            Reason::Wanted { .. } => 21,
+            Reason::NotTopLevel => 22,
+            Reason::NotMapField => 23,
+            Reason::MapTypeUnknown => 24,
+            Reason::NotType => 25,
+            Reason::MaxNegative => 26,
+            Reason::OutOfRange => 27,
+            Reason::ShiftCount => 28,
+            Reason::MapLacks(_) => 29,
+            Reason::NotEventType => 30,
+            Reason::CallOnOther => 31,
+            Reason::TooDeep => 32,
+        }
+    }
+
+    fn from_words(words: &Words) -> Option<Reason> {
+        Some(match words[lent::NUMBER] {
+            1 => Reason::TextTooLong,
+            2 => Reason::BadByte,
+            3 => Reason::NotWellFormed,
+            4 => Reason::NoRowRoom,
+            5 => Reason::NoNodeRoom,
+            6 => Reason::EditNotSensible,
+            7 => Reason::WindowShort,
+            11 => Reason::NoRowBegins,
+            12 => Reason::OpenComment,
+            13 => Reason::OpenString,
+            14 => Reason::BadEscape,
+            15 => Reason::NumberTooLarge,
+            21 => Reason::Wanted {
+                wanted: Kind::from_number(words[lent::FIRST])?,
+                found: Kind::from_number(words[lent::SECOND])?,
+            },
+            22 => Reason::NotTopLevel,
+            23 => Reason::NotMapField,
+            24 => Reason::MapTypeUnknown,
+            25 => Reason::NotType,
+            26 => Reason::MaxNegative,
+            27 => Reason::OutOfRange,
+            28 => Reason::ShiftCount,
+            29 => Reason::MapLacks(MapField::from_number(words[lent::FIRST])?),
+            30 => Reason::NotEventType,
+            31 => Reason::CallOnOther,
+            32 => Reason::TooDeep,
+            _ => return None,
+        })
+    }
+}
+
+impl Refusal {
+    /// The refusal that an answer tells, or nothing if its number is 0.
+    pub fn from_words(words: &Words) -> Option<Refusal> {
+        if words[lent::NUMBER] == 0 {
+            return None;
+        }
+        let reason = Reason::from_words(words).unwrap_or_else(|| {
+            panic!("the library is another than this crate was written for: it answers {words:?}")
+        });
+        Some(Refusal {
+            reason,
+            place: Place::from_words(words),
+        })
+    }
+
+    /// The refusal's number.
+    pub fn number(&self) -> u32 {
+        self.reason.number()
+    }
+}
+
+impl Place {
+    /// Before the first byte.
+    pub(crate) const START: Place = Place {
+        offset: 0,
+        line: 1,
+        column: 1,
+    };
+
+    pub(crate) fn from_words(words: &Words) -> Place {
+        Place {
+            offset: words[lent::OFFSET] as usize,
+            line: words[lent::LINE] as usize,
+            column: words[lent::COLUMN] as usize,
+        }
+    }
+}
+
+/// The reason in words, without the place.
+impl fmt::Display for Reason {
+    fn fmt(&self, out: &mut fmt::Formatter<'_>) -> fmt::Result {
+        match self {
+            Reason::TextTooLong => out.write_str("the text is longer than 65,536 bytes"),
+            Reason::BadByte => out.write_str("a byte of 128 or more: texts are ASCII"),
+            Reason::NotWellFormed => out.write_str("not well formed"),
+            Reason::NoRowRoom => out.write_str("more rows than there is room for"),
+            Reason::NoNodeRoom => out.write_str("less room for nodes than rows"),
+            Reason::EditNotSensible => out.write_str("the edit does not fit the text"),
+            Reason::WindowShort => out.write_str("the window shows too little of the text"),
+            Reason::NoRowBegins => out.write_str("nothing can begin here"),
+            Reason::OpenComment => out.write_str("this comment is not closed: expected '*/'"),
+            Reason::OpenString => out.write_str("expected '\"' to close the string"),
+            Reason::BadEscape => {
+                out.write_str("unknown escape: expected '\\\"', '\\\\' or '\\n'")
+            }
+            Reason::NumberTooLarge => {
+                out.write_str("number too large: the most is 9223372036854775807")
+            }
+            Reason::Wanted { wanted, found } => write!(out, "expected {wanted}, found {found}"),
+            Reason::NotTopLevel => out.write_str("expected 'map', 'event' or 'unit'"),
+            Reason::NotMapField => out.write_str("expected 'type', 'key', 'value', 'max' or '}'"),
+            Reason::MapTypeUnknown => out.write_str(
+                "unknown map type before this: expected 'hash', 'array', 'ringbuf', 'lru_hash' or 'prog_array'",
+            ),
+            Reason::NotType => {
+                out.write_str("no type before this: expected 'u32', 'u64', 'i32' or 'i64'")
+            }
+            Reason::MaxNegative => out.write_str("'max' is negative"),
+            Reason::OutOfRange => out.write_str("out of range: expected 0 to 4294967295"),
+            Reason::ShiftCount => out.write_str("shift count out of range: expected 0 to 63"),
+            Reason::MapLacks(field) => {
+                write!(out, "the map before this has no '{}'", field.word())
+            }
+            Reason::NotEventType => {
+                out.write_str("expected 'u32', 'u64', 'i32', 'i64' or 'bytes'")
+            }
+            Reason::CallOnOther => out.write_str("only a variable has methods"),
+            Reason::TooDeep => out.write_str("nested too deeply: at most 64 may be open"),
+        }
+    }
+}
+
+/// `line:column: reason`.
+impl fmt::Display for Refusal {
+    fn fmt(&self, out: &mut fmt::Formatter<'_>) -> fmt::Result {
+        let Place { line, column, .. } = self.place;
+        write!(out, "{line}:{column}: {}", self.reason)
+    }
+}
+
+impl Error for Refusal {}
+
+#[cfg(test)]
+mod tests {
+    use super::*;
+
+    #[test]
+    fn every_number_is_read_back() {
+        let numbers = (1..=7).chain(11..=15).chain(21..=32);
+        for number in numbers {
+            let words = [number, 4, 2, 3, 1, 2, 0, 0];
+            let refusal = Refusal::from_words(&words).unwrap();
+            assert_eq!(refusal.number(), number);
+            assert_eq!(
+                refusal.place,
+                Place {
+                    offset: 4,
+                    line: 2,
+                    column: 3
+                }
+            );
+            assert!(refusal.to_string().starts_with("2:3: "));
+        }
+        assert_eq!(Refusal::from_words(&[0, 9, 9, 9, 9, 9, 9, 9]), None);
+    }
+
+    #[test]
+    fn what_is_told_is_read_back() {
+        let wanted = Refusal::from_words(&[21, 9, 1, 10, 32, 50, 0, 0]).unwrap();
+        assert_eq!(wanted.to_string(), "1:10: expected ';', found number");
+        let lacking = Refusal::from_words(&[29, 9, 1, 10, 4, 0, 0, 0]).unwrap();
+        assert_eq!(lacking.reason, Reason::MapLacks(MapField::Max));
+    }
+
+    #[test]
+    #[should_panic(expected = "another than this crate was written for")]
+    fn an_unknown_number_is_no_answer() {
+        Refusal::from_words(&[8, 0, 1, 1, 0, 0, 0, 0]);
+    }
+}

@@ -1,0 +1,103 @@
+//! Rows, read from their words.
+
+use crate::kind::Kind;
+use crate::lent::ROW_WORDS;
+use crate::refusal::Place;
+use std::iter::FusedIterator;
+use std::ops::Range;
+use std::slice::ChunksExact;
+
+/// A row: what stands where. The value is 0 unless the kind is Number.
+#[derive(Debug, Clone, Copy, PartialEq, Eq, Hash)]
+pub struct Row {
+    pub kind: Kind,
+    pub start: usize,
+    pub end: usize,
+    pub line: usize,
+    pub column: usize,
+    pub value: i64,
+}
+
+impl Row {
+    pub(crate) fn from_words(words: &[u32]) -> Row {
+        let [kind, start, end, line, column, low, high, _] = *words else {
+            unreachable!("a row has {ROW_WORDS} words")
+        };
+        Row {
+            kind: Kind::from_number(kind).expect("a table of the library has made kinds alone"),
+            start: start as usize,
+            end: end as usize,
+            line: line as usize,
+            column: column as usize,
+            value: (u64::from(high) << 32 | u64::from(low)) as i64,
+        }
+    }
+
+    /// The bytes of the text that the row spells.
+    pub fn span(&self) -> Range<usize> {
+        self.start..self.end
+    }
+
+    /// The place before the row's first byte.
+    pub fn place(&self) -> Place {
+        Place {
+            offset: self.start,
+            line: self.line,
+            column: self.column,
+        }
+    }
+}
+
+/// The rows of a document, in order.
+#[derive(Debug, Clone)]
+pub struct Rows<'a> {
+    words: ChunksExact<'a, u32>,
+}
+
+impl<'a> Rows<'a> {
+    pub(crate) fn new(words: &'a [u32]) -> Rows<'a> {
+        Rows {
+            words: words.chunks_exact(ROW_WORDS),
+        }
+    }
+}
+
+impl Iterator for Rows<'_> {
+    type Item = Row;
+
+    fn next(&mut self) -> Option<Row> {
+        self.words.next().map(Row::from_words)
+    }
+
+    fn nth(&mut self, index: usize) -> Option<Row> {
+        self.words.nth(index).map(Row::from_words)
+    }
+
+    fn size_hint(&self) -> (usize, Option<usize>) {
+        self.words.size_hint()
+    }
+}
+
+impl DoubleEndedIterator for Rows<'_> {
+    fn next_back(&mut self) -> Option<Row> {
+        self.words.next_back().map(Row::from_words)
+    }
+}
+
+impl ExactSizeIterator for Rows<'_> {}
+
+impl FusedIterator for Rows<'_> {}
+
+#[cfg(test)]
+mod tests {
+    use super::*;
+
+    #[test]
+    fn values_are_two_s_complement() {
+        let row = Row::from_words(&[50, 12, 14, 2, 5, u32::MAX, u32::MAX, 0]);
+        assert_eq!(row.value, -1);
+        assert_eq!(row.span(), 12..14);
+        let row = Row::from_words(&[50, 0, 19, 1, 1, u32::MAX, 0x7fff_ffff, 0]);
+        assert_eq!(row.value, i64::MAX);
+    }
+}

@@ -1,0 +1,118 @@
+//! Program kinds and the context methods that each allows.
+
+use crate::lent;
+
+/// What a unit is, by its first section.
+#[derive(Debug, Clone, Copy, PartialEq, Eq, Hash)]
+#[repr(u32)]
+pub enum ProgramKind {
+    Xdp = 0,
+    Tc = 1,
+    Socket = 2,
+    Cgroup = 3,
+    Kprobe = 4,
+    Tracepoint = 5,
+    RawTracepoint = 6,
+    Fentry = 7,
+    Fexit = 8,
+    Lsm = 9,
+    Unknown = 10,
+}
+
+/// A context method.
+#[derive(Debug, Clone, Copy, PartialEq, Eq, Hash)]
+#[repr(u32)]
+pub enum Method {
+    LoadU8 = 0,
+    LoadU16 = 1,
+    LoadU32 = 2,
+    LoadU64 = 3,
+    LoadI8 = 4,
+    LoadI16 = 5,
+    LoadI32 = 6,
+    LoadI64 = 7,
+    LoadBytes = 8,
+    GetPidTgid = 9,
+    GetUidGid = 10,
+    GetCurrentComm = 11,
+    GetCurrentTask = 12,
+    GetKtimeNs = 13,
+    ProbeReadUserStr = 14,
+    ProbeReadKernelStr = 15,
+}
+
+impl ProgramKind {
+    /// Every kind, at the index that is its number.
+    pub const ALL: [ProgramKind; 11] = [
+        ProgramKind::Xdp,
+        ProgramKind::Tc,
+        ProgramKind::Socket,
+        ProgramKind::Cgroup,
+        ProgramKind::Kprobe,
+        ProgramKind::Tracepoint,
+        ProgramKind::RawTracepoint,
+        ProgramKind::Fentry,
+        ProgramKind::Fexit,
+        ProgramKind::Lsm,
+        ProgramKind::Unknown,
+    ];
+
+    /// The kind with this number.
+    pub fn from_number(number: u32) -> Option<ProgramKind> {
+        ProgramKind::ALL.get(number as usize).copied()
+    }
+
+    /// The kind's name in small letters.
+    pub fn name(self) -> &'static str {
+        match self {
+            ProgramKind::Xdp => "xdp",
+            ProgramKind::Tc => "tc",
+            ProgramKind::Socket => "socket",
+            ProgramKind::Cgroup => "cgroup",
+            ProgramKind::Kprobe => "kprobe",
+            ProgramKind::Tracepoint => "tracepoint",
+            ProgramKind::RawTracepoint => "raw tracepoint",
+            ProgramKind::Fentry => "fentry",
+            ProgramKind::Fexit => "fexit",
+            ProgramKind::Lsm => "lsm",
+            ProgramKind::Unknown => "unknown",
+        }
+    }
+}
+
+impl Method {
+    /// Every method, at the index that is its number.
+    pub const ALL: [Method; 16] = [
+        Method::LoadU8,
+        Method::LoadU16,
+        Method::LoadU32,
+        Method::LoadU64,
+        Method::LoadI8,
+        Method::LoadI16,
+        Method::LoadI32,
+        Method::LoadI64,
+        Method::LoadBytes,
+        Method::GetPidTgid,
+        Method::GetUidGid,
+        Method::GetCurrentComm,
+        Method::GetCurrentTask,
+        Method::GetKtimeNs,
+        Method::ProbeReadUserStr,
+        Method::ProbeReadKernelStr,
+    ];
+}
+
+/// The program kind that a section's text gives.
+pub fn section_kind(section: &[u8]) -> ProgramKind {
+    ProgramKind::from_number(lent::section_kind(section)).expect("the library has eleven kinds")
+}
+
+/// Whether a program kind allows a context method.
+pub fn allows(kind: ProgramKind, method: Method) -> bool {
+    lent::allows(kind as u32, method as u32)[lent::FIRST] == 1
+}
+
+/// How many context methods a program kind allows.
+pub fn set_size(kind: ProgramKind) -> u32 {
+    lent::set_size(kind as u32)[lent::FIRST]
+}
