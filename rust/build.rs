@@ -23,12 +23,18 @@ fn main() {
     let archive = folder.join(ARCHIVE);
     if !archive.is_file() {
         if env::var_os(FOLDER_VARIABLE).is_some() {
-            stop(&format!("{FOLDER_VARIABLE} is set, and {} is not there", archive.display()));
+            stop(&format!(
+                "{FOLDER_VARIABLE} is set, and {} is not there",
+                archive.display()
+            ));
         }
         build(&root, &processor, &archive);
     }
     println!("cargo:rerun-if-changed={}", archive.display());
-    println!("cargo:rustc-env=SPOONHARBOR_ARCHIVE_FILE={}", archive.display());
+    println!(
+        "cargo:rustc-env=SPOONHARBOR_ARCHIVE_FILE={}",
+        archive.display()
+    );
     println!("cargo:rustc-link-search=native={}", folder.display());
     println!("cargo:rustc-link-lib=static=console");
 }

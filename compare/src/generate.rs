@@ -4,13 +4,15 @@
 //! (`soup`), programs made by the grammar (`programs`), damaged programs
 //! (`damage`), fields of maps and events (`fields`), numbers at their edges
 //! (`numbers`), nesting at its limit (`nesting`) and texts of limit length
-//! (`lengths`).
+//! (`lengths`). Long probes as people write them (`probe`) are for times and for
+//! long chains of edits.
 
 pub mod damage;
 pub mod fields;
 pub mod lengths;
 pub mod nesting;
 pub mod numbers;
+pub mod probe;
 pub mod programs;
 pub mod random;
 pub mod short;
@@ -38,7 +40,8 @@ pub fn sample_texts(count: usize, seed: u64) -> Vec<Vec<u8>> {
     texts
 }
 
-fn fixed_texts() -> Vec<Vec<u8>> {
+/// The texts that no seed changes.
+pub fn fixed_texts() -> Vec<Vec<u8>> {
     let mut texts: Vec<Vec<u8>> = (0..=2).flat_map(short::texts_of_length).collect();
     texts.extend(compared_edge_cases());
     texts.extend(fields::texts());
@@ -56,7 +59,7 @@ fn compared_edge_cases() -> impl Iterator<Item = Vec<u8>> {
 }
 
 /// A text of a random shape.
-fn random_text(random: &mut Random) -> Vec<u8> {
+pub fn random_text(random: &mut Random) -> Vec<u8> {
     let most_tokens = random_size(random);
     match random.below(200) {
         0 => nesting::random_text(random),

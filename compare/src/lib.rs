@@ -3,13 +3,15 @@
 //!
 //! `answer` is the way in; `generate` makes texts to ask about; `edge_cases`
 //! has the texts whose answers document 01 and READINGS state; `sample` writes
-//! answers down for a program that cannot run Rust.
+//! answers down for a program that cannot run Rust. `model` is document 01 written
+//! down a second time, for what the original does not say.
 
 #[allow(clippy::all)]
 pub mod original;
 // The original sources name each other from the crate's root.
 pub use original::{ast, ir, lexer, parser};
 
+pub mod agree;
 pub mod answer;
 pub mod deep;
 pub mod differences;
@@ -17,6 +19,7 @@ pub mod edge_cases;
 pub mod generate;
 pub mod kinds;
 pub mod method_sets;
+pub mod model;
 pub mod nodes;
 pub mod parse;
 pub mod quiet;
@@ -24,3 +27,5 @@ pub mod sample;
 pub mod scan;
 pub mod search;
 pub mod show;
+#[cfg(feature = "library")]
+pub mod side;

@@ -77,7 +77,12 @@ impl Document {
     /// The program's tree, or the first refusal: that of the rows (11 to 15), or one of 21 to 32.
     pub fn tree(&self) -> Result<Tree, Refusal> {
         let mut nodes = vec![0; self.count() * NODE_WORDS];
-        let answer = lent::parse(self.text.as_bytes(), self.row_words(), &self.table, &mut nodes);
+        let answer = lent::parse(
+            self.text.as_bytes(),
+            self.row_words(),
+            &self.table,
+            &mut nodes,
+        );
         match Refusal::from_words(&answer) {
             Some(refusal) => Err(refusal),
             None => {
@@ -101,12 +106,19 @@ impl Document {
         if self.spare.len() < words {
             self.spare.resize(words, 0);
         }
-        let edit = Edit {
+        let old_words = self.count() * ROW_WORDS;
+        let start = restart[lent::OFFSET];
+        let window = Window::new(&self.text, start as usize, range.clone(), new_bytes);
+        let table = edited(
+            Old {
+                rows: &self.rows[..old_words],
+                table: &self.table,
+            },
             change,
-            start: restart[lent::OFFSET],
-            window: Window::new(&self.text, restart[lent::OFFSET] as usize, range.clone(), new_bytes),
-        };
-        let table = self.edited(edit)?;
+            start,
+            window,
+            &mut self.spare,
+        )?;
         self.text.replace_range(range, str_of(new_bytes));
         self.table = table;
         std::mem::swap(&mut self.rows, &mut self.spare);
@@ -126,28 +138,6 @@ impl Document {
             b: range.end as u32,
             n: new_bytes as u32,
         })
-    }
-
-    /// The table behind an edit, whose rows then are in `spare`; longer windows are shown until one suffices.
-    fn edited(&mut self, mut edit: Edit) -> Result<Words, Refusal> {
-        loop {
-            let words = self.count() * ROW_WORDS;
-            let answer = lent::edit(
-                &self.rows[..words],
-                &self.table,
-                edit.change,
-                edit.start,
-                &edit.window.bytes,
-                &mut self.spare,
-            );
-            match taken(&answer) {
-                Err(refusal) if refusal.reason == Reason::WindowShort => {
-                    assert!(edit.window.grow(), "a window to the text's end is never short");
-                }
-                Err(refusal) => return Err(refusal),
-                Ok(()) => return Ok(answer),
-            }
-        }
     }
 
     fn count(&self) -> usize {
@@ -179,11 +169,30 @@ impl fmt::Debug for Document {
     }
 }
 
-/// An edit as the library is asked for it.
-struct Edit<'a> {
+/// The table before an edit.
+struct Old<'a> {
+    rows: &'a [u32],
+    table: &'a Words,
+}
+
+/// The table behind an edit, whose rows then are in `new`; longer windows are shown until one suffices.
+fn edited(
+    old: Old,
     change: Change,
     start: u32,
-    window: Window<'a>,
+    mut window: Window,
+    new: &mut [u32],
+) -> Result<Words, Refusal> {
+    loop {
+        let answer = lent::edit(old.rows, old.table, change, start, &window.bytes, new);
+        match taken(&answer) {
+            Err(refusal) if refusal.reason == Reason::WindowShort => {
+                assert!(window.grow(), "a window to the text's end is never short");
+            }
+            Err(refusal) => return Err(refusal),
+            Ok(()) => return Ok(answer),
+        }
+    }
 }
 
 /// A part of the new text, which need not be there as a whole: it starts at the restart place, and goes some way behind the

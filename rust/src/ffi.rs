@@ -11,11 +11,7 @@ extern "C" {
         answer: *mut Words,
     );
 
-    pub fn spoonharbor_well_formed(
-        rows: *const u32,
-        row_words: usize,
-        table: *const Words,
-    ) -> u32;
+    pub fn spoonharbor_well_formed(rows: *const u32, row_words: usize, table: *const Words) -> u32;
 
     pub fn spoonharbor_spelling(
         text: *const u8,

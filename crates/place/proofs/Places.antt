@@ -5,9 +5,10 @@ use mathlib.Core.Bool.{Bool, true, false, cond, not}
 use mathlib.Core.List.{List, [], _∷_, _++_, reverse, reverse-append}
 use Prim.Native.Nat.{ℕ, zero, suc, _+_, _-_, _≤_, _<_, min}
 use native.Mathlib.Nat.{add-zero, zero-add, add-assoc, le-refl}
+use native.Mathlib.Decide.{decLt}
 use native.Mathlib.Numerals.{add-one}
 use native.Mathlib.Omega.{arith}
-use lib.ListN.{length, take, drop, getD, length-take, length-reverse, length-drop, drop-of-length-le}
+use lib.ListN.{length, take, drop, getD, length-take, length-reverse, length-drop, drop-of-length-le, List·getD-eq-default}
 use lib.Seq.{take-suc, drop-cons, take-add, drop-drop}
 use lib.Dec.{eqb}
 use borrow.Author.Tests.{eqb-true, ne-eqb}
@@ -49,6 +50,44 @@ module _ (p : ℕ → Bool) (t : List ℕ) (i : ℕ) where
   pub front-end : length t ≤ i → front p (drop i t) ≡ 0
   unfolding front
   front-end h = rw (drop-of-length-le t h)
+
+-- what is left of a front behind n of its bytes
+pub front-drop : (p : ℕ → Bool) (n : ℕ) (s : List ℕ) → n ≤ front p s → front p s ≡ n + front p (drop n s)
+unfolding front
+front-drop p zero s h = sym (zero-add _)
+front-drop p (suc n) [] h = omega arith
+front-drop p (suc n) (b ∷ s) h = pick (p b) h (front-drop p n s)
+  where
+    pick : (q : Bool) → suc n ≤ elim q as (λ _. ℕ) [ true ↦ suc (front p s) | false ↦ 0 ] →
+        (n ≤ front p s → front p s ≡ n + front p (drop n s)) →
+        elim q as (λ _. ℕ) [ true ↦ suc (front p s) | false ↦ 0 ] ≡ suc n + front p (drop n s)
+    pick true h r = omega (arith, r (omega arith))
+    pick false h r = omega arith
+
+-- a front goes on over a byte that meets the test
+pub front-more : (p : ℕ → Bool) (t : List ℕ) (a n : ℕ) → n ≤ front p (drop a t) → a + n < length t → p (getD t (a + n) 0) ≡ true → n + 1 ≤ front p (drop a t)
+front-more p t a n h i e =
+    let d : front p (drop a t) ≡ n + front p (drop (a + n) t) = rw (← drop-drop n a t) (front-drop p n (drop a t) h) in
+    omega (arith, front-on p t (a + n) i e)
+
+-- a test that no newline meets
+module _ (p : ℕ → Bool) (h : p 10 ≡ false) where
+  pub met-in-line : (b : ℕ) → p b ≡ true → notNewline b ≡ true
+  met-in-line b e = rw (ne-eqb b 10 (λ (z : b ≡ 10). never (sym (rw z at e) ∙ h)))
+    where
+      never : true ≡ false → ⊥
+      never y = let z : _≡_ {A = ℕ} 0 1 = cc in omega arith
+
+  pub front-in-line : (s : List ℕ) → front p s ≤ front notNewline s
+  front-in-line s = front-mono p notNewline met-in-line s
+
+-- an index at which something other than 0 is read lies inside
+pub inside : (t : List ℕ) (i b : ℕ) → getD t i 0 ≡ b → 0 < b → i < length t
+inside t i b e h = pick (decLt i (length t))
+  where
+    pick : Dec (i < length t) → i < length t
+    pick (yes p) = p
+    pick (no p) = omega (arith, List·getD-eq-default t 0 {n = i} (omega arith))
 
 -- ---- the cursor over bytes
 

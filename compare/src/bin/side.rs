@@ -1,0 +1,80 @@
+//! Holds the proved library against the original and the model: `side PART [COUNT [SEED]]`. Prints what was compared and how
+//! often; stops at the first difference with status 1.
+
+use compare::deep::on_deep_stack;
+use compare::side::{chains, edit, parse, scan, tables, Compared};
+use std::process::ExitCode;
+use std::time::Instant;
+
+const USAGE: &str = "\
+usage: side scan [TEXTS [SEED]]      rows, values, refusals, every lent word
+       side parse [TEXTS [SEED]]     nodes, refusals, every lent word
+       side edit [CALLS [SEED]]      random edits at every window length
+       side small [LENGTH]           every edit of every text of at most LENGTH bytes over 16 bytes, at every window length
+       side chains [EDITS [SEED]]    edits one after the other on documents of up to 60,000 bytes
+       side tables [TABLES [SEED]]   tables with words changed, sets, sections
+       side full                     all of them, as long as docs say
+";
+
+/// The counts of a full run.
+const FULL: [(&str, u64); 6] = [
+    ("scan", 1_000_000),
+    ("parse", 1_000_000),
+    ("edit", 20_000_000),
+    ("small", 3),
+    ("chains", 40_000),
+    ("tables", 1_000_000),
+];
+
+fn main() -> ExitCode {
+    let arguments: Vec<String> = std::env::args().skip(1).collect();
+    let Some(parts) = parts_of(&arguments) else {
+        eprint!("{USAGE}");
+        return ExitCode::from(2);
+    };
+    for (part, count, seed) in parts {
+        let began = Instant::now();
+        let compared = on_deep_stack(|| run(part, count, seed));
+        match compared {
+            Ok(counts) => {
+                println!("{part}: no difference, {} s", began.elapsed().as_secs());
+                print!("{counts}");
+            }
+            Err(difference) => {
+                println!("{part}: DIFFERENCE\n{difference}");
+                return ExitCode::FAILURE;
+            }
+        }
+    }
+    ExitCode::SUCCESS
+}
+
+/// The parts to run, each with its count and seed.
+fn parts_of(arguments: &[String]) -> Option<Vec<(&'static str, u64, u64)>> {
+    let (name, numbers) = arguments.split_first()?;
+    let numbers: Vec<u64> = numbers
+        .iter()
+        .map(|number| number.replace('_', "").parse().ok())
+        .collect::<Option<_>>()?;
+    if name == "full" && numbers.is_empty() {
+        return Some(FULL.map(|(part, count)| (part, count, 1)).to_vec());
+    }
+    let (part, full) = FULL.into_iter().find(|(part, _)| part == name)?;
+    match numbers[..] {
+        [] => Some(vec![(part, full, 1)]),
+        [count] => Some(vec![(part, count, 1)]),
+        [count, seed] => Some(vec![(part, count, seed)]),
+        _ => None,
+    }
+}
+
+fn run(part: &str, count: u64, seed: u64) -> Compared {
+    match part {
+        "scan" => scan::run(count, seed),
+        "parse" => parse::run(count, seed),
+        "edit" => edit::run(count, seed),
+        "small" => edit::run_small(count.min(6) as u32),
+        "chains" => chains::run(count, seed),
+        _ => tables::run(count, seed),
+    }
+}

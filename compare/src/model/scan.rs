@@ -1,0 +1,70 @@
+//! The scan of a text into lent room.
+
+use super::lex::{piece, Piece, Shown};
+use super::{behind, refusal, Told, START};
+use crate::answer::{Place, Refusal, Row, LONGEST_TEXT};
+
+/// What a scan with this room answers and writes.
+pub fn scan(text: &[u8], room: usize) -> Told {
+    if text.len() > LONGEST_TEXT {
+        return Told::refused(1, START);
+    }
+    if let Some(bad) = text.iter().position(|byte| *byte >= 128) {
+        return Told::refused(2, behind(START, &text[..bad]));
+    }
+    let (rows, ending) = read(text);
+    Told::in_room(rows, text.len() as u32, ending, room)
+}
+
+/// The rows of an ASCII text, and the refusal that they end in.
+pub fn read(text: &[u8]) -> (Vec<Row>, Option<Refusal>) {
+    let mut rows = Vec::new();
+    let mut place = START;
+    loop {
+        let rest = &text[place.offset as usize..];
+        if rest.is_empty() {
+            rows.push(eof(place));
+            return (rows, None);
+        }
+        let shown = Shown {
+            bytes: rest,
+            whole: true,
+        };
+        let length = match piece(shown).expect("a whole text decides everything") {
+            Piece::Gap { length } => length,
+            Piece::Row {
+                kind,
+                length,
+                value,
+            } => {
+                rows.push(row(place, kind, length, value));
+                length
+            }
+            Piece::Refused {
+                number,
+                place: distance,
+            } => {
+                let ending = refusal(number, behind(place, &rest[..distance]));
+                return (rows, Some(ending));
+            }
+        };
+        place = behind(place, &rest[..length]);
+    }
+}
+
+/// A row of so many bytes at a place.
+pub fn row(place: Place, kind: u32, length: usize, value: i64) -> Row {
+    Row {
+        kind,
+        start: place.offset,
+        end: place.offset + length as u32,
+        line: place.line,
+        column: place.column,
+        value,
+    }
+}
+
+/// Eof's row.
+pub fn eof(place: Place) -> Row {
+    row(place, 52, 0, 0)
+}

@@ -1,0 +1,122 @@
+//! Chains of edits on one document each: after every step the rows are those of a fresh scan, and now and then of the original.
+
+use super::{same, shown, Compared, Counts, Difference};
+use crate::answer::{answer, Answer, Refusal};
+use crate::generate::probe::probe_text;
+use crate::generate::random::Random;
+use crate::generate::{short, spelling};
+use spoonharbor::Document;
+
+/// How many edits one document lives through.
+const CHAIN: u64 = 2_000;
+
+/// Lengths of the documents at the beginning.
+const LENGTHS: [usize; 4] = [200, 2_000, 20_000, 60_000];
+
+/// Chains until so many edits were made.
+pub fn run(edits: u64, seed: u64) -> Compared {
+    let mut counts = Counts::default();
+    let mut random = Random::new(seed);
+    for length in LENGTHS.into_iter().cycle() {
+        if counts.get("edits") >= edits {
+            break;
+        }
+        let steps = CHAIN.min(edits - counts.get("edits"));
+        chain(&mut random, length, steps, &mut counts)?;
+    }
+    Ok(counts)
+}
+
+fn chain(
+    random: &mut Random,
+    length: usize,
+    steps: u64,
+    counts: &mut Counts,
+) -> Result<(), Difference> {
+    let mut text = probe_text(length, random.below(1 << 20) as u64);
+    let mut document = Document::open(text.clone()).expect("a probe is ASCII and short enough");
+    for step in 0..steps {
+        let (range, new) = random_edit(random, &text, length);
+        let asked = || format!("step {step} of a chain, {range:?} into {}", shown(&new));
+        same(document.replace(range.clone(), &new), Ok(()), asked)?;
+        text.splice(range.clone(), new.iter().copied());
+        let fresh = Document::open(text.clone()).expect("an edited text is ASCII and short enough");
+        if document != fresh {
+            return same(format!("{document:?}"), format!("{fresh:?}"), asked);
+        }
+        counts.add("edits");
+        if step % 50 == 0 {
+            hold_against_original(&document, counts)?;
+        }
+    }
+    counts.add("documents");
+    Ok(())
+}
+
+/// An edit of few bytes, somewhere; a text that has grown much longer or shorter than it was is brought back.
+fn random_edit(
+    random: &mut Random,
+    text: &[u8],
+    length: usize,
+) -> (std::ops::Range<usize>, Vec<u8>) {
+    let start = random.below(text.len() + 1);
+    let most = if text.len() > length { 40 } else { 3 };
+    let end = (start + random.below(most)).min(text.len());
+    let new = match random.below(10) {
+        0 | 1 => Vec::new(),
+        2..=5 => {
+            let count = 1 + random.below(3);
+            short::random_text(random, count)
+        }
+        6 => short::quoting_text(random),
+        7 | 8 => spelling::any_token(random).as_bytes().to_vec(),
+        _ => b"*/\"; ".to_vec(),
+    };
+    (start..end, new)
+}
+
+fn hold_against_original(document: &Document, counts: &mut Counts) -> Result<(), Difference> {
+    let text = document.text();
+    let Answer::Compared { rows, ending, .. } = answer(text.as_bytes()) else {
+        unreachable!("every document is ASCII and short enough")
+    };
+    let asked = || format!("a document, as the original, {}", shown(text.as_bytes()));
+    let here: Vec<[i64; 6]> = document
+        .rows()
+        .map(|row| {
+            let [start, end, line, column] =
+                [row.start, row.end, row.line, row.column].map(|word| word as i64);
+            [
+                row.kind.number().into(),
+                start,
+                end,
+                line,
+                column,
+                row.value,
+            ]
+        })
+        .collect();
+    let original: Vec<[i64; 6]> = rows
+        .iter()
+        .map(|row| {
+            let [kind, start, end, line, column] =
+                [row.kind, row.start, row.end, row.line, row.column].map(i64::from);
+            [kind, start, end, line, column, row.value]
+        })
+        .collect();
+    same(here, original, asked)?;
+    let refusal = document.refusal().map(|refusal| {
+        let place = refusal.place;
+        let [offset, line, column] =
+            [place.offset, place.line, place.column].map(|word| word as u32);
+        [refusal.number(), offset, line, column]
+    });
+    same(refusal, ending.map(number_and_place), asked)?;
+    counts.add("documents that the original was asked about");
+    Ok(())
+}
+
+fn number_and_place(refusal: Refusal) -> [u32; 4] {
+    let place = refusal.place;
+    [refusal.number, place.offset, place.line, place.column]
+}

@@ -1,0 +1,295 @@
+//! The library's edit against the model's at every window length, against a fresh scan by the library, and by the original.
+
+use super::{memory_with, same, shown, Compared, Counts, Difference, Memory};
+use crate::answer::{answer, Answer};
+use crate::generate::random::Random;
+use crate::generate::{damage, random_text, short, spelling};
+use crate::model::edit::{edit, restart, Change};
+use crate::model::table::Lent;
+use crate::model::{refusal_words, Told};
+use spoonharbor::lent::{self, Words};
+
+/// Bytes with which short texts show every rule: a letter, a digit and `0x`, a string and its escapes, comments, signs that
+/// join, a plain sign, a blank, a newline, and a byte that begins no row.
+const SMALL: &[u8; 16] = b"ax09n\"\\/*-=<; \n@";
+
+/// Random edits of random texts, each at every window length, until so many calls were made.
+pub fn run(calls: u64, seed: u64) -> Compared {
+    let mut counts = Counts::default();
+    let mut holder = Holder::default();
+    let mut random = Random::new(seed);
+    while counts.get("calls") < calls {
+        let old = old_text(&mut random);
+        let a = random.below(old.len() + 1);
+        let b = a + random.below((old.len() - a).min(6) + 1);
+        let new_bytes = new_bytes(&mut random);
+        holder.hold(&old, a, b, &new_bytes, Asking::Original, &mut counts)?;
+        holder.hold_outside(&mut random, &old, &mut counts)?;
+    }
+    Ok(counts)
+}
+
+/// Every edit of every text of at most `length` bytes over sixteen bytes, each with no, every one and every two new bytes, each
+/// at every window length.
+pub fn run_small(length: u32) -> Compared {
+    let mut counts = Counts::default();
+    let mut holder = Holder::default();
+    for old_length in 0..=length {
+        for old in small_texts(old_length) {
+            for new_length in 0..=2 {
+                for new_bytes in small_texts(new_length) {
+                    for a in 0..=old.len() {
+                        for b in a..=old.len() {
+                            holder.hold(&old, a, b, &new_bytes, Asking::Library, &mut counts)?;
+                        }
+                    }
+                }
+            }
+        }
+    }
+    Ok(counts)
+}
+
+/// Every text of this length over `SMALL`.
+fn small_texts(length: u32) -> impl Iterator<Item = Vec<u8>> {
+    (0..SMALL.len().pow(length)).map(move |index| {
+        (0..length)
+            .map(|digit| SMALL[index / SMALL.len().pow(digit) % SMALL.len()])
+            .collect()
+    })
+}
+
+fn old_text(random: &mut Random) -> Vec<u8> {
+    match random.below(3) {
+        0 => {
+            let length = random.below(12);
+            short::random_text(random, length)
+        }
+        _ => {
+            let mut text = random_text(random);
+            text.truncate(120);
+            if random.one_in(3) {
+                damage::damage_bytes(random, &mut text);
+            }
+            text
+        }
+    }
+}
+
+fn new_bytes(random: &mut Random) -> Vec<u8> {
+    match random.below(8) {
+        0 => Vec::new(),
+        1..=4 => {
+            let count = 1 + random.below(3);
+            short::random_text(random, count)
+        }
+        5 => short::quoting_text(random),
+        6 => b"99999999999999999999"[..1 + random.below(20)].to_vec(),
+        _ => spelling::any_token(random).as_bytes().to_vec(),
+    }
+}
+
+/// Who else is asked for a fresh scan of the new text.
+#[derive(Clone, Copy, PartialEq, Eq)]
+enum Asking {
+    Library,
+    Original,
+}
+
+/// A scanned text, and memory for the calls.
+#[derive(Default)]
+struct Holder {
+    rows: Vec<u32>,
+    table: Words,
+    memory: Memory,
+}
+
+impl Holder {
+    fn scan(&mut self, text: &[u8]) {
+        self.rows.clear();
+        self.rows.resize((text.len() + 1) * 8, 0);
+        self.table = lent::scan(text, &mut self.rows);
+        self.rows.truncate(self.table[lent::COUNT] as usize * 8);
+    }
+
+    /// Holds one edit at every window length.
+    fn hold(
+        &mut self,
+        old: &[u8],
+        a: usize,
+        b: usize,
+        new_bytes: &[u8],
+        asking: Asking,
+        counts: &mut Counts,
+    ) -> Result<(), Difference> {
+        let new = [&old[..a], new_bytes, &old[b..]].concat();
+        let fresh = fresh_scan(&new);
+        if asking == Asking::Original {
+            hold_scan_against_original(&new, &fresh, counts)?;
+        }
+        self.scan(old);
+        let change = Change {
+            a: a as u32,
+            b: b as u32,
+            n: new_bytes.len() as u32,
+        };
+        let start = self.held_restart(old, change.a)?;
+        for end in start as usize..=new.len() {
+            self.hold_window(old, change, &new, start as usize..end, &fresh, counts)?;
+        }
+        counts.add("edits");
+        Ok(())
+    }
+
+    /// The restart place, which must be the model's.
+    fn held_restart(&self, old: &[u8], a: u32) -> Result<u32, Difference> {
+        let answer = lent::restart(&self.rows, &self.table, a);
+        let expected = match restart(self.lent(), a) {
+            Ok(place) => [0, place.offset, place.line, place.column, 0, 0, 0, 0],
+            Err(refusal) => refusal_words(Some(refusal)),
+        };
+        same(answer, expected, || {
+            format!("restart at {a} of {}", shown(old))
+        })?;
+        Ok(answer[lent::OFFSET])
+    }
+
+    fn lent(&self) -> Lent<'_> {
+        Lent {
+            rows: &self.rows,
+            table: &self.table,
+        }
+    }
+
+    /// Holds one edit at one window length: the model's answer, which is 7 or the fresh scan's; room exactly full, and one short.
+    fn hold_window(
+        &mut self,
+        old: &[u8],
+        change: Change,
+        new: &[u8],
+        window: std::ops::Range<usize>,
+        fresh: &(Words, Vec<u32>),
+        counts: &mut Counts,
+    ) -> Result<(), Difference> {
+        let (fresh_table, fresh_rows) = fresh;
+        let start = window.start as u32;
+        let asked = || {
+            let Change { a, b, .. } = change;
+            format!(
+                "edit of {} at {a} to {b} into {}, window {window:?}",
+                shown(old),
+                shown(new)
+            )
+        };
+        let words = fresh_rows.len() + 8 + 5;
+        let expected = edit(self.lent(), change, start, &new[window.clone()], words / 8);
+        let (answer, written) = self.call(change, start, &new[window.clone()], words);
+        same(answer, expected.words(), asked)?;
+        same(written, &memory_with(&expected, words)[..], asked)?;
+        counts.add("calls");
+        if answer[lent::NUMBER] == 7 {
+            counts.add("window short");
+            return Ok(());
+        }
+        same(&answer, fresh_table, asked)?;
+        same(&written[..fresh_rows.len()], &fresh_rows[..], asked)?;
+        counts.add("fresh scan");
+        let count = fresh_rows.len() / 8;
+        for room in [count, count.saturating_sub(1)] {
+            let expected = edit(self.lent(), change, start, &new[window.clone()], room);
+            let (answer, written) = self.call(change, start, &new[window.clone()], room * 8);
+            same(answer, expected.words(), asked)?;
+            same(written, &memory_with(&expected, room * 8)[..], asked)?;
+            counts.add("calls");
+        }
+        Ok(())
+    }
+
+    /// The library's answer and what it left in so many words.
+    fn call(&mut self, change: Change, start: u32, window: &[u8], words: usize) -> (Words, &[u32]) {
+        let Change { a, b, n } = change;
+        let memory = self.memory.fresh(words);
+        let change = lent::Change { a, b, n };
+        let answer = lent::edit(&self.rows, &self.table, change, start, window, memory);
+        (answer, memory)
+    }
+
+    /// Holds calls that are not sensible, too long or not ASCII, and windows that lie.
+    fn hold_outside(
+        &mut self,
+        random: &mut Random,
+        old: &[u8],
+        counts: &mut Counts,
+    ) -> Result<(), Difference> {
+        let number = |random: &mut Random| match random.below(8) {
+            0 => u32::MAX,
+            1 => 65_536,
+            _ => random.below(old.len() + 3) as u32,
+        };
+        let change = Change {
+            a: number(random),
+            b: number(random),
+            n: number(random),
+        };
+        let start = match restart(self.lent(), change.a) {
+            Ok(place) if !random.one_in(4) => place.offset,
+            _ => number(random),
+        };
+        let length = random.below(old.len() + 4);
+        let mut window = short::random_text(random, length);
+        if length > 0 && random.one_in(4) {
+            let at = random.below(length);
+            window[at] = 128 + random.below(128) as u8;
+        }
+        let room = random.below(self.rows.len() / 8 + 4);
+        let words = room * 8 + random.below(8);
+        let expected = edit(self.lent(), change, start, &window, room);
+        let (answer, written) = self.call(change, start, &window, words);
+        let asked = || {
+            format!(
+                "{change:?} from {start} with {}, {words} words, of {}",
+                shown(&window),
+                shown(old)
+            )
+        };
+        same(answer, expected.words(), asked)?;
+        same(written, &memory_with(&expected, words)[..], asked)?;
+        counts.add("calls");
+        counts.add(format!("any call, answered {}", answer[lent::NUMBER]));
+        Ok(())
+    }
+}
+
+/// The library's own scan of a text.
+fn fresh_scan(text: &[u8]) -> (Words, Vec<u32>) {
+    let mut rows = vec![0; (text.len() + 1) * 8];
+    let table = lent::scan(text, &mut rows);
+    rows.truncate(table[lent::COUNT] as usize * 8);
+    (table, rows)
+}
+
+/// Holds a scan of the library's against the original's.
+fn hold_scan_against_original(
+    text: &[u8],
+    (table, rows): &(Words, Vec<u32>),
+    counts: &mut Counts,
+) -> Result<(), Difference> {
+    let Answer::Compared {
+        rows: original_rows,
+        ending,
+        ..
+    } = answer(text)
+    else {
+        unreachable!("every text here is ASCII and short enough")
+    };
+    let original = Told {
+        rows: original_rows,
+        length: text.len() as u32,
+        refusal: ending,
+    };
+    let asked = || format!("scan, as the original, {}", shown(text));
+    same(*table, original.words(), asked)?;
+    same(&rows[..], &memory_with(&original, rows.len())[..], asked)?;
+    counts.add("new texts that the original was asked about");
+    Ok(())
+}

@@ -1,0 +1,98 @@
+/* How much stack each call of the library takes: it runs on a stack of its own, filled with one byte before, and the lowest byte
+ * that changed is sought afterwards. The deepest nesting, 64, is made of each construct alone and of bodies around groups. */
+#include <stdio.h>
+#include <stdlib.h>
+#include <string.h>
+#include <ucontext.h>
+
+#include "spoonharbor.h"
+
+enum { STACK_BYTES = 1 << 20, FILLED = 0xA5, MOST_BYTES = 4096, ROWS = MOST_BYTES + 1, DEPTH = 64 };
+
+static unsigned char *stack;
+static ucontext_t caller, callee;
+
+static uint8_t text[MOST_BYTES + 1];
+static size_t length;
+static uint32_t rows[ROWS * SH_ROW_WORDS], new_rows[ROWS * SH_ROW_WORDS], nodes[ROWS * SH_NODE_WORDS];
+static uint32_t table[SH_WORDS], answer[SH_WORDS];
+
+static void nothing(void) {}
+
+static void scan(void) { spoonharbor_scan(text, length, rows, ROWS * SH_ROW_WORDS, table); }
+
+static void parse(void) { spoonharbor_parse(text, length, rows, ROWS * SH_ROW_WORDS, table, nodes, ROWS * SH_NODE_WORDS, answer); }
+
+static void edit(void) {
+    spoonharbor_edit(rows, ROWS * SH_ROW_WORDS, table, 0, 0, 0, 0, text, length, new_rows, ROWS * SH_ROW_WORDS, answer);
+}
+
+static void well_formed(void) { answer[0] = spoonharbor_well_formed(rows, ROWS * SH_ROW_WORDS, table); }
+
+/* How many bytes of the stack a call takes. */
+static size_t used_by(void (*call)(void)) {
+    memset(stack, FILLED, STACK_BYTES);
+    if (getcontext(&callee) != 0) exit(2);
+    callee.uc_stack.ss_sp = stack;
+    callee.uc_stack.ss_size = STACK_BYTES;
+    callee.uc_link = &caller;
+    makecontext(&callee, call, 0);
+    if (swapcontext(&caller, &callee) != 0) exit(2);
+    size_t lowest = 0;
+    while (lowest < STACK_BYTES && stack[lowest] == FILLED) lowest++;
+    return STACK_BYTES - lowest;
+}
+
+static void put(const char *part) {
+    size_t more = strlen(part);
+    if (length + more > MOST_BYTES) exit(2);
+    memcpy(text + length, part, more);
+    length += more;
+}
+
+/* A unit with `bodies` bodies around `others` constructs of another sort around a variable. */
+static void nest(const char *body, int bodies, const char *opening, const char *closing, int others) {
+    length = 0;
+    put("unit u{");
+    for (int i = 0; i < bodies; i++) put(body);
+    for (int i = 0; i < others; i++) put(opening);
+    put("x");
+    for (int i = 0; i < others; i++) put(closing);
+    put(";");
+    for (int i = 0; i < bodies; i++) put("}");
+    put("}");
+}
+
+static void report(const char *what) {
+    size_t empty = used_by(nothing);
+    size_t by_scan = used_by(scan) - empty;
+    if (table[SH_NUMBER] != 0) exit(1);
+    size_t by_parse = used_by(parse) - empty;
+    if (answer[SH_NUMBER] != 0) exit(1);
+    size_t by_edit = used_by(edit) - empty;
+    if (answer[SH_NUMBER] != 0) exit(1);
+    size_t by_test = used_by(well_formed) - empty;
+    printf("%s: scan %zu, parse %zu, edit %zu, table test %zu bytes of stack\n", what, by_scan, by_parse, by_edit, by_test);
+}
+
+int main(void) {
+    stack = malloc(STACK_BYTES);
+    if (stack == NULL) return 2;
+    nest("", 0, "", "", 0);
+    report("no nesting");
+    nest("", 0, "(", ")", DEPTH);
+    report("64 groups");
+    nest("", 0, "z.w(", ")", DEPTH);
+    report("64 argument lists");
+    nest("", 0, "*", "", DEPTH);
+    report("64 stars");
+    nest("if guard(a){", DEPTH, "", "", 0);
+    report("64 then bodies");
+    nest("if guard(a){}else{", DEPTH, "", "", 0);
+    report("64 else bodies");
+    nest("if guard(a){}else{", DEPTH / 2, "z.w(", ")", DEPTH / 2);
+    report("32 else bodies around 32 argument lists");
+    nest("if guard(a){}else{", DEPTH / 2, "(*", ")", DEPTH / 4);
+    report("32 else bodies around 16 groups with stars");
+    return 0;
+}

@@ -1,0 +1,67 @@
+//! Short runs of every part of `side`.
+
+use compare::deep::on_deep_stack;
+use compare::side::{chains, edit, parse, scan, tables, Compared, Counts};
+
+fn no_difference(part: impl FnOnce() -> Compared + Send) -> Counts {
+    match on_deep_stack(part) {
+        Ok(counts) => counts,
+        Err(difference) => panic!("{difference}"),
+    }
+}
+
+#[test]
+fn scans_are_the_originals() {
+    let counts = no_difference(|| scan::run(8_000, 3));
+    assert!(counts.get("texts that the original was asked about") > 7_000);
+    for number in [1, 2, 11, 12, 13, 14, 15] {
+        assert!(counts.get(&format!("refused {number}")) > 0, "{number}");
+    }
+}
+
+#[test]
+fn parses_are_the_originals() {
+    let counts = no_difference(|| parse::run(8_000, 3));
+    assert!(counts.get("accepted") > 500);
+    for number in 21..=31 {
+        if number != 27 {
+            assert!(counts.get(&format!("refused {number}")) > 0, "{number}");
+        }
+    }
+    for number in [27, 32] {
+        assert!(counts.get(&format!("named difference {number}")) > 0);
+    }
+}
+
+#[test]
+fn edits_are_fresh_scans() {
+    let counts = no_difference(|| edit::run(200_000, 3));
+    assert!(counts.get("window short") > 10_000);
+    assert!(counts.get("fresh scan") > 10_000);
+    for number in [0, 1, 2, 4, 6, 7] {
+        assert!(
+            counts.get(&format!("any call, answered {number}")) > 0,
+            "{number}"
+        );
+    }
+}
+
+#[test]
+fn small_edits_are_fresh_scans() {
+    let counts = no_difference(|| edit::run_small(2));
+    assert!(counts.get("calls") > 1_000_000);
+}
+
+#[test]
+fn chains_stay_fresh() {
+    let counts = no_difference(|| chains::run(8_000, 3));
+    assert_eq!(counts.get("edits"), 8_000);
+    assert_eq!(counts.get("documents"), 4);
+}
+
+#[test]
+fn tables_from_outside_are_judged() {
+    let counts = no_difference(|| tables::run(20_000, 3));
+    assert!(counts.get("well formed") > 1_000);
+    assert!(counts.get("not well formed") > 1_000);
+}

@@ -1,0 +1,36 @@
+//! How much stack the library's calls take at the deepest nesting: measured by a C program, and held to a bound.
+
+use std::path::Path;
+use std::process::Command;
+
+/// No call may take more stack than this.
+const MOST: usize = 64 * 1024;
+
+#[test]
+fn the_deepest_nesting_takes_little_stack() {
+    let here = Path::new(env!("CARGO_MANIFEST_DIR"));
+    let program = std::env::temp_dir().join(format!("spoonharbor-stack-{}", std::process::id()));
+    let compiled = Command::new("cc")
+        .args(["-O1", "-Wall", "-Wextra", "-Werror", "-I"])
+        .arg(here.join("../include"))
+        .arg(here.join("stack/stack.c"))
+        .arg(spoonharbor::ARCHIVE_FILE)
+        .args(["-lm", "-o"])
+        .arg(&program)
+        .output()
+        .expect("a C compiler `cc`");
+    let complaints = String::from_utf8_lossy(&compiled.stderr);
+    assert!(compiled.status.success(), "{complaints}");
+    let ran = Command::new(&program).output().expect("the program runs");
+    let _ = std::fs::remove_file(&program);
+    assert!(ran.status.success());
+    let report = String::from_utf8_lossy(&ran.stdout);
+    println!("{report}");
+    let figures: Vec<usize> = report
+        .split([' ', ','])
+        .skip_while(|word| *word != "scan")
+        .filter_map(|word| word.parse().ok())
+        .collect();
+    assert!(figures.len() >= 4 * 8);
+    assert!(figures.iter().all(|bytes| *bytes <= MOST), "{report}");
+}

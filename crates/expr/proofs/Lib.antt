@@ -1,0 +1,2 @@
+-- What the proofs of the circle share.
+pub mod Trees

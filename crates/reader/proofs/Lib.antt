@@ -1,0 +1,9 @@
+-- The laws that the proofs of this crate share.
+pub mod Digits
+pub mod Quotes
+pub mod Moves
+pub mod Known
+pub mod Numbers
+pub mod Strings
+pub mod Signs
+pub mod Items

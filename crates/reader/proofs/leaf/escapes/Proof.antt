@@ -1,0 +1,12 @@
+-- `reader::leaf::escapes` meets its contract: the three tests are those of the rules.
+use mathlib.Core.Path.{refl}
+use Rattle.rules.specs.Lex.{isEscape}
+use Rattle.reader.proofs.leaf.escapes.Statement.{statement}
+use Rattle.reader.proofs.leaf.escapes.Tie as tie
+
+returns : tie.Need-returns
+unfolding isEscape
+returns c = refl
+
+pub escapes-spec : {M : Type 1} → statement M
+escapes-spec = tie.close (tie.spec returns)

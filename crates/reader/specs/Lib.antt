@@ -1,0 +1,3 @@
+pub mod Read
+pub mod Leaf
+pub mod Settled

@@ -1,0 +1,7 @@
+-- The laws that the proofs of this crate share, and the theorems on the scan.
+pub mod Lent
+pub mod Laid
+pub mod Writings
+pub mod Going
+pub mod Scans
+pub mod Tight

@@ -1,0 +1,175 @@
+// The scan: the rows of a text, written into lent words as far as they go.
+use place::pass;
+use place::valid_bytes;
+use reader::Read;
+use reader::Spot;
+use reader::Token;
+use reader::front::read;
+use rules::Cursor;
+use rules::Ending;
+use rules::Lexical;
+use rules::Outer;
+use rules::Table;
+use rules::Told;
+ghost use mathlib.Core.Path.{_≡_};
+ghost use mathlib.Core.Bool.{cond};
+ghost use mathlib.Core.List.{_++_};
+ghost use Prim.Native.Nat.{_+_, _*_, _≤_, _<_, _^_};
+ghost use lib.ListN.{length, take, drop};
+ghost use lib.Dec.{ltb};
+ghost use Rattle.rules.specs.Rows.{rowWords, eofRow};
+ghost use Rattle.rules.specs.Scan.{roomOf, scanTold, scanLeaves};
+ghost use Rattle.reader.specs.Read.{Ahead};
+ghost use Rattle.scan.specs.Writing.{written, wroteOf, leaves};
+ghost use Rattle.scan.specs.Answer.{rowOf, placed, endOf, noRoom, toldOf};
+
+// How the writing of rows stops: at a spot, at the text's end, at a refusal with its place, where a complete row finds no room, or
+// because more bytes must be shown.
+pub enum Stop {
+    At(Spot),
+    End,
+    Refused(Lexical, Cursor),
+    Full,
+    Unknown,
+}
+
+// How many rows are written, and how the writing stopped.
+pub struct Wrote {
+    pub count: usize,
+    pub stop: Stop,
+}
+
+// A row into the first eight words.
+fn put(rows: &mut [u32], at: Cursor, token: Token)
+    requires { ⌜ 8 ≤ length (now rows) ⌝ }
+    ensures { λ _. ⌜ now (rows .exit) ≡ rowWords (rowOf at token) ++ drop 8 (now (rows .entry)) ⌝ }
+{
+    rows[0] = token.kind;
+    rows[1] = at.offset.0;
+    rows[2] = token.end.cursor.offset.0;
+    rows[3] = at.line.0;
+    rows[4] = at.column.0;
+    rows[5] = (token.bits % 4294967296) as u32;
+    rows[6] = (token.bits / 4294967296) as u32;
+    rows[7] = 0;
+}
+
+// A row behind n others, where there is room for it: whether there is.
+fn put_behind(rows: &mut [u32], n: usize, at: Cursor, token: Token) -> bool
+    ensures { λ r. ⌜ (r ≡ ltb n (roomOf (now (rows .entry)))) × (now (rows .exit) ≡ cond (ltb n (roomOf (now (rows .entry)))) (placed n (rowOf at token) (now (rows .entry))) (now (rows .entry))) ⌝ }
+{
+    if rows.len() / 8 <= n {
+        return false;
+    }
+    let base = n * 8;
+    put(&mut rows[base..], at, token);
+    true
+}
+
+// So many rows, and how the writing stopped.
+fn stopped(count: usize, stop: Stop) -> Wrote
+    ensures { λ r. ⌜ r ≡ record { count = count; stop = stop } ⌝ }
+{
+    Wrote { count, stop }
+}
+
+// The row of the text's end behind n others, where there is room for it.
+fn write_end(rows: &mut [u32], n: usize, here: Spot) -> Wrote
+    ensures { λ r. ⌜ (r ≡ endOf n (roomOf (now (rows .entry)))) × (now (rows .exit) ≡ cond (ltb n (roomOf (now (rows .entry)))) (placed n (eofRow (here .cursor)) (now (rows .entry))) (now (rows .entry))) ⌝ }
+{
+    let cursor = here.cursor;
+    let token = Token {
+        kind: 52,
+        bits: 0,
+        end: here,
+    };
+    if put_behind(rows, n, cursor, token) {
+        return stopped(n + 1, Stop::End);
+    }
+    stopped(n, Stop::Full)
+}
+
+// The rows from a spot on, as long as its index is below `until`, one behind the other into the lent words. whole: the bytes end the text.
+pub fn write_rows(text: &[u8], from: Spot, until: usize, whole: bool, rows: &mut [u32]) -> Wrote
+    requires { ⌜ Ahead (now text) from ⌝ }
+    ensures { λ r. ⌜ (r ≡ wroteOf (now (rows .entry)) (written (now (text .entry)) from until whole)) × (now (rows .exit) ≡ leaves (now (rows .entry)) (written (now (text .entry)) from until whole)) ⌝ }
+{
+    let mut here = from;
+    let mut i = from.at;
+    let mut count = 0;
+    while i < until {
+        let found = read(text, here, whole);
+        match found {
+            Read::Blank(end) | Read::Comment(end) => {
+                here = end;
+                i = end.at;
+            }
+            Read::Row(token) => {
+                let cursor = here.cursor;
+                if !put_behind(rows, count, cursor, token) {
+                    return stopped(count, Stop::Full);
+                }
+                let end = token.end;
+                here = end;
+                i = end.at;
+                count += 1;
+            }
+            Read::Refused(why, place) => return stopped(count, Stop::Refused(why, place)),
+            Read::End => return write_end(rows, count, here),
+            Read::Unknown => return stopped(count, Stop::Unknown),
+        }
+    }
+    stopped(count, Stop::At(here))
+}
+
+// A row has found no room behind so many rows.
+fn no_room(count: u32) -> Told
+    ensures { λ r. ⌜ r ≡ noRoom count ⌝ }
+{
+    Told::Refused(Outer::NoRowRoom, Cursor::start(), count)
+}
+
+// What a scan of so many bytes tells of what was written.
+fn told(length: usize, wrote: Wrote) -> Told
+    requires { ⌜ (length < 2 ^ 32) × (wrote .count < 2 ^ 32) ⌝ }
+    ensures { λ r. ⌜ r ≡ toldOf length wrote ⌝ }
+{
+    let count = wrote.count as u32;
+    let length = length as u32;
+    let stop = wrote.stop;
+    match stop {
+        Stop::End => Told::Rows(Table {
+            count,
+            length,
+            ending: Ending::None,
+        }),
+        Stop::Refused(why, place) => Told::Rows(Table {
+            count,
+            length,
+            ending: Ending::Refused(why, place),
+        }),
+        Stop::At(_) => no_room(count),
+        Stop::Full => no_room(count),
+        Stop::Unknown => no_room(count),
+    }
+}
+
+// The rows of a text.
+pub fn scan(text: &[u8], rows: &mut [u32]) -> Told
+    ensures { λ r. ⌜ (r ≡ scanTold (now (text .entry)) (roomOf (now (rows .entry)))) × (now (rows .exit) ≡ scanLeaves (now (text .entry)) (now (rows .entry))) ⌝ }
+{
+    let start = Cursor::start();
+    let length = text.len();
+    if 65536 < length {
+        return Told::Refused(Outer::TextTooLong, start, 0);
+    }
+    let valid = valid_bytes(text);
+    if valid != length {
+        return Told::Refused(Outer::BadByte, pass(text, start, valid), 0);
+    }
+    let from = Spot {
+        at: 0,
+        cursor: start,
+    };
+    told(length, write_rows(text, from, length + 1, true, rows))
+}

@@ -1,0 +1,2 @@
+-- What the proofs of the statements' functions share.
+pub mod Trees

@@ -1,0 +1,51 @@
+//! `spoonharbor check`: one line for a program, and for a refused text its place, the reason and the source line.
+
+use super::message;
+use super::source::Source;
+use super::{troubled, Outcome};
+use spoonharbor::{Document, NodeKind, Refusal, Tree};
+use std::ffi::OsStr;
+use std::io::{self, Write};
+
+/// Checks one file.
+pub fn check(file: &OsStr, out: &mut impl Write) -> io::Result<Outcome> {
+    let source = match Source::read(file) {
+        Ok(source) => source,
+        Err(trouble) => return Ok(troubled(&trouble)),
+    };
+    match parsed(&source.bytes) {
+        Ok(tree) => {
+            writeln!(out, "{}: ok, {}", source.name, told(&source, &tree))?;
+            Ok(Outcome::Fine)
+        }
+        Err(refusal) => {
+            message::refused(&source, &refusal, out)?;
+            Ok(Outcome::Refused)
+        }
+    }
+}
+
+fn parsed(text: &[u8]) -> Result<Tree, Refusal> {
+    Document::open(text)?.tree()
+}
+
+/// What is in a program: how many of each declaration.
+fn told(source: &Source, tree: &Tree) -> String {
+    if source.bytes.is_empty() {
+        return "an empty file".to_string();
+    }
+    let count = |wanted: fn(&NodeKind) -> bool| {
+        let found = tree.nodes().iter().filter(|node| wanted(&node.kind));
+        found.count()
+    };
+    [
+        (count(|kind| matches!(kind, NodeKind::Map { .. })), "map"),
+        (count(|kind| matches!(kind, NodeKind::Event)), "event"),
+        (count(|kind| matches!(kind, NodeKind::Unit { .. })), "unit"),
+    ]
+    .map(|(count, word)| match count {
+        1 => format!("1 {word}"),
+        _ => format!("{count} {word}s"),
+    })
+    .join(", ")
+}
