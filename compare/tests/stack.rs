@@ -27,10 +27,11 @@ fn the_deepest_nesting_takes_little_stack() {
     let report = String::from_utf8_lossy(&ran.stdout);
     println!("{report}");
     let figures: Vec<usize> = report
-        .split([' ', ','])
-        .skip_while(|word| *word != "scan")
+        .lines()
+        .filter_map(|line| line.split_once(": "))
+        .flat_map(|(_, figures)| figures.split([' ', ',']))
         .filter_map(|word| word.parse().ok())
         .collect();
-    assert!(figures.len() >= 4 * 8);
+    assert_eq!(figures.len(), 4 * 8, "{report}");
     assert!(figures.iter().all(|bytes| *bytes <= MOST), "{report}");
 }

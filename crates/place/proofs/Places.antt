@@ -26,6 +26,12 @@ front-le p (b ∷ s) = pick (p b) (front-le p s)
     pick true h = omega arith
     pick false h = omega arith
 
+-- a test that every byte meets has the whole list for its front
+pub front-all : (p : ℕ → Bool) (s : List ℕ) → ((k : ℕ) → k < length s → p (getD s k 0) ≡ true) → front p s ≡ length s
+unfolding front
+front-all p [] h = refl
+front-all p (b ∷ s) h = rw (front, h 0 (omega arith)) (ap suc (front-all p s (λ (k : ℕ). λ (l : k < length s). h (suc k) (omega arith))))
+
 -- a narrower test has a shorter front
 pub front-mono : (p q : ℕ → Bool) → ((b : ℕ) → p b ≡ true → q b ≡ true) → (s : List ℕ) → front p s ≤ front q s
 unfolding front

@@ -1,14 +1,36 @@
 // Places in a text: how far its bytes are valid, and the cursor behind some of them.
 use rules::Cursor;
 ghost use mathlib.Core.Path.{_≡_};
-ghost use Prim.Native.Nat.{_≤_};
-ghost use lib.ListN.{length, take};
+ghost use Prim.Native.Nat.{ℕ, _≤_, _<_};
+ghost use lib.ListN.{length, getD, take};
 ghost use Rattle.rules.specs.Text.{validBytes, over, Roomy};
+
+fn larger(a: u8, b: u8) -> u8
+    ensures { λ r. ⌜ (a ≤ r) × (b ≤ r) ⌝ }
+{
+    if a < b { b } else { a }
+}
+
+// A number that no byte is above.
+fn highest(text: &[u8]) -> u8
+    ensures { λ r. ⌜ ((k : ℕ) → k < length (now (text .entry)) → getD (now (text .entry)) k 0 ≤ r) ⌝ }
+{
+    let mut most = 0;
+    let mut i = 0;
+    while i < text.len() {
+        most = larger(most, text[i]);
+        i += 1;
+    }
+    most
+}
 
 // How many bytes at the front a text may have.
 pub fn valid_bytes(text: &[u8]) -> usize
     ensures { λ r. ⌜ r ≡ validBytes (now (text .entry)) ⌝ }
 {
+    if highest(text) < 128 {
+        return text.len();
+    }
     let mut i = 0;
     while i < text.len() {
         if 128 <= text[i] {

@@ -1,6 +1,4 @@
 -- The laws that the proofs of this crate share.
-pub mod Digits
-pub mod Quotes
 pub mod Moves
 pub mod Known
 pub mod Numbers

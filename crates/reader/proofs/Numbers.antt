@@ -20,10 +20,10 @@ use Rattle.reader.specs.declared.Spot.{Spot}
 use Rattle.reader.specs.declared.Read.the-variants.{Refused, Unknown}
 use Rattle.reader.specs.Read.{pieceRead}
 use Rattle.reader.specs.Settled.{InLine, Numeral, settled}
-use Rattle.reader.specs.Leaf.{digitIn, digitsOf, speltFront}
-use Rattle.reader.specs.declared.leaf.Digits.{Digits}
+use Rattle.leaves.specs.Leaf.{digitIn, digitsOf, speltFront}
+use Rattle.leaves.specs.declared.Digits.{Digits}
 use Rattle.reader.proofs.Moves.{onward-none}
-use Rattle.reader.proofs.Digits.{number-clipped}
+use Rattle.leaves.proofs.Runs.{number-clipped}
 use Rattle.reader.proofs.Known.{settled-known, settled-unknown}
 
 number-decided : (negative : Bool) (n v : ℕ) → decidedAt (numberOf negative n v) ≡ n

@@ -14,12 +14,12 @@ use Rattle.rules.specs.declared.Lexical.the-variants.{OpenString, BadEscape}
 use Rattle.place.proofs.Places.{front-on}
 use Rattle.reader.specs.declared.Spot.{Spot}
 use Rattle.reader.specs.declared.Read.the-variants.{Unknown}
-use Rattle.reader.specs.declared.leaf.Quoted.{Quoted}
-use Rattle.reader.specs.declared.leaf.Quoted.the-variants.{Closed, Open, Escape}
+use Rattle.leaves.specs.declared.Quoted.{Quoted}
+use Rattle.leaves.specs.declared.Quoted.the-variants.{Closed, Open, Escape}
 use Rattle.reader.specs.Read.{pieceRead}
 use Rattle.reader.specs.Settled.{InLine, Begins, settled}
-use Rattle.reader.specs.Leaf.{quotedFrom}
-use Rattle.reader.proofs.Quotes.{stringPiece, string-quoted, reachOf, seenOf, quoted-in-line, quoted-from, quoted-seen}
+use Rattle.leaves.specs.Leaf.{quotedFrom}
+use Rattle.leaves.proofs.Quotes.{stringPiece, string-quoted, reachOf, seenOf, quoted-in-line, quoted-from, quoted-seen}
 use Rattle.reader.proofs.Moves.{line-inside}
 use Rattle.reader.proofs.Known.{settled-known, settled-unknown, settled-inside}
 

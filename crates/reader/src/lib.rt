@@ -3,7 +3,6 @@ use rules::Cursor;
 use rules::Lexical;
 
 pub mod front;
-mod leaf;
 mod pieces;
 mod spots;
 

@@ -1,19 +1,19 @@
 // What may stand at a spot: words, comments, numbers, strings and signs, each known only where its deciding byte is shown or the bytes end the text.
 use crate::Read;
 use crate::Spot;
-use crate::leaf::Digits;
-use crate::leaf::Quoted;
-use crate::leaf::line_end;
-use crate::leaf::peek;
-use crate::leaf::read_digits;
-use crate::leaf::read_quoted;
-use crate::leaf::shown;
-use crate::leaf::word_end;
 use crate::spots::a_refusal;
 use crate::spots::a_row;
 use crate::spots::body_end;
 use crate::spots::past;
 use crate::spots::step;
+use leaves::Digits;
+use leaves::Quoted;
+use leaves::line_end;
+use leaves::peek;
+use leaves::read_digits;
+use leaves::read_quoted;
+use leaves::shown;
+use leaves::word_end;
 use rules::Lexical;
 ghost use mathlib.Core.Path.{_≡_};
 ghost use mathlib.Core.Bool.{true, false, _&&_};

@@ -2,7 +2,7 @@
 use crate::Read;
 use crate::Spot;
 use crate::Token;
-use crate::leaf::peek;
+use leaves::peek;
 use rules::Lexical;
 ghost use mathlib.Core.Path.{_≡_};
 ghost use Prim.Native.Nat.{_<_};

@@ -1,18 +1,18 @@
 -- Laws of the writing loop over plain values: what holds at its head, and that each way through a turn keeps it or gives the answer.
-use mathlib.Core.Path.{_≡_, refl, sym, ap, _∙_}
+use mathlib.Core.Path.{_≡_, refl, sym, _∙_}
 use mathlib.Core.Bool.{Bool, true, false, cond}
 use mathlib.Core.List.{List, [], _∷_, _++_, append-assoc, append-nil}
-use Prim.Native.Nat.{ℕ, zero, suc, pred, _+_, _-_, _*_, _≤_, _<_}
+use Prim.Native.Nat.{ℕ, suc, pred, _+_, _-_, _*_, _≤_, _<_}
 use native.Mathlib.Nat.{sub-self}
 use native.Mathlib.Omega.{arith}
-use lib.ListN.{length, take, drop, length-append, length-drop}
+use lib.ListN.{length, drop, length-append, length-drop}
 use lib.Dec.{ltb}
-use borrow.Author.Tests.{lt-ltb, le-ltb, ltb-true, ltb-false}
+use borrow.Author.Tests.{ltb-true, ltb-false}
 use Rattle.rules.specs.declared.Cursor.{Cursor}
 use Rattle.rules.specs.declared.Lexical.{Lexical}
-use Rattle.rules.specs.Rows.{Row, rowAt, eofRow, rowWords, wordsOf}
-use Rattle.rules.specs.Lex.{Item, known, end, unknown, item}
-use Rattle.rules.specs.Scan.{roomOf, laid}
+use Rattle.rules.specs.Rows.{Row, rowAt, eofRow, wordsOf}
+use Rattle.rules.specs.Lex.{end, unknown}
+use Rattle.rules.specs.Scan.{roomOf}
 use Rattle.reader.specs.declared.Spot.{Spot}
 use Rattle.reader.specs.declared.Token.{Token}
 use Rattle.reader.specs.Read.{onward, Ahead}
@@ -20,9 +20,9 @@ use Rattle.reader.proofs.Moves.{onward-at, onward-none, onward-more, ahead-more
 use Rattle.scan.specs.declared.Stop.{Stop}
 use Rattle.scan.specs.declared.Stop.the-variants.{At, End, Refused, Full, Unknown}
 use Rattle.scan.specs.declared.Wrote.{Wrote}
-use Rattle.scan.specs.Writing.{Writing, put, stop, rowsOf, stopOf, following, write, spotFrom, written, wrote, wroteOf, leaves}
+use Rattle.scan.specs.Writing.{Writing, put, stop, rowsOf, stopOf, following, write, spotFrom, written, wroteOf, leaves}
 use Rattle.scan.specs.Answer.{rowOf, placed, endOf}
-use Rattle.scan.proofs.Laid.{laid-length, laid-all, laid-just, laid-append, placed-behind, same-length, wrote-all, wrote-full}
+use Rattle.scan.proofs.Laid.{laid-length, laid-all, laid-just, placed-behind, same-length, wrote-all, wrote-full}
 use Rattle.scan.proofs.Writings.{write-on, write-stop, writeAt, behind, found, Gap, Rowed, Barred}
 
 -- The rows `done`, n of them, are written; the loop stands at index i, and what is written from there on is the rest.

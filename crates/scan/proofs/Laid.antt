@@ -1,18 +1,15 @@
 -- Laws of rows that are laid over lent words: rows behind others, rows that find no room, and the answer.
 use mathlib.Core.Path.{_≡_, refl, sym, ap, _∙_}
-use mathlib.Core.Bool.{cond}
 use mathlib.Core.List.{List, [], _∷_, _++_, append-assoc, append-nil}
-use Prim.Native.Nat.{ℕ, zero, suc, _+_, _-_, _*_, _/_, _≤_, _<_, min}
-use native.Mathlib.Nat.{sub-zero}
+use Prim.Native.Nat.{ℕ, _+_, _-_, _*_, _≤_, _<_, min}
 use native.Mathlib.Omega.{arith}
 use lib.ListN.{length, take, drop, length-append, length-take, length-drop}
-use lib.Seq.{take-nil, take-append-add, drop-drop, take-at, drop-at, length-take-le}
+use lib.Seq.{take-nil, take-append-add, drop-drop, take-at, drop-at}
 use borrow.Author.Tests.{le-leb, lt-leb}
 use Rattle.rules.specs.Rows.{Row, rowWords, wordsOf}
 use Rattle.rules.specs.Scan.{roomOf, laid}
 use Rattle.scan.specs.declared.Stop.{Stop}
 use Rattle.scan.specs.declared.Stop.the-variants.{Full}
-use Rattle.scan.specs.declared.Wrote.{Wrote}
 use Rattle.scan.specs.Writing.{wrote}
 use Rattle.scan.specs.Answer.{placed}
 

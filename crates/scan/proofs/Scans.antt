@@ -1,25 +1,23 @@
 -- The scan of a text is what is written from its start on, with no place to stop at: the rows, the ending and the answer.
-use mathlib.Core.Path.{_≡_, refl, sym, ap, _∙_}
-use mathlib.Core.Bool.{Bool, true, false, cond, not}
+use mathlib.Core.Path.{_≡_, refl, ap}
+use mathlib.Core.Bool.{Bool, true, false, cond}
 use mathlib.Core.List.{List, [], _∷_}
 use Prim.Native.Nat.{ℕ, zero, suc, pred, _+_, _-_, _≤_, _<_, _^_}
 use native.Mathlib.Nat.{sub-zero}
 use native.Mathlib.Omega.{arith}
-use lib.ListN.{length, take, drop, length-drop}
+use lib.ListN.{length, take}
 use lib.Dec.{leb, ltb}
 use borrow.Author.Tests.{lt-leb, leb-false, lt-ltb, le-ltb, eq-eqb, ne-eqb}
-use Rattle.rules.specs.declared.Cursor.{Cursor}
 use Rattle.rules.specs.declared.Ending.{Ending}
 use Rattle.rules.specs.declared.Ending.the-variants as ending
-use Rattle.rules.specs.declared.Told.{Told}
 use Rattle.rules.specs.declared.Told.the-variants as tells
 use Rattle.rules.specs.declared.Outer.the-variants.{TextTooLong, BadByte}
 use Rattle.rules.specs.Text.{mostBytes, validBytes, valid, placeAt, startPlace, over, Roomy}
-use Rattle.rules.specs.Rows.{Row, rowAt, eofRow}
+use Rattle.rules.specs.Rows.{Row, rowAt}
 use Rattle.rules.specs.Lex.{Piece, blank, comment, row, refused, Item, known, end, unknown, piece, item}
 use Rattle.rules.specs.Scan
 use Rattle.rules.specs.Scan.{Reading, readRows, readEnding, read, scan, roomOf, told, scanTold, scanLeaves}
-use Rattle.machine.proofs.Spans.{Spans, blank-spans, comment-spans, row-spans, refused-spans, Reach}
+use Rattle.machine.proofs.Spans.{Spans, row-spans, refused-spans}
 use Rattle.machine.proofs.Same.{piece-spans}
 use Rattle.place.proofs.Places.{front-le, over-start}
 use Rattle.reader.specs.declared.Spot.{Spot}

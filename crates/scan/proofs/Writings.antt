@@ -1,29 +1,27 @@
 -- Laws of a writing: bytes are passed over, at an index it goes on by what stands there, and what the token reader answers says how.
-use mathlib.Core.Path.{_≡_, refl, sym, ap, _∙_}
+use mathlib.Core.Path.{_≡_, refl, _∙_}
 use mathlib.Core.Bool.{Bool, true, false, cond, _||_}
 use mathlib.Core.List.{List, [], _∷_}
-use Prim.Native.Nat.{ℕ, zero, suc, pred, _+_, _-_, _≤_, _<_}
+use Prim.Native.Nat.{ℕ, zero, suc, pred, _+_, _≤_, _<_}
 use native.Mathlib.Nat.{add-zero, le-of-suc-le-suc, not-suc-le-zero}
 use native.Mathlib.Numerals.{add-one}
 use native.Mathlib.Omega.{arith}
-use lib.ListN.{length, getD, drop, length-drop, drop-of-length-le}
-use lib.Seq.{drop-cons, drop-drop}
-use lib.Dec.{leb, ltb}
+use lib.ListN.{length, drop, length-drop}
+use lib.Seq.{drop-drop}
+use lib.Dec.{ltb}
 use borrow.Author.Tests.{lt-leb, le-leb}
 use Rattle.rules.specs.declared.Cursor.{Cursor}
 use Rattle.rules.specs.declared.Lexical.{Lexical}
-use Rattle.rules.specs.Rows.{Row, rowAt, eofRow}
+use Rattle.rules.specs.Rows.{Row, rowAt}
 use Rattle.rules.specs.Lex.{Piece, blank, comment, row, refused, Item, known, end, unknown, piece, decidedAt, item}
-use Rattle.machine.proofs.Spans.{Spans, blank-spans, comment-spans, row-spans, refused-spans, Reach}
+use Rattle.machine.proofs.Spans.{Spans, blank-spans, comment-spans, row-spans}
 use Rattle.machine.proofs.Same.{piece-spans}
 use Rattle.reader.specs.declared.Spot.{Spot}
 use Rattle.reader.specs.declared.Token.{Token}
-use Rattle.reader.specs.declared.Read.{Read}
 use Rattle.reader.specs.declared.Read.the-variants as reads
 use Rattle.reader.specs.Read.{onward, pieceRead, readOf}
-use Rattle.scan.specs.declared.Stop.{Stop}
-use Rattle.scan.specs.declared.Stop.the-variants.{At, End, Refused, Full, Unknown}
-use Rattle.scan.specs.Writing.{Writing, put, stop, rowsOf, stopOf, following, write}
+use Rattle.scan.specs.declared.Stop.the-variants.{At, End, Refused, Unknown}
+use Rattle.scan.specs.Writing.{Writing, put, stop, following, write}
 
 -- ---- at an index
 

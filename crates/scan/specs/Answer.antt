@@ -5,7 +5,6 @@ use Prim.Native.Nat.{ℕ, _+_, _*_}
 use lib.ListN.{take, drop}
 use lib.Dec.{ltb}
 use Rattle.rules.specs.declared.Cursor.{Cursor}
-use Rattle.rules.specs.declared.Ending.{Ending}
 use Rattle.rules.specs.declared.Ending.the-variants as ending
 use Rattle.rules.specs.declared.Outer.the-variants.{NoRowRoom}
 use Rattle.rules.specs.declared.Told.{Told}
@@ -13,7 +12,6 @@ use Rattle.rules.specs.declared.Told.the-variants as tells
 use Rattle.rules.specs.Text.{startPlace}
 use Rattle.rules.specs.Rows.{Row, rowAt, rowWords}
 use Rattle.reader.specs.declared.Token.{Token}
-use Rattle.scan.specs.declared.Stop.{Stop}
 use Rattle.scan.specs.declared.Stop.the-variants.{At, End, Refused, Full, Unknown}
 use Rattle.scan.specs.declared.Wrote.{Wrote}
 

@@ -5,7 +5,7 @@ use Prim.Native.Nat.{ℕ, zero, suc, pred, _+_, _-_}
 use lib.ListN.{length, drop}
 use lib.Dec.{leb}
 use Rattle.rules.specs.Rows.{Row, rowAt, eofRow}
-use Rattle.rules.specs.Lex.{Piece, blank, comment, row, refused, Item, known, end, unknown, item}
+use Rattle.rules.specs.Lex.{blank, comment, row, refused, Item, known, end, unknown, item}
 use Rattle.rules.specs.Scan.{roomOf, laid}
 use Rattle.reader.specs.declared.Spot.{Spot}
 use Rattle.reader.specs.Read.{onward}

@@ -1,13 +1,13 @@
-// Statements. `stmt`, `branch`, `otherwise` and `body` call each other in a circle, the rest of the nesting limit and the rows falling.
+// Statements. `stmt`, `branch`, `otherwise` and `body` call each other in a circle, the rest of the nesting limit falling with each body.
 use nodes::At;
 use nodes::Got;
 use rules::Syntax;
 ghost use mathlib.Core.Path.{_≡_};
-ghost use Prim.Native.Nat.{_+_, _*_, _≤_, _<_};
-ghost use lib.Seq.{sets};
-ghost use lib.ListN.{length};
-ghost use lib.Dec.{eqb};
 ghost use mathlib.Core.Bool.{true};
+ghost use Prim.Native.Nat.{_+_, _*_, _≤_, _<_};
+ghost use lib.Dec.{eqb};
+ghost use lib.ListN.{length};
+ghost use lib.Seq.{sets};
 ghost use Rattle.rules.specs.Kinds.{KeywordElse};
 ghost use Rattle.rules.specs.Tree.{thenBody};
 ghost use Rattle.rules.specs.Nodes.{declNode, assignNode, node, nodeWords};
@@ -133,14 +133,15 @@ fn give(rows: &[u32], count: usize, nodes: &mut [u32], row: usize, node: usize, 
     requires { ⌜ AsksOpen (now rows) count row node left ⌝ }
     ensures { λ r. ⌜ Answers (λ ts. stmtBy ts left (body ts left) returning row) (now (rows .entry)) count row node (now (nodes .entry)) (now (nodes .exit)) r ⌝ }
 {
-    match expr::add(rows, count, nodes, row + 1, node, left) {
+    let place = row + 1;
+    match expr::add(rows, count, nodes, place, node, left) {
         Got::Done(t) => {
             let j = t.row;
             let k = nodes::kind_at(rows, count, j);
             if k != SEMICOLON {
                 return Got::Refused(Syntax::Wanted(SEMICOLON, k), j);
             }
-            Got::Done(nodes::ended(nodes, t, 19, row + 1, 1))
+            Got::Done(nodes::ended(nodes, t, 19, place, 1))
         }
         Got::Refused(why, r) => Got::Refused(why, r),
     }

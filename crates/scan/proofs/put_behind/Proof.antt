@@ -1,8 +1,7 @@
 -- `scan::put_behind` meets its contract: the tail behind n rows is lent to `put`, where a row has room in it.
-use mathlib.Core.Path.{refl, ap, _∙_}
+use mathlib.Core.Path.{refl}
 use native.Mathlib.Omega.{arith}
 use borrow.Author.Tests.{le-ltb, lt-ltb}
-use borrow.Rule.Slice.PartMut.{putMid}
 use Rattle.rules.specs.Scan.{roomOf}
 use Rattle.scan.specs.Answer.{rowOf}
 use Rattle.scan.proofs.Lent.{row-back}

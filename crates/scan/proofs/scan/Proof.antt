@@ -1,11 +1,6 @@
 -- `scan::scan` meets its contract: a text that is over-long or has a bad byte is refused, and any other is written from its start on.
-use mathlib.Core.Path.{_≡_, refl, sym, ap, _∙_}
-use Prim.Native.Nat.{ℕ, _≤_}
+use mathlib.Core.Path.{sym, _∙_}
 use native.Mathlib.Omega.{arith}
-use lib.ListN.{length}
-use lib.Dec.{ltb}
-use Rattle.rules.specs.Text.{validBytes}
-use Rattle.place.proofs.Places.{front-le}
 use Rattle.scan.proofs.Scans.{pass-ready, start-ahead, over-long, bad-byte, all-rows, count-fits}
 use borrow.Author.Needs.{needs}
 use Rattle.scan.proofs.scan.Statement.{statement}

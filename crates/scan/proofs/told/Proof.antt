@@ -1,5 +1,4 @@
 -- `scan::told` meets its contract: the arms are the cases of the definition.
-use mathlib.Core.Path.{_≡_, refl, sym, ap, _∙_}
 use borrow.Author.Needs.{needs}
 use Rattle.scan.specs.Answer.{toldOf}
 use Rattle.scan.proofs.told.Statement.{statement}

@@ -1,8 +1,8 @@
 -- `scan::write_end` meets its contract: the token of the text's end is put behind the rows.
-use mathlib.Core.Path.{_≡_, refl, sym, _∙_}
+use mathlib.Core.Path.{sym, _∙_}
 use native.Mathlib.Omega.{arith}
 use borrow.Author.Tests.{ltb-true}
-use Rattle.rules.specs.Rows.{rowAt, eofRow}
+use Rattle.rules.specs.Rows.{eofRow}
 use Rattle.rules.specs.Scan.{roomOf}
 use Rattle.scan.specs.Answer.{rowOf, endOf}
 use borrow.Author.Needs.{needs}

@@ -1,20 +1,20 @@
 -- `scan::write_rows` meets its contract: the loop's invariant is `Going`, and each way through a turn is one of its laws.
-use mathlib.Core.Path.{_≡_, refl, sym, ap, _∙_}
-use mathlib.Core.Bool.{Bool, true, false, cond, not}
+use mathlib.Core.Path.{_≡_, sym, _∙_}
+use mathlib.Core.Bool.{Bool, true, false, cond}
 use mathlib.Core.List.{List}
-use Prim.Native.Nat.{ℕ, _+_, _-_, _<_, _≤_}
+use Prim.Native.Nat.{ℕ, _+_, _-_}
 use native.Mathlib.Omega.{arith}
 use lib.ListN.{length}
 use lib.Dec.{ltb}
 use borrow.Author.Needs.{needs}
-use borrow.Author.Tests.{not-true, not-false, ltb-true}
+use borrow.Author.Tests.{not-true, not-false}
 use Rattle.rules.specs.Scan.{roomOf}
 use Rattle.reader.specs.declared.Spot.{Spot}
 use Rattle.reader.specs.Read.{Ahead, readOf}
 use Rattle.scan.specs.declared.Wrote.{Wrote}
 use Rattle.scan.specs.Writing.{written}
 use Rattle.scan.specs.Answer.{rowOf, placed}
-use Rattle.scan.proofs.Writings.{found, Gap, Rowed, Barred, by-blank, by-comment, by-row, by-refused, by-end, by-unknown}
+use Rattle.scan.proofs.Writings.{found, Gap, Rowed, by-blank, by-comment, by-row, by-refused, by-end, by-unknown}
 use Rattle.scan.proofs.Going.{Going, Done, done-length, going-start, here-ahead, gap-less, going-gap, row-less, going-full, going-row, going-end, going-barred, going-unknown, going-over}
 use Rattle.scan.proofs.write_rows.Statement.{statement}
 use Rattle.scan.proofs.write_rows.Tie as tie

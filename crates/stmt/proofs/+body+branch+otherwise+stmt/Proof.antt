@@ -1,3 +1,4 @@
+-- The circle of `body`, `branch`, `otherwise` and `stmt`: a file for each member.
 mod Measures
 mod Body
 mod Branch

@@ -38,8 +38,8 @@ read c ts tl =
     let a = c .before .before .before .before .before .before .before .before .args in
     returning-is ts (a .left) (Parse.body ts (a .left)) (a .row) ∙ then-ok _ _ (got c ts tl .tree) (c .t .given .0 .0 .row) (got c ts tl .is)
 
-add-add : tie.Need-add-add
-add-add c = search needs
+add-place : tie.Need-add-place
+add-place c = search needs
 
 add-requires : tie.Need-add-requires
 add-requires c κs = search needs
@@ -60,9 +60,6 @@ returns c = λ ts tl.
     let e = end-is (c .before) ts tl in
     met-no _ (a .row) (a .node) (Wanted Semicolon (c .before .kind-at .result)) j (a .nodes .now) (c .before .before .before .before .before .before .before .add .last .1 .1 .0)
     (read (c .before .before .before) ts tl ∙ want-no ts Semicolon _ j (λ f. c .if1 .taken (e ∙ f)) ∙ ap (λ (x : ℕ). no (Wanted Semicolon x) j) (sym e))
-
-add-ended : tie.Need-add-ended
-add-ended c = search needs
 
 ended-requires : tie.Need-ended-requires
 ended-requires c κs =
@@ -99,4 +96,4 @@ returns-3 c = λ ts tl.
 pub give-spec : {M : Type 1} → statement M
 give-spec =
     tie.close
-    (tie.spec add-add add-requires enum-known-t kind-at-requires same-length returns add-ended ended-requires enum-known-why same-length-2 returns-2 same-length-3 returns-3)
+    (tie.spec add-place add-requires enum-known-t kind-at-requires same-length returns ended-requires enum-known-why same-length-2 returns-2 same-length-3 returns-3)

@@ -1,5 +1,5 @@
 -- `words::either` meets its contract: the branches are the cases.
-use mathlib.Core.Path.{sym, _∙_}
+use mathlib.Core.Path.{sym}
 use borrow.Author.Tests.{eq-eqb, ne-eqb}
 use borrow.Author.Needs.{needs}
 use Rattle.words.proofs.either.Statement.{statement}

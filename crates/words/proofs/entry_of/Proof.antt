@@ -1,6 +1,6 @@
 -- `words::entry_of` meets its contract: behind each first byte the table leaves the entries of the arm, and behind any other none.
 use mathlib.Core.List.{[], _∷_}
-use mathlib.Core.Path.{_≡_, refl, sym, _∙_}
+use mathlib.Core.Path.{_≡_, sym}
 use Prim.Native.Nat.{ℕ}
 use borrow.Author.Tests.{ne-eqb}
 use borrow.Author.Needs.{needs}

@@ -1,13 +1,12 @@
 -- `words::spells` meets its contract: what is left of the word and of the entry's spelling are compared as the whole ones are.
-use mathlib.Core.List.{List}
-use mathlib.Core.Path.{_≡_, refl, sym, ap, _∙_}
-use Prim.Native.Nat.{ℕ, _+_, _-_, _*_, _<_, _≤_}
+use mathlib.Core.Path.{_≡_, refl, sym, _∙_}
+use Prim.Native.Nat.{_-_, _≤_}
 use native.Mathlib.Omega.{arith}
-use lib.ListN.{length, drop, getD}
+use lib.ListN.{length, drop}
 use Rattle.rules.specs.Kinds.{sameBytes}
 use Rattle.words.specs.Entries.{spellingAt}
 use Rattle.words.proofs.Lookups.{same-length, same-on, same-off, same-end}
-use Rattle.words.proofs.Entries.{spellings, entry-right, spelling-at}
+use Rattle.words.proofs.Entries.{entry-right, spelling-at}
 use Rattle.words.proofs.spells.Statement.{statement}
 use Rattle.words.proofs.spells.Tie as tie
 

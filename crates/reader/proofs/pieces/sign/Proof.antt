@@ -16,10 +16,7 @@ use Rattle.reader.proofs.pieces.sign.Tie as tie
 
 -- the byte behind the sign is shown, or the text ends
 sign-shown : (c : tie.Else1) → (c .before .before .before .args .whole || ltb (c .before .before .before .args .s .at + 1) (length (c .before .before .before .args .text .now))) ≡ true
-sign-shown c =
-    let e = c .before .shown .ensures in
-    let h : c .before .shown .result ≡ true = not-false _ (c .if1 .left) in
-    cc
+sign-shown c = sym (c .before .shown .ensures) ∙ not-false _ (c .if1 .left)
 
 -- the kind of the two bytes
 two-is : (c : tie.After-two-sign) → c .two-sign .result ≡ twoAt (c .before .before .before .before .before .before .args .text .now) (c .before .before .before .before .before .before .args .s)

@@ -5,9 +5,9 @@ use native.Mathlib.Omega.{arith}
 use borrow.Author.Tests.{not-true, not-false}
 use borrow.Author.Needs.{needs}
 use Rattle.reader.specs.Settled.{InLine}
-use Rattle.reader.specs.declared.leaf.Quoted.the-variants.{Closed, Open, Escape}
+use Rattle.leaves.specs.declared.Quoted.the-variants.{Closed, Open, Escape}
 use Rattle.reader.proofs.Moves.{line-inside}
-use Rattle.reader.proofs.Quotes.{reachOf}
+use Rattle.leaves.proofs.Quotes.{reachOf}
 use Rattle.reader.proofs.Strings.{quotedAt, string-from, string-line, string-closed, string-unknown, string-open, string-escape}
 use Rattle.reader.proofs.pieces.string.Statement.{statement}
 use Rattle.reader.proofs.pieces.string.Tie as tie
