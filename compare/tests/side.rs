@@ -57,6 +57,7 @@ fn chains_stay_fresh() {
     let counts = no_difference(|| chains::run(8_000, 3));
     assert_eq!(counts.get("edits"), 8_000);
     assert_eq!(counts.get("documents"), 4);
+    assert!(counts.get("edits after which the document scans") > 2_000);
 }
 
 #[test]

@@ -1,4 +1,5 @@
 //! Chains of edits on one document each: after every step the rows are those of a fresh scan, and now and then of the original.
+//! An edit after which the document does not scan is mostly undone by the next, so that documents stay long.
 
 use super::{same, shown, Compared, Counts, Difference};
 use crate::answer::{answer, Answer, Refusal};
@@ -35,8 +36,21 @@ fn chain(
 ) -> Result<(), Difference> {
     let mut text = probe_text(length, random.below(1 << 20) as u64);
     let mut document = Document::open(text.clone()).expect("a probe is ASCII and short enough");
+    // What takes the edits back since which the document does not scan, the last one last.
+    let mut undos: Vec<Edit> = Vec::new();
     for step in 0..steps {
-        let (range, new) = random_edit(random, &text, length);
+        let is_new = undos.is_empty() || random.one_in(4);
+        let edit = match undos.pop() {
+            Some(undo) if !is_new => undo,
+            not_used => {
+                undos.extend(not_used);
+                random_edit(random, &text, length)
+            }
+        };
+        if is_new {
+            undos.push(undoing(&edit, &text));
+        }
+        let Edit { range, new } = edit;
         let asked = || format!("step {step} of a chain, {range:?} into {}", shown(&new));
         same(document.replace(range.clone(), &new), Ok(()), asked)?;
         text.splice(range.clone(), new.iter().copied());
@@ -45,6 +59,11 @@ fn chain(
             return same(format!("{document:?}"), format!("{fresh:?}"), asked);
         }
         counts.add("edits");
+        counts.add_many("rows", document.rows().len() as u64);
+        if document.refusal().is_none() {
+            undos.clear();
+            counts.add("edits after which the document scans");
+        }
         if step % 50 == 0 {
             hold_against_original(&document, counts)?;
         }
@@ -53,12 +72,23 @@ fn chain(
     Ok(())
 }
 
-/// An edit of few bytes, somewhere; a text that has grown much longer or shorter than it was is brought back.
-fn random_edit(
-    random: &mut Random,
-    text: &[u8],
-    length: usize,
-) -> (std::ops::Range<usize>, Vec<u8>) {
+/// New bytes in the place of a part of the text.
+struct Edit {
+    range: std::ops::Range<usize>,
+    new: Vec<u8>,
+}
+
+/// The edit that takes an edit of this text back.
+fn undoing(edit: &Edit, text: &[u8]) -> Edit {
+    let start = edit.range.start;
+    Edit {
+        range: start..start + edit.new.len(),
+        new: text[edit.range.clone()].to_vec(),
+    }
+}
+
+/// An edit of few bytes, somewhere; a text that has grown longer than it was loses more.
+fn random_edit(random: &mut Random, text: &[u8], length: usize) -> Edit {
     let start = random.below(text.len() + 1);
     let most = if text.len() > length { 40 } else { 3 };
     let end = (start + random.below(most)).min(text.len());
@@ -72,7 +102,10 @@ fn random_edit(
         7 | 8 => spelling::any_token(random).as_bytes().to_vec(),
         _ => b"*/\"; ".to_vec(),
     };
-    (start..end, new)
+    Edit {
+        range: start..end,
+        new,
+    }
 }
 
 fn hold_against_original(document: &Document, counts: &mut Counts) -> Result<(), Difference> {

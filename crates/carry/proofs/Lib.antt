@@ -1,0 +1,4 @@
+pub mod Words
+pub mod Kept
+pub mod Laid
+pub mod Carried

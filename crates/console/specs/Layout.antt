@@ -1,0 +1,108 @@
+-- The one layout of eight words in which every answer of the outer face is given, and in which a table is lent:
+-- refusal number (0 if none), its offset, line and column, two words that it tells, a count, a length.
+use mathlib.Core.Bool.{Bool, true, false, cond, _&&_}
+use mathlib.Core.List.{List, [], _∷_}
+use Prim.Native.Nat.{ℕ, _+_, _*_}
+use lib.ListN.{getD}
+use lib.Dec.{eqb, leb}
+use Rattle.rules.specs.declared.Cursor.{Cursor}
+use Rattle.rules.specs.declared.Lexical.{Lexical}
+use Rattle.rules.specs.declared.Lexical.the-variants.{NoRowBegins, OpenComment, OpenString, BadEscape, NumberTooLarge}
+use Rattle.rules.specs.declared.Ending.{Ending}
+use Rattle.rules.specs.declared.Ending.the-variants as ending
+use Rattle.rules.specs.declared.Outer.{Outer}
+use Rattle.rules.specs.declared.Outer.the-variants.{NotWellFormed}
+use Rattle.rules.specs.declared.Table.{Table}
+use Rattle.rules.specs.declared.Told.{Told}
+use Rattle.rules.specs.declared.Told.the-variants as told
+use Rattle.rules.specs.declared.Judged.{Judged}
+use Rattle.rules.specs.declared.Judged.the-variants as judged
+use Rattle.rules.specs.declared.Asked.{Asked}
+use Rattle.rules.specs.declared.Asked.the-variants as asked
+use Rattle.rules.specs.declared.Restart.{Restart}
+use Rattle.rules.specs.declared.Restart.the-variants as restarts
+use Rattle.rules.specs.declared.Syntax.{Syntax}
+use Rattle.rules.specs.declared.Reason.{Reason}
+use Rattle.rules.specs.declared.Reason.the-variants as reason
+use Rattle.rules.specs.declared.Parsed.{Parsed}
+use Rattle.rules.specs.declared.Parsed.the-variants as parsed
+use Rattle.rules.specs.Text.{place, startPlace}
+use Rattle.rules.specs.Refusals.{outerNumber, lexicalNumber, syntaxNumber, syntaxTells}
+use Rattle.rules.specs.Calls.{spellingJudged}
+
+-- number, place, two words told, count, length
+abbrev pub words : ℕ → Cursor → ℕ → ℕ → ℕ → ℕ → List ℕ
+words number p x y count length =
+    number ∷ p .offset .0 ∷ p .line .0 ∷ p .column .0 ∷ x ∷ y ∷ count ∷ length ∷ []
+
+abbrev pub nowhere : Cursor
+nowhere = place 0 0 0
+
+-- ---- answers
+
+abbrev pub endingWords : ℕ → ℕ → Ending → List ℕ
+endingWords count length ending.None = words 0 nowhere 0 0 count length
+endingWords count length (ending.Refused why p) = words (lexicalNumber why) p 0 0 count length
+
+abbrev pub toldWords : Told → List ℕ
+toldWords (told.Rows t) = endingWords (t .count) (t .length) (t .ending)
+toldWords (told.Refused why p n) = words (outerNumber why) p 0 0 n 0
+
+abbrev pub outerWords : Outer → List ℕ
+outerWords why = words (outerNumber why) startPlace 0 0 0 0
+
+-- the part from x to y
+abbrev pub judgedWords : ℕ → ℕ → Judged → List ℕ
+judgedWords x y judged.Fine = words 0 nowhere x y 0 0
+judgedWords x y (judged.Refused why p) = words (outerNumber why) p 0 0 0 0
+
+abbrev pub askedWords : Asked → List ℕ
+askedWords (asked.Is n) = words 0 nowhere n 0 0 0
+askedWords (asked.Refused why) = outerWords why
+
+-- the place itself, with number 0
+abbrev pub restartWords : Restart → List ℕ
+restartWords (restarts.At p) = words 0 p 0 0 0 0
+restartWords (restarts.Refused why) = outerWords why
+
+abbrev pub syntaxWords : Syntax → Cursor → List ℕ
+syntaxWords why p = words (syntaxNumber why) p (getD (syntaxTells why) 0 0) (getD (syntaxTells why) 1 0) 0 0
+
+abbrev pub reasonWords : Reason → Cursor → List ℕ
+reasonWords (reason.Outer why) p = words (outerNumber why) p 0 0 0 0
+reasonWords (reason.Lexical why) p = words (lexicalNumber why) p 0 0 0 0
+reasonWords (reason.Syntax why) p = syntaxWords why p
+
+abbrev pub parsedWords : Parsed → List ℕ
+parsedWords (parsed.Nodes n) = words 0 nowhere 0 0 n 0
+parsedWords (parsed.Refused why p) = reasonWords why p
+
+-- ---- a table that is lent in the words in which it was told
+
+-- 0, or 11 to 15; the three reasons for 11 have one number, and the first of them stands for it
+unfoldable pub isEnding : ℕ → Bool
+isEnding number = cond (eqb number 0) true (leb 11 number && leb number 15)
+
+unfoldable pub lexicalOf : ℕ → Lexical
+lexicalOf number =
+    cond (eqb number 12) OpenComment
+    (cond (eqb number 13) OpenString (cond (eqb number 14) BadEscape (cond (eqb number 15) NumberTooLarge NoRowBegins)))
+
+abbrev pub endingOf : List ℕ → Ending
+endingOf ws =
+    cond (eqb (getD ws 0 0) 0) ending.None (ending.Refused (lexicalOf (getD ws 0 0)) (place (getD ws 1 0) (getD ws 2 0) (getD ws 3 0)))
+
+abbrev pub tableOf : List ℕ → Table
+tableOf ws = record { count = getD ws 6 0; length = getD ws 7 0; ending = endingOf ws }
+
+-- x where the lent words are a table's, else 3
+abbrev pub withTable : List ℕ → List ℕ → List ℕ
+withTable ws x = cond (isEnding (getD ws 0 0)) x (outerWords NotWellFormed)
+
+-- lent memory stays as it was where the lent words are no table's
+abbrev pub untouched : List ℕ → List ℕ → List ℕ → List ℕ
+untouched ws entry exit = cond (isEnding (getD ws 0 0)) exit entry
+
+-- the spelling's start and end
+abbrev pub spellingWords : List ℕ → List ℕ → Table → ℕ → List ℕ
+spellingWords t ws tbl row = judgedWords (getD ws (row * 8 + 1) 0) (getD ws (row * 8 + 2) 0) (spellingJudged t ws tbl row)

@@ -1,0 +1,367 @@
+// The outer face for C and Rust: every call over lent words, its answer in eight words of one layout (specs/Layout.antt,
+// include/spoonharbor.h). Nothing is asked of the caller but the sizes that the signatures say.
+use rules::Asked;
+use rules::Column;
+use rules::Cursor;
+use rules::Ending;
+use rules::Judged;
+use rules::Lexical;
+use rules::Line;
+use rules::Offset;
+use rules::Outer;
+use rules::Parsed;
+use rules::Reason;
+use rules::Restart;
+use rules::Syntax;
+use rules::Table;
+use rules::Told;
+ghost use mathlib.Core.Path.{_≡_};
+ghost use mathlib.Core.Bool.{cond};
+ghost use lib.ListN.{getD};
+ghost use Rattle.rules.specs.Rows.{wellFormed};
+ghost use Rattle.rules.specs.Scan.{scanTold, scanLeaves, roomOf};
+ghost use Rattle.rules.specs.Edit.{editTold, editLeaves, restartTold};
+ghost use Rattle.rules.specs.Sets.{fromSection};
+ghost use Rattle.rules.specs.Calls.{spellingJudged, memberAsked, sizeAsked, parseTold, parseLeaves, nodeRoom};
+ghost use Rattle.rules.specs.Refusals.{outerNumber, lexicalNumber, syntaxNumber};
+ghost use Rattle.console.specs.Layout.{words, nowhere, syntaxWords, toldWords, outerWords, judgedWords, askedWords, restartWords, parsedWords, isEnding, lexicalOf, endingOf, tableOf, withTable, untouched, spellingWords};
+
+// ---- numbers
+
+fn outer_number(why: Outer) -> u32
+    ensures { λ r. ⌜ r ≡ outerNumber why ⌝ }
+{
+    match why {
+        Outer::TextTooLong => 1,
+        Outer::BadByte => 2,
+        Outer::NotWellFormed => 3,
+        Outer::NoRowRoom => 4,
+        Outer::NoNodeRoom => 5,
+        Outer::EditNotSensible => 6,
+        Outer::WindowShort => 7,
+    }
+}
+
+fn lexical_number(why: Lexical) -> u32
+    ensures { λ r. ⌜ r ≡ lexicalNumber why ⌝ }
+{
+    match why {
+        Lexical::NoRowBegins => 11,
+        Lexical::LoneSign => 11,
+        Lexical::NoHexDigit => 11,
+        Lexical::OpenComment => 12,
+        Lexical::OpenString => 13,
+        Lexical::BadEscape => 14,
+        Lexical::NumberTooLarge => 15,
+    }
+}
+
+fn lexical_of(number: u32) -> Lexical
+    ensures { λ r. ⌜ r ≡ lexicalOf number ⌝ }
+{
+    match number {
+        12 => Lexical::OpenComment,
+        13 => Lexical::OpenString,
+        14 => Lexical::BadEscape,
+        15 => Lexical::NumberTooLarge,
+        _ => Lexical::NoRowBegins,
+    }
+}
+
+fn is_ending(number: u32) -> bool
+    ensures { λ r. ⌜ r ≡ isEnding number ⌝ }
+{
+    if number == 0 {
+        return true;
+    }
+    if number < 11 {
+        return false;
+    }
+    number <= 15
+}
+
+// ---- answers into eight words
+
+// The place that stands beside number 0.
+fn no_place() -> Cursor
+    ensures { λ r. ⌜ r ≡ nowhere ⌝ }
+{
+    Cursor {
+        offset: Offset(0),
+        line: Line(0),
+        column: Column(0),
+    }
+}
+
+fn put(answer: &mut [u32; 8], number: u32, at: Cursor, x: u32, y: u32, count: u32, length: u32)
+    ensures { λ _. ⌜ now (answer .exit) ≡ words number at x y count length ⌝ }
+{
+    *answer = [
+        number,
+        at.offset.0,
+        at.line.0,
+        at.column.0,
+        x,
+        y,
+        count,
+        length,
+    ];
+}
+
+fn put_outer(answer: &mut [u32; 8], why: Outer)
+    ensures { λ _. ⌜ now (answer .exit) ≡ outerWords why ⌝ }
+{
+    put(answer, outer_number(why), Cursor::start(), 0, 0, 0, 0);
+}
+
+fn put_told(answer: &mut [u32; 8], told: Told)
+    ensures { λ _. ⌜ now (answer .exit) ≡ toldWords told ⌝ }
+{
+    match told {
+        Told::Rows(t) => {
+            let ending = t.ending;
+            match ending {
+                Ending::None => {
+                    put(answer, 0, no_place(), 0, 0, t.count, t.length);
+                }
+                Ending::Refused(why, at) => {
+                    put(answer, lexical_number(why), at, 0, 0, t.count, t.length);
+                }
+            }
+        }
+        Told::Refused(why, at, n) => {
+            put(answer, outer_number(why), at, 0, 0, n, 0);
+        }
+    }
+}
+
+fn put_syntax(answer: &mut [u32; 8], why: Syntax, at: Cursor)
+    ensures { λ _. ⌜ now (answer .exit) ≡ syntaxWords why at ⌝ }
+{
+    match why {
+        Syntax::Wanted(wanted, found) => {
+            put(answer, 21, at, wanted, found, 0, 0);
+        }
+        Syntax::NotTopLevel => {
+            put(answer, 22, at, 0, 0, 0, 0);
+        }
+        Syntax::NotMapField => {
+            put(answer, 23, at, 0, 0, 0, 0);
+        }
+        Syntax::MapTypeUnknown => {
+            put(answer, 24, at, 0, 0, 0, 0);
+        }
+        Syntax::NotType => {
+            put(answer, 25, at, 0, 0, 0, 0);
+        }
+        Syntax::MaxNegative => {
+            put(answer, 26, at, 0, 0, 0, 0);
+        }
+        Syntax::OutOfRange => {
+            put(answer, 27, at, 0, 0, 0, 0);
+        }
+        Syntax::ShiftCount => {
+            put(answer, 28, at, 0, 0, 0, 0);
+        }
+        Syntax::MapLacks(field) => {
+            put(answer, 29, at, field, 0, 0, 0);
+        }
+        Syntax::NotEventType => {
+            put(answer, 30, at, 0, 0, 0, 0);
+        }
+        Syntax::CallOnOther => {
+            put(answer, 31, at, 0, 0, 0, 0);
+        }
+        Syntax::TooDeep => {
+            put(answer, 32, at, 0, 0, 0, 0);
+        }
+    }
+}
+
+fn put_parsed(answer: &mut [u32; 8], parsed: Parsed)
+    ensures { λ _. ⌜ now (answer .exit) ≡ parsedWords parsed ⌝ }
+{
+    match parsed {
+        Parsed::Nodes(n) => {
+            put(answer, 0, no_place(), 0, 0, n, 0);
+        }
+        Parsed::Refused(why, at) => match why {
+            Reason::Outer(x) => {
+                put(answer, outer_number(x), at, 0, 0, 0, 0);
+            }
+            Reason::Lexical(x) => {
+                put(answer, lexical_number(x), at, 0, 0, 0, 0);
+            }
+            Reason::Syntax(x) => {
+                put_syntax(answer, x, at);
+            }
+        },
+    }
+}
+
+fn put_asked(answer: &mut [u32; 8], asked: Asked)
+    ensures { λ _. ⌜ now (answer .exit) ≡ askedWords asked ⌝ }
+{
+    match asked {
+        Asked::Is(n) => {
+            put(answer, 0, no_place(), n, 0, 0, 0);
+        }
+        Asked::Refused(why) => {
+            put_outer(answer, why);
+        }
+    }
+}
+
+// The table that eight words tell.
+fn table_of(told: &[u32; 8]) -> Table
+    ensures { λ r. ⌜ r ≡ tableOf (now (told .entry)) ⌝ }
+{
+    let number = told[0];
+    if number == 0 {
+        return Table {
+            count: told[6],
+            length: told[7],
+            ending: Ending::None,
+        };
+    }
+    Table {
+        count: told[6],
+        length: told[7],
+        ending: Ending::Refused(
+            lexical_of(number),
+            Cursor {
+                offset: Offset(told[1]),
+                line: Line(told[2]),
+                column: Column(told[3]),
+            },
+        ),
+    }
+}
+
+// ---- the calls
+
+#[no_mangle]
+pub extern "C" fn spoonharbor_scan(text: &[u8], rows: &mut [u32], answer: &mut [u32; 8])
+    ensures { λ _. ⌜ (now (answer .exit) ≡ toldWords (scanTold (now (text .entry)) (roomOf (now (rows .entry))))) × (now (rows .exit) ≡ scanLeaves (now (text .entry)) (now (rows .entry))) ⌝ }
+{
+    put_told(answer, scan::scan(text, rows));
+}
+
+#[no_mangle]
+pub extern "C" fn spoonharbor_well_formed(rows: &[u32], table: &[u32; 8]) -> u32
+    ensures { λ r. ⌜ r ≡ cond (isEnding (getD (now (table .entry)) 0 0)) (cond (wellFormed (now (rows .entry)) (tableOf (now (table .entry)))) 1 0) 0 ⌝ }
+{
+    if !is_ending(table[0]) {
+        return 0;
+    }
+    if rows::well_formed(rows, table_of(table)) {
+        1
+    } else {
+        0
+    }
+}
+
+#[no_mangle]
+pub extern "C" fn spoonharbor_spelling(
+    text: &[u8],
+    rows: &[u32],
+    table: &[u32; 8],
+    row: u32,
+    answer: &mut [u32; 8],
+)
+    ensures { λ _. ⌜ now (answer .exit) ≡ withTable (now (table .entry)) (spellingWords (now (text .entry)) (now (rows .entry)) (tableOf (now (table .entry))) row) ⌝ }
+{
+    if !is_ending(table[0]) {
+        put_outer(answer, Outer::NotWellFormed);
+        return;
+    }
+    match rows::spelling_judge(text, rows, table_of(table), row) {
+        Judged::Fine => {
+            let at = (row as usize) * 8;
+            put(answer, 0, no_place(), rows[at + 1], rows[at + 2], 0, 0);
+        }
+        Judged::Refused(why, at) => {
+            put(answer, outer_number(why), at, 0, 0, 0, 0);
+        }
+    }
+}
+
+#[no_mangle]
+pub extern "C" fn spoonharbor_parse(
+    text: &[u8],
+    rows: &[u32],
+    table: &[u32; 8],
+    nodes: &mut [u32],
+    answer: &mut [u32; 8],
+)
+    ensures { λ _. ⌜ (now (answer .exit) ≡ withTable (now (table .entry)) (parsedWords (parseTold (now (text .entry)) (now (rows .entry)) (tableOf (now (table .entry))) (nodeRoom (now (nodes .entry)))))) × (now (nodes .exit) ≡ untouched (now (table .entry)) (now (nodes .entry)) (parseLeaves (now (text .entry)) (now (rows .entry)) (tableOf (now (table .entry))) (now (nodes .entry)))) ⌝ }
+{
+    if !is_ending(table[0]) {
+        put_outer(answer, Outer::NotWellFormed);
+        return;
+    }
+    put_parsed(answer, parse::parse(text, rows, table_of(table), nodes));
+}
+
+#[no_mangle]
+pub extern "C" fn spoonharbor_edit(
+    old: &[u32],
+    table: &[u32; 8],
+    a: u32,
+    b: u32,
+    n: u32,
+    start: u32,
+    window: &[u8],
+    new: &mut [u32],
+    answer: &mut [u32; 8],
+)
+    ensures { λ _. ⌜ (now (answer .exit) ≡ withTable (now (table .entry)) (toldWords (editTold (now (old .entry)) (tableOf (now (table .entry))) a b n start (now (window .entry)) (roomOf (now (new .entry)))))) × (now (new .exit) ≡ untouched (now (table .entry)) (now (new .entry)) (editLeaves (now (old .entry)) (tableOf (now (table .entry))) a b n start (now (window .entry)) (now (new .entry)))) ⌝ }
+{
+    if !is_ending(table[0]) {
+        put_outer(answer, Outer::NotWellFormed);
+        return;
+    }
+    put_told(
+        answer,
+        edit::edit(old, table_of(table), a, b, n, start, window, new),
+    );
+}
+
+#[no_mangle]
+pub extern "C" fn spoonharbor_restart(old: &[u32], table: &[u32; 8], a: u32, answer: &mut [u32; 8])
+    ensures { λ _. ⌜ now (answer .exit) ≡ withTable (now (table .entry)) (restartWords (restartTold (now (old .entry)) (tableOf (now (table .entry))) a)) ⌝ }
+{
+    if !is_ending(table[0]) {
+        put_outer(answer, Outer::NotWellFormed);
+        return;
+    }
+    match edit::restart(old, table_of(table), a) {
+        Restart::At(p) => {
+            put(answer, 0, p, 0, 0, 0, 0);
+        }
+        Restart::Refused(why) => {
+            put_outer(answer, why);
+        }
+    }
+}
+
+#[no_mangle]
+pub extern "C" fn spoonharbor_allows(kind: u32, method: u32, answer: &mut [u32; 8])
+    ensures { λ _. ⌜ now (answer .exit) ≡ askedWords (memberAsked kind method) ⌝ }
+{
+    put_asked(answer, sets::allows(kind, method));
+}
+
+#[no_mangle]
+pub extern "C" fn spoonharbor_set_size(kind: u32, answer: &mut [u32; 8])
+    ensures { λ _. ⌜ now (answer .exit) ≡ askedWords (sizeAsked kind) ⌝ }
+{
+    put_asked(answer, sets::set_size(kind));
+}
+
+#[no_mangle]
+pub extern "C" fn spoonharbor_section_kind(text: &[u8]) -> u32
+    ensures { λ r. ⌜ r ≡ fromSection (now (text .entry)) ⌝ }
+{
+    sets::section_kind(text)
+}

@@ -1,0 +1,169 @@
+-- What an edit tells and leaves, by the order of its refusals.
+-- the pass tells a short window
+use mathlib.Core.Path.{_≡_, refl, sym, ap, subst, _∙_}
+use mathlib.Core.Bool.{Bool, true, false, _&&_}
+use mathlib.Core.List.{List, _++_}
+use Prim.Native.Nat.{ℕ, suc, _+_, _*_, _≤_, _<_}
+use native.Mathlib.Omega.{arith}
+use lib.ListN.{length, take}
+use lib.Dec.{eqb, leb, ltb}
+use borrow.Author.Tests.{lt-ltb, le-ltb, leb-true, eqb-true, eq-eqb, ne-eqb}
+use Rattle.rules.specs.declared.Cursor.{Cursor}
+use Rattle.rules.specs.declared.Outer.the-variants.{TextTooLong, BadByte, NotWellFormed, EditNotSensible, WindowShort}
+use Rattle.rules.specs.declared.Table.{Table}
+use Rattle.rules.specs.declared.Told.{Told}
+use Rattle.rules.specs.declared.Told.the-variants.{Refused}
+use Rattle.rules.specs.Text.{mostBytes, startPlace, validBytes, valid, over}
+use Rattle.rules.specs.Rows.{Row, rowsIn, wellFormed}
+use Rattle.rules.specs.Scan.{told, laid}
+use Rattle.rules.specs.Edit.{Seen, sees, over′, met, short, isShort, kept, lastEnd, restart, newLength, sensible, ends, windowShort, newRows, newEnding, editTold, editLeaves}
+use Rattle.rows.proofs.Lists.{both-true}
+use Rattle.rows.specs.Shape.{rowNo}
+use Rattle.rows.proofs.Inside.{fine}
+use Rattle.place.proofs.Places.{front-le}
+use Rattle.carry.specs.Moves.{Ended}
+use Rattle.carry.proofs.Kept.{kept-inside, kept-rows}
+use Rattle.sight.specs.Sight.{sightOf}
+use Rattle.edit.specs.declared.Job.{Job}
+use Rattle.edit.specs.Job.{sensibleAt, oldRows, sizeAfter, Ready, jobSeen, jobRows, jobEnding, jobSight, isShortSight, rereadTold, rereadLeaves}
+use Rattle.edit.proofs.Facts.{ended}
+use Rattle.edit.proofs.Jobs.{sight-same}
+
+short-same : (olds : List Row) (least b : ℕ) (w : List ℕ) (p : Cursor) (x : Seen) → isShort x ≡ isShortSight (sightOf olds least b w p x)
+unfolding isShort isShortSight sightOf
+short-same olds least b w p (sees r s) = short-same olds least b w p s
+short-same olds least b w p (over′ e) = refl
+short-same olds least b w p (met m) = refl
+short-same olds least b w p short = refl
+
+-- ---- 7, and then the rows
+
+module _ {ws : List ℕ} {j : Job} {w : List ℕ} (r : Ready ws j w) where
+  -- the window ends the text
+  abbrev pub wholeOf : Bool
+  wholeOf = ends (oldRows ws j) (j .table .length) (j .a) (j .b) (j .n) w
+
+  -- the window's end and the text's
+  pub whole-by : (x y : ℕ) → x ≡ j .begin .offset .0 → y ≡ sizeAfter j → eqb (x + length w) y ≡ wholeOf
+  whole-by x y e f = rw (e, f, r .begin)
+
+  short-by : (whole : Bool) → isShort (jobSeen ws j w whole) ≡ isShortSight (jobSight ws j w whole)
+  short-by whole = short-same (oldRows ws j) (j .a + j .n) (j .b) w (j .begin) (jobSeen ws j w whole) ∙ ap isShortSight (sight-same r whole)
+
+  -- the window ends before a + n, or shows too little
+  short-window : Bool
+  short-window = windowShort (oldRows ws j) (j .table .ending) (j .table .length) (j .a) (j .b) (j .n) w
+
+  early : j .begin .offset .0 + length w < j .a + j .n → short-window ≡ true
+  unfolding windowShort short-window
+  early h = rw (lt-ltb _ _ (subst (λ (p : Cursor). p .offset .0 + length w < j .a + j .n) (r .begin) h))
+
+  late : j .a + j .n ≤ j .begin .offset .0 + length w → (whole : Bool) → whole ≡ wholeOf → short-window ≡ isShortSight (jobSight ws j w whole)
+  unfolding windowShort short-window jobSeen
+  late h whole e =
+      rw (le-ltb _ _ (subst (λ (p : Cursor). j .a + j .n ≤ p .offset .0 + length w) (r .begin) h))
+      (ap (λ (q : Bool). isShort (jobSeen ws j w q)) (sym e) ∙ short-by whole)
+
+  module _ (m : ℕ) (new : List ℕ) where
+    refused-7 : short-window ≡ true → (Refused WindowShort startPlace 0 ≡ rereadTold ws j w m) × (new ≡ rereadLeaves ws j w new)
+    unfolding rereadTold rereadLeaves short-window
+    refused-7 e = rw e (refl, refl)
+
+    pub reread-early : j .begin .offset .0 + length w < j .a + j .n → (Refused WindowShort startPlace 0 ≡ rereadTold ws j w m) × (new ≡ rereadLeaves ws j w new)
+    reread-early h = refused-7 (early h)
+
+    module _ (h : j .a + j .n ≤ j .begin .offset .0 + length w) (whole : Bool) (e : whole ≡ wholeOf) where
+      pub reread-short : isShortSight (jobSight ws j w whole) ≡ true → (Refused WindowShort startPlace 0 ≡ rereadTold ws j w m) × (new ≡ rereadLeaves ws j w new)
+      reread-short f = refused-7 (late h whole e ∙ f)
+
+      pub reread-rows : isShortSight (jobSight ws j w whole) ≡ false → (size : ℕ) → size ≡ sizeAfter j → (x : Told) (ys : List ℕ) →
+          (x ≡ told size m (kept (j .a) (oldRows ws j) ++ jobRows ws j w whole) (jobEnding ws j w whole)) × (ys ≡ laid (kept (j .a) (oldRows ws j) ++ jobRows ws j w whole) new) →
+          (x ≡ rereadTold ws j w m) × (ys ≡ rereadLeaves ws j w new)
+      unfolding rereadTold rereadLeaves short-window newRows newEnding jobRows jobEnding jobSeen
+      reread-rows f size g x ys q = rw (late h whole e ∙ f) (rw (← e, ← g) q)
+
+-- ---- the call
+
+-- the kept rows, and the place behind them
+module _ (ws : List ℕ) (t : Table) (a : ℕ) where
+  pub restart-by : (k : ℕ) → k ≡ length (kept a (rowsIn (t .count) ws)) → lastEnd startPlace (rowsIn k ws) ≡ restart (rowsIn (t .count) ws) a
+  unfolding restart
+  restart-by k e = ap (λ (i : ℕ). lastEnd startPlace (rowsIn i ws)) e ∙ ap (lastEnd startPlace) (sym (kept-rows a ws (t .count)))
+
+  pub kept-lent : wellFormed ws t ≡ true → (k : ℕ) → k ≡ length (kept a (rowsIn (t .count) ws)) → (k * 8 ≤ length ws) × ((i : ℕ) → suc i ≡ k → Ended (rowNo ws i))
+  kept-lent f k e =
+      let l : k ≤ t .count = omega (arith, kept-inside a ws (t .count)) in
+      (omega (arith, fine ws t f .lent), λ i h. ended (fine ws t f) i (omega arith))
+
+module _ (len a b n begin start size : ℕ) where
+  pub record Sensible : Type 0 where
+    pub order : a ≤ b
+    pub inside : b ≤ len
+    pub same : start ≡ begin
+    pub fits : start + size ≤ newLength len a b n
+
+  pub sensible-by : sensibleAt len a b n begin start size ≡ true → Sensible
+  unfolding sensibleAt
+  sensible-by e =
+      let x = both-true (leb a b && leb b len) (eqb start begin && leb (start + size) (newLength len a b n)) e in
+      let y = both-true (leb a b) (leb b len) (x .0) in
+      let z = both-true (eqb start begin) (leb (start + size) (newLength len a b n)) (x .1) in
+      record {
+        order = leb-true a b (y .0);
+        inside = leb-true b len (y .1);
+        same = eqb-true start begin (z .0);
+        fits = leb-true (start + size) (newLength len a b n) (z .1);
+      }
+
+module _ (ws : List ℕ) (t : Table) (a b n start : ℕ) (w : List ℕ) where
+  abbrev olds : List Row
+  olds = rowsIn (t .count) ws
+
+  abbrev pub Edited : ℕ → List ℕ → Told → List ℕ → Type 0
+  Edited m new x ys = (x ≡ editTold ws t a b n start w m) × (ys ≡ editLeaves ws t a b n start w new)
+
+  pub edit-3 : (m : ℕ) (new : List ℕ) → wellFormed ws t ≡ false → Edited m new (Refused NotWellFormed startPlace 0) new
+  unfolding editTold editLeaves
+  edit-3 m new e = rw e (refl, refl)
+
+  module _ (f : wellFormed ws t ≡ true) (offset : ℕ) (p : offset ≡ restart olds a .offset .0) where
+    pub edit-6 : (m : ℕ) (new : List ℕ) → sensibleAt (t .length) a b n offset start (length w) ≡ false → Edited m new (Refused EditNotSensible startPlace 0) new
+    unfolding editTold editLeaves sensible sensibleAt
+    edit-6 m new e = rw (f, rw p at e) (refl, refl)
+
+    module _ (s : sensibleAt (t .length) a b n offset start (length w) ≡ true) where
+      pub edit-1 : (m : ℕ) (new : List ℕ) → mostBytes < newLength (t .length) a b n → Edited m new (Refused TextTooLong startPlace 0) new
+      unfolding editTold editLeaves sensible sensibleAt
+      edit-1 m new h = rw (f, rw p at s, lt-ltb mostBytes (newLength (t .length) a b n) h) (refl, refl)
+
+      module _ (h : newLength (t .length) a b n ≤ mostBytes) where
+        pub edit-2 : (m : ℕ) (new : List ℕ) → validBytes w < length w → Edited m new (Refused BadByte (over (restart olds a) (take (validBytes w) w)) 0) new
+        unfolding editTold editLeaves sensible sensibleAt valid
+        edit-2 m new l = rw (f, rw p at s, le-ltb mostBytes (newLength (t .length) a b n) h, ne-eqb (validBytes w) (length w) (λ e. lt-ne l e)) (refl, refl)
+          where
+            lt-ne : {x y : ℕ} → x < y → x ≡ y → ⊥
+            lt-ne l e = omega arith
+
+        module _ (k : ℕ) (q : k ≡ length (kept a olds)) (c : Cursor) (g : c ≡ restart olds a) where
+          abbrev pub jobOf : Job
+          jobOf = record { table = t; a = a; b = b; n = n; kept = k; begin = c }
+
+          pub ready-by : Ready ws jobOf w
+          ready-by =
+              let x = sensible-by (t .length) a b n offset start (length w) s in
+              record {
+                fine = f;
+                kept = q;
+                begin = g;
+                order = x .order;
+                inside = x .inside;
+                fits = omega (arith, x .same, x .fits, p, ap (λ (z : Cursor). z .offset .0) g);
+                short = h;
+              }
+
+          pub edit-rest : (m : ℕ) (new : List ℕ) → length w ≤ validBytes w → (x : Told) (ys : List ℕ) →
+              (x ≡ rereadTold ws jobOf w m) × (ys ≡ rereadLeaves ws jobOf w new) → Edited m new x ys
+          unfolding editTold editLeaves sensible sensibleAt valid rereadTold rereadLeaves validBytes
+          edit-rest m new l x ys z =
+              let e : validBytes w ≡ length w = omega (arith, front-le (λ b. ltb b 128) w) in
+              rw (f, rw p at s, le-ltb mostBytes (newLength (t .length) a b n) h, eq-eqb (validBytes w) (length w) e) z

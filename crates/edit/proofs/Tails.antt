@@ -1,0 +1,261 @@
+-- What is written behind the kept rows: by how the writing of the window's rows stopped, and with old rows behind them.
+-- x more behind s, within m
+use mathlib.Core.Path.{_≡_, refl, sym, ap, subst, _∙_}
+use mathlib.Core.Bool.{Bool, true, false, cond}
+use mathlib.Core.List.{List, [], _∷_, _++_, map}
+use Prim.Native.Nat.{ℕ, zero, suc, _+_, _-_, _*_, _/_, _^_, _≤_, _<_}
+use native.Mathlib.Decide.{decLe}
+use native.Mathlib.Omega.{arith}
+use lib.ListN.{length, take, drop, length-append, length-drop}
+use lib.Dec.{leb}
+use lib.Seq.{take-at, drop-at}
+use borrow.Rule.Slice.PartMut.{putMid}
+use borrow.Author.Tests.{le-leb, lt-leb, leb-true, leb-false}
+use Rattle.rules.specs.declared.Cursor.{Cursor}
+use Rattle.rules.specs.declared.Lexical.{Lexical}
+use Rattle.rules.specs.declared.Ending.{Ending}
+use Rattle.rules.specs.declared.Ending.the-variants as ending
+use Rattle.rules.specs.declared.Outer.the-variants.{NoRowRoom}
+use Rattle.rules.specs.declared.Table.{Table}
+use Rattle.rules.specs.declared.Told.{Told}
+use Rattle.rules.specs.declared.Told.the-variants as tells
+use Rattle.rules.specs.Text.{startPlace}
+use Rattle.rules.specs.Rows.{Row, rowsIn, rowPlace, wordsOf}
+use Rattle.rules.specs.Scan.{roomOf, laid, told}
+use Rattle.rules.specs.Edit.{carryRow}
+use Rattle.rows.specs.Shape.{rowNo}
+use Rattle.carry.proofs.Words.{words-length, take-rows, drop-rows}
+use Rattle.carry.proofs.Carried.{map-length, lent-tail, back-tail}
+use Rattle.carry.proofs.Laid.{told-full, room-behind, laid-behind, laid-front, laid-part, laid-all}
+use Rattle.rows.proofs.Lists.{rowsIn-length}
+use Rattle.reader.specs.declared.Spot.{Spot}
+use Rattle.scan.specs.declared.Stop.{Stop}
+use Rattle.scan.specs.declared.Stop.the-variants as stops
+use Rattle.scan.specs.declared.Wrote.{Wrote}
+use Rattle.scan.specs.Writing.{Writing, rowsOf, stopOf, wrote, wroteOf}
+use Rattle.edit.specs.declared.Tail.{Tail}
+use Rattle.edit.specs.declared.Tail.the-variants.{Rows, Full}
+use Rattle.edit.specs.Job.{tailTold, tailOf, isAt, rowsBehind, endingBehind, behindOf, FewBehind, tellOf, TellsFit}
+
+pub leb-behind : (s x m : ℕ) → s ≤ m → leb x (m - s) ≡ leb (s + x) m
+leb-behind s x m h = pick (decLe (s + x) m)
+  where
+    pick : Dec (s + x ≤ m) → leb x (m - s) ≡ leb (s + x) m
+    pick (yes p) = rw (le-leb (s + x) m p, le-leb x (m - s) (omega arith))
+    pick (no p) = rw (lt-leb (s + x) m (omega arith), lt-leb x (m - s) (omega arith))
+
+module _ (w : Wrote) where
+  pub tail-end : w .stop ≡ stops.End → Rows (w .count) ending.None ≡ tailOf w
+  unfolding tailOf
+  tail-end e = rw (e, tailOf)
+
+  pub tail-refused : {why : Lexical} {p : Cursor} → w .stop ≡ stops.Refused why p → Rows (w .count) (ending.Refused why p) ≡ tailOf w
+  unfolding tailOf
+  tail-refused e = rw (e, tailOf)
+
+  pub tail-at : {s : Spot} → w .stop ≡ stops.At s → Full ≡ tailOf w
+  unfolding tailOf
+  tail-at e = rw (e, tailOf)
+
+  pub tail-full : w .stop ≡ stops.Full → Full ≡ tailOf w
+  unfolding tailOf
+  tail-full e = rw (e, tailOf)
+
+  pub tail-unknown : w .stop ≡ stops.Unknown → Full ≡ tailOf w
+  unfolding tailOf
+  tail-unknown e = rw (e, tailOf)
+
+-- how the writing stops where no old rows follow
+pub data Closes : Stop → Ending → Type 0 where
+  ends : Closes stops.End ending.None
+  refuses : {why : Lexical} {p : Cursor} → Closes (stops.Refused why p) (ending.Refused why p)
+
+-- then it is what is told
+pub tail-over : (ws : List ℕ) (w : Writing) (e : Ending) → Closes (stopOf w) e → tailOf (wroteOf ws w) ≡ tailTold (roomOf ws) (rowsOf w) e
+unfolding wroteOf wrote tailOf tailTold
+tail-over ws w e c = go (stopOf w) e c (leb (length (rowsOf w)) (roomOf ws))
+  where
+    go : (x : Stop) (e : Ending) → Closes x e → (p : Bool) →
+        tailOf (cond p (record { count = length (rowsOf w); stop = x }) (record { count = roomOf ws; stop = stops.Full })) ≡ cond p (Rows (length (rowsOf w)) e) Full
+    go x e ends true = refl
+    go x e refuses true = refl
+    go x e c false = refl
+
+-- ---- old rows behind the window's
+
+-- the window's rows found room, or did not
+module _ (m : ℕ) (ys : List Row) (s : Spot) (w : Wrote) (e : w ≡ wrote m ys (stops.At s)) where
+  by : Bool → Wrote
+  by p = cond p (record { count = length ys; stop = stops.At s }) (record { count = m; stop = stops.Full })
+
+  pub at-count : isAt (w .stop) ≡ true → (length ys ≤ m) × (w .count ≡ length ys)
+  unfolding wrote isAt by
+  at-count = rw e (pick (leb (length ys) m) refl)
+    where
+      pick : (p : Bool) → leb (length ys) m ≡ p → isAt (by p .stop) ≡ true →
+          (length ys ≤ m) × (by p .count ≡ length ys)
+      pick true f h = (leb-true (length ys) m f, refl)
+      pick false f h = absurd (let z : _≡_ {A = ℕ} 0 1 = cc in omega arith)
+
+  pub at-full : isAt (w .stop) ≡ false → m < length ys
+  unfolding wrote isAt by
+  at-full = rw e (pick (leb (length ys) m) refl)
+    where
+      pick : (p : Bool) → leb (length ys) m ≡ p → isAt (by p .stop) ≡ false → m < length ys
+      pick true f h = absurd (let z : _≡_ {A = ℕ} 0 1 = cc in omega arith)
+      pick false f h = leb-false (length ys) m f
+
+module _ (ys zs : List Row) (e : Ending) (ws : List ℕ) where
+  -- the window's rows find no room
+  pub full-before : roomOf ws < length ys → (Full ≡ tailTold (roomOf ws) (ys ++ zs) e) × (laid ys ws ≡ laid (ys ++ zs) ws)
+  unfolding tailTold
+  full-before h = (
+    rw (lt-leb (length (ys ++ zs)) (roomOf ws) (omega (arith, length-append ys zs))),
+    laid-part ys ws (omega arith) ∙ sym (laid-front ys zs ws (omega arith)),
+  )
+
+  -- they do, and what stands behind them is told of all
+  pub told-behind : length ys ≤ roomOf ws → behindOf (length ys) (tailTold (roomOf (drop (8 * length ys) ws)) zs e) ≡ tailTold (roomOf ws) (ys ++ zs) e
+  unfolding tailTold behindOf
+  told-behind h = rw (room-behind (length ys) ws, leb-behind (length ys) (length zs) (roomOf ws) h, length-append) (pick (leb (length ys + length zs) (roomOf ws)))
+    where
+      pick : (p : Bool) → behindOf (length ys) (cond p (Rows (length zs) e) Full) ≡ cond p (Rows (length ys + length zs) e) Full
+      pick true = refl
+      pick false = refl
+
+-- what is told of rows and of what stands behind them
+told-kept : (ys zs : List Row) (e : Ending) (ws : List ℕ) (size : ℕ) → length ys ≤ roomOf ws →
+    tellOf (length ys) (tailTold (roomOf (drop (8 * length ys) ws)) zs e) size (roomOf ws) ≡ told size (roomOf ws) (ys ++ zs) e
+unfolding tailTold tellOf told
+told-kept ys zs e ws size h = rw (room-behind (length ys) ws, leb-behind (length ys) (length zs) (roomOf ws) h, length-append) (pick (leb (length ys + length zs) (roomOf ws)))
+  where
+    pick : (p : Bool) → tellOf (length ys) (cond p (Rows (length zs) e) Full) size (roomOf ws) ≡
+        cond p (tells.Rows (record { count = length ys + length zs; length = size; ending = e })) (tells.Refused NoRowRoom startPlace (roomOf ws))
+    pick true = refl
+    pick false = refl
+
+pub few-behind : (n m : ℕ) (zs : List Row) (e : Ending) → n + length zs < 2 ^ 64 → FewBehind n (tailTold m zs e)
+unfolding tailTold FewBehind
+few-behind n m zs e h = pick (leb (length zs) m)
+  where
+    pick : (p : Bool) → FewBehind n (cond p (Rows (length zs) e) Full)
+    pick true = h
+    pick false = tt
+
+map-take : (f : Row → Row) (n : ℕ) (xs : List Row) → take n (map f xs) ≡ map f (take n xs)
+map-take f zero xs = refl
+map-take f (suc n) [] = refl
+map-take f (suc n) (x ∷ xs) = ap (_∷_ (f x)) (map-take f n xs)
+
+-- rows that are changed by f, as far as there is room
+module _ (f : Row → Row) (xs ws : List ℕ) (left : ℕ) where
+  many : length (map f (rowsIn left xs)) ≡ left
+  many = map-length f (rowsIn left xs) ∙ rowsIn-length left xs
+
+  pub laid-left : left ≤ roomOf ws → wordsOf (map f (rowsIn left xs)) ++ drop (8 * left) ws ≡ laid (map f (rowsIn left xs)) ws
+  laid-left h = sym (laid-all (map f (rowsIn left xs)) ws (rw many h) ∙ rw many)
+
+  pub laid-room : roomOf ws ≤ left → wordsOf (map f (rowsIn (roomOf ws) xs)) ++ drop (8 * roomOf ws) ws ≡ laid (map f (rowsIn left xs)) ws
+  laid-room h =
+      sym (laid-part (map f (rowsIn left xs)) ws (rw many h)
+      ∙ rw (map-take f (roomOf ws) (rowsIn left xs), take-rows left xs (roomOf ws) h))
+
+-- the tail behind the window's rows is lent, and comes back
+module _ (ys : List Row) (ws xs : List ℕ) (count : ℕ) (e : xs ≡ laid ys ws) (h : length ys ≤ roomOf ws) (n : count ≡ length ys) where
+  base : count * 8 ≡ 8 * length ys
+  base = omega arith
+
+  words : xs ≡ wordsOf ys ++ drop (8 * length ys) ws
+  words = e ∙ laid-all ys ws h
+
+  pub same-room : length xs ≡ length ws
+  unfolding roomOf
+  same-room = ap length words ∙ length-append (wordsOf ys) (drop (8 * length ys) ws) ∙ omega (arith, words-length ys, length-drop (8 * length ys) ws)
+
+  inside : count * 8 ≤ length xs
+  unfolding roomOf
+  inside = omega (arith, same-room)
+
+  pub lent-behind : take (length xs - count * 8) (drop (count * 8) xs) ≡ drop (8 * length ys) ws
+  lent-behind = lent-tail xs (count * 8) inside ∙ rw (base, words, drop-at (wordsOf ys) (drop (8 * length ys) ws) (8 * length ys) (words-length ys))
+
+  pub back-behind : (zs : List ℕ) → putMid (count * 8) (length xs - count * 8) xs zs ≡ wordsOf ys ++ zs
+  back-behind zs = back-tail xs (count * 8) inside zs ∙ rw (base, words, take-at (wordsOf ys) (drop (8 * length ys) ws) (8 * length ys) (words-length ys))
+
+-- ---- the old rows from one on
+
+module _ (ws : List ℕ) (t : Table) (row : ℕ) (p : Cursor) (xs : List ℕ) where
+  left : ℕ
+  left = t .count - row
+
+  f : Row → Row
+  f = carryRow (rowPlace (rowNo ws row)) p
+
+  rows-behind : rowsBehind ws t row p ≡ map f (rowsIn left (drop (8 * row) ws))
+  unfolding rowsBehind left f
+  rows-behind = ap (map (carryRow (rowPlace (rowNo ws row)) p)) (drop-rows (t .count) ws row)
+
+  pub count-behind : length (rowsBehind ws t row p) ≡ t .count - row
+  unfolding left
+  count-behind = ap length rows-behind ∙ map-length f (rowsIn left (drop (8 * row) ws)) ∙ rowsIn-length left (drop (8 * row) ws)
+
+  -- so many words are written, of all or of those for which there is room
+  abbrev Carried : ℕ → List ℕ → Type 0
+  Carried n ys = ys ≡ wordsOf (map (carryRow (rowPlace (rowNo ws row)) p) (rowsIn n (drop (8 * row) ws))) ++ drop (8 * n) xs
+
+  pub follow-full : length xs / 8 < t .count - row → (ys : List ℕ) → Carried (length xs / 8) ys →
+      (Full ≡ tailTold (roomOf xs) (rowsBehind ws t row p) (endingBehind ws t row p)) × (ys ≡ laid (rowsBehind ws t row p) xs)
+  unfolding roomOf tailTold left f
+  follow-full h ys e = (
+    rw (lt-leb (length (rowsBehind ws t row p)) (length xs / 8) (omega (arith, count-behind))),
+    e ∙ laid-room f (drop (8 * row) ws) xs left (omega arith) ∙ ap (λ (z : List Row). laid z xs) (sym rows-behind),
+  )
+
+  pub follow-all : t .count - row ≤ length xs / 8 → (ys : List ℕ) → Carried (t .count - row) ys → (e : Ending) → e ≡ endingBehind ws t row p →
+      (Rows (t .count - row) e ≡ tailTold (roomOf xs) (rowsBehind ws t row p) (endingBehind ws t row p)) × (ys ≡ laid (rowsBehind ws t row p) xs)
+  unfolding roomOf tailTold left f
+  follow-all h ys e x q = (
+    rw (le-leb (length (rowsBehind ws t row p)) (length xs / 8) (omega (arith, count-behind)), count-behind, q),
+    e ∙ laid-left f (drop (8 * row) ws) xs left h ∙ ap (λ (z : List Row). laid z xs) (sym rows-behind),
+  )
+
+-- ---- rows, and others behind them
+
+module _ (ys zs : List Row) (e : Ending) (ws xs : List ℕ) (count : ℕ) (left : xs ≡ laid ys ws) (h : length ys ≤ roomOf ws) (n : count ≡ length ys) where
+  -- the tail from there on
+  abbrev part : List ℕ
+  part = take (length xs - count * 8) (drop (count * 8) xs)
+
+  -- it was lent, and came back with them
+  back-all : (ps : List ℕ) → ps ≡ laid zs part → putMid (count * 8) (length xs - count * 8) xs ps ≡ laid (ys ++ zs) ws
+  back-all ps q =
+      back-behind ys ws xs count left h n ps ∙ ap (λ (z : List ℕ). wordsOf ys ++ z) (q ∙ ap (laid zs) (lent-behind ys ws xs count left h n)) ∙ sym (laid-behind ys zs ws h)
+
+  part-told : (r : Tail) → r ≡ tailTold (roomOf part) zs e → r ≡ tailTold (roomOf (drop (8 * length ys) ws)) zs e
+  part-told r q = q ∙ ap (λ (z : List ℕ). tailTold (roomOf z) zs e) (lent-behind ys ws xs count left h n)
+
+  pub met-all : (r s : Tail) (ps : List ℕ) → (r ≡ tailTold (roomOf part) zs e) × (ps ≡ laid zs part) → s ≡ behindOf count r →
+      (s ≡ tailTold (roomOf ws) (ys ++ zs) e) × (putMid (count * 8) (length xs - count * 8) xs ps ≡ laid (ys ++ zs) ws)
+  met-all r s ps q g =
+      (g ∙ ap (λ (k : ℕ). behindOf k r) n ∙ ap (behindOf (length ys)) (part-told r (q .0)) ∙ told-behind ys zs e ws h, back-all ps (q .1))
+
+  pub kept-all : (size : ℕ) (r : Tail) (s : Told) (ps : List ℕ) → (r ≡ tailTold (roomOf part) zs e) × (ps ≡ laid zs part) → s ≡ tellOf count r size (length ws / 8) →
+      (s ≡ told size (roomOf ws) (ys ++ zs) e) × (putMid (count * 8) (length xs - count * 8) xs ps ≡ laid (ys ++ zs) ws)
+  unfolding roomOf
+  kept-all size r s ps q g =
+      (g ∙ ap (λ (k : ℕ). tellOf k r size (length ws / 8)) n ∙ ap (λ (z : Tail). tellOf (length ys) z size (length ws / 8)) (part-told r (q .0)) ∙ told-kept ys zs e ws size h, back-all ps (q .1))
+
+  pub kept-fits : (r : Tail) → r ≡ tailTold (roomOf part) zs e → count + length zs < 2 ^ 32 → TellsFit count r (length ws / 8)
+  unfolding tailTold TellsFit roomOf
+  kept-fits r q l = subst (λ (z : Tail). TellsFit count z (length ws / 8)) (sym (part-told r q)) (rw (room-behind (length ys) ws) (pick (leb (length zs) (roomOf ws - length ys)) refl))
+    where
+      pick : (p : Bool) → leb (length zs) (length ws / 8 - length ys) ≡ p → TellsFit count (cond p (Rows (length zs) e) Full) (length ws / 8)
+      pick true f = l
+      pick false f = omega (arith, leb-false (length zs) (length ws / 8 - length ys) f)
+
+-- the rows in front find no room
+pub kept-full : (ys zs : List Row) (e : Ending) (ws : List ℕ) (size k : ℕ) → roomOf ws < length ys →
+    (tellOf k Full size (roomOf ws) ≡ told size (roomOf ws) (ys ++ zs) e) × (wordsOf (take (roomOf ws) ys) ++ drop (8 * roomOf ws) ws ≡ laid (ys ++ zs) ws)
+unfolding tellOf
+kept-full ys zs e ws size k h =
+    (sym (told-full size (roomOf ws) (ys ++ zs) e (omega (arith, length-append ys zs))), sym (laid-front ys zs ws (omega arith)))

@@ -1,0 +1,89 @@
+-- `parse::twice` meets its contract: the first pass, into no memory, says what the second will answer.
+use mathlib.Core.Path.{_≡_, subst}
+use mathlib.Core.List.{List}
+use Prim.Native.Nat.{ℕ}
+use native.Mathlib.Omega.{arith}
+use borrow.Author.Needs.{needs}
+use Rattle.rules.specs.Parse.{no}
+use Rattle.nodes.specs.Post.{Met}
+use Rattle.nodes.proofs.Turn.{refused}
+use Rattle.maps.proofs.Told.{names-told}
+use Rattle.parse.specs.Program.{readingOf}
+use Rattle.parse.proofs.Whole.{none-written, Wrote, wrote, final-ok, final-no, nodes-fit, room-fits, refused-in}
+use Rattle.parse.proofs.twice.Statement.{statement}
+use Rattle.parse.proofs.twice.Tie as tie
+
+first : (c : tie.After-t) → Wrote (readingOf (c .before .before .before .before .before .before .before .before .before .args .text .now) (c .before .before .before .before .before .before .before .before .before .args .rows .now) (c .before .before .before .before .before .before .before .before .before .args .count)) (c .t .given .0 .0)
+first c =
+    let a = c .before .before .before .before .before .before .before .before .before .args in
+    wrote _ _ (c .before .before .before .before .program .last .1 .1 .1 .0) (c .before .before .before .before .program .result) (c .t .given .0 .0) (c .before .before .before .before .program .ensures _ (names-told (a .text .now) (a .rows .now) (a .count))) (c .t .given .1)
+
+stopped : (c : tie.After-why) → readingOf (c .before .before .before .before .before .before .before .before .before .args .text .now) (c .before .before .before .before .before .before .before .before .before .args .rows .now) (c .before .before .before .before .before .before .before .before .before .args .count) ≡ no (c .why .given .0 .0) (c .why .given .0 .1 .0)
+stopped c =
+    let a = c .before .before .before .before .before .before .before .before .before .args in
+    refused _ 0 0 _ (c .before .before .before .before .program .last .1 .1 .1 .0) (c .before .before .before .before .program .result) (c .why .given .0 .0) (c .why .given .0 .1 .0) (c .before .before .before .before .program .ensures _ (names-told (a .text .now) (a .rows .now) (a .count))) (c .why .given .1)
+
+slice-relend-prefix-program : tie.Need-slice-relend-prefix-program
+slice-relend-prefix-program c = search needs
+
+slice-aggregate-program : tie.Need-slice-aggregate-program
+slice-aggregate-program c = search needs
+
+program-requires : tie.Need-program-requires
+program-requires c κs = search needs
+
+enum-known-t : tie.Need-enum-known-t
+enum-known-t c = search needs
+
+program-requires-2 : tie.Need-program-requires-2
+program-requires-2 c κs = search needs
+
+cast-t15 : tie.Need-cast-t15
+cast-t15 c =
+    let a = c .before .before .before .before .before .before .before .before .before .before .before .before .before .before .before .args in
+    let v = first (c .before .before .before .before .before .before) in
+    omega (arith, v .node, nodes-fit (a .text .now) (a .rows .now) (a .count) (a .nodes .now) (c .before .before .before .before .before .before .before .before .before .before .before .before .before .before .before .pre) (v .tree) _ (v .is), c .before .before .before .before .before .before .before .before .before .before .before .before .before .before .before .pre .table .short)
+
+enum-known-why : tie.Need-enum-known-why
+enum-known-why c = search needs
+
+place-of-requires : tie.Need-place-of-requires
+place-of-requires c κs =
+    let a = c .before .before .before .before .before .before .before .before .before .before .args in
+    refused-in (a .text .now) (a .rows .now) (a .count) (a .nodes .now) (c .before .before .before .before .before .before .before .before .before .before .pre) (c .before .why .given .0 .0) (c .before .why .given .0 .1 .0) (stopped (c .before))
+
+same-length : tie.Need-same-length
+same-length c = search needs
+
+returns : tie.Need-returns
+returns c =
+    let a = c .before .before .before .before .before .before .before .before .before .before .before .before .before .before .before .args in
+    let v = first (c .before .before .before .before .before .before) in
+    let n = none-written (c .before .before .before .before .before .before .before .before .before .before .program .last .1 .1 .1 .0) (a .nodes .now) (c .before .before .before .before .before .before .before .before .before .before .program .kept .1 .1 .1 .0) in
+    final-ok (a .rows .now) (readingOf (a .text .now) (a .rows .now) (a .count)) (a .nodes .now) _ (v .tree) (c .before .before .before .before .before .before .t .given .0 .0 .row) _ (c .before .before .before .program2 .result) (v .is) (v .node) (room-fits (a .text .now) (a .rows .now) (a .count) (a .nodes .now) (c .before .before .before .before .before .before .before .before .before .before .before .before .before .before .before .pre) (v .tree) _ (v .is))
+    (subst (λ (x : List ℕ). Met (readingOf (a .text .now) (a .rows .now) (a .count)) 0 0 x (c .before .before .before .program2 .last .1 .1 .1 .0) (c .before .before .before .program2 .result)) n (c .before .before .before .program2 .ensures _ (names-told (a .text .now) (a .rows .now) (a .count))))
+
+same-length-2 : tie.Need-same-length-2
+same-length-2 c = search needs
+
+returns-2 : tie.Need-returns-2
+returns-2 c =
+    let a = c .before .before .before .before .before .before .before .before .before .before .before .args in
+    final-no (a .rows .now) (readingOf (a .text .now) (a .rows .now) (a .count)) (a .nodes .now) _ (c .before .before .why .given .0 .0) (c .before .before .why .given .0 .1 .0) _ (stopped (c .before .before)) (c .place-of .ensures) (none-written (c .before .before .before .before .before .before .program .last .1 .1 .1 .0) (a .nodes .now) (c .before .before .before .before .before .before .program .kept .1 .1 .1 .0))
+
+pub twice-spec : {M : Type 1} → statement M
+twice-spec =
+    tie.close
+    (tie.spec
+    slice-relend-prefix-program
+    slice-aggregate-program
+    program-requires
+    enum-known-t
+    program-requires-2
+    cast-t15
+    enum-known-why
+    place-of-requires
+    same-length
+    returns
+    same-length-2
+    returns-2)

@@ -1,0 +1,136 @@
+// The parse call: a text, its table and lent room for nodes. It is read twice, first into no memory at all, so that a refused parse
+// leaves node memory as it was.
+use nodes::At;
+use nodes::Got;
+use rules::Column;
+use rules::Cursor;
+use rules::Ending;
+use rules::Judged;
+use rules::Line;
+use rules::Offset;
+use rules::Outer;
+use rules::Parsed;
+use rules::Reason;
+use rules::Syntax;
+use rules::Table;
+ghost use mathlib.Core.Path.{_≡_};
+ghost use Prim.Native.Nat.{_+_, _*_, _≤_};
+ghost use lib.ListN.{length};
+ghost use Rattle.rules.specs.Text.{startPlace};
+ghost use Rattle.rules.specs.Calls.{parseTold, parseLeaves, nodeRoom, placeOfRow};
+ghost use Rattle.rules.specs.declared.Parsed.the-variants as parsed;
+ghost use Rattle.rules.specs.declared.Reason.the-variants as reason;
+ghost use Rattle.nodes.specs.Post.{AsksOpen};
+ghost use Rattle.nodes.specs.Names.{Spans};
+ghost use Rattle.parse.specs.Program.{TopMet, ProgramMet, AsksTable, AsksWhole, readingOf, Final};
+
+const UNIT: u32 = 0;
+
+const MAP: u32 = 6;
+
+const EVENT: u32 = 15;
+
+const EOF: u32 = 52;
+
+// A map, an event or a unit at the row.
+fn top(text: &[u8], rows: &[u32], count: usize, nodes: &mut [u32], row: usize, node: usize) -> Got
+    requires { ⌜ AsksOpen (now rows) count row node 64 × Spans (now text) (now rows) count ⌝ }
+    ensures { λ r. ⌜ TopMet (now (text .entry)) (now (rows .entry)) count row node (now (nodes .entry)) (now (nodes .exit)) r ⌝ }
+{
+    let k = nodes::kind_at(rows, count, row);
+    if k == MAP {
+        return maps::map(text, rows, count, nodes, row, node);
+    }
+    if k == UNIT {
+        return units::unit(text, rows, count, nodes, row, node);
+    }
+    if k == EVENT {
+        return events::event(rows, count, nodes, row, node);
+    }
+    Got::Refused(Syntax::NotTopLevel, row)
+}
+
+// The program of the rows.
+fn program(text: &[u8], rows: &[u32], count: usize, nodes: &mut [u32]) -> Got
+    requires { ⌜ AsksTable (now text) (now rows) count ⌝ }
+    ensures { λ r. ⌜ ProgramMet (now (text .entry)) (now (rows .entry)) count (now (nodes .entry)) (now (nodes .exit)) r ⌝ }
+{
+    let mut s = At {
+        row: 0,
+        node: 0,
+        place: 0,
+        tag: 0,
+    };
+    loop {
+        let at = s.row;
+        if nodes::kind_at(rows, count, at) == EOF {
+            return Got::Done(nodes::ended(nodes, s, 29, at, s.tag));
+        }
+        match top(text, rows, count, nodes, at, s.node) {
+            Got::Done(t) => {
+                s = nodes::counted(t, s.place, s.tag + 1);
+            }
+            Got::Refused(why, r) => {
+                return Got::Refused(why, r);
+            }
+        }
+    }
+}
+
+// The place of a row.
+fn place_of(rows: &[u32], row: usize) -> Cursor
+    requires { ⌜ row * 8 + 8 ≤ length (now rows) ⌝ }
+    ensures { λ r. ⌜ r ≡ placeOfRow (now (rows .entry)) row ⌝ }
+{
+    let at = row * 8;
+    Cursor {
+        offset: Offset(rows[at + 1]),
+        line: Line(rows[at + 3]),
+        column: Column(rows[at + 4]),
+    }
+}
+
+// A refusal of the call itself.
+fn outer(why: Outer) -> Parsed
+    ensures { λ r. ⌜ r ≡ parsed.Refused (reason.Outer why) startPlace ⌝ }
+{
+    Parsed::Refused(Reason::Outer(why), Cursor::start())
+}
+
+// The program of a sound table with no refused ending, into enough room.
+fn twice(text: &[u8], rows: &[u32], count: usize, nodes: &mut [u32]) -> Parsed
+    requires { ⌜ AsksWhole (now text) (now rows) count (now nodes) ⌝ }
+    ensures { λ r. ⌜ Final (now (rows .entry)) (readingOf (now (text .entry)) (now (rows .entry)) count) (now (nodes .entry)) (now (nodes .exit)) r ⌝ }
+{
+    match program(text, rows, count, &mut nodes[..0]) {
+        Got::Done(t) => {
+            program(text, rows, count, nodes);
+            Parsed::Nodes(t.node as u32)
+        }
+        Got::Refused(why, r) => Parsed::Refused(Reason::Syntax(why), place_of(rows, r)),
+    }
+}
+
+// The nodes of a program.
+pub fn parse(text: &[u8], rows: &[u32], table: Table, nodes: &mut [u32]) -> Parsed
+    ensures { λ r. ⌜ (r ≡ parseTold (now (text .entry)) (now (rows .entry)) table (nodeRoom (now (nodes .entry)))) × (now (nodes .exit) ≡ parseLeaves (now (text .entry)) (now (rows .entry)) table (now (nodes .entry))) ⌝ }
+{
+    match rows::judge(text, rows, table) {
+        Judged::Refused(why, at) => {
+            return Parsed::Refused(Reason::Outer(why), at);
+        }
+        Judged::Fine => {}
+    }
+    let ending = table.ending;
+    match ending {
+        Ending::Refused(why, at) => {
+            return Parsed::Refused(Reason::Lexical(why), at);
+        }
+        Ending::None => {}
+    }
+    let count = table.count as usize;
+    if nodes.len() / 8 < count {
+        return outer(Outer::NoNodeRoom);
+    }
+    twice(text, rows, count, nodes)
+}

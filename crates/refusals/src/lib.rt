@@ -1,0 +1,105 @@
+// The number of each refusal, and the two words that it tells besides.
+use rules::Lexical;
+use rules::Outer;
+use rules::Reason;
+use rules::Syntax;
+ghost use mathlib.Core.Path.{_≡_};
+ghost use lib.ListN.{getD};
+ghost use Rattle.rules.specs.Refusals.{outerNumber, lexicalNumber, syntaxNumber, reasonNumber, syntaxTells};
+
+pub fn outer_number(why: Outer) -> u32
+    ensures { λ r. ⌜ r ≡ outerNumber why ⌝ }
+{
+    match why {
+        Outer::TextTooLong => 1,
+        Outer::BadByte => 2,
+        Outer::NotWellFormed => 3,
+        Outer::NoRowRoom => 4,
+        Outer::NoNodeRoom => 5,
+        Outer::EditNotSensible => 6,
+        Outer::WindowShort => 7,
+    }
+}
+
+pub fn lexical_number(why: Lexical) -> u32
+    ensures { λ r. ⌜ r ≡ lexicalNumber why ⌝ }
+{
+    match why {
+        Lexical::NoRowBegins => 11,
+        Lexical::LoneSign => 11,
+        Lexical::NoHexDigit => 11,
+        Lexical::OpenComment => 12,
+        Lexical::OpenString => 13,
+        Lexical::BadEscape => 14,
+        Lexical::NumberTooLarge => 15,
+    }
+}
+
+pub fn syntax_number(why: Syntax) -> u32
+    ensures { λ r. ⌜ r ≡ syntaxNumber why ⌝ }
+{
+    match why {
+        Syntax::Wanted(_, _) => 21,
+        Syntax::NotTopLevel => 22,
+        Syntax::NotMapField => 23,
+        Syntax::MapTypeUnknown => 24,
+        Syntax::NotType => 25,
+        Syntax::MaxNegative => 26,
+        Syntax::OutOfRange => 27,
+        Syntax::ShiftCount => 28,
+        Syntax::MapLacks(_) => 29,
+        Syntax::NotEventType => 30,
+        Syntax::CallOnOther => 31,
+        Syntax::TooDeep => 32,
+    }
+}
+
+pub fn reason_number(why: Reason) -> u32
+    ensures { λ r. ⌜ r ≡ reasonNumber why ⌝ }
+{
+    match why {
+        Reason::Outer(x) => outer_number(x),
+        Reason::Lexical(x) => lexical_number(x),
+        Reason::Syntax(x) => syntax_number(x),
+    }
+}
+
+// The kind that was wanted, or the field that a map lacks.
+pub fn first_told(why: Syntax) -> u32
+    ensures { λ r. ⌜ r ≡ getD (syntaxTells why) 0 0 ⌝ }
+{
+    match why {
+        Syntax::Wanted(wanted, _) => wanted,
+        Syntax::MapLacks(field) => field,
+        Syntax::NotTopLevel => 0,
+        Syntax::NotMapField => 0,
+        Syntax::MapTypeUnknown => 0,
+        Syntax::NotType => 0,
+        Syntax::MaxNegative => 0,
+        Syntax::OutOfRange => 0,
+        Syntax::ShiftCount => 0,
+        Syntax::NotEventType => 0,
+        Syntax::CallOnOther => 0,
+        Syntax::TooDeep => 0,
+    }
+}
+
+// The kind that was found.
+pub fn second_told(why: Syntax) -> u32
+    ensures { λ r. ⌜ r ≡ getD (syntaxTells why) 1 0 ⌝ }
+{
+    match why {
+        Syntax::Wanted(_, found) => found,
+        Syntax::MapLacks(_) => 0,
+        Syntax::NotTopLevel => 0,
+        Syntax::NotMapField => 0,
+        Syntax::MapTypeUnknown => 0,
+        Syntax::NotType => 0,
+        Syntax::MaxNegative => 0,
+        Syntax::OutOfRange => 0,
+        Syntax::ShiftCount => 0,
+        Syntax::NotEventType => 0,
+        Syntax::CallOnOther => 0,
+        Syntax::TooDeep => 0,
+    }
+}

@@ -1,0 +1,3 @@
+pub mod Olds
+pub mod Looks
+pub mod Sights
