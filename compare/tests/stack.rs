@@ -4,7 +4,7 @@ use std::path::Path;
 use std::process::Command;
 
 /// No call may take more stack than this.
-const MOST: usize = 64 * 1024;
+const MOST: usize = 128 * 1024;
 
 #[test]
 fn the_deepest_nesting_takes_little_stack() {

@@ -1,5 +1,10 @@
 // The outer face for C and Rust: every call over lent words, its answer in eight words of one layout (specs/Layout.antt,
 // include/spoonharbor.h). Nothing is asked of the caller but the sizes that the signatures say.
+use refusals::first_told;
+use refusals::lexical_number;
+use refusals::outer_number;
+use refusals::second_told;
+use refusals::syntax_number;
 use rules::Asked;
 use rules::Column;
 use rules::Cursor;
@@ -23,38 +28,9 @@ ghost use Rattle.rules.specs.Scan.{scanTold, scanLeaves, roomOf};
 ghost use Rattle.rules.specs.Edit.{editTold, editLeaves, restartTold};
 ghost use Rattle.rules.specs.Sets.{fromSection};
 ghost use Rattle.rules.specs.Calls.{spellingJudged, memberAsked, sizeAsked, parseTold, parseLeaves, nodeRoom};
-ghost use Rattle.rules.specs.Refusals.{outerNumber, lexicalNumber, syntaxNumber};
 ghost use Rattle.console.specs.Layout.{words, nowhere, syntaxWords, toldWords, outerWords, judgedWords, askedWords, restartWords, parsedWords, isEnding, lexicalOf, endingOf, tableOf, withTable, untouched, spellingWords};
 
 // ---- numbers
-
-fn outer_number(why: Outer) -> u32
-    ensures { λ r. ⌜ r ≡ outerNumber why ⌝ }
-{
-    match why {
-        Outer::TextTooLong => 1,
-        Outer::BadByte => 2,
-        Outer::NotWellFormed => 3,
-        Outer::NoRowRoom => 4,
-        Outer::NoNodeRoom => 5,
-        Outer::EditNotSensible => 6,
-        Outer::WindowShort => 7,
-    }
-}
-
-fn lexical_number(why: Lexical) -> u32
-    ensures { λ r. ⌜ r ≡ lexicalNumber why ⌝ }
-{
-    match why {
-        Lexical::NoRowBegins => 11,
-        Lexical::LoneSign => 11,
-        Lexical::NoHexDigit => 11,
-        Lexical::OpenComment => 12,
-        Lexical::OpenString => 13,
-        Lexical::BadEscape => 14,
-        Lexical::NumberTooLarge => 15,
-    }
-}
 
 fn lexical_of(number: u32) -> Lexical
     ensures { λ r. ⌜ r ≡ lexicalOf number ⌝ }
@@ -138,44 +114,15 @@ fn put_told(answer: &mut [u32; 8], told: Told)
 fn put_syntax(answer: &mut [u32; 8], why: Syntax, at: Cursor)
     ensures { λ _. ⌜ now (answer .exit) ≡ syntaxWords why at ⌝ }
 {
-    match why {
-        Syntax::Wanted(wanted, found) => {
-            put(answer, 21, at, wanted, found, 0, 0);
-        }
-        Syntax::NotTopLevel => {
-            put(answer, 22, at, 0, 0, 0, 0);
-        }
-        Syntax::NotMapField => {
-            put(answer, 23, at, 0, 0, 0, 0);
-        }
-        Syntax::MapTypeUnknown => {
-            put(answer, 24, at, 0, 0, 0, 0);
-        }
-        Syntax::NotType => {
-            put(answer, 25, at, 0, 0, 0, 0);
-        }
-        Syntax::MaxNegative => {
-            put(answer, 26, at, 0, 0, 0, 0);
-        }
-        Syntax::OutOfRange => {
-            put(answer, 27, at, 0, 0, 0, 0);
-        }
-        Syntax::ShiftCount => {
-            put(answer, 28, at, 0, 0, 0, 0);
-        }
-        Syntax::MapLacks(field) => {
-            put(answer, 29, at, field, 0, 0, 0);
-        }
-        Syntax::NotEventType => {
-            put(answer, 30, at, 0, 0, 0, 0);
-        }
-        Syntax::CallOnOther => {
-            put(answer, 31, at, 0, 0, 0, 0);
-        }
-        Syntax::TooDeep => {
-            put(answer, 32, at, 0, 0, 0, 0);
-        }
-    }
+    put(
+        answer,
+        syntax_number(why),
+        at,
+        first_told(why),
+        second_told(why),
+        0,
+        0,
+    );
 }
 
 fn put_parsed(answer: &mut [u32; 8], parsed: Parsed)

@@ -1,1 +1,2 @@
+-- What an event's functions say.
 pub mod Shapes

@@ -1,3 +1,4 @@
+-- Answers and loops; the tokens that rows and text tell; types, limits, and the facts behind each field.
 pub mod Words
 pub mod Answers
 pub mod Loops

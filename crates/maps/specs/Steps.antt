@@ -1,6 +1,5 @@
 -- What a map's fields give: the answers of the functions that read them, and what these ask.
 use mathlib.Core.Path.{_≡_}
-use mathlib.Core.Bool.{true}
 use mathlib.Core.List.{List}
 use Prim.Native.Nat.{ℕ, _+_, _*_, _^_}
 use lib.ListN.{getD}
@@ -8,7 +7,7 @@ use Rattle.rules.specs.declared.Syntax.{Syntax}
 use Rattle.rules.specs.Kinds.{KeywordKey, KeywordValue, RBrace}
 use Rattle.rules.specs.Tree.{Tok, Tree, maxBits, lastOf, typeOf, typedBy, limitOf}
 use Rattle.rules.specs.Parse
-use Rattle.rules.specs.Parse.{Out, ok, no, isShift, isTyped}
+use Rattle.rules.specs.Parse.{Out, ok, no}
 use Rattle.nodes.specs.Post.{kindWord, Tells, Asks, Met}
 use Rattle.nodes.specs.Names.{Names}
 use Rattle.nodes.specs.declared.Got.{Got}
@@ -29,18 +28,6 @@ bitsAt ws i = getD ws (i * 8 + 6) 0 * 2 ^ 32 + getD ws (i * 8 + 5) 0
 pub record AsksRow (ws : List ℕ) (n i k : ℕ) : Type 0 where
   pub at : Asks ws n i 0 0
   pub word : k ≡ kindWord ws n i
-
--- a shift
-pub record AsksShift (ws : List ℕ) (n i k : ℕ) : Type 0 where
-  pub at : Asks ws n i 0 0
-  pub word : k ≡ kindWord ws n i
-  pub shift : isShift k ≡ true
-
--- key or value
-pub record AsksTyped (ws : List ℕ) (n i k : ℕ) : Type 0 where
-  pub at : Asks ws n i 0 0
-  pub word : k ≡ kindWord ws n i
-  pub typed : isTyped k ≡ true
 
 -- ---- answers
 

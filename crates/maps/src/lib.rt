@@ -4,15 +4,17 @@ use nodes::Got;
 use nodes::Words;
 use rules::Syntax;
 ghost use mathlib.Core.Path.{_≡_};
+ghost use mathlib.Core.Bool.{true};
 ghost use Prim.Native.Nat.{pred, _+_, _*_, _≤_, _<_};
 ghost use lib.ListN.{length};
 ghost use lib.Seq.{sets};
 ghost use Rattle.rules.specs.Kinds.{KeywordType, KeywordMax};
 ghost use Rattle.rules.specs.Tree.{mapTypeNumber, lacking, shiftBits};
+ghost use Rattle.rules.specs.Parse.{isTyped};
 ghost use Rattle.rules.specs.Nodes.{factNode, nodeWords};
 ghost use Rattle.nodes.specs.Post.{Asks, AsksOpen};
 ghost use Rattle.nodes.specs.Names.{Spans};
-ghost use Rattle.maps.specs.Steps.{bitsAt, AsksRow, AsksShift, AsksTyped, ShiftFound, ChainFound, FieldFound, RowsFound, FieldsFound, MapMet};
+ghost use Rattle.maps.specs.Steps.{bitsAt, AsksRow, ShiftFound, ChainFound, FieldFound, RowsFound, FieldsFound, MapMet};
 
 const TYPE: u32 = 7;
 
@@ -96,7 +98,7 @@ fn shifted(kind: u32, x: u64, c: u64) -> u64
 
 // A shift whose sign is at the sum's row.
 fn shift_step(rows: &[u32], count: usize, s: Sum, kind: u32) -> Summed
-    requires { ⌜ AsksShift (now rows) count (s .row) kind ⌝ }
+    requires { ⌜ AsksRow (now rows) count (s .row) kind ⌝ }
     ensures { λ r. ⌜ ShiftFound (now (rows .entry)) count s r ⌝ }
 {
     let number = s.row + 1;
@@ -182,7 +184,7 @@ fn max_field(rows: &[u32], count: usize, f: Facts) -> Found
 
 // `key` or `value`, which the kind says, at the fields' row.
 fn typed_field(rows: &[u32], count: usize, f: Facts, kind: u32) -> Found
-    requires { ⌜ AsksTyped (now rows) count (f .row) kind ⌝ }
+    requires { ⌜ AsksRow (now rows) count (f .row) kind × (isTyped kind ≡ true) ⌝ }
     ensures { λ r. ⌜ RowsFound (now (rows .entry)) count f r ⌝ }
 {
     let colon = f.row + 1;

@@ -1,16 +1,16 @@
-// Holds the scanner against the stored answers of the Rust: reads the sample on standard input, scans each of its texts, and writes
-// how many things were held against it and how many agree. `stdin` is a copy of compare/sample.txt, which
+// Holds the scanner and the parser against the stored answers of the Rust: reads the sample on standard input, scans and parses each
+// of its texts, and writes how many things were held against it and how many agree. `stdin` is a copy of compare/sample.txt, which
 // `cargo run --release --offline --bin sample 4000 1` writes in compare/; compare/README.md says what stands in it.
+use input::LOST;
 use libc::STDIN_FILENO;
 use tally::Tally;
-use words::LOST;
 
 mod compared;
-mod passed;
+mod input;
 mod report;
 mod table;
 mod tally;
-mod words;
+mod tree;
 
 // The cases that were read: how many, what was counted, and how many of them differ, with the numbers of the first few.
 struct Run {
@@ -58,7 +58,7 @@ fn answers_compared(sample: &[u8], tally: Tally, text: &[u8]) -> Tally {
     let mut rows = [0u32; 16000];
     let told = scan::scan(text, &mut rows);
     let now = table::table_compared(sample, tally, &rows, told);
-    passed::parse_passed(sample, now)
+    tree::parse_compared(sample, now, text, &rows, table::table_of(told))
 }
 
 // The first so many bytes, or all if there are fewer.
@@ -78,8 +78,8 @@ fn first_compared(sample: &[u8], tally: Tally, text: &[u8; 4096], size: u64) -> 
 // The sample's next case.
 fn case_compared(sample: &[u8], tally: Tally) -> Tally {
     let mut text = [0u8; 4096];
-    let size = words::count(sample, words::letter(sample, tally.at, b'T'));
-    let next = words::bytes(sample, size.next, &mut text, size.value);
+    let size = input::count(sample, input::letter(sample, tally.at, b'T'));
+    let next = input::bytes(sample, size.next, &mut text, size.value);
     if next == LOST {
         return tally.moved(LOST);
     }
@@ -94,7 +94,7 @@ fn header(sample: &[u8]) -> usize {
     if !check::same(&sample[..18], b"spoonharbor-sample") {
         return LOST;
     }
-    let version = words::count(sample, 18);
+    let version = input::count(sample, 18);
     if version.value != 1 {
         return LOST;
     }
@@ -103,7 +103,7 @@ fn header(sample: &[u8]) -> usize {
 
 // How many bytes the sample has from a place on, blanks left out.
 fn rest(sample: &[u8], at: usize) -> u64 {
-    let from = words::past_blanks(sample, at);
+    let from = input::past_blanks(sample, at);
     if from < sample.len() {
         return (sample.len() - from) as u64;
     }
@@ -144,7 +144,7 @@ fn cases(sample: &[u8], at: usize, size: u64) -> Run {
 }
 
 fn replay(sample: &[u8]) {
-    let size = words::count(sample, header(sample));
+    let size = input::count(sample, header(sample));
     let run = cases(sample, size.next, size.value);
     report::two(b"cases ", run.read, b" of ", size.value);
     report::one(b"bytes behind the last case ", rest(sample, run.tally.at));

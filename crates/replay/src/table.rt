@@ -1,24 +1,29 @@
 // The rows of a text and their ending, held against the sample's.
 use crate::compared::compared;
 use crate::compared::part;
+use crate::input::LOST;
+use crate::input::count;
+use crate::input::letter;
 use crate::tally::ENDINGS;
 use crate::tally::ROWS;
 use crate::tally::TABLES;
 use crate::tally::Tally;
-use crate::words::LOST;
-use crate::words::count;
-use crate::words::letter;
 use refusals::lexical_number;
 use refusals::outer_number;
 use rules::Cursor;
 use rules::Ending;
+use rules::Table;
 use rules::Told;
 
-// How many rows a scan wrote.
-fn row_count(told: Told) -> u32 {
+// The table that a scan tells; one that no text has where the scan is refused.
+pub fn table_of(told: Told) -> Table {
     match told {
-        Told::Rows(table) => table.count,
-        Told::Refused(_, _, count) => count,
+        Told::Rows(table) => table,
+        Told::Refused(_, _, count) => Table {
+            count,
+            length: 0,
+            ending: Ending::None,
+        },
     }
 }
 
@@ -57,7 +62,7 @@ fn rows_compared(sample: &[u8], tally: Tally, rows: &[u32], own: usize, size: u6
 
 // The sample's rows and ending against what a scan told and wrote.
 pub fn table_compared(sample: &[u8], tally: Tally, rows: &[u32], told: Told) -> Tally {
-    let own = row_count(told);
+    let own = table_of(told).count;
     let size = count(sample, letter(sample, tally.at, b'R'));
     let headed = tally
         .moved(size.next)

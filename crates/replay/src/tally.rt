@@ -5,26 +5,36 @@ pub const ROWS: usize = 1;
 
 pub const ENDINGS: usize = 2;
 
-// The place in the sample; for each of the things above how many were held against the sample and how many agree; how many do not;
-// how many words the sample does not say; how many parses were passed over.
+pub const REFUSALS: usize = 3;
+
+pub const UNCOMPARED: usize = 4;
+
+pub const PROGRAMS: usize = 5;
+
+pub const DECLARATIONS: usize = 6;
+
+pub const NODES: usize = 7;
+
+// The place in the sample; the next of our own nodes; for each of the things above how many were held against the sample and how
+// many agree; how many do not; how many words the sample does not say.
 pub struct Tally {
     pub at: usize,
-    pub seen: [u64; 3],
-    pub agreed: [u64; 3],
+    pub node: usize,
+    pub seen: [u64; 8],
+    pub agreed: [u64; 8],
     pub faults: u64,
     pub unsaid: u64,
-    pub passed: u64,
 }
 
 impl Tally {
     pub fn start(at: usize) -> Tally {
         Tally {
             at,
-            seen: [0; 3],
-            agreed: [0; 3],
+            node: 0,
+            seen: [0; 8],
+            agreed: [0; 8],
             faults: 0,
             unsaid: 0,
-            passed: 0,
         }
     }
 
@@ -33,15 +43,14 @@ impl Tally {
         self
     }
 
-    // One parse more that was passed over.
-    pub fn parse_passed(mut self) -> Tally {
-        self.passed = more(self.passed);
+    pub fn next_node(mut self, node: usize) -> Tally {
+        self.node = node;
         self
     }
 
-    // One thing more that was held against the sample.
+    // One thing more that was held, at this place of the sample.
     pub fn held(mut self, what: usize, agrees: bool) -> Tally {
-        if what < 3 {
+        if what < 8 {
             self.seen[what] = more(self.seen[what]);
             if agrees {
                 self.agreed[what] = more(self.agreed[what]);

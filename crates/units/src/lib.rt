@@ -87,6 +87,7 @@ fn with_text(text: &[u8], rows: &[u32], nodes: &mut [u32], u: Contents, word: u3
 {
     let here = u.at;
     let string = here.row + 1;
+    let name = string as u32;
     let n = here.node;
     let at = At {
         row: string + 1 + 1,
@@ -95,14 +96,14 @@ fn with_text(text: &[u8], rows: &[u32], nodes: &mut [u32], u: Contents, word: u3
         tag: here.tag + 1,
     };
     if word == LICENSE {
-        nodes::close(nodes, n, 24, string, string as u32, 0);
+        nodes::close(nodes, n, 24, string, name, 0);
         return Contents {
             at,
             kind: u.kind,
-            licence: string as u32,
+            licence: name,
         };
     }
-    nodes::close(nodes, n, 23, string, string as u32, 0);
+    nodes::close(nodes, n, 23, string, name, 0);
     Contents {
         at,
         kind: first_kind(text, rows, string, u.kind),

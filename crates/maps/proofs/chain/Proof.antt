@@ -82,7 +82,6 @@ shift-step-requires c κs =
     record {
       at = record { lent = p .lent; inside = omega (arith, l, tells-some (c .before .before .before .before .before .before .before .args .rows .now) (c .before .before .before .before .before .before .before .args .count) .long); few = omega arith; short = p .short; nest = p .nest };
       word = c .before .kind-at2 .ensures;
-      shift = c .if2 .taken;
     }
 
 enum-known-t : tie.Need-enum-known-t Inv-loop μ-loop

@@ -22,7 +22,7 @@ begun : (c : tie.Start) (ts : List Tok) → Tells ts (c .args .rows .now) (c .ar
     → Parse.mapField ts (c .args .f .row) ≡ Parse.want ts Colon (λ j. Parse.keyBy ts (isType (kindAt ts j)) (kindAt ts (c .args .f .row)) j) (c .args .f .row + 1)
 begun c ts h =
     let a = c .args in
-    field-keying ts (a .f .row) (ap isTyped (sym (seen ts (a .rows .now) (a .count) h (a .f .row) (a .kind) (c .pre .word))) ∙ c .pre .typed)
+    field-keying ts (a .f .row) (ap isTyped (sym (seen ts (a .rows .now) (a .count) h (a .f .row) (a .kind) (c .pre .0 .word))) ∙ c .pre .1)
 
 -- what stands behind the colon
 opened : (c : tie.Else1) (ts : List Tok) → Tells ts (c .before .before .before .before .args .rows .now) (c .before .before .before .before .args .count)
@@ -44,7 +44,7 @@ whole : (c : tie.Else4) (ts : List Tok) → Tells ts (c .before .before .before 
     → Parse.mapField ts (c .before .before .before .before .before .before .before .before .before .args .f .row) ≡ ok (typed (c .before .before .before .before .before .before .before .before .before .args .kind) (c .before .before .before .before .kind-at2 .result)) (c .before .before .before .before .before .before .before .before .before .args .f .row + 1 + 1 + 1 + 1)
 whole c ts h =
     let a = c .before .before .before .before .before .before .before .before .before .args in
-    let k = seen ts (a .rows .now) (a .count) h (a .f .row) (a .kind) (c .before .before .before .before .before .before .before .before .before .pre .word) in
+    let k = seen ts (a .rows .now) (a .count) h (a .f .row) (a .kind) (c .before .before .before .before .before .before .before .before .before .pre .0 .word) in
     let q = seen ts (a .rows .now) (a .count) h (a .f .row + 1 + 1) (c .before .before .before .before .kind-at2 .result) (c .before .before .before .before .kind-at2 .ensures) in
     rw (k, q) (typing (c .before .before) ts h ∙ want-met ts (a .rows .now) (a .count) h (a .f .row + 1 + 1 + 1) (c .before .kind-at3 .result) (c .before .kind-at3 .ensures) Semicolon _ (c .if4 .left))
 
@@ -105,7 +105,7 @@ add-t21 c = search needs
 returns-6 : tie.Need-returns-6
 returns-6 c ts h =
     let a = c .before .before .before .before .before .before .before .before .before .before .args in
-    let v : a .kind ≡ KeywordValue = either-kind (λ x. (x ≡ KeywordKey → ⊥) → x ≡ KeywordValue) (a .kind) KeywordKey KeywordValue (c .before .before .before .before .before .before .before .before .before .before .pre .typed) (λ z. absurd (z refl)) (λ z. refl) (c .if5 .left) in
+    let v : a .kind ≡ KeywordValue = either-kind (λ x. (x ≡ KeywordKey → ⊥) → x ≡ KeywordValue) (a .kind) KeywordKey KeywordValue (c .before .before .before .before .before .before .before .before .before .before .pre .1) (λ z. absurd (z refl)) (λ z. refl) (c .if5 .left) in
     steps-to (a .f) _ (typed KeywordValue (c .before .before .before .before .before .kind-at2 .result)) (a .f .row + 1 + 1 + 1 + 1) _ (whole (c .before) ts h ∙ ap (λ (x : ℕ). ok (typed x (c .before .before .before .before .before .kind-at2 .result)) (a .f .row + 1 + 1 + 1 + 1)) v)
     (over-value (a .f) _ (c .before .before .before .before .before .kind-at2 .result) (type-low (c .before .before .before .before .before .kind-at2 .result) (not-false _ (c .before .before .before .if3 .left))))
 

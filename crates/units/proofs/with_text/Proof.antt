@@ -7,8 +7,8 @@ use Rattle.units.proofs.with_text.Tie as tie
 add-string : tie.Need-add-string
 add-string c = search needs
 
-add-t10 : tie.Need-add-t10
-add-t10 c = search needs
+cast-name : tie.Need-cast-name
+cast-name c = search needs
 
 add-t11 : tie.Need-add-t11
 add-t11 c = search needs
@@ -19,14 +19,11 @@ add-t12 c = search needs
 add-t13 : tie.Need-add-t13
 add-t13 c = search needs
 
-cast-close : tie.Need-cast-close
-cast-close c = search needs
+add-t14 : tie.Need-add-t14
+add-t14 c = search needs
 
 close-requires : tie.Need-close-requires
 close-requires c κs = search needs
-
-cast-t18 : tie.Need-cast-t18
-cast-t18 c = search needs
 
 same-length : tie.Need-same-length
 same-length c = search needs
@@ -35,9 +32,6 @@ returns : tie.Need-returns
 returns c =
     let a = c .before .before .before .before .before .before .before .before .before .before .before .args in
     with-licence (a .text .now) (a .rows .now) (a .u) (a .word) (a .nodes .now) _ (c .before .before .before .before .if1 .taken) (c .before .before .before .before .before .before .before .before .before .before .before .pre .inside) (c .before .before .close .ensures)
-
-cast-close-2 : tie.Need-cast-close-2
-cast-close-2 c = search needs
 
 close-requires-2 : tie.Need-close-requires-2
 close-requires-2 c κs = search needs
@@ -58,16 +52,14 @@ with-text-spec =
     tie.close
     (tie.spec
     add-string
-    add-t10
+    cast-name
     add-t11
     add-t12
     add-t13
-    cast-close
+    add-t14
     close-requires
-    cast-t18
     same-length
     returns
-    cast-close-2
     close-requires-2
     first-kind-requires
     same-length-2

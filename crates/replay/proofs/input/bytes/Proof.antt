@@ -1,8 +1,8 @@
 -- `bytes` is safe and ends: the words that are left fall.
 use Prim.Native.Nat.{_-_}
 use borrow.Author.Needs.{needs}
-use Rattle.replay.proofs.words.bytes.Statement.{statement}
-use Rattle.replay.proofs.words.bytes.Tie as tie
+use Rattle.replay.proofs.input.bytes.Statement.{statement}
+use Rattle.replay.proofs.input.bytes.Tie as tie
 
 abbrev Inv-loop : tie.InvT-loop
 Inv-loop sample at text₀ size next₀ i₀ text next i = Unit {0}

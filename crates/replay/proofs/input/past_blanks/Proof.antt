@@ -2,8 +2,8 @@
 use Prim.Native.Nat.{_-_}
 use lib.ListN.{length}
 use borrow.Author.Needs.{needs}
-use Rattle.replay.proofs.words.past_blanks.Statement.{statement}
-use Rattle.replay.proofs.words.past_blanks.Tie as tie
+use Rattle.replay.proofs.input.past_blanks.Statement.{statement}
+use Rattle.replay.proofs.input.past_blanks.Tie as tie
 
 abbrev Inv-loop : tie.InvT-loop
 Inv-loop sample at i₀ i = Unit {0}

@@ -2,8 +2,8 @@
 use Prim.Native.Nat.{_<_, _-_}
 use lib.ListN.{length}
 use borrow.Author.Needs.{needs}
-use Rattle.replay.proofs.words.number.Statement.{statement}
-use Rattle.replay.proofs.words.number.Tie as tie
+use Rattle.replay.proofs.input.number.Statement.{statement}
+use Rattle.replay.proofs.input.number.Tie as tie
 
 abbrev Inv-loop : tie.InvT-loop
 Inv-loop sample at value₀ i₀ value i = value < 42949672960

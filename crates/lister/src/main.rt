@@ -1,0 +1,9 @@
+// The lister of document 01: reads a text on standard input and writes its rows, then its nodes or its refusal.
+use libc::STDIN_FILENO;
+
+fn main() {
+    // One byte more than the longest text that is listed, so that a longer one is seen.
+    let mut text = [0u8; 16385];
+    let n = io::read_full(STDIN_FILENO, &mut text);
+    listing::list(&text[..n]);
+}
