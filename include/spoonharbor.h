@@ -1,4 +1,5 @@
-/* Spoonharbor's calls for C and Rust. Link with target/staticlib/libconsole.a (`rt staticlib console`).
+/* Spoonharbor's calls for C and Rust. Link with target/staticlib/libconsole.a (`rt staticlib console`), which is for x86-64; for
+ * another processor `rust/archive` writes target/staticlib/PROCESSOR/libconsole.a. `example.c` shows the calls.
  *
  * Every call answers for every argument, reads and writes only what it is lent, and keeps nothing. Parts of memory that are lent for
  * writing must not overlap what is lent for reading. A length of 0 is fine (with any pointer that is not null).
