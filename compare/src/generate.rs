@@ -5,8 +5,9 @@
 //! (`damage`), fields of maps and events (`fields`), numbers at their edges
 //! (`numbers`), nesting at its limit (`nesting`) and texts of limit length
 //! (`lengths`). Long probes as people write them (`probe`) are for times and for
-//! long chains of edits.
+//! long chains of edits; `change` has what an edit puts into a text.
 
+pub mod change;
 pub mod damage;
 pub mod fields;
 pub mod lengths;

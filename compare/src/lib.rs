@@ -2,9 +2,9 @@
 //! answer given in the terms of document 01.
 //!
 //! `answer` is the way in; `generate` makes texts to ask about; `edge_cases`
-//! has the texts whose answers document 01 and READINGS state; `sample` writes
-//! answers down for a program that cannot run Rust. `model` is document 01 written
-//! down a second time, for what the original does not say.
+//! has the texts whose answers document 01 and READINGS state; `sample` and
+//! `edits` write answers down for programs that cannot run Rust. `model` is
+//! document 01 written down a second time, for what the original does not say.
 
 #[allow(clippy::all)]
 pub mod original;
@@ -16,6 +16,7 @@ pub mod answer;
 pub mod deep;
 pub mod differences;
 pub mod edge_cases;
+pub mod edits;
 pub mod generate;
 pub mod kinds;
 pub mod method_sets;

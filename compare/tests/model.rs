@@ -3,6 +3,7 @@
 use compare::agree::agree;
 use compare::answer::{answer, Answer, Parsed};
 use compare::deep::on_deep_stack;
+use compare::edits::worked;
 use compare::generate::random::Random;
 use compare::generate::{lengths, sample_texts, short};
 use compare::model::edit::{edit, restart, Change};
@@ -114,46 +115,8 @@ fn the_models_edit_is_its_fresh_scan() {
     }
 }
 
-/// Old, a, b, new bytes, window length, room, refusal.
-type Reading = (
-    &'static [u8],
-    u32,
-    u32,
-    &'static [u8],
-    usize,
-    usize,
-    Option<u32>,
-);
-
-/// READINGS, "Wrong readings of the edit".
+/// Each case of the papers gets the number and the restart place that they state: the call panics at one that does not.
 #[test]
 fn the_edit_reads_as_agreed() {
-    let cases: [Reading; 9] = [
-        (b"/\"", 0, 0, b"", 1, 9, Some(13)),
-        (b"/", 0, 1, b"*", 1, 9, None),
-        (b"/", 0, 0, b"", 0, 9, Some(7)),
-        (b"/", 0, 0, b"<", 1, 9, Some(7)),
-        (b"/", 0, 0, b"0x", 2, 9, Some(7)),
-        (b"9\\8a", 1, 1, b"99999999999999999999", 21, 9, Some(7)),
-        (b"/\n", 0, 0, b"*", 2, 9, None),
-        (b"/\"", 2, 2, b"", 1, 9, Some(13)),
-        (b"", 0, 0, b"/", 0, 0, Some(7)),
-    ];
-    for (old, a, b, new_bytes, window, room, number) in cases {
-        let (rows, table) = lent_words(&scan(old, usize::MAX));
-        let lent = Lent {
-            rows: &rows,
-            table: &table,
-        };
-        let new = [&old[..a as usize], new_bytes, &old[b as usize..]].concat();
-        let start = restart(lent, a).unwrap().offset;
-        let n = new_bytes.len() as u32;
-        let shown = &new[start as usize..start as usize + window];
-        let told = edit(lent, Change { a, b, n }, start, shown, room);
-        assert_eq!(
-            told.refusal.map(|refusal| refusal.number),
-            number,
-            "{old:?}"
-        );
-    }
+    assert_eq!(worked::edits().len(), worked::WORKED.len());
 }

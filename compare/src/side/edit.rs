@@ -2,8 +2,9 @@
 
 use super::{memory_with, same, shown, Compared, Counts, Difference, Memory};
 use crate::answer::{answer, Answer};
+use crate::generate::change::new_bytes;
 use crate::generate::random::Random;
-use crate::generate::{damage, random_text, short, spelling};
+use crate::generate::{damage, random_text, short};
 use crate::model::edit::{edit, restart, Change};
 use crate::model::table::Lent;
 use crate::model::{refusal_words, Told};
@@ -73,19 +74,6 @@ fn old_text(random: &mut Random) -> Vec<u8> {
             }
             text
         }
-    }
-}
-
-fn new_bytes(random: &mut Random) -> Vec<u8> {
-    match random.below(8) {
-        0 => Vec::new(),
-        1..=4 => {
-            let count = 1 + random.below(3);
-            short::random_text(random, count)
-        }
-        5 => short::quoting_text(random),
-        6 => b"99999999999999999999"[..1 + random.below(20)].to_vec(),
-        _ => spelling::any_token(random).as_bytes().to_vec(),
     }
 }
 

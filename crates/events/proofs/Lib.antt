@@ -1,3 +1,2 @@
--- Rows as the code sees them, and the nodes of fields and events.
-pub mod Seen
+-- The nodes of fields and events.
 pub mod Nodes

@@ -8,7 +8,7 @@ use native.Mathlib.Numerals.{add-one, add-two, add-three, add-four, add-five, ad
 use native.Mathlib.Omega.{arith}
 use lib.Dec.{eqb}
 use lib.ListN.{length, getD, drop, set, length-append}
-use lib.Seq.{sets, drop-cons}
+use lib.Seq.{sets, set-out, drop-cons}
 use borrow.Author.Tests.{eqb-true, eqb-false}
 use Rattle.rules.specs.Kinds.{Eof, KeywordKey, KeywordValue}
 use Rattle.rules.specs.Tree.{Tok, sign, kindOf, Tree, none, num, var, star, group, field, call, bin, one, more, decl, ret, plain, assign, guard, thenBody, elseBody, seq, text, unit, mapType, typed, limit, first, shifted, mapDecl, plainField, bytesField, arrayField, event, program, yield, count, unitKind, typeNumber, typeOf, typedBy, limitOf}
@@ -65,6 +65,11 @@ module _ {A : Type 0} where
   pub sets-append : (xs l ys : List A) (i : ℕ) → sets l i (xs ++ ys) ≡ sets (sets l i xs) (i + length xs) ys
   sets-append [] l ys i = rw add-zero
   sets-append (x ∷ xs) l ys i = sets-append xs (set l i x) ys (suc i) ∙ rw (suc-add i (length xs), ← add-suc i (length xs))
+
+-- stores behind the end
+pub sets-out : (vs l : List ℕ) (i : ℕ) → length l ≤ i → sets l i vs ≡ l
+sets-out [] l i h = refl
+sets-out (v ∷ vs) l i h = rw (set-out l i v h) (sets-out vs l (suc i) (omega arith))
 
 -- eight stores, one behind the other
 pub sets-eight : (m m₁ m₂ m₃ m₄ m₅ m₆ m₇ m₈ : List ℕ) (p a b c d e f g h : ℕ) → m₁ ≡ set m p a → m₂ ≡ set m₁ (p + 1) b → m₃ ≡ set m₂ (p + 2) c

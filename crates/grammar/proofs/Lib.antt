@@ -9,3 +9,6 @@ pub mod Refused
 pub mod Complete
 pub mod Same
 pub mod Tables
+pub mod Local
+pub mod GoesOn
+pub mod Place

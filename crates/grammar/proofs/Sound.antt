@@ -62,14 +62,14 @@ BodyUnder ts (suc d) o l j = Body ts d o l j
 -- ---- what is read, from a run of rows and back
 
 module _ {ts : List Tok} {N : Nt} {d i : ℕ} {t : Tree} {j : ℕ} where
-  reads : Is true N d t → Run ts i (yield t) j → Reads ts N d i t j
+  pub reads : Is true N d t → Run ts i (yield t) j → Reads ts N d i t j
   reads h r = record { is = h; next = r .next ∙ ap (λ (n : ℕ). i + n) (yield-width t); inside = r .inside; clear = r .clear; same = r .same }
 
-  run-of : Reads ts N d i t j → Run ts i (yield t) j
+  pub run-of : Reads ts N d i t j → Run ts i (yield t) j
   run-of r = record { next = r .next ∙ ap (λ (n : ℕ). i + n) (sym (yield-width t)); inside = r .inside; clear = r .clear; same = r .same }
 
   -- the same tree, of another nonterminal
-  taken-as : {M : Nt} → (Is true N d t → Is true M d t) → Reads ts N d i t j → Reads ts M d i t j
+  pub taken-as : {M : Nt} → (Is true N d t → Is true M d t) → Reads ts N d i t j → Reads ts M d i t j
   taken-as f r = record { is = f (r .is); next = r .next; inside = r .inside; clear = r .clear; same = r .same }
 
 module _ (ts : List Tok) where
@@ -80,7 +80,7 @@ module _ (ts : List Tok) where
   groups zero i t j e u f = absurd u
   groups (suc d) i t j e u f = reads (i-group (u .is)) (row ts i LParen e refl ▸ run-of u ▸ row ts j RParen f refl)
 
-  ones : (d o : ℕ) (t : Tree) (j : ℕ) → Under ts Add d o t j → Under ts Args d o (one t) j
+  pub ones : (d o : ℕ) (t : Tree) (j : ℕ) → Under ts Add d o t j → Under ts Args d o (one t) j
   unfolding yield
   ones zero o t j u = absurd u
   ones (suc d) o t j u = reads (i-one (u .is)) (run-of u)
@@ -120,7 +120,7 @@ module _ (ts : List Tok) where
     unfolding Parse.atom
     atom-sound i = atom-by (lead (kindAt ts i)) i (lead-is (kindAt ts i))
 
-    arg-step : (o : ℕ) (a : Tree) (j : ℕ) → Under ts Args d o a j → eqb (kindAt ts j) Comma ≡ true → All (Under ts Args d o) (Parse.argStep ts g a j)
+    pub arg-step : (o : ℕ) (a : Tree) (j : ℕ) → Under ts Args d o a j → eqb (kindAt ts j) Comma ≡ true → All (Under ts Args d o) (Parse.argStep ts g a j)
     unfolding Parse.argStep
     arg-step o a j u e =
         let f : kindAt ts j ≡ Comma = eqb-true (kindAt ts j) Comma e in
@@ -186,7 +186,7 @@ module _ (ts : List Tok) where
     -- a ladder: operands p of the nonterminal M, whose rows of operators `isOp` join them to the nonterminal N
     module _ (N M : Nt) (isOp : ℕ → Bool) (mark : (k : ℕ) → isOp k ≡ true → isMark k ≡ true) (p : P) (p-sound : (i : ℕ) → All (Reads ts M d i) (p i))
         (joins : (k : ℕ) (l r : Tree) → Is true N d l → isOp k ≡ true → Is true M d r → Is true N d (bin k l r)) where
-      bin-step : (i : ℕ) (t : Tree) (j : ℕ) → Reads ts N d i t j → isOp (kindAt ts j) ≡ true → All (Reads ts N d i) (Parse.binStep ts g p t j)
+      pub bin-step : (i : ℕ) (t : Tree) (j : ℕ) → Reads ts N d i t j → isOp (kindAt ts j) ≡ true → All (Reads ts N d i) (Parse.binStep ts g p t j)
       unfolding Parse.binStep yield
       bin-step i t j r b =
           then-all (Reads ts M d (j + 1)) (Reads ts N d i) (p (j + 1)) _ (p-sound (j + 1))
@@ -228,7 +228,7 @@ module _ (ts : List Tok) where
 
   module _ (Ns M : Nt) (d : ℕ) (nil : Is true Ns d none) (join : (l s : Tree) → Is true Ns d l → Is true M d s → Is true Ns d (seq l s)) (wide : 1 ≤ fewest M)
       (stop : ℕ) (p : P) (p-sound : (i : ℕ) → All (Reads ts M d i) (p i)) where
-    list-next : (i : ℕ) (l : Tree) (j : ℕ) → Reads ts Ns d i l j → All (λ u k. Reads ts Ns d i u k × (j < k)) (Parse.listStep ts p l j)
+    pub list-next : (i : ℕ) (l : Tree) (j : ℕ) → Reads ts Ns d i l j → All (λ u k. Reads ts Ns d i u k × (j < k)) (Parse.listStep ts p l j)
     unfolding Parse.listStep yield
     list-next i l j r =
         then-all (Reads ts M d j) (λ u k. Reads ts Ns d i u k × (j < k)) (p j) _ (p-sound j)
@@ -244,7 +244,7 @@ module _ (ts : List Tok) where
 
   -- ---- statements, over what is read behind a brace
 
-  body-run : (d o : ℕ) (l : Tree) (j : ℕ) → kindAt ts o ≡ LBrace → Body ts d o l j → Run ts o (sign LBrace ∷ (yield l ++ (sign RBrace ∷ []))) j
+  pub body-run : (d o : ℕ) (l : Tree) (j : ℕ) → kindAt ts o ≡ LBrace → Body ts d o l j → Run ts o (sign LBrace ∷ (yield l ++ (sign RBrace ∷ []))) j
   body-run d o l j e b =
       subst (λ (x : ℕ). Run ts o (sign LBrace ∷ (yield l ++ (sign RBrace ∷ []))) x) (b .next)
       (row ts o LBrace e refl ▸ run-of (b .reads) ▸ row ts (b .last) RBrace (b .brace) refl)
@@ -375,7 +375,7 @@ module _ (ts : List Tok) where
       reads (i-shifted (r .is) s (λ _. b)) (run-of r ▸ row ts k (kindAt ts k) refl (shift-mark (kindAt ts k) s) ▸ value-row ts (k + 1) e)
   count-by false i c k r s e b = tt
 
-  chain-next : (i : ℕ) (c : Tree) (k : ℕ) → Reads ts Chain 64 i c k → isShift (kindAt ts k) ≡ true → All (Reads ts Chain 64 i) (Parse.chainStep ts c k)
+  pub chain-next : (i : ℕ) (c : Tree) (k : ℕ) → Reads ts Chain 64 i c k → isShift (kindAt ts k) ≡ true → All (Reads ts Chain 64 i) (Parse.chainStep ts c k)
   unfolding Parse.chainStep
   chain-next i c k r s =
       valued-all ts (Reads ts Chain 64 i) _ (k + 1) (λ e. count-by (leb (bitsIn (tokAt ts (k + 1))) 63) i c k r s e refl)

@@ -12,7 +12,7 @@ use lib.Dec.{eqb, ltb}
 use borrow.Author.Tests.{lt-ltb, le-ltb, lt-leb}
 use Rattle.rules.specs.Text.{front}
 use Rattle.rules.specs.Lex.{isDigit, isHexDigit, digitValue, spelt, largest, numberOf}
-use Rattle.words.proofs.Tables.{allBelow, below}
+use Rattle.laws.proofs.Tables.{allBelow, below}
 use Rattle.place.proofs.Places.{front-on, front-off, front-end}
 use Rattle.leaves.specs.Leaf.{digitIn, baseOf, digitOf, clipped, speltFront, digitsOf}
 use Rattle.leaves.specs.declared.Digits.{Digits}

@@ -1,22 +1,14 @@
 -- The number of a map type, word by word.
-use mathlib.Core.Path.{_≡_, refl, sym}
-use mathlib.Core.Bool.{Bool, true, false}
+use mathlib.Core.Path.{_≡_, refl}
 use mathlib.Core.List.{List, [], _∷_}
 use Prim.Native.Nat.{ℕ}
-use Rattle.rules.specs.Kinds.{Spelt, sameBytes, kindIn}
-use Rattle.sets.proofs.Spellings.{same-eq}
+use Rattle.rules.specs.Kinds.{Spelt, kindIn}
+use Rattle.laws.proofs.Spellings.{differs}
 
 -- words of a table that a word is none of
 abbrev pub Not : List Spelt → List ℕ → Type 0
 Not [] w = Unit {0}
 Not (e ∷ es) w = (w ≡ e .spelling → ⊥) × Not es w
-
-differs : (a w : List ℕ) → (w ≡ a → ⊥) → sameBytes a w ≡ false
-differs a w h = go (sameBytes a w) refl
-  where
-    go : (b : Bool) → sameBytes a w ≡ b → b ≡ false
-    go true e = absurd (h (sym (same-eq a w e)))
-    go false e = refl
 
 pub not-in : (es : List Spelt) (d : ℕ) (w : List ℕ) → Not es w → kindIn es d w ≡ d
 unfolding kindIn

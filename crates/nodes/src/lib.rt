@@ -56,12 +56,11 @@ fn put(nodes: &mut [u32], at: usize, v: u32)
     }
 }
 
-// Node n, as far as there is room.
-pub fn store(nodes: &mut [u32], n: usize, w: Words)
-    requires { ⌜ n ≤ 65537 ⌝ }
-    ensures { λ _. ⌜ now (nodes .exit) ≡ sets (now (nodes .entry)) (8 * n) (nodeWords (factNode (w .kind) (w .place) (w .name) (w .children) (w .fact0) (w .fact1) (w .fact2) (w .fact3))) ⌝ }
+// A node's words from an index on, one by one, as far as there is room.
+fn store_part(nodes: &mut [u32], at: usize, w: Words)
+    requires { ⌜ at ≤ 524296 ⌝ }
+    ensures { λ _. ⌜ now (nodes .exit) ≡ sets (now (nodes .entry)) at (nodeWords (factNode (w .kind) (w .place) (w .name) (w .children) (w .fact0) (w .fact1) (w .fact2) (w .fact3))) ⌝ }
 {
-    let at = 8 * n;
     put(nodes, at, w.kind);
     put(nodes, at + 1, w.place);
     put(nodes, at + 2, w.name);
@@ -70,6 +69,37 @@ pub fn store(nodes: &mut [u32], n: usize, w: Words)
     put(nodes, at + 5, w.fact1);
     put(nodes, at + 6, w.fact2);
     put(nodes, at + 7, w.fact3);
+}
+
+// A node's words from an index on, where there is room for all.
+fn store_whole(nodes: &mut [u32], at: usize, w: Words)
+    requires { ⌜ at + 8 ≤ length (now nodes) ⌝ }
+    ensures { λ _. ⌜ now (nodes .exit) ≡ sets (now (nodes .entry)) at (nodeWords (factNode (w .kind) (w .place) (w .name) (w .children) (w .fact0) (w .fact1) (w .fact2) (w .fact3))) ⌝ }
+{
+    nodes[at] = w.kind;
+    nodes[at + 1] = w.place;
+    nodes[at + 2] = w.name;
+    nodes[at + 3] = w.children;
+    nodes[at + 4] = w.fact0;
+    nodes[at + 5] = w.fact1;
+    nodes[at + 6] = w.fact2;
+    nodes[at + 7] = w.fact3;
+}
+
+// Node n, as far as there is room.
+pub fn store(nodes: &mut [u32], n: usize, w: Words)
+    requires { ⌜ n ≤ 65537 ⌝ }
+    ensures { λ _. ⌜ now (nodes .exit) ≡ sets (now (nodes .entry)) (8 * n) (nodeWords (factNode (w .kind) (w .place) (w .name) (w .children) (w .fact0) (w .fact1) (w .fact2) (w .fact3))) ⌝ }
+{
+    let at = 8 * n;
+    if nodes.len() <= at {
+        return;
+    }
+    if nodes.len() < at + 8 {
+        store_part(nodes, at, w);
+        return;
+    }
+    store_whole(nodes, at, w);
 }
 
 // Node n with no facts; `name` is a row, or MISSING.

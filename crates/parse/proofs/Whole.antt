@@ -39,7 +39,7 @@ use Rattle.nodes.specs.declared.Got.the-variants.{Done}
 use Rattle.nodes.proofs.Rows.{word-test}
 use Rattle.nodes.proofs.Turn.{Came, came-ends}
 use Rattle.nodes.proofs.Steps.{stands-at, mem-over}
-use Rattle.maps.proofs.Told.{names-told}
+use Rattle.nodes.proofs.Told.{names-told}
 use Rattle.parse.specs.Program.{AsksWhole, readingOf, Final}
 
 -- ---- one thing of a program, and its end

@@ -7,58 +7,65 @@ use native.Mathlib.Nat.{add-zero}
 use native.Mathlib.Decide.{decLt}
 use native.Mathlib.Omega.{arith}
 use lib.ListN.{length, take, drop, getD, length-drop, drop-of-length-le}
-use lib.Seq.{getD-drop}
 use lib.Dec.{eqb, ltb}
 use borrow.Author.Tests.{eq-eqb, ne-eqb, eqb-true, lt-ltb, le-ltb}
-use Rattle.rules.specs.Text.{front, isBlank}
+use Rattle.rules.specs.Text.{front, notNewline, isBlank}
 use Rattle.rules.specs.Kinds.{Identifier, Eof, reserved, signs, sameBytes, kindIn}
 use Rattle.rules.specs.Lex.{Piece, blank, row, decidedAt, isLetter, isDigit, isWord, maybeTwo, word, number, slashed, dashed, string, sign, single, beginning, piece, known, unknown, item}
 use Rattle.words.specs.Class.{classOf}
-use Rattle.words.proofs.Tables.{allBelow, below}
+use Rattle.laws.proofs.Tables.{allBelow, below}
 use Rattle.place.proofs.Places.{front-in-line}
 use Rattle.reader.specs.declared.Spot.{Spot}
 use Rattle.reader.specs.declared.Read.the-variants.{Blank, End, Unknown}
 use Rattle.reader.specs.Read.{onward, Ahead, pieceRead, readOf}
 use Rattle.reader.specs.Settled.{InLine, Begins, Doubles, settled}
 use Rattle.reader.proofs.Known.{settled-known, settled-unknown, settled-inside}
-use Rattle.reader.proofs.Signs.{single-decided}
+use Rattle.reader.proofs.Signs.{byte-here, single-decided}
 
 -- ---- words, up to the index e
 
-module _ (t : List ℕ) (s : Spot) (e : ℕ) (h : e ≡ s .at + front isWord (drop (s .at) t)) where
-  word-length : front isWord (drop (s .at) t) ≡ e - s .at
+module _ (t : List ℕ) (a e : ℕ) (h : e ≡ a + front isWord (drop a t)) where
+  word-length : front isWord (drop a t) ≡ e - a
   word-length = omega arith
 
-  word-at : s .at + (e - s .at) ≡ e
+  pub word-at : a + (e - a) ≡ e
   word-at = omega arith
 
-  word-is : word (drop (s .at) t) ≡ row (kindIn reserved Identifier (take (e - s .at) (drop (s .at) t))) (e - s .at) 0 (e - s .at)
+  pub word-is : word (drop a t) ≡ row (kindIn reserved Identifier (take (e - a) (drop a t))) (e - a) 0 (e - a)
   unfolding word
   word-is = rw word-length
 
-  pub word-line : Ahead t s → InLine t s (e - s .at)
+  pub word-front : e - a ≤ front notNewline (drop a t)
   unfolding isWord isLetter isDigit
-  word-line a = record { ahead = a; line = rw (← word-length) (front-in-line isWord refl (drop (s .at) t)) }
+  word-front = rw (← word-length) (front-in-line isWord refl (drop a t))
+
+module _ (t : List ℕ) (s : Spot) (e : ℕ) (h : e ≡ s .at + front isWord (drop (s .at) t)) where
+  pub word-line : Ahead t s → InLine t s (e - s .at)
+  word-line a = record { ahead = a; line = word-front t (s .at) e h }
 
   module _ (whole : Bool) where
     pub word-unknown : (whole || ltb e (length t)) ≡ false → settled whole t s (word (drop (s .at) t)) ≡ Unknown
     unfolding decidedAt
-    word-unknown k = rw word-is (settled-unknown whole t s (row _ (e - s .at) 0 (e - s .at)) e word-at k)
+    word-unknown k = rw (word-is t (s .at) e h) (settled-unknown whole t s (row _ (e - s .at) 0 (e - s .at)) e (word-at t (s .at) e h) k)
 
     pub word-row : (whole || ltb e (length t)) ≡ true →
         settled whole t s (word (drop (s .at) t)) ≡ pieceRead t s (row (kindIn reserved Identifier (take (e - s .at) (drop (s .at) t))) (e - s .at) 0 0)
     unfolding decidedAt pieceRead
-    word-row k = rw word-is (settled-known whole t s (row _ (e - s .at) 0 (e - s .at)) e word-at k)
+    word-row k = rw (word-is t (s .at) e h) (settled-known whole t s (row _ (e - s .at) 0 (e - s .at)) e (word-at t (s .at) e h) k)
 
 -- ---- classes of bytes
 
 -- a byte of class k meets a test
-classTest : ℕ → (ℕ → Bool) → ℕ → Bool
+unfoldable pub classTest : ℕ → (ℕ → Bool) → ℕ → Bool
 classTest k p b = cond (eqb (classOf b) k) (p b) true
 
-class-byte : (k : ℕ) (p : ℕ → Bool) → allBelow (classTest k p) 256 ≡ true → (b : ℕ) → b < 256 → classOf b ≡ k → p b ≡ true
+pub class-byte : (k : ℕ) (p : ℕ → Bool) → allBelow (classTest k p) 256 ≡ true → (b : ℕ) → b < 256 → classOf b ≡ k → p b ≡ true
 unfolding classTest
 class-byte k p a b h e = rw (eq-eqb (classOf b) k e) at (below (classTest k p) 256 a b h)
+
+pub class-two : (b : ℕ) → b < 256 → classOf b ≡ 7 → maybeTwo b ≡ true
+unfolding classTest classOf isBlank isLetter isDigit maybeTwo kindIn signs sameBytes
+class-two = class-byte 7 maybeTwo refl
 
 module _ (t : List ℕ) (s : Spot) (a : Ahead t s) (i : s .at < length t) (h : getD t (s .at) 0 < 256) where
   pub begins-slash : classOf (getD t (s .at) 0) ≡ 4 → Begins t s 47
@@ -74,8 +81,7 @@ module _ (t : List ℕ) (s : Spot) (a : Ahead t s) (i : s .at < length t) (h : g
   begins-quote e = record { ahead = a; inside = i; byte = eqb-true _ _ (class-byte 6 (λ b. eqb b 34) refl (getD t (s .at) 0) h e) }
 
   pub begins-sign : classOf (getD t (s .at) 0) ≡ 7 → Doubles t s
-  unfolding classTest classOf isBlank isLetter isDigit maybeTwo kindIn signs sameBytes
-  begins-sign e = record { ahead = a; inside = i; first = class-byte 7 maybeTwo refl (getD t (s .at) 0) h e }
+  begins-sign e = record { ahead = a; inside = i; first = class-two (getD t (s .at) 0) h e }
 
 -- ---- the piece that a class begins
 
@@ -132,6 +138,16 @@ unfolding readOf
 read-cond t s x true = refl
 read-cond t s x false = refl
 
+-- at an index, by the class of the byte there
+pub item-at : (whole : Bool) (t : List ℕ) (a : ℕ) → a < length t → (k : ℕ) → classOf (getD t a 0) ≡ k →
+    item whole (drop a t) ≡ cond (whole || ltb (a + decidedAt (chosen k (drop a t))) (length t)) (known (chosen k (drop a t))) unknown
+item-at whole t a h k e =
+    let u = drop a t in
+    let p : piece u ≡ chosen k u = piece-chosen u ∙ ap (λ (x : ℕ). chosen x u) (ap classOf (byte-here t a) ∙ e) in
+    item-cons whole u (omega (arith, length-drop a t))
+    ∙ ap (λ (x : Piece). cond (whole || ltb (decidedAt x) (length u)) (known x) unknown) p
+    ∙ ap (λ (x : Bool). cond (whole || x) (known (chosen k u)) unknown) (shifted a (decidedAt (chosen k u)) (length t) (length u) (omega (arith, length-drop a t)))
+
 module _ (whole : Bool) (t : List ℕ) (s : Spot) where
   pub item-end : length t ≤ s .at → whole ≡ true → readOf t s (item whole (drop (s .at) t)) ≡ End
   unfolding item readOf
@@ -142,22 +158,12 @@ module _ (whole : Bool) (t : List ℕ) (s : Spot) where
   item-short h w = rw (drop-of-length-le t h, w)
 
   module _ (h : s .at < length t) where
-    item-settled : readOf t s (item whole (drop (s .at) t)) ≡ settled whole t s (piece (drop (s .at) t))
-    unfolding settled
-    item-settled =
-        let u = drop (s .at) t in
-        let p = piece u in
-        ap (readOf t s) (item-cons whole u (omega (arith, length-drop (s .at) t)))
-        ∙ read-cond t s p (whole || ltb (decidedAt p) (length u))
-        ∙ ap (λ (x : Bool). cond (whole || x) (pieceRead t s p) Unknown) (shifted (s .at) (decidedAt p) (length t) (length u) (omega (arith, length-drop (s .at) t)))
-
-    byte-here : getD (drop (s .at) t) 0 0 ≡ getD t (s .at) 0
-    byte-here = rw (getD-drop, add-zero)
-
     -- by the class of the byte at the spot
     pub item-class : (k : ℕ) → classOf (getD t (s .at) 0) ≡ k → readOf t s (item whole (drop (s .at) t)) ≡ settled whole t s (chosen k (drop (s .at) t))
+    unfolding settled
     item-class k e =
-        item-settled ∙ ap (settled whole t s) (piece-chosen (drop (s .at) t) ∙ ap (λ (x : ℕ). chosen x (drop (s .at) t)) (ap classOf byte-here ∙ e))
+        let p = chosen k (drop (s .at) t) in
+        ap (readOf t s) (item-at whole t (s .at) h k e) ∙ read-cond t s p (whole || ltb (s .at + decidedAt p) (length t))
 
     pub item-blank : classOf (getD t (s .at) 0) ≡ 1 → readOf t s (item whole (drop (s .at) t)) ≡ Blank (onward t s 1)
     unfolding chosen decidedAt pieceRead
@@ -168,7 +174,7 @@ module _ (whole : Bool) (t : List ℕ) (s : Spot) where
     item-other k e c =
         let b = getD t (s .at) 0 in
         item-class k e
-        ∙ ap (settled whole t s) (c ∙ ap (λ (x : ℕ). single x 0) byte-here)
+        ∙ ap (settled whole t s) (c ∙ ap (λ (x : ℕ). single x 0) (byte-here t (s .at)))
         ∙ settled-inside whole t s (single b 0) (rw (single-decided b 0) (rw add-zero h))
 
 -- a class that is none of those with a reader of their own

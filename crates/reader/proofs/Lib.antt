@@ -5,3 +5,4 @@ pub mod Numbers
 pub mod Strings
 pub mod Signs
 pub mod Items
+pub mod Briefs

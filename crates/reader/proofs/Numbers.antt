@@ -1,4 +1,4 @@
--- Laws of numbers at a spot: what is settled of a numeral whose digits were read, and of digits behind a sign and `0x`.
+-- Laws of numbers at an index and at a spot: what a numeral's digits spell behind a sign and `0x`, and what is settled of it.
 use mathlib.Core.Path.{_≡_, refl, ap, _∙_}
 use mathlib.Core.Bool.{Bool, true, false, cond, _&&_, _||_}
 use mathlib.Core.List.{List}
@@ -14,7 +14,7 @@ use Rattle.rules.specs.Kinds.{Number}
 use Rattle.rules.specs.Rows.{bitsOf}
 use Rattle.rules.specs.Lex.{row, refused, decidedAt, largest, numberOf, spelt, decimal, hex, number, isDigit, isHexDigit}
 use Rattle.rules.specs.declared.Lexical.the-variants.{NumberTooLarge, NoHexDigit}
-use Rattle.words.proofs.Tables.{both-true}
+use Rattle.laws.proofs.Tables.{both-true}
 use Rattle.place.proofs.Places.{front-drop, front-more, front-in-line, inside}
 use Rattle.reader.specs.declared.Spot.{Spot}
 use Rattle.reader.specs.declared.Read.the-variants.{Refused, Unknown}
@@ -26,7 +26,7 @@ use Rattle.reader.proofs.Moves.{onward-none}
 use Rattle.leaves.proofs.Runs.{number-clipped}
 use Rattle.reader.proofs.Known.{settled-known, settled-unknown}
 
-number-decided : (negative : Bool) (n v : ℕ) → decidedAt (numberOf negative n v) ≡ n
+pub number-decided : (negative : Bool) (n v : ℕ) → decidedAt (numberOf negative n v) ≡ n
 unfolding numberOf decidedAt
 number-decided negative n v = pick (leb v largest)
   where
@@ -78,64 +78,93 @@ unfolding digitIn isDigit isHexDigit
 digit-line true = refl
 digit-line false = refl
 
--- what the digits behind m bytes of a spot spell
-abbrev pub digitsAt : List ℕ → Spot → ℕ → Bool → Digits
-digitsAt t s m h = digitsOf h (s .at + m) (drop (s .at + m) t)
+-- what the digits m bytes behind an index spell
+abbrev pub digitsAt : List ℕ → ℕ → ℕ → Bool → Digits
+digitsAt t a m h = digitsOf h (a + m) (drop (a + m) t)
 
-pub numeral-digits : (t : List ℕ) (s : Spot) (m : ℕ) (h : Bool) → InLine t s m → Numeral t s (digitsAt t s m h .end)
-unfolding digitsOf
+module _ (t : List ℕ) (a m : ℕ) where
+  module _ (h : Bool) where
+    pub digits-behind : a ≤ digitsAt t a m h .end
+    unfolding digitsOf
+    digits-behind = omega arith
+
+    pub digits-front : m ≤ front notNewline (drop a t) → digitsAt t a m h .end - a ≤ front notNewline (drop a t)
+    unfolding digitsOf
+    digits-front l =
+        let n = front (digitIn h) (drop (a + m) t) in
+        let k : n ≤ front notNewline (drop (a + m) t) = front-in-line (digitIn h) (digit-line h) (drop (a + m) t) in
+        let d : front notNewline (drop a t) ≡ m + front notNewline (drop (a + m) t) = rw (← drop-drop m a t) (front-drop notNewline m (drop a t) l) in
+        omega arith
+
+  byte-at : (k : ℕ) → getD (drop m (drop a t)) k 0 ≡ getD t (a + m + k) 0
+  byte-at k = ap (λ (x : List ℕ). getD x k 0) (drop-drop m a t) ∙ getD-drop (a + m) t k 0
+
+  module _ (negative : Bool) where
+    pub decimal-is : decimal negative m (drop m (drop a t)) ≡ numberOf negative (digitsAt t a m false .end - a) (digitsAt t a m false .value)
+    decimal-is = ap (decimal negative m) (drop-drop m a t) ∙ decimal-digits negative a m (drop (a + m) t)
+
+    pub hex-is : (digitsAt t a m true .end ≡ a + m → ⊥) →
+        hex negative m (drop m (drop a t)) ≡ numberOf negative (digitsAt t a m true .end - a) (digitsAt t a m true .value)
+    hex-is e = ap (hex negative m) (drop-drop m a t) ∙ hex-digits negative a m (drop (a + m) t) e
+
+    pub hex-is-none : digitsAt t a m true .end ≡ a + m → hex negative m (drop m (drop a t)) ≡ refused NoHexDigit m m
+    hex-is-none e = ap (hex negative m) (drop-drop m a t) ∙ hex-none negative a m (drop (a + m) t) e
+
+    pub number-is-hex : (eqb (getD t (a + m) 0) 48 && eqb (getD t (a + m + 1) 0) 120) ≡ true →
+        number negative m (drop m (drop a t)) ≡ hex negative (m + 2) (drop (m + 2) (drop a t))
+    unfolding number
+    number-is-hex e = rw (byte-at 0, byte-at 1, add-zero, e, drop-drop 2 m (drop a t))
+
+    pub number-is-decimal : (eqb (getD t (a + m) 0) 48 && eqb (getD t (a + m + 1) 0) 120) ≡ false →
+        number negative m (drop m (drop a t)) ≡ decimal negative m (drop m (drop a t))
+    unfolding number
+    number-is-decimal e = rw (byte-at 0, byte-at 1, add-zero, e)
+
+  -- the bytes of `0x` are bytes of the line
+  pub hex-front : m ≤ front notNewline (drop a t) → (eqb (getD t (a + m) 0) 48 && eqb (getD t (a + m + 1) 0) 120) ≡ true → m + 2 ≤ front notNewline (drop a t)
+  hex-front l e =
+      let b = both-true (eqb (getD t (a + m) 0) 48) (eqb (getD t (a + m + 1) 0) 120) e in
+      let x : getD t (a + m) 0 ≡ 48 = eqb-true _ _ (b .0) in
+      let y : getD t (a + (m + 1)) 0 ≡ 120 = rw (← add-assoc a m 1) (eqb-true _ _ (b .1)) in
+      let i : a + m < length t = inside t (a + m) 48 x (omega arith) in
+      let j : a + (m + 1) < length t = inside t (a + (m + 1)) 120 y (omega arith) in
+      let one : m + 1 ≤ front notNewline (drop a t) = front-more notNewline t a m l i (rw x) in
+      let two : m + 1 + 1 ≤ front notNewline (drop a t) = front-more notNewline t a (m + 1) one j (rw y) in
+      omega arith
+
+pub numeral-digits : (t : List ℕ) (s : Spot) (m : ℕ) (h : Bool) → InLine t s m → Numeral t s (digitsAt t (s .at) m h .end)
 numeral-digits t s m h r =
-    let u = drop (s .at) t in
-    let n = front (digitIn h) (drop (s .at + m) t) in
-    let k : n ≤ front notNewline (drop (s .at + m) t) = front-in-line (digitIn h) (digit-line h) (drop (s .at + m) t) in
-    let d : front notNewline u ≡ m + front notNewline (drop (s .at + m) t) = rw (← drop-drop m (s .at) t) (front-drop notNewline m u (r .line)) in
-    record { behind = omega arith; within = record { ahead = r .ahead; line = omega arith } }
+    record { behind = digits-behind t (s .at) m h; within = record { ahead = r .ahead; line = digits-front t (s .at) m h (r .line) } }
 
 module _ (whole : Bool) (t : List ℕ) (s : Spot) (m : ℕ) (negative : Bool) where
   pub decimal-at : settled whole t s (decimal negative m (drop m (drop (s .at) t)))
-      ≡ settled whole t s (numberOf negative (digitsAt t s m false .end - s .at) (digitsAt t s m false .value))
-  decimal-at = ap (settled whole t s) (ap (decimal negative m) (drop-drop m (s .at) t) ∙ decimal-digits negative (s .at) m (drop (s .at + m) t))
+      ≡ settled whole t s (numberOf negative (digitsAt t (s .at) m false .end - s .at) (digitsAt t (s .at) m false .value))
+  decimal-at = ap (settled whole t s) (decimal-is t (s .at) m negative)
 
-  pub hex-at : (digitsAt t s m true .end ≡ s .at + m → ⊥) → settled whole t s (hex negative m (drop m (drop (s .at) t)))
-      ≡ settled whole t s (numberOf negative (digitsAt t s m true .end - s .at) (digitsAt t s m true .value))
-  hex-at e = ap (settled whole t s) (ap (hex negative m) (drop-drop m (s .at) t) ∙ hex-digits negative (s .at) m (drop (s .at + m) t) e)
+  pub hex-at : (digitsAt t (s .at) m true .end ≡ s .at + m → ⊥) → settled whole t s (hex negative m (drop m (drop (s .at) t)))
+      ≡ settled whole t s (numberOf negative (digitsAt t (s .at) m true .end - s .at) (digitsAt t (s .at) m true .value))
+  hex-at e = ap (settled whole t s) (hex-is t (s .at) m negative e)
 
-  module _ (e : digitsAt t s m true .end ≡ s .at + m) where
-    none : hex negative m (drop m (drop (s .at) t)) ≡ refused NoHexDigit m m
-    none = ap (hex negative m) (drop-drop m (s .at) t) ∙ hex-none negative (s .at) m (drop (s .at + m) t) e
-
+  module _ (e : digitsAt t (s .at) m true .end ≡ s .at + m) where
     pub hex-unknown : (whole || ltb (s .at + m) (length t)) ≡ false → settled whole t s (hex negative m (drop m (drop (s .at) t))) ≡ Unknown
     unfolding decidedAt
-    hex-unknown h = rw none (settled-unknown whole t s (refused NoHexDigit m m) (s .at + m) refl h)
+    hex-unknown h = rw (hex-is-none t (s .at) m negative e) (settled-unknown whole t s (refused NoHexDigit m m) (s .at + m) refl h)
 
     pub hex-refused : (whole || ltb (s .at + m) (length t)) ≡ true → settled whole t s (hex negative m (drop m (drop (s .at) t))) ≡ pieceRead t s (refused NoHexDigit m 0)
     unfolding decidedAt pieceRead
-    hex-refused h = rw none (settled-known whole t s (refused NoHexDigit m m) (s .at + m) refl h)
+    hex-refused h = rw (hex-is-none t (s .at) m negative e) (settled-known whole t s (refused NoHexDigit m m) (s .at + m) refl h)
 
 -- ---- a number, m bytes behind the spot
 
 module _ (t : List ℕ) (s : Spot) (m : ℕ) where
-  byte-at : (k : ℕ) → getD (drop m (drop (s .at) t)) k 0 ≡ getD t (s .at + m + k) 0
-  byte-at k = ap (λ (x : List ℕ). getD x k 0) (drop-drop m (s .at) t) ∙ getD-drop (s .at + m) t k 0
-
   module _ (negative whole : Bool) where
     pub number-hex : (eqb (getD t (s .at + m) 0) 48 && eqb (getD t (s .at + m + 1) 0) 120) ≡ true →
         settled whole t s (number negative m (drop m (drop (s .at) t))) ≡ settled whole t s (hex negative (m + 2) (drop (m + 2) (drop (s .at) t)))
-    unfolding number
-    number-hex e = rw (byte-at 0, byte-at 1, add-zero, e, drop-drop 2 m (drop (s .at) t))
+    number-hex e = ap (settled whole t s) (number-is-hex t (s .at) m negative e)
 
     pub number-decimal : (eqb (getD t (s .at + m) 0) 48 && eqb (getD t (s .at + m + 1) 0) 120) ≡ false →
         settled whole t s (number negative m (drop m (drop (s .at) t))) ≡ settled whole t s (decimal negative m (drop m (drop (s .at) t)))
-    unfolding number
-    number-decimal e = rw (byte-at 0, byte-at 1, add-zero, e)
+    number-decimal e = ap (settled whole t s) (number-is-decimal t (s .at) m negative e)
 
   pub hex-in-line : InLine t s m → (eqb (getD t (s .at + m) 0) 48 && eqb (getD t (s .at + m + 1) 0) 120) ≡ true → InLine t s (m + 2)
-  hex-in-line r e =
-      let b = both-true (eqb (getD t (s .at + m) 0) 48) (eqb (getD t (s .at + m + 1) 0) 120) e in
-      let x : getD t (s .at + m) 0 ≡ 48 = eqb-true _ _ (b .0) in
-      let y : getD t (s .at + (m + 1)) 0 ≡ 120 = rw (← add-assoc (s .at) m 1) (eqb-true _ _ (b .1)) in
-      let i : s .at + m < length t = inside t (s .at + m) 48 x (omega arith) in
-      let j : s .at + (m + 1) < length t = inside t (s .at + (m + 1)) 120 y (omega arith) in
-      let one : m + 1 ≤ front notNewline (drop (s .at) t) = front-more notNewline t (s .at) m (r .line) i (rw x) in
-      let two : m + 1 + 1 ≤ front notNewline (drop (s .at) t) = front-more notNewline t (s .at) (m + 1) one j (rw y) in
-      record { ahead = r .ahead; line = omega arith }
+  hex-in-line r e = record { ahead = r .ahead; line = hex-front t (s .at) m (r .line) e }

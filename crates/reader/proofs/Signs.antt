@@ -1,19 +1,19 @@
--- Laws of signs at a spot, and of the two bytes that decide between a sign and a comment or a number.
+-- Laws of signs at an index and at a spot, and of the two bytes that decide between a sign and a comment or a number.
 use mathlib.Core.Path.{_≡_, refl, ap, _∙_}
 use mathlib.Core.Bool.{Bool, true, false, cond, _||_}
 use mathlib.Core.List.{List, [], _∷_}
-use Prim.Native.Nat.{ℕ, _+_, _<_}
+use Prim.Native.Nat.{ℕ, _+_, _≤_, _<_}
 use native.Mathlib.Nat.{add-zero}
 use native.Mathlib.Omega.{arith}
 use lib.ListN.{length, drop, getD}
 use lib.Seq.{getD-drop}
 use lib.Dec.{eqb, ltb}
 use borrow.Author.Tests.{eq-eqb, ne-eqb, eqb-true}
-use Rattle.rules.specs.Text.{notNewline}
+use Rattle.rules.specs.Text.{front, notNewline}
 use Rattle.rules.specs.Kinds.{Eof, signs, sameBytes, kindIn}
 use Rattle.rules.specs.Lex.{row, refused, decidedAt, isLone, isDigit, maybeTwo, single, sign, slashed, dashed, lineComment, blockComment, number}
 use Rattle.rules.specs.declared.Lexical.the-variants.{LoneSign, NoRowBegins}
-use Rattle.words.proofs.Tables.{allBelow, below}
+use Rattle.laws.proofs.Tables.{allBelow, below}
 use Rattle.place.proofs.Places.{front-more, met-in-line, inside}
 use Rattle.reader.specs.declared.Spot.{Spot}
 use Rattle.reader.specs.declared.Read.the-variants.{Refused, Unknown}
@@ -24,10 +24,13 @@ use Rattle.reader.proofs.Known.{settled-known, settled-unknown}
 
 -- ---- bytes of a line
 
+-- the first byte at an index is no newline
+pub first-front : (t : List ℕ) (a : ℕ) → a < length t → notNewline (getD t a 0) ≡ true → 1 ≤ front notNewline (drop a t)
+first-front t a h e = front-more notNewline t a 0 (omega arith) (omega arith) (rw (add-zero a) e)
+
 -- a spot's first byte, and a second one, that are no newlines
 pub first-in-line : (t : List ℕ) (s : Spot) → Ahead t s → s .at < length t → notNewline (getD t (s .at) 0) ≡ true → InLine t s 1
-first-in-line t s a h e =
-    record { ahead = a; line = front-more notNewline t (s .at) 0 (omega arith) (omega arith) (rw (add-zero (s .at)) e) }
+first-in-line t s a h e = record { ahead = a; line = first-front t (s .at) h e }
 
 pub second-in-line : (t : List ℕ) (s : Spot) → InLine t s 1 → s .at + 1 < length t → notNewline (getD t (s .at + 1) 0) ≡ true → InLine t s 2
 second-in-line t s r h e = record { ahead = r .ahead; line = front-more notNewline t (s .at) 1 (r .line) h e }
@@ -75,9 +78,11 @@ newline-none : kindIn signs Eof (10 ∷ []) ≡ Eof
 unfolding kindIn signs sameBytes
 newline-none = refl
 
+pub single-front : (t : List ℕ) (a : ℕ) → a < length t → (kindIn signs Eof (getD t a 0 ∷ []) ≡ Eof → ⊥) → 1 ≤ front notNewline (drop a t)
+single-front t a h e = first-front t a h (not-newline (getD t a 0) (λ (z : getD t a 0 ≡ 10). e (rw z newline-none)))
+
 pub single-line : (t : List ℕ) (s : Spot) → Ahead t s → s .at < length t → (kindIn signs Eof (getD t (s .at) 0 ∷ []) ≡ Eof → ⊥) → InLine t s 1
-single-line t s a h e =
-    first-in-line t s a h (not-newline (getD t (s .at) 0) (λ (z : getD t (s .at) 0 ≡ 10). e (rw z newline-none)))
+single-line t s a h e = record { ahead = a; line = single-front t (s .at) h e }
 
 -- ---- two bytes
 
@@ -96,10 +101,10 @@ second-not : (x y b : ℕ) → allBelow (noSecond y) 256 ≡ true → b < 256 �
 unfolding noSecond
 second-not x y b a h e z = e (rw z (eqb-true _ _ (below (noSecond y) 256 a b h)))
 
-abbrev pub twoAt : List ℕ → Spot → ℕ
-twoAt t s = kindIn signs Eof (getD t (s .at) 0 ∷ getD t (s .at + 1) 0 ∷ [])
+abbrev pub twoAt : List ℕ → ℕ → ℕ
+twoAt t a = kindIn signs Eof (getD t a 0 ∷ getD t (a + 1) 0 ∷ [])
 
-byte-here : (t : List ℕ) (i : ℕ) → getD (drop i t) 0 0 ≡ getD t i 0
+pub byte-here : (t : List ℕ) (i : ℕ) → getD (drop i t) 0 0 ≡ getD t i 0
 byte-here t i = rw (getD-drop, add-zero)
 
 byte-next : (t : List ℕ) (i : ℕ) → getD (drop i t) 1 0 ≡ getD t (i + 1) 0
@@ -109,44 +114,52 @@ first-line : (b : ℕ) → maybeTwo b ≡ true → notNewline b ≡ true
 unfolding maybeTwo
 first-line b e = met-in-line maybeTwo refl b e
 
-module _ (t : List ℕ) (s : Spot) (d : Doubles t s) where
-  sign-is : sign (drop (s .at) t) ≡ cond (eqb (twoAt t s) Eof) (single (getD t (s .at) 0) 1) (row (twoAt t s) 2 0 1)
+-- a sign at an index that may be the first byte of two
+module _ (t : List ℕ) (a : ℕ) (d : maybeTwo (getD t a 0) ≡ true) where
+  pub sign-is : sign (drop a t) ≡ cond (eqb (twoAt t a) Eof) (single (getD t a 0) 1) (row (twoAt t a) 2 0 1)
   unfolding sign
-  sign-is = rw (byte-here t (s .at), byte-next t (s .at), d .first)
+  sign-is = rw (byte-here t a, byte-next t a, d)
 
-  sign-decided : decidedAt (sign (drop (s .at) t)) ≡ 1
+  pub sign-decided : decidedAt (sign (drop a t)) ≡ 1
   unfolding decidedAt
-  sign-decided = rw sign-is (pick (eqb (twoAt t s) Eof))
+  sign-decided = rw sign-is (pick (eqb (twoAt t a) Eof))
     where
-      pick : (p : Bool) → decidedAt (cond p (single (getD t (s .at) 0) 1) (row (twoAt t s) 2 0 1)) ≡ 1
-      pick true = single-decided (getD t (s .at) 0) 1
+      pick : (p : Bool) → decidedAt (cond p (single (getD t a 0) 1) (row (twoAt t a) 2 0 1)) ≡ 1
+      pick true = single-decided (getD t a 0) 1
       pick false = refl
 
-  pub sign-line : getD t (s .at) 0 < 256 → (twoAt t s ≡ Eof → ⊥) → InLine t s 2
-  sign-line b e =
-      let x = getD t (s .at + 1) 0 in
-      let z : x ≡ 0 → ⊥ = second-not x 0 (getD t (s .at) 0) no-zero b e in
-      second-in-line t s (first-in-line t s (d .ahead) (d .inside) (first-line (getD t (s .at) 0) (d .first)))
-      (inside t (s .at + 1) x refl (positive x z))
-      (not-newline x (second-not x 10 (getD t (s .at) 0) no-newline b e))
+  pub sign-front : a < length t → getD t a 0 < 256 → (twoAt t a ≡ Eof → ⊥) → 2 ≤ front notNewline (drop a t)
+  sign-front i b e =
+      let x = getD t (a + 1) 0 in
+      let z : x ≡ 0 → ⊥ = second-not x 0 (getD t a 0) no-zero b e in
+      front-more notNewline t a 1 (first-front t a i (first-line (getD t a 0) d))
+      (inside t (a + 1) x refl (positive x z))
+      (not-newline x (second-not x 10 (getD t a 0) no-newline b e))
     where
       positive : (x : ℕ) → (x ≡ 0 → ⊥) → 0 < x
       positive x z = omega arith
 
+module _ (t : List ℕ) (s : Spot) (d : Doubles t s) where
+  decided : decidedAt (sign (drop (s .at) t)) ≡ 1
+  decided = sign-decided t (s .at) (d .first)
+
+  pub sign-line : getD t (s .at) 0 < 256 → (twoAt t (s .at) ≡ Eof → ⊥) → InLine t s 2
+  sign-line b e = record { ahead = d .ahead; line = sign-front t (s .at) (d .first) (d .inside) b e }
+
   module _ (whole : Bool) where
     pub sign-unknown : (whole || ltb (s .at + 1) (length t)) ≡ false → settled whole t s (sign (drop (s .at) t)) ≡ Unknown
-    sign-unknown h = settled-unknown whole t s (sign (drop (s .at) t)) (s .at + 1) (rw sign-decided) h
+    sign-unknown h = settled-unknown whole t s (sign (drop (s .at) t)) (s .at + 1) (rw decided) h
 
     module _ (h : (whole || ltb (s .at + 1) (length t)) ≡ true) where
       known : settled whole t s (sign (drop (s .at) t)) ≡ pieceRead t s (sign (drop (s .at) t))
-      known = settled-known whole t s (sign (drop (s .at) t)) (s .at + 1) (rw sign-decided) h
+      known = settled-known whole t s (sign (drop (s .at) t)) (s .at + 1) (rw decided) h
 
-      pub sign-single : twoAt t s ≡ Eof → settled whole t s (sign (drop (s .at) t)) ≡ pieceRead t s (single (getD t (s .at) 0) 0)
-      sign-single e = known ∙ ap (pieceRead t s) (sign-is ∙ rw (eq-eqb (twoAt t s) Eof e)) ∙ single-any t s (getD t (s .at) 0) 1
+      pub sign-single : twoAt t (s .at) ≡ Eof → settled whole t s (sign (drop (s .at) t)) ≡ pieceRead t s (single (getD t (s .at) 0) 0)
+      sign-single e = known ∙ ap (pieceRead t s) (sign-is t (s .at) (d .first) ∙ rw (eq-eqb (twoAt t (s .at)) Eof e)) ∙ single-any t s (getD t (s .at) 0) 1
 
-      pub sign-row : (twoAt t s ≡ Eof → ⊥) → settled whole t s (sign (drop (s .at) t)) ≡ pieceRead t s (row (twoAt t s) 2 0 0)
+      pub sign-row : (twoAt t (s .at) ≡ Eof → ⊥) → settled whole t s (sign (drop (s .at) t)) ≡ pieceRead t s (row (twoAt t (s .at)) 2 0 0)
       unfolding pieceRead
-      sign-row e = known ∙ rw (sign-is, ne-eqb (twoAt t s) Eof e)
+      sign-row e = known ∙ rw (sign-is t (s .at) (d .first), ne-eqb (twoAt t (s .at)) Eof e)
 
 -- ---- a slash and a dash, by the byte behind them
 

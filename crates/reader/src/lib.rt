@@ -4,6 +4,7 @@ use rules::Lexical;
 
 pub mod front;
 mod pieces;
+pub mod quick;
 mod spots;
 
 // An index into the lent bytes, with the cursor there: readers move it, and need not know where the bytes start in the text.
@@ -17,6 +18,13 @@ pub struct Token {
     pub kind: u32,
     pub bits: u64,
     pub end: Spot,
+}
+
+// A row's size, its kind and its value's bits; size 0 where no row is told.
+pub struct Brief {
+    pub size: usize,
+    pub kind: u32,
+    pub bits: u64,
 }
 
 // What stands at a spot: a blank or a comment, and the spot behind it; a row; a refusal and its place; the text's end; or more bytes

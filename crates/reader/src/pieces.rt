@@ -135,7 +135,7 @@ fn hex(text: &[u8], s: Spot, m: usize, negative: bool, whole: bool) -> Read
 }
 
 // Whether `0x` stands at an index.
-fn is_hex(text: &[u8], at: usize) -> bool
+pub fn is_hex(text: &[u8], at: usize) -> bool
     requires { ⌜ at ≤ length (now text) ⌝ }
     ensures { λ r. ⌜ r ≡ (eqb (getD (now (text .entry)) at 0) 48 && eqb (getD (now (text .entry)) (at + 1) 0) 120) ⌝ }
 {

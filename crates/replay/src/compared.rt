@@ -1,8 +1,8 @@
 // Words of ours, held against the sample's.
-use crate::input::Word;
-use crate::input::next_word;
 use crate::tally::Tally;
-use crate::tally::more;
+use stored::input::Word;
+use stored::input::next_word;
+use stored::more;
 
 pub fn wide(x: u32) -> u64 {
     x as u64

@@ -1,15 +1,17 @@
 // Holds the scanner and the parser against the stored answers of the Rust: reads the sample on standard input, scans and parses each
 // of its texts, and writes how many things were held against it and how many agree. `stdin` is a copy of compare/sample.txt, which
 // `cargo run --release --offline --bin sample 4000 1` writes in compare/; compare/README.md says what stands in it.
-use input::LOST;
 use libc::STDIN_FILENO;
+use stored::input::LOST;
+use stored::lines;
+use stored::told::table_of;
 use tally::Tally;
 
 mod compared;
-mod input;
 mod report;
 mod table;
 mod tally;
+mod text;
 mod tree;
 
 // The cases that were read: how many, what was counted, and how many of them differ, with the numbers of the first few.
@@ -32,13 +34,13 @@ impl Run {
 
     // One case more.
     fn with(mut self, tally: Tally) -> Run {
-        let read = tally::more(self.read);
+        let read = stored::more(self.read);
         if tally.faults != self.tally.faults {
             let n = self.differing;
             if n < 8 {
                 self.first[n as usize] = read;
             }
-            self.differing = tally::more(n);
+            self.differing = stored::more(n);
         }
         self.read = read;
         self.tally = tally;
@@ -58,63 +60,30 @@ fn answers_compared(sample: &[u8], tally: Tally, text: &[u8]) -> Tally {
     let mut rows = [0u32; 16000];
     let told = scan::scan(text, &mut rows);
     let now = table::table_compared(sample, tally, &rows, told);
-    tree::parse_compared(sample, now, text, &rows, table::table_of(told))
-}
-
-// The first so many bytes, or all if there are fewer.
-fn first(text: &[u8], size: u64) -> &[u8] {
-    if (text.len() as u64) < size {
-        return text;
-    }
-    let end = size as usize;
-    &text[..end]
+    tree::parse_compared(sample, now, text, &rows, table_of(told))
 }
 
 // The first so many bytes against the sample's answers for them.
 fn first_compared(sample: &[u8], tally: Tally, text: &[u8; 4096], size: u64) -> Tally {
-    answers_compared(sample, tally, first(text, size))
+    answers_compared(sample, tally, stored::first(text, size))
 }
 
 // The sample's next case.
 fn case_compared(sample: &[u8], tally: Tally) -> Tally {
     let mut text = [0u8; 4096];
-    let size = input::count(sample, input::letter(sample, tally.at, b'T'));
-    let next = input::bytes(sample, size.next, &mut text, size.value);
+    let size = stored::input::count(sample, stored::input::letter(sample, tally.at, b'T'));
+    let next = text::bytes(sample, size.next, &mut text, size.value);
     if next == LOST {
         return tally.moved(LOST);
     }
     first_compared(sample, tally.moved(next), &text, size.value)
 }
 
-// The place behind the sample's name and version.
-fn header(sample: &[u8]) -> usize {
-    if sample.len() < 18 {
-        return LOST;
-    }
-    if !check::same(&sample[..18], b"spoonharbor-sample") {
-        return LOST;
-    }
-    let version = input::count(sample, 18);
-    if version.value != 1 {
-        return LOST;
-    }
-    version.next
-}
-
-// How many bytes the sample has from a place on, blanks left out.
-fn rest(sample: &[u8], at: usize) -> u64 {
-    let from = input::past_blanks(sample, at);
-    if from < sample.len() {
-        return (sample.len() - from) as u64;
-    }
-    0
-}
-
 // The number of the case that differs behind i others.
 fn differing_line(run: Run, i: usize) {
     if i < 8 {
         if (i as u64) < run.differing {
-            report::one(b"differing case ", run.first[i]);
+            lines::one(b"differing case ", run.first[i]);
         }
     }
 }
@@ -144,12 +113,15 @@ fn cases(sample: &[u8], at: usize, size: u64) -> Run {
 }
 
 fn replay(sample: &[u8]) {
-    let size = input::count(sample, header(sample));
+    let size = stored::input::count(sample, stored::header(sample, b"spoonharbor-sample"));
     let run = cases(sample, size.next, size.value);
-    report::two(b"cases ", run.read, b" of ", size.value);
-    report::one(b"bytes behind the last case ", rest(sample, run.tally.at));
+    lines::two(b"cases ", run.read, b" of ", size.value);
+    lines::one(
+        b"bytes behind the last case ",
+        stored::rest(sample, run.tally.at),
+    );
     report::counts(run.tally);
-    report::one(b"differing cases ", run.differing);
+    lines::one(b"differing cases ", run.differing);
     list_differing(run);
 }
 
@@ -159,7 +131,7 @@ fn filled(sample: &mut [u8; 2000000]) -> usize {
 }
 
 fn replay_first(sample: &[u8; 2000000], size: usize) {
-    replay(first(sample, size as u64));
+    replay(stored::first(sample, size as u64));
 }
 
 fn main() {

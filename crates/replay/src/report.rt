@@ -8,23 +8,8 @@ use crate::tally::ROWS;
 use crate::tally::TABLES;
 use crate::tally::Tally;
 use crate::tally::UNCOMPARED;
-use libc::STDOUT_FILENO;
-
-// Two numbers behind the words that say what they are, and a newline.
-pub fn two(first: &[u8], a: u64, second: &[u8], b: u64) {
-    io::write_all(STDOUT_FILENO, first);
-    io::print_decimal(STDOUT_FILENO, a);
-    io::write_all(STDOUT_FILENO, second);
-    io::print_decimal(STDOUT_FILENO, b);
-    io::write_all(STDOUT_FILENO, b"\n");
-}
-
-// A number behind the words that say what it is, and a newline.
-pub fn one(name: &[u8], a: u64) {
-    io::write_all(STDOUT_FILENO, name);
-    io::print_decimal(STDOUT_FILENO, a);
-    io::write_all(STDOUT_FILENO, b"\n");
-}
+use stored::lines::one;
+use stored::lines::two;
 
 // How many of a thing were held against the sample, and how many agree.
 fn line(name: &[u8], tally: Tally, what: usize) {

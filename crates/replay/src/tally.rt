@@ -1,4 +1,6 @@
 // Where the reading of the sample stands, and what was counted.
+use stored::more;
+
 pub const TABLES: usize = 0;
 
 pub const ROWS: usize = 1;
@@ -60,9 +62,4 @@ impl Tally {
         }
         self
     }
-}
-
-// One more, as far as that goes.
-pub fn more(n: u64) -> u64 {
-    if n < 18446744073709551615 { n + 1 } else { n }
 }

@@ -2,16 +2,12 @@
 use crate::compared::compared;
 use crate::compared::part;
 use crate::compared::wide;
-use crate::input::LOST;
-use crate::input::count;
-use crate::input::letter;
 use crate::tally::DECLARATIONS;
 use crate::tally::NODES;
 use crate::tally::PROGRAMS;
 use crate::tally::REFUSALS;
 use crate::tally::Tally;
 use crate::tally::UNCOMPARED;
-use crate::tally::more;
 use refusals::first_told;
 use refusals::lexical_number;
 use refusals::reason_number;
@@ -21,6 +17,10 @@ use rules::Ending;
 use rules::Parsed;
 use rules::Reason;
 use rules::Table;
+use stored::input::LOST;
+use stored::input::count;
+use stored::input::letter;
+use stored::more;
 
 // The number of a refused parse, its place, the two words that it tells, and that the place is known. Zeros where it is not refused.
 fn refusal_words(parsed: Parsed) -> [u32; 7] {

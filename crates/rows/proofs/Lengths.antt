@@ -1,16 +1,16 @@
--- The table of spelling lengths says what the rules' spellings say.
+-- The table of spelling lengths says what the rules' spellings say, and how a row's span is tested by it.
 use mathlib.Core.Path.{_≡_, refl}
-use mathlib.Core.Bool.{Bool, true, false, cond}
+use mathlib.Core.Bool.{Bool, true, false, cond, _&&_, _||_}
 use mathlib.Core.List.{List, [], _∷_}
-use Prim.Native.Nat.{ℕ, _≤_}
-use native.Mathlib.Decide.{ℕ-discrete}
+use Prim.Native.Nat.{ℕ, _+_, _-_, _≤_}
+use native.Mathlib.Decide.{ℕ-discrete, decLe}
 use native.Mathlib.Omega.{arith}
 use lib.ListN.{getD}
 use lib.Dec.{eqb, leb}
-use borrow.Author.Tests.{eqb-true, ne-eqb}
+use borrow.Author.Tests.{eqb-true, eq-eqb, ne-eqb, le-leb, lt-leb}
 use Rattle.rules.specs.Kinds.{Identifier, StringLiteral, Number, Eof, signs, reserved, lengthIn}
 use Rattle.rules.specs.Rows.{lengthFits}
-use Rattle.rows.specs.Shape.{allBelow}
+use Rattle.rows.specs.Shape.{LengthTable, allBelow}
 use Rattle.rows.proofs.Lists.{below}
 
 abbrev pub lengths : List ℕ
@@ -60,3 +60,39 @@ length-own k n h out =
     go : Dec (k ≡ 52) → eqb n (lengthIn signs (lengthIn reserved 0 k) k) ≡ cond (eqb k Eof) (eqb n 0) (eqb n (lengthIn signs (lengthIn reserved 0 k) k))
     go (yes p) = rw (p, no-length)
     go (no p) = rw (ne-eqb k 52 p)
+
+pub length-table : LengthTable lengths
+length-table = record { least = length-least; own = length-own }
+
+-- ---- a span from s to e
+
+-- it has x bytes or more
+at-least : (x s e : ℕ) → (leb (s + x) e || eqb (s + x) e) ≡ (leb s e && leb x (e - s))
+at-least x s e = go (decLe (s + x) e) (decLe s e)
+  where
+    go : Dec (s + x ≤ e) → Dec (s ≤ e) → (leb (s + x) e || eqb (s + x) e) ≡ (leb s e && leb x (e - s))
+    go (yes p) q = rw (le-leb (s + x) e p, le-leb s e (omega arith), le-leb x (e - s) (omega arith))
+    go (no p) (yes q) = rw (lt-leb (s + x) e (omega arith), ne-eqb (s + x) e (λ r. omega arith), le-leb s e q, lt-leb x (e - s) (omega arith))
+    go (no p) (no q) = rw (lt-leb (s + x) e (omega arith), ne-eqb (s + x) e (λ r. omega arith), lt-leb s e (omega arith))
+
+-- it has x bytes
+exactly : (x s e : ℕ) → eqb (s + x) e ≡ (leb s e && eqb (e - s) x)
+exactly x s e = go (ℕ-discrete (s + x) e) (decLe s e)
+  where
+    go : Dec (s + x ≡ e) → Dec (s ≤ e) → eqb (s + x) e ≡ (leb s e && eqb (e - s) x)
+    go (yes p) q = rw (eq-eqb (s + x) e p, le-leb s e (omega arith), eq-eqb (e - s) x (omega arith))
+    go (no p) (yes q) = rw (ne-eqb (s + x) e p, le-leb s e q, ne-eqb (e - s) x (λ r. p (omega arith)))
+    go (no p) (no q) = rw (ne-eqb (s + x) e p, lt-leb s e (omega arith))
+
+-- it fits a kind
+pub span-fits : {ls : List ℕ} → LengthTable ls → (k s e : ℕ) → k ≤ 52 →
+    (((leb 48 k && leb k 50) && leb (s + getD ls k 0) e) || eqb (s + getD ls k 0) e) ≡ (leb s e && lengthFits k (e - s))
+span-fits {ls} t k s e h = go (decLe 48 k) (decLe k 50)
+  where
+    x : ℕ
+    x = getD ls k 0
+
+    go : Dec (48 ≤ k) → Dec (k ≤ 50) → (((leb 48 k && leb k 50) && leb (s + x) e) || eqb (s + x) e) ≡ (leb s e && lengthFits k (e - s))
+    go (yes p) (yes q) = rw (le-leb 48 k p, le-leb k 50 q, ← t .least k (e - s) p q) (at-least x s e)
+    go (no p) q = rw (lt-leb 48 k (omega arith), ← t .own k (e - s) h (λ a b. p a)) (exactly x s e)
+    go (yes p) (no q) = rw (le-leb 48 k p, lt-leb k 50 (omega arith), ← t .own k (e - s) h (λ a b. q b)) (exactly x s e)

@@ -1,21 +1,51 @@
--- Laws of a row: its words in memory, and the range of its kind.
+-- Laws of a row: its words in memory, the range of its kind, and its value.
 use mathlib.Core.Path.{_≡_, sym}
-use mathlib.Core.Bool.{true, not}
+use mathlib.Core.Bool.{true, not, _&&_, _||_}
 use mathlib.Core.List.{List}
 use Prim.Native.Nat.{ℕ, _+_, _*_, _≤_}
+use native.Mathlib.Decide.{ℕ-discrete}
 use native.Mathlib.Omega.{arith}
 use lib.ListN.{getD, drop}
 use lib.Seq.{getD-drop}
-use lib.Dec.{leb}
-use borrow.Author.Tests.{leb-true}
+use lib.Dec.{eqb, leb}
+use borrow.Author.Tests.{leb-true, eq-eqb, ne-eqb}
 use Rattle.rules.specs.Text.{within}
-use Rattle.rules.specs.Kinds.{isMade}
-use Rattle.rules.specs.Rows.{rowIn}
+use Rattle.rules.specs.Kinds.{Number, isMade}
+use Rattle.rules.specs.Rows.{Row, rowIn, valueFits, valueBits}
 use Rattle.rows.proofs.Lists.{both-true}
 
 pub made-le : (k : ℕ) → isMade k ≡ true → k ≤ 52
 unfolding isMade
 made-le k e = leb-true k 52 (both-true (leb k 52) (not (within 16 20 k)) e .0)
+
+-- both words are zero
+no-bits : (h l : ℕ) → eqb (h * 4294967296 + l) 0 ≡ (eqb l 0 && eqb h 0)
+no-bits h l = go (ℕ-discrete l 0) (ℕ-discrete h 0)
+  where
+    go : Dec (l ≡ 0) → Dec (h ≡ 0) → eqb (h * 4294967296 + l) 0 ≡ (eqb l 0 && eqb h 0)
+    go (yes p) (yes q) = rw (p, q)
+    go (yes p) (no q) = rw (ne-eqb (h * 4294967296 + l) 0 (λ r. q (omega arith)), ne-eqb h 0 q, eq-eqb l 0 p)
+    go (no p) q = rw (ne-eqb (h * 4294967296 + l) 0 (λ r. p (omega arith)), ne-eqb l 0 p)
+
+-- a value that is not the least, or zero
+not-least : (b : ℕ) → (not (eqb b 9223372036854775808) || eqb b 0) ≡ not (eqb b 9223372036854775808)
+not-least b = go (ℕ-discrete b 9223372036854775808)
+  where
+    go : Dec (b ≡ 9223372036854775808) → (not (eqb b 9223372036854775808) || eqb b 0) ≡ not (eqb b 9223372036854775808)
+    go (yes p) = rw p
+    go (no p) = rw (ne-eqb b 9223372036854775808 p)
+
+pub value-fits : (r : Row) →
+    let b = r .high * 4294967296 + r .low in
+    ((eqb (r .kind) Number && not (eqb b 9223372036854775808)) || eqb b 0) ≡ valueFits r
+unfolding valueFits valueBits
+value-fits r = go (ℕ-discrete (r .kind) Number)
+  where
+    go : Dec (r .kind ≡ Number) →
+        let b = r .high * 4294967296 + r .low in
+        ((eqb (r .kind) Number && not (eqb b 9223372036854775808)) || eqb b 0) ≡ valueFits r
+    go (yes p) = rw (eq-eqb (r .kind) Number p) (not-least (r .high * 4294967296 + r .low))
+    go (no p) = rw (ne-eqb (r .kind) Number p) (no-bits (r .high) (r .low))
 
 module _ (ws : List ℕ) (i : ℕ) where
   word : (k m : ℕ) → 8 * i + k ≡ m → getD ws m 0 ≡ getD (drop (8 * i) ws) k 0

@@ -1,8 +1,9 @@
 -- Laws of a table's tests: each case of what stands at a row, and the test of a table from the tests of its rows and its ending.
 use mathlib.Core.Path.{_≡_, refl, sym, _∙_}
-use mathlib.Core.Bool.{true, false, cond, not, _&&_}
-use mathlib.Core.List.{List}
-use Prim.Native.Nat.{ℕ, zero, suc, _-_, _*_, _≤_, _<_}
+use mathlib.Core.Bool.{Bool, true, false, cond, not, _&&_}
+use mathlib.Core.List.{List, []}
+use Prim.Native.Nat.{ℕ, zero, suc, _+_, _-_, _*_, _≤_, _<_}
+use native.Mathlib.Numerals.{add-one}
 use native.Mathlib.Omega.{arith}
 use lib.ListN.{length}
 use lib.Dec.{eqb, leb}
@@ -14,10 +15,10 @@ use Rattle.rules.specs.declared.Ending.the-variants.{None, Refused}
 use Rattle.rules.specs.declared.Table.{Table}
 use Rattle.rules.specs.Text.{mostBytes}
 use Rattle.rules.specs.Kinds.{Eof}
-use Rattle.rules.specs.Rows.{Row, rowFits, follows, placeFits, isEof, wellFormed}
+use Rattle.rules.specs.Rows.{Row, rowIn, rowPlace, rowFits, follows, linesFit, placeFits, isEof, wellFormed}
 use Rattle.rows.specs.Shape.{rowNo, behind, joined, stands, allBelow, closes, breaks}
 use Rattle.rows.proofs.Lists.{both-true, true-both, same-bool, below, below-by}
-use Rattle.rows.proofs.Inside.{clean, broken, Fine, fine, well, not-well, clean-of, broken-of}
+use Rattle.rows.proofs.Inside.{sound, clean, broken, Fine, fine, well, not-well, clean-of, broken-of}
 
 -- ---- a row and the row before it
 
@@ -30,19 +31,39 @@ module _ (ws : List ℕ) (i : ℕ) where
   unfolding joined
   joined-next e = rw (ne-eqb i 0 e)
 
+join-next : (ws : List ℕ) (i : ℕ) → joined ws (suc i) ≡ follows (rowNo ws i) (rowNo ws (suc i))
+join-next ws i = joined-next ws (suc i) (λ e. omega arith) ∙ (let j : suc i - 1 ≡ i = omega arith in rw j)
+
+-- r leads row i: if row i fits by itself, it follows r just where it follows the row before it
+pub record Leads (ws : List ℕ) (i : ℕ) (r : Row) : Type 0 where
+  pub join : rowFits (rowNo ws i) ≡ true → follows r (rowNo ws i) ≡ joined ws i
+
+-- a row that fits has a line, so it follows the row of zeros
+pub leads-first : (ws : List ℕ) → Leads ws 0 (rowIn [])
+unfolding rowIn follows linesFit rowPlace
+leads-first ws = record { join = λ f. go (sound q f .line-low) }
+  where
+    q : Row
+    q = rowNo ws 0
+
+    go : 1 ≤ q .line → follows (rowIn []) q ≡ joined ws 0
+    go h = rw (joined-first ws 0 refl, le-leb 0 (q .start) (omega arith), le-leb 0 (q .line) (omega arith), ne-eqb 0 (q .line) (λ z. omega arith))
+
+both-same : (a b c d : Bool) → (b ≡ true → c ≡ d) → ((a && b) && c) ≡ ((a && b) && d)
+both-same false b c d f = refl
+both-same true false c d f = refl
+both-same true true c d f = f refl
+
+module _ (ws : List ℕ) (i : ℕ) where
   -- row i, read as q
   module _ (q : Row) (e : q ≡ rowNo ws i) where
-    pub stands-eof : q .kind ≡ Eof → stands ws i ≡ false
-    unfolding stands isEof
-    stands-eof k = rw (← e, eq-eqb (q .kind) Eof k)
+    pub stands-led : (r : Row) → Leads ws i r → ((not (isEof q) && rowFits q) && follows r q) ≡ stands ws i
+    unfolding stands
+    stands-led r l =
+        rw e (both-same (not (isEof (rowNo ws i))) (rowFits (rowNo ws i)) (follows r (rowNo ws i)) (joined ws i) (l .join))
 
-    pub stands-fit : (q .kind ≡ Eof → ⊥) → rowFits q ≡ true → stands ws i ≡ joined ws i
-    unfolding stands isEof
-    stands-fit k f = rw (← e, ne-eqb (q .kind) Eof k, f)
-
-    pub stands-not : (q .kind ≡ Eof → ⊥) → rowFits q ≡ false → stands ws i ≡ false
-    unfolding stands isEof
-    stands-not k f = rw (← e, ne-eqb (q .kind) Eof k, f)
+    pub leads-next : Leads ws (i + 1) q
+    leads-next = record { join = λ f. rw (e, add-one) (sym (join-next ws i)) }
 
     module _ (n : ℕ) where
       pub closes-plain : (q .kind ≡ Eof → ⊥) → closes ws n i ≡ false
@@ -141,10 +162,7 @@ of-breaks ws n (suc i) p b =
     breaks-last ws n (suc i) p (b .within) (b .place) (λ e. omega arith)
     ∙ (let j : suc i - 1 ≡ i = omega arith in rw j (b .last i refl))
 
--- rows that follow one another, and rows that are joined
-join-next : (ws : List ℕ) (i : ℕ) → joined ws (suc i) ≡ follows (rowNo ws i) (rowNo ws (suc i))
-join-next ws i = joined-next ws (suc i) (λ e. omega arith) ∙ (let j : suc i - 1 ≡ i = omega arith in rw j)
-
+-- rows that follow one another are joined
 join-by : (ws : List ℕ) (count : ℕ) → ((i : ℕ) → suc i < count → follows (rowNo ws i) (rowNo ws (suc i)) ≡ true) → (i : ℕ) → i < count → joined ws i ≡ true
 join-by ws count f zero h = joined-first ws 0 refl
 join-by ws count f (suc i) h = join-next ws i ∙ f i h

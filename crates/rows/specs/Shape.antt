@@ -1,12 +1,13 @@
--- A row in code and the rules' row; what stands at row i of a table, and behind its last row.
+-- A row in code and the rules' row; a table of lengths; what stands at row i of a table, and behind its last row.
 use mathlib.Core.Bool.{Bool, true, cond, not, _&&_}
+use mathlib.Core.Path.{_≡_}
 use mathlib.Core.List.{List}
-use Prim.Native.Nat.{ℕ, zero, suc, _-_, _*_}
-use lib.ListN.{drop}
+use Prim.Native.Nat.{ℕ, zero, suc, _-_, _*_, _≤_}
+use lib.ListN.{drop, getD}
 use lib.Dec.{eqb, leb}
 use Rattle.rules.specs.declared.Cursor.{Cursor}
 use Rattle.rules.specs.Rows
-use Rattle.rules.specs.Rows.{rowIn, rowPlace, rowFits, follows, linesFit, placeFits, isEof}
+use Rattle.rules.specs.Rows.{rowIn, rowPlace, lengthFits, rowFits, follows, linesFit, placeFits, isEof}
 use Rattle.rows.specs.declared.shape.Row.{Row}
 
 abbrev pub asRow : Row → Rows.Row
@@ -20,6 +21,11 @@ asRow r = record {
   high = r .high;
   spare = r .spare;
 }
+
+-- each kind's entry says how long its spelling is: so long or longer for identifiers, strings and numbers, just so long for the others
+pub record LengthTable (ls : List ℕ) : Type 0 where
+  pub least : (k n : ℕ) → 48 ≤ k → k ≤ 50 → leb (getD ls k 0) n ≡ lengthFits k n
+  pub own : (k n : ℕ) → k ≤ 52 → (48 ≤ k → k ≤ 50 → ⊥) → eqb n (getD ls k 0) ≡ lengthFits k n
 
 -- row i of a list of words
 abbrev pub rowNo : List ℕ → ℕ → Rows.Row

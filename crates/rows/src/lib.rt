@@ -4,12 +4,14 @@ use rules::Ending;
 use rules::Judged;
 use rules::Outer;
 use rules::Table;
+use shape::Row;
 ghost use mathlib.Core.Path.{_≡_};
+ghost use mathlib.Core.Bool.{not, _&&_};
 ghost use Prim.Native.Nat.{_+_, _*_, _≤_};
 ghost use lib.ListN.{length};
-ghost use Rattle.rules.specs.Rows.{wellFormed};
+ghost use Rattle.rules.specs.Rows.{rowFits, follows, isEof, wellFormed};
 ghost use Rattle.rules.specs.Calls.{judged, spellingJudged, spellingPart};
-ghost use Rattle.rows.specs.Shape.{joined, stands, allBelow, closes, breaks};
+ghost use Rattle.rows.specs.Shape.{LengthTable, asRow, joined, stands, allBelow, closes, breaks};
 
 pub mod shape;
 
@@ -26,39 +28,35 @@ fn row_joined(rows: &[u32], i: usize) -> bool
     shape::row_follows(r, q)
 }
 
-// Whether row i fits where it stands, and is not Eof.
-fn row_stands(rows: &[u32], i: usize) -> bool
-    requires { ⌜ i * 8 + 8 ≤ length (now rows) ⌝ }
-    ensures { λ r. ⌜ r ≡ stands (now (rows .entry)) i ⌝ }
+// Whether row q fits behind row r, and is not Eof.
+fn row_stands(lengths: &[u32; 53], r: Row, q: Row) -> bool
+    requires { ⌜ LengthTable (now lengths) ⌝ }
+    ensures { λ b. ⌜ b ≡ ((not (isEof (asRow q)) && rowFits (asRow q)) && follows (asRow r) (asRow q)) ⌝ }
 {
-    let r = shape::row_at(rows, i);
-    if r.kind == 52 {
-        return false;
-    }
-    if shape::row_fits(r) {
-        return row_joined(rows, i);
-    }
-    false
+    ((q.kind != 52) & shape::row_fits(lengths, q)) & shape::row_follows(r, q)
 }
 
 // Whether the first n rows fit where they stand, none of them Eof.
-fn rows_stand(rows: &[u32], n: usize) -> bool
-    requires { ⌜ n * 8 ≤ length (now rows) ⌝ }
+fn rows_stand(lengths: &[u32; 53], rows: &[u32], n: usize) -> bool
+    requires { ⌜ (n * 8 ≤ length (now rows)) × LengthTable (now lengths) ⌝ }
     ensures { λ r. ⌜ r ≡ allBelow (stands (now (rows .entry))) n ⌝ }
 {
+    let mut last = shape::no_row();
     let mut i = 0;
     while i < n {
-        if !row_stands(rows, i) {
+        let r = shape::row_at(rows, i);
+        if !row_stands(lengths, last, r) {
             return false;
         }
+        last = r;
         i += 1;
     }
     true
 }
 
 // Whether row i fits where it stands, and is Eof at the text's size.
-fn row_closes(rows: &[u32], size: u32, i: usize) -> bool
-    requires { ⌜ i * 8 + 8 ≤ length (now rows) ⌝ }
+fn row_closes(lengths: &[u32; 53], rows: &[u32], size: u32, i: usize) -> bool
+    requires { ⌜ (i * 8 + 8 ≤ length (now rows)) × LengthTable (now lengths) ⌝ }
     ensures { λ r. ⌜ r ≡ closes (now (rows .entry)) size i ⌝ }
 {
     let r = shape::row_at(rows, i);
@@ -68,7 +66,7 @@ fn row_closes(rows: &[u32], size: u32, i: usize) -> bool
     if r.start != size {
         return false;
     }
-    if shape::row_fits(r) {
+    if shape::row_fits(lengths, r) {
         return row_joined(rows, i);
     }
     false
@@ -97,6 +95,7 @@ fn place_breaks(rows: &[u32], size: u32, count: usize, p: Cursor) -> bool
 pub fn well_formed(rows: &[u32], table: Table) -> bool
     ensures { λ r. ⌜ r ≡ wellFormed (now (rows .entry)) table ⌝ }
 {
+    let lengths = shape::LENGTHS;
     let count = table.count as usize;
     let size = table.length;
     if rows.len() < count * 8 {
@@ -111,13 +110,13 @@ pub fn well_formed(rows: &[u32], table: Table) -> bool
             if count == 0 {
                 return false;
             }
-            if !rows_stand(rows, count - 1) {
+            if !rows_stand(&lengths, rows, count - 1) {
                 return false;
             }
-            row_closes(rows, size, count - 1)
+            row_closes(&lengths, rows, size, count - 1)
         }
         Ending::Refused(_, p) => {
-            if !rows_stand(rows, count) {
+            if !rows_stand(&lengths, rows, count) {
                 return false;
             }
             place_breaks(rows, size, count, p)

@@ -4,11 +4,12 @@ use rules::Cursor;
 use rules::Line;
 use rules::Offset;
 ghost use mathlib.Core.Path.{_≡_};
+ghost use mathlib.Core.List.{[]};
 ghost use Prim.Native.Nat.{_+_, _*_, _≤_};
-ghost use lib.ListN.{length, drop};
+ghost use lib.ListN.{length, getD, drop};
 ghost use Rattle.rules.specs.Kinds.{isMade};
-ghost use Rattle.rules.specs.Rows.{rowIn, rowPlace, lengthFits, spansFit, valueFits, placeFits, linesFit, rowFits, follows};
-ghost use Rattle.rows.specs.Shape.{asRow, behind};
+ghost use Rattle.rules.specs.Rows.{rowIn, rowPlace, spansFit, valueFits, placeFits, linesFit, rowFits, follows};
+ghost use Rattle.rows.specs.Shape.{LengthTable, asRow, behind};
 
 // A row is eight words.
 pub struct Row {
@@ -23,7 +24,7 @@ pub struct Row {
 }
 
 // How long the spelling of each kind is; of identifiers, strings and numbers, how long at least.
-const LENGTHS: [u32; 53] = [
+pub const LENGTHS: [u32; 53] = [
     4,
     7,
     7,
@@ -103,6 +104,22 @@ pub fn row_at(rows: &[u32], i: usize) -> Row
     }
 }
 
+// A row of zeros, behind which every row fits that fits by itself.
+pub fn no_row() -> Row
+    ensures { λ r. ⌜ asRow r ≡ rowIn [] ⌝ }
+{
+    Row {
+        kind: 0,
+        start: 0,
+        end: 0,
+        line: 0,
+        column: 0,
+        low: 0,
+        high: 0,
+        spare: 0,
+    }
+}
+
 // Where a row starts.
 pub fn row_place(r: Row) -> Cursor
     ensures { λ p. ⌜ p ≡ rowPlace (asRow r) ⌝ }
@@ -121,42 +138,31 @@ fn is_made(kind: u32) -> bool
     (kind <= 52) & !((16 <= kind) & (kind <= 20))
 }
 
-// Whether a kind's spelling may be n bytes long.
-fn length_fits(kind: u32, n: u32) -> bool
+// How long the spelling of a kind is, or at least is.
+fn own_length(lengths: &[u32; 53], kind: u32) -> u32
     requires { ⌜ kind ≤ 52 ⌝ }
-    ensures { λ r. ⌜ r ≡ lengthFits kind n ⌝ }
+    ensures { λ r. ⌜ r ≡ getD (now (lengths .entry)) kind 0 ⌝ }
 {
-    let own = LENGTHS[kind as usize];
-    if kind < 48 {
-        return n == own;
-    }
-    if 50 < kind {
-        return n == own;
-    }
-    own <= n
+    lengths[kind as usize]
 }
 
 // Whether a row's bytes are in order and as many as its kind has.
-fn spans_fit(r: Row) -> bool
-    requires { ⌜ r .kind ≤ 52 ⌝ }
+fn spans_fit(lengths: &[u32; 53], r: Row) -> bool
+    requires { ⌜ (r .kind ≤ 52) × LengthTable (now lengths) ⌝ }
     ensures { λ b. ⌜ b ≡ spansFit (asRow r) ⌝ }
 {
-    let start = r.start;
-    let end = r.end;
-    if end < start {
-        return false;
-    }
-    length_fits(r.kind, end - start)
+    let kind = r.kind;
+    let stop = wide(r.start) + wide(own_length(lengths, kind));
+    let end = wide(r.end);
+    (((48 <= kind) & (kind <= 50)) & (stop <= end)) | (stop == end)
 }
 
 // Whether a row's value is one of 64 bits but the least, and zero unless Number.
 fn value_fits(r: Row) -> bool
     ensures { λ b. ⌜ b ≡ valueFits (asRow r) ⌝ }
 {
-    if r.kind == 50 {
-        return wide(r.high) * 4294967296 + wide(r.low) != 9223372036854775808;
-    }
-    (r.low == 0) & (r.high == 0)
+    let bits = wide(r.high) * 4294967296 + wide(r.low);
+    ((r.kind == 50) & (bits != 9223372036854775808)) | (bits == 0)
 }
 
 // Whether a place has a line and a column of 1 or more, and neither over its offset + 1.
@@ -181,14 +187,15 @@ fn lines_fit(p: Cursor, q: Cursor) -> bool
 }
 
 // Whether a row fits by itself.
-pub fn row_fits(r: Row) -> bool
+pub fn row_fits(lengths: &[u32; 53], r: Row) -> bool
+    requires { ⌜ LengthTable (now lengths) ⌝ }
     ensures { λ b. ⌜ b ≡ rowFits (asRow r) ⌝ }
 {
     if !is_made(r.kind) {
         return false;
     }
     let p = row_place(r);
-    ((r.spare == 0) & value_fits(r)) & (spans_fit(r) & place_fits(p))
+    ((r.spare == 0) & value_fits(r)) & (spans_fit(lengths, r) & place_fits(p))
 }
 
 // Whether row q may follow row r.

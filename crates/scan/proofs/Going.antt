@@ -1,11 +1,12 @@
 -- Laws of the writing loop over plain values: what holds at its head, and that each way through a turn keeps it or gives the answer.
-use mathlib.Core.Path.{_≡_, refl, sym, _∙_}
+use mathlib.Core.Path.{_≡_, refl, sym, ap, _∙_}
 use mathlib.Core.Bool.{Bool, true, false, cond}
 use mathlib.Core.List.{List, [], _∷_, _++_, append-assoc, append-nil}
 use Prim.Native.Nat.{ℕ, suc, pred, _+_, _-_, _*_, _≤_, _<_}
 use native.Mathlib.Nat.{sub-self}
 use native.Mathlib.Omega.{arith}
 use lib.ListN.{length, drop, length-append, length-drop}
+use lib.Seq.{drop-drop}
 use lib.Dec.{ltb}
 use borrow.Author.Tests.{ltb-true, ltb-false}
 use Rattle.rules.specs.declared.Cursor.{Cursor}
@@ -20,9 +21,10 @@ use Rattle.reader.proofs.Moves.{onward-at, onward-none, onward-more, ahead-more
 use Rattle.scan.specs.declared.Stop.{Stop}
 use Rattle.scan.specs.declared.Stop.the-variants.{At, End, Refused, Full, Unknown}
 use Rattle.scan.specs.declared.Wrote.{Wrote}
-use Rattle.scan.specs.Writing.{Writing, put, stop, rowsOf, stopOf, following, write, spotFrom, written, wroteOf, leaves}
+use Rattle.scan.specs.Writing.{Writing, put, stop, rowsOf, stopOf, following, write, spotFrom, written, blanksBelow, wroteOf, leaves}
 use Rattle.scan.specs.Answer.{rowOf, placed, endOf}
 use Rattle.scan.proofs.Laid.{laid-length, laid-all, laid-just, placed-behind, same-length, wrote-all, wrote-full}
+use Rattle.scan.proofs.Blanks.{below-le, write-blanks}
 use Rattle.scan.proofs.Writings.{write-on, write-stop, writeAt, behind, found, Gap, Rowed, Barred}
 
 -- The rows `done`, n of them, are written; the loop stands at index i, and what is written from there on is the rest.
@@ -44,6 +46,10 @@ Done old w r rows = (r ≡ wroteOf old w) × (rows ≡ leaves old w)
 pub done-length : (old : List ℕ) (w : Writing) (r : Wrote) (rows : List ℕ) → Done old w r rows → length rows ≡ length old
 unfolding leaves
 done-length old w r rows d = rw (d .1) (laid-length (rowsOf w) old)
+
+-- how many blanks stand at index i, below `until`
+abbrev blanksAt : List ℕ → ℕ → ℕ → ℕ
+blanksAt t until i = blanksBelow until i (drop i t)
 
 same-row : (kind bits : ℕ) {p q d e : Spot} {v w : Writing} → p ≡ q → d ≡ e → v ≡ w →
     put (rowAt (p .cursor) kind (d .cursor .offset .0) bits) v ≡ put (rowAt (q .cursor) kind (e .cursor .offset .0) bits) w
@@ -118,6 +124,38 @@ module _ {t : List ℕ} {from : Spot} {until : ℕ} {whole : Bool} {old rows : L
           words = g .words;
           rest = g .rest ∙ rw same;
           stops = g .stops ∙ rw same;
+        }
+
+  -- ---- behind blanks
+
+  module _ (r : Spot) (q : r ≡ onward t here (blanksBelow until (here .at) (drop (here .at) t))) where
+    there : r ≡ onward t here (blanksAt t until i)
+    there = q ∙ ap (λ (k : ℕ). onward t here (blanksBelow until k (drop k t))) here-at
+
+    far-at : r .at ≡ i + (blanksAt t until i)
+    far-at = rw (there, onward-at, here-at)
+
+    far-inside : i + (blanksAt t until i) ≤ length t
+    far-inside = omega (arith, below-le until i (drop i t), length-drop i t, g .inside)
+
+    pub blanks-less : (i ≤ r .at) × (r .at ≤ length t)
+    blanks-less = (omega (arith, far-at), omega (arith, far-at, far-inside))
+
+    far-same : writeAt (spotFrom t from) whole until t i ≡ writeAt (spotFrom t from) whole until t (r .at)
+    far-same = write-blanks (spotFrom t from) whole until (blanksAt t until i) i (drop i t) (omega arith) ∙ rw (drop-drop, far-at)
+
+    pub going-blanks : Going t from until whole old rows r (r .at) n
+    going-blanks =
+        record {
+          done = g .done;
+          back = omega (arith, g .back, far-at);
+          inside = blanks-less .1;
+          right = there ∙ spot-on (blanksAt t until i) ∙ rw far-at;
+          counted = g .counted;
+          few = g .few;
+          words = g .words;
+          rest = g .rest ∙ rw far-same;
+          stops = g .stops ∙ rw far-same;
         }
 
   -- ---- the answers

@@ -2,8 +2,9 @@
 use mathlib.Core.Bool.{Bool, true, false, cond}
 use mathlib.Core.List.{List, [], _∷_}
 use Prim.Native.Nat.{ℕ, zero, suc, pred, _+_, _-_}
-use lib.ListN.{length, drop}
+use lib.ListN.{length, take, drop}
 use lib.Dec.{leb}
+use Rattle.rules.specs.Text.{front, isBlank}
 use Rattle.rules.specs.Rows.{Row, rowAt, eofRow}
 use Rattle.rules.specs.Lex.{blank, comment, row, refused, Item, known, end, unknown, item}
 use Rattle.rules.specs.Scan.{roomOf, laid}
@@ -53,6 +54,10 @@ spotFrom t s i = onward t s (i - s .at)
 
 unfoldable pub written : List ℕ → Spot → ℕ → Bool → Writing
 written t s until whole = write (spotFrom t s) whole until 0 (s .at) (drop (s .at) t)
+
+-- how many blanks stand at the front of the bytes from index i on, below `until`
+unfoldable pub blanksBelow : ℕ → ℕ → List ℕ → ℕ
+blanksBelow until i s = front isBlank (take (until - i) s)
 
 -- ---- the answer
 

@@ -4,7 +4,7 @@ use place::valid_bytes;
 use reader::Read;
 use reader::Spot;
 use reader::Token;
-use reader::front::read;
+use reader::quick::next;
 use rules::Cursor;
 use rules::Ending;
 use rules::Lexical;
@@ -19,8 +19,9 @@ ghost use lib.ListN.{length, drop};
 ghost use lib.Dec.{ltb};
 ghost use Rattle.rules.specs.Rows.{rowWords, eofRow};
 ghost use Rattle.rules.specs.Scan.{roomOf, scanTold, scanLeaves};
-ghost use Rattle.reader.specs.Read.{Ahead};
-ghost use Rattle.scan.specs.Writing.{written, wroteOf, leaves};
+ghost use Rattle.words.specs.Class.{Classes};
+ghost use Rattle.reader.specs.Read.{onward, Ahead};
+ghost use Rattle.scan.specs.Writing.{blanksBelow, written, wroteOf, leaves};
 ghost use Rattle.scan.specs.Answer.{rowOf, placed, endOf, noRoom, toldOf};
 
 // How the writing of rows stops: at a spot, at the text's end, at a refusal with its place, where a complete row finds no room, or
@@ -89,20 +90,44 @@ fn write_end(rows: &mut [u32], n: usize, here: Spot) -> Wrote
     stopped(n, Stop::Full)
 }
 
+// The spot behind the blanks at a spot, as long as its index is below `until`.
+fn past_blanks(classes: &[u8; 256], text: &[u8], from: Spot, until: usize) -> Spot
+    requires { ⌜ Classes (now classes) × Ahead (now text) from ⌝ }
+    ensures { λ r. ⌜ r ≡ onward (now (text .entry)) from (blanksBelow until (from .at) (drop (from .at) (now (text .entry)))) ⌝ }
+{
+    let mut cursor = from.cursor;
+    let mut i = from.at;
+    while i < text.len() {
+        if until <= i {
+            return Spot { at: i, cursor };
+        }
+        let b = text[i];
+        if classes[b as usize] != 1 {
+            return Spot { at: i, cursor };
+        }
+        cursor = cursor.advance(b);
+        i += 1;
+    }
+    Spot { at: i, cursor }
+}
+
 // The rows from a spot on, as long as its index is below `until`, one behind the other into the lent words. whole: the bytes end the text.
 pub fn write_rows(text: &[u8], from: Spot, until: usize, whole: bool, rows: &mut [u32]) -> Wrote
     requires { ⌜ Ahead (now text) from ⌝ }
     ensures { λ r. ⌜ (r ≡ wroteOf (now (rows .entry)) (written (now (text .entry)) from until whole)) × (now (rows .exit) ≡ leaves (now (rows .entry)) (written (now (text .entry)) from until whole)) ⌝ }
 {
+    let classes = words::classes::table();
+    let spellings = words::spellings();
     let mut here = from;
     let mut i = from.at;
     let mut count = 0;
     while i < until {
-        let found = read(text, here, whole);
+        let found = next(&classes, &spellings, text, here, whole);
         match found {
             Read::Blank(end) | Read::Comment(end) => {
-                here = end;
-                i = end.at;
+                let past = past_blanks(&classes, text, end, until);
+                here = past;
+                i = past.at;
             }
             Read::Row(token) => {
                 let cursor = here.cursor;
@@ -110,8 +135,9 @@ pub fn write_rows(text: &[u8], from: Spot, until: usize, whole: bool, rows: &mut
                     return stopped(count, Stop::Full);
                 }
                 let end = token.end;
-                here = end;
-                i = end.at;
+                let past = past_blanks(&classes, text, end, until);
+                here = past;
+                i = past.at;
                 count += 1;
             }
             Read::Refused(why, place) => return stopped(count, Stop::Refused(why, place)),

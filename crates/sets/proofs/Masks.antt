@@ -10,7 +10,7 @@ use lib.Dec.{eqb, ltb}
 use lib.Count.{ones, onesIn, ones-step}
 use borrow.Author.Tests.{eqb-true, ltb-true}
 use Rattle.rules.specs.Sets.{allowed, member, allows, setSize}
-use Rattle.sets.proofs.Spellings.{both-true, allBelow, below}
+use Rattle.laws.proofs.Tables.{both-true, allBelow, below}
 
 abbrev pub masks : List ℕ
 masks =
@@ -32,12 +32,12 @@ digits (suc k) n h = ones-step n ∙ ap (λ (x : ℕ). n % 2 + x) (digits k (n /
 bit : ℕ → ℕ → Bool
 bit kind method = eqb (getD masks kind 0 / 2 ^ method % 2) (cond (allows kind method) 1 0)
 
-set : ℕ → Bool
-set kind = allBelow (bit kind) 16 && (ltb (getD masks kind 0) (2 ^ 16) && eqb (onesIn 16 (getD masks kind 0)) (setSize kind))
+maskHolds : ℕ → Bool
+maskHolds kind = allBelow (bit kind) 16 && (ltb (getD masks kind 0) (2 ^ 16) && eqb (onesIn 16 (getD masks kind 0)) (setSize kind))
 
-sets : allBelow set 11 ≡ true
-unfolding set bit allows setSize allowed member onesIn
-sets = refl
+masks-hold : allBelow maskHolds 11 ≡ true
+unfolding maskHolds bit allows setSize allowed member onesIn
+masks-hold = refl
 
 -- a kind's mask: its bits, its range and its ones
 record Right (kind : ℕ) : Type 0 where
@@ -46,9 +46,9 @@ record Right (kind : ℕ) : Type 0 where
   size : onesIn 16 (getD masks kind 0) ≡ setSize kind
 
 right : (kind : ℕ) → kind < 11 → Right kind
-unfolding set
+unfolding maskHolds
 right kind h =
-    let a = both-true (allBelow (bit kind) 16) (ltb (getD masks kind 0) (2 ^ 16) && eqb (onesIn 16 (getD masks kind 0)) (setSize kind)) (below set 11 sets kind h) in
+    let a = both-true (allBelow (bit kind) 16) (ltb (getD masks kind 0) (2 ^ 16) && eqb (onesIn 16 (getD masks kind 0)) (setSize kind)) (below maskHolds 11 masks-hold kind h) in
     let b = both-true (ltb (getD masks kind 0) (2 ^ 16)) (eqb (onesIn 16 (getD masks kind 0)) (setSize kind)) (a .1) in
     record { bits = a .0; small = ltb-true _ _ (b .0); size = eqb-true _ _ (b .1) }
 

@@ -2,11 +2,9 @@
 use rules::Asked;
 use rules::Outer;
 ghost use mathlib.Core.Path.{_≡_};
-ghost use Prim.Native.Nat.{_<_};
-ghost use Rattle.rules.specs.Kinds.{sameBytes};
 ghost use Rattle.rules.specs.Sets.{fits, fromSection};
 ghost use Rattle.rules.specs.Calls.{memberAsked, sizeAsked};
-ghost use Rattle.sets.specs.Entries.{sectionAt};
+ghost use Rattle.sets.specs.Entries.{sectionAt, Entry};
 
 // The sections' spellings, padded to sixteen bytes, their lengths, whether a text is the whole spelling, and their kinds.
 const SPELLINGS: [[u8; 16]; 13] = [
@@ -65,47 +63,39 @@ const LAST_KIND: u32 = 10;
 
 const LAST_METHOD: u32 = 15;
 
-// Whether a word is the spelling of a section.
-fn spells(word: &[u8], k: usize) -> bool
-    requires { ⌜ k < 13 ⌝ }
-    ensures { λ r. ⌜ r ≡ sameBytes (sectionAt k .spelling) (now (word .entry)) ⌝ }
-{
-    let n = LENGTHS[k];
-    if word.len() != n {
-        return false;
-    }
-    let mut i = 0;
-    while i < n {
-        if word[i] != SPELLINGS[k][i] {
-            return false;
-        }
-        i += 1;
-    }
-    true
-}
-
-// Whether a text is a section's spelling, or begins with it.
-fn fits_section(text: &[u8], k: usize) -> bool
-    requires { ⌜ k < 13 ⌝ }
+// Whether a text is a section's spelling, or begins with it, by tables that say what the section is.
+fn fits_section(
+    spellings: &[[u8; 16]; 13],
+    lengths: &[usize; 13],
+    wholes: &[bool; 13],
+    text: &[u8],
+    k: usize,
+) -> bool
+    requires { ⌜ Entry (now spellings) (now lengths) (now wholes) k ⌝ }
     ensures { λ r. ⌜ r ≡ fits (sectionAt k) (now (text .entry)) ⌝ }
 {
-    if WHOLE[k] {
-        return spells(text, k);
+    let n = lengths[k];
+    let padded = &spellings[k][..];
+    let spelling = &padded[..n];
+    if wholes[k] {
+        return check::same(text, spelling);
     }
-    let n = LENGTHS[k];
     if text.len() < n {
         return false;
     }
-    spells(&text[..n], k)
+    check::same(&text[..n], spelling)
 }
 
 // The program kind of a section's text.
 pub fn section_kind(text: &[u8]) -> u32
     ensures { λ r. ⌜ r ≡ fromSection (now (text .entry)) ⌝ }
 {
+    let spellings = SPELLINGS;
+    let lengths = LENGTHS;
+    let wholes = WHOLE;
     let mut k = 0;
     while k < 13 {
-        if fits_section(text, k) {
+        if fits_section(&spellings, &lengths, &wholes, text, k) {
             return KINDS[k];
         }
         k += 1;

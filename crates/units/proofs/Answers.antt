@@ -27,7 +27,7 @@ use Rattle.nodes.specs.declared.At.{At}
 use Rattle.nodes.specs.declared.Got.the-variants as got
 use Rattle.nodes.proofs.Turn.{Came, refused, tag-width}
 use Rattle.nodes.proofs.Steps.{stands-at, Listing, list-start, list-ends, list-count, list-fails, list-again}
-use Rattle.events.proofs.Seen.{seen, want-unmet}
+use Rattle.nodes.proofs.Seen.{seen, want-unmet}
 use Rattle.units.specs.Contents.{unset, kindFrom, firstOf, lastRow, spelt, over, Adds, Texted, contentsOf, Holds}
 use Rattle.units.specs.declared.Contents.{Contents}
 use Rattle.units.specs.declared.Went.{Went}

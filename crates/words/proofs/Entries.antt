@@ -1,18 +1,17 @@
 -- The table of reserved words, as the code has it: a test at each entry says that it is the definitions' table. The first and last
 -- bytes of a word leave one entry at most.
-use mathlib.Core.Path.{_≡_, refl, sym, _∙_}
+use mathlib.Core.Path.{_≡_, refl, sym, ap, _∙_}
 use mathlib.Core.Bool.{Bool, true, false, not, cond, _&&_, _||_}
 use mathlib.Core.List.{List, [], _∷_}
 use Prim.Native.Nat.{ℕ, suc, _+_, _≤_, _<_}
 use native.Mathlib.Omega.{arith}
 use lib.ListN.{length, getD, take}
-use lib.Seq.{getD-take}
 use lib.Dec.{eqb, leb}
 use borrow.Author.Tests.{eqb-true, leb-true, eq-eqb}
 use Rattle.rules.specs.Kinds.{Spelt, Identifier, reserved, sameBytes, kindIn}
-use Rattle.words.specs.Entries.{noEntry, spellingAt, lastByte, framed, entryIn, entryOf}
-use Rattle.words.proofs.Tables.{both-true, allBelow, below}
-use Rattle.words.proofs.Lookups.{same-eq}
+use Rattle.words.specs.Entries.{noEntry, spellingAt, lastByte, framed, entryIn, entryOf, Spellings}
+use Rattle.laws.proofs.Tables.{both-true, allBelow, below}
+use Rattle.laws.proofs.Spellings.{same-eq}
 
 abbrev pub lengths : List ℕ
 lengths = 4 ∷ 7 ∷ 7 ∷ 6 ∷ 3 ∷ 3 ∷ 3 ∷ 4 ∷ 3 ∷ 5 ∷ 3 ∷ 2 ∷ 4 ∷ 5 ∷ 4 ∷ 5 ∷ 5 ∷ 3 ∷ 3 ∷ 3 ∷ 3 ∷ []
@@ -20,36 +19,10 @@ lengths = 4 ∷ 7 ∷ 7 ∷ 6 ∷ 3 ∷ 3 ∷ 3 ∷ 4 ∷ 3 ∷ 5 ∷ 3 ∷ 2 �
 abbrev pub kinds : List ℕ
 kinds = 0 ∷ 1 ∷ 2 ∷ 3 ∷ 4 ∷ 5 ∷ 6 ∷ 7 ∷ 8 ∷ 9 ∷ 10 ∷ 11 ∷ 12 ∷ 13 ∷ 14 ∷ 15 ∷ 51 ∷ 21 ∷ 22 ∷ 23 ∷ 24 ∷ []
 
-abbrev pub spellings : List (List ℕ)
-spellings =
-    (117 ∷ 110 ∷ 105 ∷ 116 ∷ 0 ∷ 0 ∷ 0 ∷ 0 ∷ [])
-    ∷ (115 ∷ 101 ∷ 99 ∷ 116 ∷ 105 ∷ 111 ∷ 110 ∷ 0 ∷ [])
-    ∷ (108 ∷ 105 ∷ 99 ∷ 101 ∷ 110 ∷ 115 ∷ 101 ∷ 0 ∷ [])
-    ∷ (114 ∷ 101 ∷ 116 ∷ 117 ∷ 114 ∷ 110 ∷ 0 ∷ 0 ∷ [])
-    ∷ (114 ∷ 101 ∷ 103 ∷ 0 ∷ 0 ∷ 0 ∷ 0 ∷ 0 ∷ [])
-    ∷ (105 ∷ 109 ∷ 109 ∷ 0 ∷ 0 ∷ 0 ∷ 0 ∷ 0 ∷ [])
-    ∷ (109 ∷ 97 ∷ 112 ∷ 0 ∷ 0 ∷ 0 ∷ 0 ∷ 0 ∷ [])
-    ∷ (116 ∷ 121 ∷ 112 ∷ 101 ∷ 0 ∷ 0 ∷ 0 ∷ 0 ∷ [])
-    ∷ (107 ∷ 101 ∷ 121 ∷ 0 ∷ 0 ∷ 0 ∷ 0 ∷ 0 ∷ [])
-    ∷ (118 ∷ 97 ∷ 108 ∷ 117 ∷ 101 ∷ 0 ∷ 0 ∷ 0 ∷ [])
-    ∷ (109 ∷ 97 ∷ 120 ∷ 0 ∷ 0 ∷ 0 ∷ 0 ∷ 0 ∷ [])
-    ∷ (105 ∷ 102 ∷ 0 ∷ 0 ∷ 0 ∷ 0 ∷ 0 ∷ 0 ∷ [])
-    ∷ (101 ∷ 108 ∷ 115 ∷ 101 ∷ 0 ∷ 0 ∷ 0 ∷ 0 ∷ [])
-    ∷ (103 ∷ 117 ∷ 97 ∷ 114 ∷ 100 ∷ 0 ∷ 0 ∷ 0 ∷ [])
-    ∷ (104 ∷ 101 ∷ 97 ∷ 112 ∷ 0 ∷ 0 ∷ 0 ∷ 0 ∷ [])
-    ∷ (101 ∷ 118 ∷ 101 ∷ 110 ∷ 116 ∷ 0 ∷ 0 ∷ 0 ∷ [])
-    ∷ (98 ∷ 121 ∷ 116 ∷ 101 ∷ 115 ∷ 0 ∷ 0 ∷ 0 ∷ [])
-    ∷ (117 ∷ 51 ∷ 50 ∷ 0 ∷ 0 ∷ 0 ∷ 0 ∷ 0 ∷ [])
-    ∷ (117 ∷ 54 ∷ 52 ∷ 0 ∷ 0 ∷ 0 ∷ 0 ∷ 0 ∷ [])
-    ∷ (105 ∷ 51 ∷ 50 ∷ 0 ∷ 0 ∷ 0 ∷ 0 ∷ 0 ∷ [])
-    ∷ (105 ∷ 54 ∷ 52 ∷ 0 ∷ 0 ∷ 0 ∷ 0 ∷ 0 ∷ [])
-    ∷ []
-
 entry : ℕ → Bool
 entry k =
     eqb (getD lengths k 0) (length (spellingAt k))
-    && ((leb (getD lengths k 0) 8 && leb (getD kinds k 0) 255)
-    && (eqb (getD kinds k 0) (getD reserved k noEntry .kind) && sameBytes (take (getD lengths k 0) (getD spellings k [])) (spellingAt k)))
+    && ((leb (getD lengths k 0) 8 && leb (getD kinds k 0) 255) && eqb (getD kinds k 0) (getD reserved k noEntry .kind))
 
 entries : allBelow entry 21 ≡ true
 unfolding entry spellingAt reserved sameBytes
@@ -60,7 +33,6 @@ pub record Right (k : ℕ) : Type 0 where
   pub short : getD lengths k 0 ≤ 8
   pub small : getD kinds k 0 ≤ 255
   pub kind : getD kinds k 0 ≡ getD reserved k noEntry .kind
-  pub spelling : take (getD lengths k 0) (getD spellings k []) ≡ spellingAt k
 
 pub entry-right : (k : ℕ) → k < 21 → Right k
 unfolding entry
@@ -68,16 +40,16 @@ entry-right k h =
     let a = both-true _ _ (below entry 21 entries k h) in
     let b = both-true _ _ (a .1) in
     let s = both-true _ _ (b .0) in
-    let d = both-true _ _ (b .1) in record {
-      long = eqb-true _ _ (a .0);
-      short = leb-true _ _ (s .0);
-      small = leb-true _ _ (s .1);
-      kind = eqb-true _ _ (d .0);
-      spelling = same-eq _ _ (d .1);
-    }
+    record { long = eqb-true _ _ (a .0); short = leb-true _ _ (s .0); small = leb-true _ _ (s .1); kind = eqb-true _ _ (b .1) }
 
-pub spelling-at : (k i : ℕ) → k < 21 → i < getD lengths k 0 → getD (getD spellings k []) i 0 ≡ getD (spellingAt k) i 0
-spelling-at k i h l = rw (← entry-right k h .spelling, getD-take)
+-- ---- a lent table of spellings
+
+module _ {t : List (List ℕ)} (h : Spellings t) (k : ℕ) (l : k < 21) where
+  pub padded-spelling : take (getD lengths k 0) (getD t k []) ≡ spellingAt k
+  padded-spelling = rw (entry-right k l .long) (h .padded k l)
+
+  pub padded-length : getD lengths k 0 ≡ length (take (getD lengths k 0) (getD t k []))
+  padded-length = entry-right k l .long ∙ ap length (sym padded-spelling)
 
 -- ---- an entry for the first and last bytes
 

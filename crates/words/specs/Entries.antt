@@ -1,8 +1,9 @@
 -- The entries of the table of reserved words, by number, and the one entry that a word's first and last bytes leave.
+use mathlib.Core.Path.{_≡_}
 use mathlib.Core.Bool.{Bool, cond, _&&_}
 use mathlib.Core.List.{List, [], _∷_}
-use Prim.Native.Nat.{ℕ, suc, _-_}
-use lib.ListN.{length, getD}
+use Prim.Native.Nat.{ℕ, suc, _-_, _<_}
+use lib.ListN.{length, getD, take}
 use lib.Dec.{eqb}
 use Rattle.rules.specs.Kinds.{Spelt, Identifier, reserved}
 
@@ -26,3 +27,7 @@ entryIn k (e ∷ es) x y = cond (framed e x y) k (entryIn (suc k) es x y)
 
 unfoldable pub entryOf : ℕ → ℕ → ℕ
 entryOf x y = entryIn 0 reserved x y
+
+-- a table that has the spelling of each entry, padded
+pub record Spellings (t : List (List ℕ)) : Type 0 where
+  pub padded : (k : ℕ) → k < 21 → take (length (spellingAt k)) (getD t k []) ≡ spellingAt k

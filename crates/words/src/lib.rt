@@ -1,14 +1,15 @@
 // Bytes and words: what a byte begins, the kinds of signs, and the reserved words.
+pub mod classes;
+
 ghost use mathlib.Core.Path.{_≡_};
 ghost use mathlib.Core.List.{[], _∷_};
 ghost use mathlib.Core.Bool.{cond};
-ghost use Prim.Native.Nat.{_<_};
 ghost use lib.Dec.{eqb};
 ghost use Rattle.rules.specs.Text.{isBlank};
-ghost use Rattle.rules.specs.Kinds.{Identifier, Eof, reserved, signs, sameBytes, kindIn};
+ghost use Rattle.rules.specs.Kinds.{Identifier, Eof, reserved, signs, kindIn};
 ghost use Rattle.rules.specs.Lex.{isLetter, isDigit, maybeTwo};
 ghost use Rattle.words.specs.Class.{classOf};
-ghost use Rattle.words.specs.Entries.{spellingAt, entryOf};
+ghost use Rattle.words.specs.Entries.{entryOf, Spellings};
 
 pub fn is_blank(b: u8) -> bool
     ensures { λ r. ⌜ r ≡ isBlank b ⌝ }
@@ -191,6 +192,13 @@ const KINDS: [u8; 21] = [
     24,
 ];
 
+// The padded spellings, for whoever looks many words up to lend.
+pub fn spellings() -> [[u8; 8]; 21]
+    ensures { λ r. ⌜ Spellings r ⌝ }
+{
+    SPELLINGS
+}
+
 // An entry where a byte is the wanted one, or the number behind the last.
 fn only(x: u8, wanted: u8, k: usize) -> usize
     ensures { λ r. ⌜ r ≡ cond (eqb wanted x) k 21 ⌝ }
@@ -244,28 +252,9 @@ fn entry_of(first: u8, last: u8) -> usize
     }
 }
 
-// Whether a word is the spelling of an entry.
-fn spells(word: &[u8], k: usize) -> bool
-    requires { ⌜ k < 21 ⌝ }
-    ensures { λ r. ⌜ r ≡ sameBytes (spellingAt k) (now (word .entry)) ⌝ }
-{
-    let n = LENGTHS[k] as usize;
-    if word.len() != n {
-        return false;
-    }
-    let spelling = SPELLINGS[k];
-    let mut i = 0;
-    while i < n {
-        if word[i] != spelling[i] {
-            return false;
-        }
-        i += 1;
-    }
-    true
-}
-
-// The kind of a word: its entry's, or an identifier's.
-pub fn kind_of(word: &[u8]) -> u32
+// The kind of a word: its entry's, or an identifier's. The spellings are lent.
+pub fn kind_in(spellings: &[[u8; 8]; 21], word: &[u8]) -> u32
+    requires { ⌜ Spellings (now spellings) ⌝ }
     ensures { λ r. ⌜ r ≡ kindIn reserved Identifier (now (word .entry)) ⌝ }
 {
     let n = word.len();
@@ -276,8 +265,18 @@ pub fn kind_of(word: &[u8]) -> u32
     if k == 21 {
         return 48;
     }
-    if spells(word, k) {
+    let size = LENGTHS[k] as usize;
+    let padded = &spellings[k][..];
+    if check::same(word, &padded[..size]) {
         return KINDS[k] as u32;
     }
     48
+}
+
+// The kind of one word.
+pub fn kind_of(word: &[u8]) -> u32
+    ensures { λ r. ⌜ r ≡ kindIn reserved Identifier (now (word .entry)) ⌝ }
+{
+    let table = spellings();
+    kind_in(&table, word)
 }

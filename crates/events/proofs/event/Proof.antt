@@ -9,7 +9,7 @@ use Rattle.grammar.proofs.Cases.{event-is, braced-is}
 use Rattle.nodes.specs.Post.{Met}
 use Rattle.nodes.proofs.Rows.{word-here}
 use Rattle.nodes.proofs.Turn.{met-no}
-use Rattle.events.proofs.Seen.{want-met, want-unmet, named-met, named-unmet}
+use Rattle.nodes.proofs.Seen.{want-met, want-unmet, named-met, named-unmet}
 use Rattle.events.proofs.event.Statement.{statement}
 use Rattle.events.proofs.event.Tie as tie
 

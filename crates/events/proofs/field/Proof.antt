@@ -13,7 +13,7 @@ use Rattle.nodes.specs.Post.{Tells}
 use Rattle.nodes.proofs.Rows.{word-here}
 use Rattle.nodes.proofs.Turn.{met-no}
 use Rattle.events.specs.Shapes.{Found}
-use Rattle.events.proofs.Seen.{want-met, want-unmet, named-met, named-unmet}
+use Rattle.nodes.proofs.Seen.{want-met, want-unmet, named-met, named-unmet}
 use Rattle.events.proofs.Nodes.{found-as, gave, refuses, field-met}
 use Rattle.events.proofs.field.Statement.{statement}
 use Rattle.events.proofs.field.Tie as tie

@@ -15,7 +15,7 @@ use Rattle.nodes.proofs.Rows.{tokens, tells-some}
 use Rattle.nodes.proofs.Turn.{Any, Came, refused, met-ok, met-no, same-len}
 use Rattle.nodes.proofs.Steps.{Listing, list-start, list-ends, list-count, list-fails, list-again}
 use Rattle.nodes.specs.declared.At.{At}
-use Rattle.events.proofs.Seen.{seen}
+use Rattle.nodes.proofs.Seen.{seen}
 use Rattle.events.proofs.Nodes.{field-came, field-up, stands-event}
 use Rattle.events.proofs.fields.Statement.{statement}
 use Rattle.events.proofs.fields.Tie as tie

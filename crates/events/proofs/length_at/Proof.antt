@@ -14,7 +14,7 @@ use Rattle.rules.specs.Parse.{ok, most32}
 use Rattle.grammar.proofs.Cases.{length-is, length-yes, length-no}
 use Rattle.nodes.specs.Post.{Tells}
 use Rattle.nodes.proofs.Rows.{word-here}
-use Rattle.events.proofs.Seen.{want-met, want-unmet, valued-met, valued-unmet}
+use Rattle.nodes.proofs.Seen.{want-met, want-unmet, valued-met, valued-unmet}
 use Rattle.events.proofs.Nodes.{found-ok, found-no}
 use Rattle.events.proofs.length_at.Statement.{statement}
 use Rattle.events.proofs.length_at.Tie as tie

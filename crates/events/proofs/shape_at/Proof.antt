@@ -9,7 +9,7 @@ use Rattle.rules.specs.Parse.{isType}
 use Rattle.grammar.proofs.Cases.{event-type, event-bytes, event-other}
 use Rattle.nodes.proofs.Rows.{word-here}
 use Rattle.events.specs.Shapes.{bytes}
-use Rattle.events.proofs.Seen.{seen, want-met, want-unmet}
+use Rattle.nodes.proofs.Seen.{seen, want-met, want-unmet}
 use Rattle.events.proofs.Nodes.{found-no, found-as}
 use Rattle.events.proofs.shape_at.Statement.{statement}
 use Rattle.events.proofs.shape_at.Tie as tie

@@ -9,7 +9,7 @@ use Rattle.rules.specs.Parse.{kindAt}
 use Rattle.grammar.proofs.Cases.{array-yes, array-no}
 use Rattle.nodes.proofs.Rows.{word-here}
 use Rattle.events.specs.Shapes.{Shows, plain, array}
-use Rattle.events.proofs.Seen.{type-low, seen, want-met, want-unmet}
+use Rattle.nodes.proofs.Seen.{type-low, seen, want-met, want-unmet}
 use Rattle.events.proofs.Nodes.{found-ok, found-no, found-as}
 use Rattle.events.proofs.typed_at.Statement.{statement}
 use Rattle.events.proofs.typed_at.Tie as tie

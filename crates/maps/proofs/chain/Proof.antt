@@ -17,7 +17,7 @@ use Rattle.nodes.proofs.Rows.{word-here, tokens, tells-some}
 use Rattle.maps.specs.declared.Summed.the-variants as summed
 use Rattle.maps.specs.Steps.{bitsAt, sumOf, Adds}
 use Rattle.maps.specs.declared.Sum.{Sum}
-use Rattle.events.proofs.Seen.{seen, valued-met, valued-unmet}
+use Rattle.nodes.proofs.Seen.{seen, valued-met, valued-unmet}
 use Rattle.maps.proofs.Answers.{Summing, answer-ok, answer-no, sum-gave, sum-refused}
 use Rattle.maps.proofs.Loops.{Loop, begins, ends, fails, goes-on}
 use Rattle.maps.proofs.Limits.{shift-on}

@@ -3,7 +3,7 @@ use mathlib.Core.Path.{sym, ap, _∙_}
 use borrow.Author.Needs.{needs}
 use Rattle.rules.specs.Parse.{isTyped}
 use Rattle.grammar.proofs.Cases.{field-nothing}
-use Rattle.events.proofs.Seen.{seen}
+use Rattle.nodes.proofs.Seen.{seen}
 use Rattle.maps.proofs.Answers.{answer-no}
 use Rattle.maps.proofs.field.Statement.{statement}
 use Rattle.maps.proofs.field.Tie as tie

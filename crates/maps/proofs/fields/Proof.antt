@@ -22,10 +22,10 @@ use Rattle.nodes.specs.Names.{Names}
 use Rattle.maps.specs.declared.Found.the-variants as found
 use Rattle.maps.specs.Steps.{over, factsOf, Gives}
 use Rattle.maps.specs.declared.Facts.{Facts}
-use Rattle.events.proofs.Seen.{seen}
+use Rattle.nodes.proofs.Seen.{seen}
 use Rattle.maps.proofs.Answers.{Facing, answer-ok, answer-no, facts-gave, facts-refused}
 use Rattle.maps.proofs.Loops.{Loop, begins, ends, fails, goes-on}
-use Rattle.maps.proofs.Told.{names-told}
+use Rattle.nodes.proofs.Told.{names-told}
 use Rattle.maps.proofs.fields.Statement.{statement}
 use Rattle.maps.proofs.fields.Tie as tie
 

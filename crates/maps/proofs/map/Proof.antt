@@ -20,9 +20,9 @@ use Rattle.nodes.specs.Names.{Names}
 use Rattle.nodes.proofs.Turn.{met-ok, met-no}
 use Rattle.maps.specs.Steps.{factsOf}
 use Rattle.maps.specs.declared.Facts.{Facts}
-use Rattle.events.proofs.Seen.{want-met, want-unmet, named-met, named-unmet}
+use Rattle.nodes.proofs.Seen.{want-met, want-unmet, named-met, named-unmet}
 use Rattle.maps.proofs.Answers.{Facing, facts-gave, facts-refused}
-use Rattle.maps.proofs.Told.{names-told}
+use Rattle.nodes.proofs.Told.{names-told}
 use Rattle.maps.proofs.Limits.{fields-limit, lacks-none}
 use Rattle.maps.proofs.Last.{stands-map}
 use Rattle.maps.proofs.map.Statement.{statement}

@@ -16,7 +16,7 @@ use Rattle.grammar.proofs.Ends.{ends-chain}
 use Rattle.grammar.proofs.Runs.{all-ok}
 use Rattle.nodes.specs.Post.{Tells}
 use Rattle.nodes.proofs.Rows.{word-here, tokens, tells-some}
-use Rattle.events.proofs.Seen.{seen, want-met, want-unmet}
+use Rattle.nodes.proofs.Seen.{seen, want-met, want-unmet}
 use Rattle.maps.proofs.Answers.{Summing, answer-no, sum-gave, sum-refused}
 use Rattle.maps.proofs.Last.{steps-to, over-limit}
 use Rattle.maps.proofs.max_field.Statement.{statement}

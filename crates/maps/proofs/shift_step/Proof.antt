@@ -15,7 +15,7 @@ use Rattle.nodes.specs.Post.{Tells}
 use Rattle.nodes.proofs.Rows.{word-here}
 use Rattle.maps.specs.declared.Summed.the-variants as summed
 use Rattle.maps.specs.Steps.{Adds, bitsAt, sumOf}
-use Rattle.events.proofs.Seen.{seen, valued-met, valued-unmet}
+use Rattle.nodes.proofs.Seen.{seen, valued-met, valued-unmet}
 use Rattle.maps.proofs.Answers.{answer-ok, answer-no}
 use Rattle.maps.proofs.shift_step.Statement.{statement}
 use Rattle.maps.proofs.shift_step.Tie as tie

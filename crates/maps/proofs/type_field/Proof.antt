@@ -12,7 +12,7 @@ use Rattle.rules.specs.Parse.{Out, ok, tokAt}
 use Rattle.grammar.proofs.Cases.{field-typing, type-unknown, type-known}
 use Rattle.nodes.proofs.Rows.{word-here, word-at}
 use Rattle.nodes.specs.Names.{Names}
-use Rattle.events.proofs.Seen.{seen, want-met, want-unmet, named-met, named-unmet}
+use Rattle.nodes.proofs.Seen.{seen, want-met, want-unmet, named-met, named-unmet}
 use Rattle.maps.proofs.Answers.{answer-no}
 use Rattle.maps.proofs.Last.{steps-to, over-type}
 use Rattle.maps.proofs.type_field.Statement.{statement}

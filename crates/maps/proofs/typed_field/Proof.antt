@@ -12,7 +12,7 @@ use Rattle.rules.specs.Parse.{ok, kindAt, isType, isTyped}
 use Rattle.grammar.proofs.Laws.{either-kind}
 use Rattle.grammar.proofs.Cases.{field-keying, key-yes, key-end, key-no}
 use Rattle.nodes.specs.Post.{Tells}
-use Rattle.events.proofs.Seen.{seen, want-met, want-unmet, type-low}
+use Rattle.nodes.proofs.Seen.{seen, want-met, want-unmet, type-low}
 use Rattle.maps.proofs.Answers.{answer-no}
 use Rattle.maps.proofs.Last.{steps-to, over-key, over-value}
 use Rattle.maps.proofs.typed_field.Statement.{statement}

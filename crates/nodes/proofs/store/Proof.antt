@@ -1,6 +1,7 @@
--- `nodes::store` meets its contract.
-use Prim.Native.Nat.{_*_}
-use Rattle.grammar.proofs.Laws.{sets-eight}
+-- `nodes::store` meets its contract: none of the words, some or all find room.
+use mathlib.Core.Path.{sym}
+use Rattle.rules.specs.Nodes.{factNode, nodeWords}
+use Rattle.grammar.proofs.Laws.{sets-out}
 use borrow.Author.Needs.{needs}
 use Rattle.nodes.proofs.store.Statement.{statement}
 use Rattle.nodes.proofs.store.Tie as tie
@@ -8,78 +9,42 @@ use Rattle.nodes.proofs.store.Tie as tie
 mul-at : tie.Need-mul-at
 mul-at c = search needs
 
-put-requires : tie.Need-put-requires
-put-requires c κs = search needs
+returns : tie.Need-returns
+returns c =
+    let w = c .before .before .args .w in
+    sym (sets-out (nodeWords (factNode (w .kind) (w .place) (w .name) (w .children) (w .fact0) (w .fact1) (w .fact2) (w .fact3))) _ _ (c .if1 .taken))
 
-add-put : tie.Need-add-put
-add-put c = search needs
+add-if2 : tie.Need-add-if2
+add-if2 c = search needs
 
-put-requires-2 : tie.Need-put-requires-2
-put-requires-2 c κs = search needs
-
-add-put-2 : tie.Need-add-put-2
-add-put-2 c = search needs
-
-put-requires-3 : tie.Need-put-requires-3
-put-requires-3 c κs = search needs
-
-add-put-3 : tie.Need-add-put-3
-add-put-3 c = search needs
-
-put-requires-4 : tie.Need-put-requires-4
-put-requires-4 c κs = search needs
-
-add-put-4 : tie.Need-add-put-4
-add-put-4 c = search needs
-
-put-requires-5 : tie.Need-put-requires-5
-put-requires-5 c κs = search needs
-
-add-put-5 : tie.Need-add-put-5
-add-put-5 c = search needs
-
-put-requires-6 : tie.Need-put-requires-6
-put-requires-6 c κs = search needs
-
-add-put-6 : tie.Need-add-put-6
-add-put-6 c = search needs
-
-put-requires-7 : tie.Need-put-requires-7
-put-requires-7 c κs = search needs
-
-add-put-7 : tie.Need-add-put-7
-add-put-7 c = search needs
-
-put-requires-8 : tie.Need-put-requires-8
-put-requires-8 c κs = search needs
+store-part-requires : tie.Need-store-part-requires
+store-part-requires c κs = search needs
 
 same-length : tie.Need-same-length
 same-length c = search needs
 
-returns : tie.Need-returns
-returns c =
-    let a = c .before .before .before .before .before .before .before .before .before .before .before .before .before .before .before .before .before .before .before .before .before .before .before .before .before .before .before .before .before .before .before .before .before .args in
-    sets-eight (a .nodes .now) _ _ _ _ _ _ _ _ (8 * a .n) (a .w .kind) _ _ _ _ _ _ _ (c .before .before .before .before .before .before .before .before .before .before .before .before .before .before .before .before .before .before .before .before .before .before .before .before .before .before .before .before .before .before .put .ensures) (c .before .before .before .before .before .before .before .before .before .before .before .before .before .before .before .before .before .before .before .before .before .before .before .before .before .before .put2 .ensures) (c .before .before .before .before .before .before .before .before .before .before .before .before .before .before .before .before .before .before .before .before .before .before .put3 .ensures) (c .before .before .before .before .before .before .before .before .before .before .before .before .before .before .before .before .before .before .put4 .ensures) (c .before .before .before .before .before .before .before .before .before .before .before .before .before .before .put5 .ensures) (c .before .before .before .before .before .before .before .before .before .before .put6 .ensures) (c .before .before .before .before .before .before .put7 .ensures) (c .before .before .put8 .ensures)
+returns-2 : tie.Need-returns-2
+returns-2 c = search needs
+
+store-whole-requires : tie.Need-store-whole-requires
+store-whole-requires c κs = search needs
+
+same-length-2 : tie.Need-same-length-2
+same-length-2 c = search needs
+
+returns-3 : tie.Need-returns-3
+returns-3 c = search needs
 
 pub store-spec : {M : Type 1} → statement M
 store-spec =
     tie.close
     (tie.spec
     mul-at
-    put-requires
-    add-put
-    put-requires-2
-    add-put-2
-    put-requires-3
-    add-put-3
-    put-requires-4
-    add-put-4
-    put-requires-5
-    add-put-5
-    put-requires-6
-    add-put-6
-    put-requires-7
-    add-put-7
-    put-requires-8
+    returns
+    add-if2
+    store-part-requires
     same-length
-    returns)
+    returns-2
+    store-whole-requires
+    same-length-2
+    returns-3)

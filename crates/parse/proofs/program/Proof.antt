@@ -16,8 +16,8 @@ use Rattle.nodes.specs.Names.{Names}
 use Rattle.nodes.specs.declared.At.{At}
 use Rattle.nodes.proofs.Turn.{Any, Came, refused, met-ok, met-no, same-len}
 use Rattle.nodes.proofs.Steps.{Listing, list-start, list-ends, list-count, list-fails, list-again}
-use Rattle.events.proofs.Seen.{seen}
-use Rattle.maps.proofs.Told.{names-told}
+use Rattle.nodes.proofs.Seen.{seen}
+use Rattle.nodes.proofs.Told.{names-told}
 use Rattle.parse.proofs.Whole.{word-in, top-came, top-up, stands-program}
 use Rattle.parse.proofs.program.Statement.{statement}
 use Rattle.parse.proofs.program.Tie as tie

@@ -5,7 +5,7 @@ use Rattle.rules.specs.Parse.{Out}
 use Rattle.grammar.proofs.Cases.{top-map, top-unit, top-event, top-other}
 use Rattle.nodes.specs.Post.{Met}
 use Rattle.nodes.proofs.Turn.{met-no}
-use Rattle.events.proofs.Seen.{seen}
+use Rattle.nodes.proofs.Seen.{seen}
 use Rattle.parse.proofs.top.Statement.{statement}
 use Rattle.parse.proofs.top.Tie as tie
 

@@ -1,13 +1,16 @@
 -- `parse::twice` meets its contract: the first pass, into no memory, says what the second will answer.
 use mathlib.Core.Path.{_≡_, subst}
 use mathlib.Core.List.{List}
-use Prim.Native.Nat.{ℕ}
+use Prim.Native.Nat.{ℕ, _≤_}
 use native.Mathlib.Omega.{arith}
+use lib.ListN.{length}
+use lib.Seq.{length-take-le}
+use Rattle.rules.specs.Calls.{nodeRoom}
 use borrow.Author.Needs.{needs}
 use Rattle.rules.specs.Parse.{no}
 use Rattle.nodes.specs.Post.{Met}
 use Rattle.nodes.proofs.Turn.{refused}
-use Rattle.maps.proofs.Told.{names-told}
+use Rattle.nodes.proofs.Told.{names-told}
 use Rattle.parse.specs.Program.{readingOf}
 use Rattle.parse.proofs.Whole.{none-written, Wrote, wrote, final-ok, final-no, nodes-fit, room-fits, refused-in}
 use Rattle.parse.proofs.twice.Statement.{statement}
@@ -23,11 +26,16 @@ stopped c =
     let a = c .before .before .before .before .before .before .before .before .before .args in
     refused _ 0 0 _ (c .before .before .before .before .program .last .1 .1 .1 .0) (c .before .before .before .before .program .result) (c .why .given .0 .0) (c .why .given .0 .1 .0) (c .before .before .before .before .program .ensures _ (names-told (a .text .now) (a .rows .now) (a .count))) (c .why .given .1)
 
+-- There is room for a node: what rules out a first pass that writes one is the promise, not a bound.
+room-for-one : (c : tie.After-slice-known) → 8 ≤ length (c .before .before .before .args .nodes .now)
+unfolding nodeRoom
+room-for-one c = let p = c .before .before .before .pre in omega (arith, p .some, p .room)
+
 slice-relend-prefix-program : tie.Need-slice-relend-prefix-program
-slice-relend-prefix-program c = search needs
+slice-relend-prefix-program c = omega (arith, room-for-one c)
 
 slice-aggregate-program : tie.Need-slice-aggregate-program
-slice-aggregate-program c = search needs
+slice-aggregate-program c = omega (arith, length-take-le 8 (c .before .before .before .before .args .nodes .now) (room-for-one (c .before)))
 
 program-requires : tie.Need-program-requires
 program-requires c κs = search needs

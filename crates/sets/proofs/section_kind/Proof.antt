@@ -3,22 +3,25 @@ use mathlib.Core.Path.{_≡_, refl, sym, _∙_}
 use Prim.Native.Nat.{_-_, _≤_}
 use native.Mathlib.Omega.{arith}
 use lib.ListN.{drop}
+use Rattle.rules.specs.Kinds.{sameBytes}
 use Rattle.rules.specs.Sets.{sections, kindOfSection}
-use Rattle.sets.proofs.Spellings.{kind-on, kind-at, kind-end, kind-start}
+use Rattle.sets.specs.Entries.{sectionAt}
+use Rattle.sets.proofs.Spellings.{alike, entry, entry-right, kind-on, kind-at, kind-end, kind-start}
 use Rattle.sets.proofs.section_kind.Statement.{statement}
 use Rattle.sets.proofs.section_kind.Tie as tie
 
 abbrev Inv-loop : tie.InvT-loop
-Inv-loop text k₀ k = (k ≤ 13) × (kindOfSection (drop k sections) text ≡ kindOfSection (drop 0 sections) text)
+Inv-loop text spellings lengths wholes k₀ k = (k ≤ 13) × (kindOfSection (drop k sections) text ≡ kindOfSection (drop 0 sections) text)
 
 abbrev μ-loop : tie.MeasureT-loop
-μ-loop text k₀ k = 13 - k
+μ-loop text spellings lengths wholes k₀ k = 13 - k
 
 loop-holds : tie.Need-loop-holds Inv-loop μ-loop
 loop-holds c = (omega arith, refl)
 
 fits-section-requires : tie.Need-fits-section-requires Inv-loop μ-loop
-fits-section-requires c κs = omega arith
+unfolding entry alike sectionAt sections sameBytes
+fits-section-requires c κs = entry-right _ _ _ refl (c .before .before .before .before .loop .k) (omega arith)
 
 mul-result : tie.Need-mul-result Inv-loop μ-loop
 mul-result c = omega arith
@@ -28,8 +31,8 @@ array-read-result c = omega arith
 
 returns : tie.Need-returns Inv-loop μ-loop
 returns c =
-    let l = c .before .before .before .loop in
-    let w = c .before .before .before .before .before .args .text .now in
+    let l = c .before .before .before .before .before .before .loop in
+    let w = c .before .before .before .before .before .before .before .before .args .text .now in
     sym (kind-at w (l .k) (omega arith) (sym (c .before .fits-section .ensures) ∙ c .if1 .taken)) ∙ (l .inv .1 ∙ kind-start w)
 
 add-k : tie.Need-add-k Inv-loop μ-loop
@@ -40,8 +43,8 @@ loop-less c = omega arith
 
 loop-again : tie.Need-loop-again Inv-loop μ-loop
 loop-again c =
-    let l = c .before .before .before .loop in
-    let w = c .before .before .before .before .before .args .text .now in
+    let l = c .before .before .before .before .before .before .loop in
+    let w = c .before .before .before .before .before .before .before .before .args .text .now in
     (omega arith, sym (kind-on w (l .k) (omega arith) (sym (c .before .fits-section .ensures) ∙ c .if1 .left)) ∙ l .inv .1)
 
 returns-2 : tie.Need-returns-2 Inv-loop μ-loop

@@ -11,7 +11,7 @@ use Rattle.grammar.proofs.Cases.{item-stmt}
 use Rattle.grammar.proofs.Sound.{stmt-sound}
 use Rattle.nodes.specs.Names.{Names}
 use Rattle.nodes.proofs.Turn.{came-reads, refused}
-use Rattle.events.proofs.Seen.{seen}
+use Rattle.nodes.proofs.Seen.{seen}
 use Rattle.units.proofs.Answers.{adds-ok, adds-no, with-stmt}
 use Rattle.units.proofs.item.Statement.{statement}
 use Rattle.units.proofs.item.Tie as tie

@@ -13,8 +13,8 @@ use Rattle.rules.specs.Calls.{tokens}
 use Rattle.nodes.specs.Names.{Names}
 use Rattle.nodes.proofs.Turn.{same-len}
 use Rattle.nodes.proofs.Steps.{list-count}
-use Rattle.events.proofs.Seen.{seen}
-use Rattle.maps.proofs.Told.{names-told}
+use Rattle.nodes.proofs.Seen.{seen}
+use Rattle.nodes.proofs.Told.{names-told}
 use Rattle.units.proofs.Answers.{Added, added, add-refused, Carries, Gathering, items-start, item-up, item-inside, items-again, items-end, items-fail}
 use Rattle.units.proofs.items.Statement.{statement}
 use Rattle.units.proofs.items.Tie as tie

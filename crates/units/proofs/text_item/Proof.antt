@@ -12,7 +12,7 @@ use Rattle.rules.specs.Parse.{ok, isText, tokAt, kindAt}
 use Rattle.grammar.proofs.Cases.{item-text}
 use Rattle.nodes.specs.Names.{Names}
 use Rattle.nodes.proofs.Rows.{word-at, word-here}
-use Rattle.events.proofs.Seen.{seen, want-met, want-unmet}
+use Rattle.nodes.proofs.Seen.{seen, want-met, want-unmet}
 use Rattle.units.proofs.Answers.{quoted-met, quoted-unmet, adds-no, adds-as}
 use Rattle.units.proofs.text_item.Statement.{statement}
 use Rattle.units.proofs.text_item.Tie as tie

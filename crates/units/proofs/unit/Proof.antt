@@ -15,8 +15,8 @@ use Rattle.nodes.specs.declared.At.{At}
 use Rattle.units.specs.declared.Contents.{Contents}
 use Rattle.nodes.proofs.Rows.{word-here}
 use Rattle.nodes.proofs.Turn.{met-ok, met-no}
-use Rattle.events.proofs.Seen.{want-met, want-unmet, named-met, named-unmet}
-use Rattle.maps.proofs.Told.{names-told}
+use Rattle.nodes.proofs.Seen.{want-met, want-unmet, named-met, named-unmet}
+use Rattle.nodes.proofs.Told.{names-told}
 use Rattle.units.proofs.Answers.{Held, held, held-refused, held-ends, stands-unit}
 use Rattle.units.proofs.unit.Statement.{statement}
 use Rattle.units.proofs.unit.Tie as tie

@@ -19,7 +19,7 @@ sign-shown : (c : tie.Else1) → (c .before .before .before .args .whole || ltb 
 sign-shown c = sym (c .before .shown .ensures) ∙ not-false _ (c .if1 .left)
 
 -- the kind of the two bytes
-two-is : (c : tie.After-two-sign) → c .two-sign .result ≡ twoAt (c .before .before .before .before .before .before .args .text .now) (c .before .before .before .before .before .before .args .s)
+two-is : (c : tie.After-two-sign) → c .two-sign .result ≡ twoAt (c .before .before .before .before .before .before .args .text .now) (c .before .before .before .before .before .before .args .s .at)
 two-is c =
     let s = c .before .before .before .before .before .before in
     c .two-sign .ensures ∙ ap (λ (x : ℕ). kindIn signs Eof (getD (s .args .text .now) (s .args .s .at) 0 ∷ x ∷ [])) (c .before .peek .ensures)

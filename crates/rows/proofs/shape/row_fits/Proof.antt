@@ -23,7 +23,8 @@ value-fits-requires c κs = search needs
 spans-fit-requires : tie.Need-spans-fit-requires
 spans-fit-requires c κs =
     let a = c .before .before .before in
-    made-le (a .before .before .args .r .kind) (sym (a .before .is-made .ensures) ∙ not-false (a .before .is-made .result) (a .if1 .left))
+    let made = sym (a .before .is-made .ensures) ∙ not-false (a .before .is-made .result) (a .if1 .left) in
+    (made-le (a .before .before .args .r .kind) made, a .before .before .pre)
 
 place-fits-requires : tie.Need-place-fits-requires
 place-fits-requires c κs = search needs

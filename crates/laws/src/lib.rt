@@ -1,0 +1,1 @@
+// Laws that several crates share: no code, theorems in proofs/.

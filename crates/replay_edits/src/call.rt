@@ -1,0 +1,202 @@
+// A call of the sample: the window and the memory that it is lent, what it tells and leaves, held against what is expected.
+use crate::change::BYTES;
+use crate::change::Edit;
+use crate::change::WORDS;
+use crate::part::number;
+use crate::report::memory_line;
+use crate::report::word_line;
+use crate::tally::CALLS;
+use crate::tally::KINDS;
+use crate::tally::NOTHING;
+use crate::tally::Tally;
+use crate::words::first_other;
+use crate::words::told_words;
+use crate::words::words_read;
+use rules::Table;
+use rules::Told;
+use stored::input::LOST;
+use stored::input::count;
+use stored::input::letter;
+ghost use Prim.Native.Nat.{_≤_};
+
+// What stands in lent memory before a call.
+const UNTOUCHED: u32 = 2863311530;
+
+// The window is so many bytes from a start on, so many words are lent for rows; and the number, place, count and length that are
+// expected.
+struct Call {
+    start: u32,
+    size: u32,
+    words: u32,
+    told: [u32; 6],
+    next: usize,
+}
+
+// The next call.
+fn call_at(sample: &[u8], at: usize) -> Call {
+    let start = number(sample, at);
+    let size = number(sample, start.next);
+    let words = number(sample, size.next);
+    let mut told = [0u32; 6];
+    let next = words_read(sample, words.next, &mut told, 6);
+    Call {
+        start: start.value,
+        size: size.value,
+        words: words.value,
+        told,
+        next,
+    }
+}
+
+// So many bytes of a text from a start on; none where they do not lie in it.
+fn window(text: &[u8], start: u32, size: u32) -> &[u8] {
+    let from = start as usize;
+    let end = from + size as usize;
+    if text.len() < end {
+        return &text[..0];
+    }
+    &text[from..end]
+}
+
+// So many words, or all where there are fewer.
+fn fewer(size: usize, words: u32) -> usize
+    ensures { λ r. ⌜ r ≤ size ⌝ }
+{
+    let all = words as usize;
+    if size < all { size } else { all }
+}
+
+// The edit call, with the first so many words lent.
+fn told_by(
+    old: &[u32],
+    table: Table,
+    edit: Edit,
+    call: Call,
+    text: &[u8],
+    memory: &mut [u32],
+) -> Told {
+    let end = fewer(memory.len(), call.words);
+    let start = call.start;
+    let shown = window(text, start, call.size);
+    edit::edit(
+        old,
+        table,
+        edit.a,
+        edit.b,
+        edit.n,
+        start,
+        shown,
+        &mut memory[..end],
+    )
+}
+
+// Word i of memory behind a call that wrote so many of these rows.
+fn expected(rows: &[u32; WORDS], count: u32, i: usize) -> u32 {
+    if WORDS <= i {
+        return UNTOUCHED;
+    }
+    if ((i / 8) as u64) < count as u64 {
+        return rows[i];
+    }
+    UNTOUCHED
+}
+
+// The first word of memory that is not as expected; the number of words where there is none.
+fn first_changed(memory: &[u32; WORDS], rows: &[u32; WORDS], count: u32) -> usize {
+    let mut i = 0;
+    while i < WORDS {
+        if memory[i] != expected(rows, count, i) {
+            return i;
+        }
+        i += 1;
+    }
+    i
+}
+
+// Six words that were told against those that are expected: what differs is written.
+pub fn words_compared(tally: Tally, ours: &[u32; 6], theirs: &[u32; 6]) -> Tally {
+    let i = first_other(ours, theirs);
+    if i < 6 {
+        word_line(tally, i, ours[i], theirs[i]);
+        return tally.differs();
+    }
+    tally
+}
+
+// Memory behind a call against so many rows and what was there: what differs is written.
+fn memory_compared(tally: Tally, memory: &[u32; WORDS], rows: &[u32; WORDS], count: u32) -> Tally {
+    let i = first_changed(memory, rows, count);
+    let same = (i / 8) as u64;
+    let all = count as u64;
+    if i < WORDS {
+        memory_line(tally, i, memory[i], expected(rows, count, i));
+        let agreed = if same < all { same } else { all };
+        return tally.rows(all, agreed).differs();
+    }
+    tally.rows(all, all)
+}
+
+// The counter of one of so many numbers, from a first on.
+fn counter(first: usize, n: u32, most: u32) -> usize
+    requires { ⌜ first ≤ 32 ⌝ }
+{
+    if n < most {
+        first + n as usize
+    } else {
+        NOTHING
+    }
+}
+
+// One call more, of this kind of edit, of which a number is expected; it agrees if it has no difference more.
+fn counted(before: Tally, now: Tally, kind: u32, number: u32) -> Tally {
+    let agrees = before.differences == now.differences;
+    now.held(CALLS, agrees)
+        .held(counter(0, number, 16), agrees)
+        .held(counter(KINDS, kind, 11), agrees)
+}
+
+// The sample's next call.
+fn call_compared(
+    sample: &[u8],
+    tally: Tally,
+    old: &[u32; WORDS],
+    table: Table,
+    edit: Edit,
+    text: &[u8; BYTES],
+    rows: &[u32; WORDS],
+) -> Tally {
+    let call = call_at(sample, tally.at);
+    if call.next == LOST {
+        return tally.moved(LOST);
+    }
+    let mut memory = [UNTOUCHED; WORDS];
+    let told = told_by(old, table, edit, call, text, &mut memory);
+    let begun = tally.moved(call.next).next_call();
+    let theirs = call.told;
+    let told_too = words_compared(begun, &told_words(told), &theirs);
+    let now = memory_compared(told_too, &memory, rows, theirs[4]);
+    counted(begun, now, edit.kind, theirs[0])
+}
+
+// The sample's calls of an edit.
+pub fn calls_compared(
+    sample: &[u8],
+    tally: Tally,
+    old: &[u32; WORDS],
+    table: Table,
+    edit: Edit,
+    text: &[u8; BYTES],
+    rows: &[u32; WORDS],
+) -> Tally {
+    let size = count(sample, letter(sample, tally.at, b'C'));
+    let mut now = tally.moved(size.next);
+    let mut i: u64 = 0;
+    while i < size.value {
+        if now.at == LOST {
+            return now;
+        }
+        now = call_compared(sample, now, old, table, edit, text, rows);
+        i += 1;
+    }
+    now
+}

@@ -1,0 +1,118 @@
+// Holds the edit call against a stored sample of edits: reads the sample on standard input, scans each old text, asks where the window
+// of its edit starts, makes the calls, and writes how many agree with what is expected in answer, rows and memory. `cargo run --release
+// --offline --bin edits` in compare/ writes `stdin`, which says at its head where each expectation comes from.
+use call::calls_compared;
+use call::words_compared;
+use change::BYTES;
+use change::WORDS;
+use libc::STDIN_FILENO;
+use rules::Table;
+use stored::input::LOST;
+use stored::input::count;
+use stored::input::letter;
+use stored::lines;
+use stored::told::table_of;
+use tally::RESTARTS;
+use tally::Tally;
+
+mod call;
+mod change;
+mod part;
+mod report;
+mod tally;
+mod words;
+
+// The table of a text, its rows in lent memory.
+fn scanned(text: &[u8], rows: &mut [u32; WORDS]) -> Table {
+    table_of(scan::scan(text, rows))
+}
+
+// The restart place of an edit at a against the sample's.
+fn restart_compared(
+    sample: &[u8],
+    tally: Tally,
+    old: &[u32; WORDS],
+    table: Table,
+    a: u32,
+) -> Tally {
+    let mut theirs = [0u32; 6];
+    let next = words::words_read(sample, letter(sample, tally.at, b'S'), &mut theirs, 4);
+    if next == LOST {
+        return tally.moved(LOST);
+    }
+    let ours = words::restart_words(edit::restart(old, table, a));
+    let begun = tally.moved(next);
+    let now = words_compared(begun, &ours, &theirs);
+    now.held(RESTARTS, begun.differences == now.differences)
+}
+
+// The sample's next edit: its restart place and its calls.
+fn edit_compared(sample: &[u8], tally: Tally) -> Tally {
+    let mut old = [0u32; WORDS];
+    let mut rows = [0u32; WORDS];
+    let mut text = [0u8; BYTES];
+    let before = part::part_at(sample, tally.at, b'T');
+    let table = scanned(part::bytes_of(sample, before), &mut old);
+    let edit = change::edit_at(sample, change::damaged(sample, before.end, &mut old));
+    let new = part::part_at(sample, edit.next, b'N');
+    change::edited(
+        &mut text,
+        part::bytes_of(sample, before),
+        edit,
+        part::bytes_of(sample, new),
+    );
+    let begun = restart_compared(
+        sample,
+        tally.moved(new.end).next_edit(),
+        &old,
+        table,
+        edit.a,
+    );
+    let now = begun.moved(change::rows_read(sample, begun.at, &mut rows));
+    calls_compared(sample, now, &old, table, edit, &text, &rows)
+}
+
+// So many edits, as far as the sample can be read.
+fn edits(sample: &[u8], at: usize, size: u64) -> Tally {
+    let mut tally = Tally::start(at);
+    let mut i: u64 = 0;
+    while i < size {
+        let now = edit_compared(sample, tally);
+        if now.at == LOST {
+            return tally;
+        }
+        tally = now;
+        i += 1;
+    }
+    tally
+}
+
+// The counts of a sample.
+fn replay(sample: &[u8]) {
+    let size = count(sample, stored::header(sample, b"spoonharbor-edits"));
+    let heading = part::part_at(sample, size.next, b'H');
+    let tally = edits(sample, heading.end, size.value);
+    lines::two(b"edits ", tally.edit, b" of ", size.value);
+    lines::one(
+        b"bytes behind the last edit ",
+        stored::rest(sample, tally.at),
+    );
+    report::counts(tally);
+}
+
+// How many bytes were read.
+fn filled(sample: &mut [u8; 500000]) -> usize {
+    io::read_full(STDIN_FILENO, sample)
+}
+
+// The counts of the first so many bytes.
+fn replay_first(sample: &[u8; 500000], size: usize) {
+    replay(stored::first(sample, size as u64));
+}
+
+// The counts of the sample on standard input.
+fn main() {
+    let mut sample = [0u8; 500000];
+    let size = filled(&mut sample);
+    replay_first(&sample, size);
+}
