@@ -5,10 +5,10 @@ use Prim.Native.Nat.{ℕ, _+_, _-_, _*_, _≤_, _<_, min}
 use native.Mathlib.Omega.{arith}
 use lib.ListN.{length, take, drop, length-append, length-drop}
 use lib.Seq.{drop-drop, take-all, take-append-le, take-append-add}
-use borrow.Author.Tests.{le-leb, lt-leb}
+use borrow.Author.Tests.{lt-leb}
 use Rattle.rules.specs.declared.Ending.{Ending}
 use Rattle.rules.specs.declared.Outer.the-variants.{NoRowRoom}
-use Rattle.rules.specs.declared.Told.the-variants.{Rows, Refused}
+use Rattle.rules.specs.declared.Told.the-variants.{Refused}
 use Rattle.rules.specs.Text.{startPlace}
 use Rattle.rules.specs.Rows.{Row, wordsOf}
 use Rattle.rules.specs.Scan.{roomOf, laid, told}
@@ -53,10 +53,6 @@ unfolding wordsOf
 laid-none ws = laid-all [] ws (omega arith)
 
 module _ (n m : ℕ) (rows : List Row) (e : Ending) where
-  pub told-fits : length rows ≤ m → told n m rows e ≡ Rows (record { count = length rows; length = n; ending = e })
-  unfolding told
-  told-fits h = rw (le-leb (length rows) m h)
-
   pub told-full : m < length rows → told n m rows e ≡ Refused NoRowRoom startPlace m
   unfolding told
   told-full h = rw (lt-leb (length rows) m h)

@@ -1,6 +1,6 @@
 -- The one layout of eight words in which every answer of the outer face is given, and in which a table is lent:
 -- refusal number (0 if none), its offset, line and column, two words that it tells, a count, a length.
-use mathlib.Core.Bool.{Bool, true, false, cond, _&&_}
+use mathlib.Core.Bool.{Bool, true, cond, _&&_}
 use mathlib.Core.List.{List, [], _∷_}
 use Prim.Native.Nat.{ℕ, _+_, _*_}
 use lib.ListN.{getD}

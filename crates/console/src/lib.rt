@@ -27,11 +27,12 @@ ghost use Rattle.rules.specs.Rows.{wellFormed};
 ghost use Rattle.rules.specs.Scan.{scanTold, scanLeaves, roomOf};
 ghost use Rattle.rules.specs.Edit.{editTold, editLeaves, restartTold};
 ghost use Rattle.rules.specs.Sets.{fromSection};
-ghost use Rattle.rules.specs.Calls.{spellingJudged, memberAsked, sizeAsked, parseTold, parseLeaves, nodeRoom};
-ghost use Rattle.console.specs.Layout.{words, nowhere, syntaxWords, toldWords, outerWords, judgedWords, askedWords, restartWords, parsedWords, isEnding, lexicalOf, endingOf, tableOf, withTable, untouched, spellingWords};
+ghost use Rattle.rules.specs.Calls.{memberAsked, sizeAsked, parseTold, parseLeaves, nodeRoom};
+ghost use Rattle.console.specs.Layout.{words, nowhere, syntaxWords, toldWords, outerWords, askedWords, restartWords, parsedWords, isEnding, lexicalOf, tableOf, withTable, untouched, spellingWords};
 
 // ---- numbers
 
+// The lexical refusal of a number, as a table's first word has it.
 fn lexical_of(number: u32) -> Lexical
     ensures { λ r. ⌜ r ≡ lexicalOf number ⌝ }
 {
@@ -44,6 +45,7 @@ fn lexical_of(number: u32) -> Lexical
     }
 }
 
+// Whether a number is that of an ending: 0, or a lexical refusal's.
 fn is_ending(number: u32) -> bool
     ensures { λ r. ⌜ r ≡ isEnding number ⌝ }
 {
@@ -69,6 +71,7 @@ fn no_place() -> Cursor
     }
 }
 
+// An answer: a number, a place, two facts, a count and a length.
 fn put(answer: &mut [u32; 8], number: u32, at: Cursor, x: u32, y: u32, count: u32, length: u32)
     ensures { λ _. ⌜ now (answer .exit) ≡ words number at x y count length ⌝ }
 {
@@ -84,12 +87,14 @@ fn put(answer: &mut [u32; 8], number: u32, at: Cursor, x: u32, y: u32, count: u3
     ];
 }
 
+// A refusal of the call itself.
 fn put_outer(answer: &mut [u32; 8], why: Outer)
     ensures { λ _. ⌜ now (answer .exit) ≡ outerWords why ⌝ }
 {
     put(answer, outer_number(why), Cursor::start(), 0, 0, 0, 0);
 }
 
+// What a scan or an edit tells.
 fn put_told(answer: &mut [u32; 8], told: Told)
     ensures { λ _. ⌜ now (answer .exit) ≡ toldWords told ⌝ }
 {
@@ -111,6 +116,7 @@ fn put_told(answer: &mut [u32; 8], told: Told)
     }
 }
 
+// A refusal of the grammar or of a check, with what it tells.
 fn put_syntax(answer: &mut [u32; 8], why: Syntax, at: Cursor)
     ensures { λ _. ⌜ now (answer .exit) ≡ syntaxWords why at ⌝ }
 {
@@ -125,6 +131,7 @@ fn put_syntax(answer: &mut [u32; 8], why: Syntax, at: Cursor)
     );
 }
 
+// What a parse tells.
 fn put_parsed(answer: &mut [u32; 8], parsed: Parsed)
     ensures { λ _. ⌜ now (answer .exit) ≡ parsedWords parsed ⌝ }
 {
@@ -146,6 +153,7 @@ fn put_parsed(answer: &mut [u32; 8], parsed: Parsed)
     }
 }
 
+// What a method set tells.
 fn put_asked(answer: &mut [u32; 8], asked: Asked)
     ensures { λ _. ⌜ now (answer .exit) ≡ askedWords asked ⌝ }
 {
@@ -187,6 +195,7 @@ fn table_of(told: &[u32; 8]) -> Table
 
 // ---- the calls
 
+// The rows of a text into lent words, and the table or the refusal into the answer.
 #[no_mangle]
 pub extern "C" fn spoonharbor_scan(text: &[u8], rows: &mut [u32], answer: &mut [u32; 8])
     ensures { λ _. ⌜ (now (answer .exit) ≡ toldWords (scanTold (now (text .entry)) (roomOf (now (rows .entry))))) × (now (rows .exit) ≡ scanLeaves (now (text .entry)) (now (rows .entry))) ⌝ }
@@ -194,6 +203,7 @@ pub extern "C" fn spoonharbor_scan(text: &[u8], rows: &mut [u32], answer: &mut [
     put_told(answer, scan::scan(text, rows));
 }
 
+// 1 if a table is well formed, 0 if not.
 #[no_mangle]
 pub extern "C" fn spoonharbor_well_formed(rows: &[u32], table: &[u32; 8]) -> u32
     ensures { λ r. ⌜ r ≡ cond (isEnding (getD (now (table .entry)) 0 0)) (cond (wellFormed (now (rows .entry)) (tableOf (now (table .entry)))) 1 0) 0 ⌝ }
@@ -208,6 +218,7 @@ pub extern "C" fn spoonharbor_well_formed(rows: &[u32], table: &[u32; 8]) -> u32
     }
 }
 
+// Where the spelling of a row starts and ends in the text, or a refusal.
 #[no_mangle]
 pub extern "C" fn spoonharbor_spelling(
     text: &[u8],
@@ -233,6 +244,7 @@ pub extern "C" fn spoonharbor_spelling(
     }
 }
 
+// The nodes of a table's program into lent words, and how many they are, or a refusal.
 #[no_mangle]
 pub extern "C" fn spoonharbor_parse(
     text: &[u8],
@@ -250,6 +262,7 @@ pub extern "C" fn spoonharbor_parse(
     put_parsed(answer, parse::parse(text, rows, table_of(table), nodes));
 }
 
+// The new table of a text in which the bytes from a to b became n others, by a window of the new text.
 #[no_mangle]
 pub extern "C" fn spoonharbor_edit(
     old: &[u32],
@@ -274,6 +287,7 @@ pub extern "C" fn spoonharbor_edit(
     );
 }
 
+// Where the window for an edit at a must start.
 #[no_mangle]
 pub extern "C" fn spoonharbor_restart(old: &[u32], table: &[u32; 8], a: u32, answer: &mut [u32; 8])
     ensures { λ _. ⌜ now (answer .exit) ≡ withTable (now (table .entry)) (restartWords (restartTold (now (old .entry)) (tableOf (now (table .entry))) a)) ⌝ }
@@ -292,6 +306,7 @@ pub extern "C" fn spoonharbor_restart(old: &[u32], table: &[u32; 8], a: u32, ans
     }
 }
 
+// Whether a program kind allows a method.
 #[no_mangle]
 pub extern "C" fn spoonharbor_allows(kind: u32, method: u32, answer: &mut [u32; 8])
     ensures { λ _. ⌜ now (answer .exit) ≡ askedWords (memberAsked kind method) ⌝ }
@@ -299,6 +314,7 @@ pub extern "C" fn spoonharbor_allows(kind: u32, method: u32, answer: &mut [u32; 
     put_asked(answer, sets::allows(kind, method));
 }
 
+// How many methods a program kind allows.
 #[no_mangle]
 pub extern "C" fn spoonharbor_set_size(kind: u32, answer: &mut [u32; 8])
     ensures { λ _. ⌜ now (answer .exit) ≡ askedWords (sizeAsked kind) ⌝ }
@@ -306,6 +322,7 @@ pub extern "C" fn spoonharbor_set_size(kind: u32, answer: &mut [u32; 8])
     put_asked(answer, sets::set_size(kind));
 }
 
+// The program kind of a section's text.
 #[no_mangle]
 pub extern "C" fn spoonharbor_section_kind(text: &[u8]) -> u32
     ensures { λ r. ⌜ r ≡ fromSection (now (text .entry)) ⌝ }

@@ -9,6 +9,7 @@ use place::valid_bytes;
 use reader::Spot;
 use rows::shape::row_at;
 use rows::shape::row_place;
+use rows::shape::wide;
 use rows::well_formed;
 use rules::Cursor;
 use rules::Ending;
@@ -47,12 +48,6 @@ pub struct Job {
 pub enum Tail {
     Rows(usize, Ending),
     Full,
-}
-
-fn wide(x: u32) -> u64
-    ensures { λ r. ⌜ r ≡ x ⌝ }
-{
-    x as u64
 }
 
 // A refusal that wrote nothing.

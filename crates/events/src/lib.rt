@@ -3,7 +3,6 @@ use nodes::At;
 use nodes::Got;
 use nodes::Words;
 use rules::Syntax;
-ghost use mathlib.Core.Path.{_≡_};
 ghost use Prim.Native.Nat.{_+_, _<_};
 ghost use Rattle.rules.specs.Parse.{eventField, eventAt};
 ghost use Rattle.nodes.specs.Post.{Answers, Asks, AsksOpen};

@@ -1,2 +1,3 @@
 -- What the proofs of the circle share.
 pub mod Trees
+pub mod Lone

@@ -2,25 +2,27 @@
 use mathlib.Core.Path.{_≡_, refl, sym, ap, _∙_}
 use mathlib.Core.Bool.{Bool, true, false, cond}
 use mathlib.Core.List.{List}
-use Prim.Native.Nat.{ℕ, zero, suc, _+_, _*_, _/_, _%_, _^_, _≤_, _<_}
+use Prim.Native.Nat.{ℕ, zero, suc, _+_, _*_, _/_, _%_, _^_, _<_}
 use native.Mathlib.Omega.{arith}
 use lib.Dec.{eqb}
-use lib.ListN.{length}
+use lib.ListN.{getD}
 use lib.Seq.{sets}
 use Rattle.rules.specs.declared.Syntax.{Syntax}
 use Rattle.rules.specs.declared.Syntax.the-variants.{CallOnOther}
-use Rattle.rules.specs.Tree.{Tok, Tree, none, num, var, star, group, field, call, bin, one, more, isVariable, count}
-use Rattle.rules.specs.Nodes.{node, factNode, missing, width, size, placeOf, binaryNode, nodeWords, treeWords}
+use Rattle.rules.specs.Kinds.{Number}
+use Rattle.rules.specs.Tree.{Tok, bitsIn, Tree, none, num, var, star, group, field, call, bin, one, more, isVariable, count}
+use Rattle.rules.specs.Nodes.{node, factNode, missing, width, size, placeOf, binaryNode, nodeWords}
 use Rattle.rules.specs.Parse
-use Rattle.rules.specs.Parse.{Out, ok, no, P, pick, kindAt, Sort}
+use Rattle.rules.specs.Parse.{Out, ok, no, P, pick, tokAt, kindAt, Sort}
 use Rattle.rules.specs.Grammar.{Add, Shift, Mul, Unary, Basic, Args, Is, i-num, i-var, i-group, i-field, i-bare, i-call, i-one, i-more, i-prim, i-star, i-unary, i-mul, i-lone, i-shift, i-up, i-add}
 use Rattle.grammar.proofs.Laws.{words-none, words-num, words-var, words-star, words-group, words-field, words-call, words-bin, words-one, words-more}
 use Rattle.grammar.proofs.Cases.{then-ok, then-no}
 use Rattle.grammar.proofs.Sound.{Under}
-use Rattle.nodes.specs.Post.{tagOf, Met, Stands}
+use Rattle.nodes.specs.Post.{kindWord, Tells, tagOf, Met, Stands}
 use Rattle.nodes.specs.declared.At.{At}
 use Rattle.nodes.specs.declared.Got.{Got}
-use Rattle.nodes.specs.declared.Got.the-variants.{Done, Refused}
+use Rattle.nodes.specs.declared.Got.the-variants.{Refused}
+use Rattle.nodes.proofs.Rows.{tells-value, word-at, word-here, low-word, high-word}
 use Rattle.nodes.proofs.Turn.{Any, Came, Turn, met-ok, again, fails}
 use Rattle.nodes.proofs.Steps.{stands-at, mem-over, mem-both, mem-join}
 use Rattle.expr.specs.Calls.{CallEnd}
@@ -70,10 +72,23 @@ under-bare ts (suc d) o t j u = args-bare (u .is)
 -- ---- the state and the memory behind a tree
 
 module _ (i n : ℕ) (m m₁ : List ℕ) (s : At) where
-  pub stands-num : (v low high : ℕ) → v % 2 ^ 32 ≡ low → v / 2 ^ 32 ≡ high → s ≡ record { row = i + 1; node = n + 1; place = i; tag = 0 }
+  stands-num : (v low high : ℕ) → v % 2 ^ 32 ≡ low → v / 2 ^ 32 ≡ high → s ≡ record { row = i + 1; node = n + 1; place = i; tag = 0 }
       → m₁ ≡ sets m (8 * n) (nodeWords (factNode 2 i missing 0 low high 0 0)) → Stands i n (num v) m s m₁
   unfolding width size placeOf tagOf isVariable count
   stands-num v low high a b e q = stands-at i n (num v) m m₁ s e refl refl refl refl (rw (words-num i v, a, b) q)
+
+  -- a number's row, by its words
+  pub stands-number : (ts : List Tok) (ws : List ℕ) (c : ℕ) → Tells ts ws c → kindWord ws c i ≡ Number → getD ws (i * 8 + 5) 0 < 2 ^ 32
+      → s ≡ record { row = i + 1; node = n + 1; place = i; tag = 0 }
+      → m₁ ≡ sets m (8 * n) (nodeWords (factNode 2 i missing 0 (getD ws (i * 8 + 5) 0) (getD ws (i * 8 + 6) 0) 0 0)) → Stands i n (num (bitsIn (tokAt ts i))) m s m₁
+  stands-number ts ws c tl k f e q =
+      let low = getD ws (i * 8 + 5) 0 in
+      let high = getD ws (i * 8 + 6) 0 in
+      let h : i < c = word-here ws c i Number k refl in
+      let v : bitsIn (tokAt ts i) ≡ high * 2 ^ 32 + low = tells-value ts ws c tl i h (sym (word-at ws c i h) ∙ k) in
+      stands-num (bitsIn (tokAt ts i)) low high
+      (ap (λ (x : ℕ). x % 2 ^ 32) v ∙ low-word high low f)
+      (ap (λ (x : ℕ). x / 2 ^ 32) v ∙ high-word high low f) e q
 
   pub stands-var : (w : List ℕ) → s ≡ record { row = i + 1; node = n + 1; place = i; tag = 1 } → m₁ ≡ sets m (8 * n) (nodeWords (node 1 i i 0)) → Stands i n (var w) m s m₁
   unfolding width size placeOf tagOf isVariable count

@@ -10,8 +10,9 @@ ghost use lib.Seq.{sets};
 ghost use lib.Dec.{eqb};
 ghost use Rattle.rules.specs.Nodes.{binaryNode, node, nodeWords};
 ghost use Rattle.rules.specs.Parse.{isAdd, isShift, isMul, inner, atom, prim, unary, mul, shift, add, args, post};
-ghost use Rattle.nodes.specs.Post.{Answers, Onward, Asks, AsksAt, AsksOpen};
+ghost use Rattle.nodes.specs.Post.{kindWord, Answers, Onward, Asks, AsksAt, AsksOpen};
 ghost use Rattle.expr.specs.Calls.{CallEnd};
+ghost use Rattle.expr.specs.Lone.{isLone, Leaf};
 
 const LPAREN: u32 = 27;
 
@@ -39,18 +40,21 @@ const IDENTIFIER: u32 = 48;
 
 const NUMBER: u32 = 50;
 
+// Whether a row's kind is `+` or `-`.
 fn is_add(k: u32) -> bool
     ensures { λ r. ⌜ r ≡ isAdd k ⌝ }
 {
     if k == PLUS { true } else { k == MINUS }
 }
 
+// Whether a row's kind is `<<` or `>>`.
 fn is_shift(k: u32) -> bool
     ensures { λ r. ⌜ r ≡ isShift k ⌝ }
 {
     if k == SHL { true } else { k == SHR }
 }
 
+// Whether a row's kind is `*`, `/` or `%`.
 fn is_mul(k: u32) -> bool
     ensures { λ r. ⌜ r ≡ isMul k ⌝ }
 {
@@ -109,6 +113,28 @@ fn field_end(nodes: &mut [u32], s: At) -> At
     }
 }
 
+// Whether a variable or a number stands at a row, and neither a dot nor an operator of `mul` behind it.
+fn is_lone(rows: &[u32], count: usize, row: usize) -> bool
+    requires { ⌜ (count * 8 ≤ length (now rows)) × (row ≤ 65537) ⌝ }
+    ensures { λ r. ⌜ r ≡ isLone (kindWord (now (rows .entry)) count row) (kindWord (now (rows .entry)) count (row + 1)) ⌝ }
+{
+    let k = nodes::kind_at(rows, count, row);
+    let next = nodes::kind_at(rows, count, row + 1);
+    ((k == IDENTIFIER) | (k == NUMBER)) & ((next != DOT) & ((next < STAR) | (PERCENT < next)))
+}
+
+// The state behind the number at a row, or behind a variable if no number stands there.
+fn leaf(rows: &[u32], count: usize, nodes: &mut [u32], row: usize, node: usize) -> At
+    requires { ⌜ (count * 8 ≤ length (now rows)) × ((row ≤ 65537) × (node ≤ 65537)) ⌝ }
+    ensures { λ r. ⌜ Leaf (now (rows .entry)) count row node (now (nodes .entry)) (now (nodes .exit)) r ⌝ }
+{
+    if nodes::kind_at(rows, count, row) == NUMBER {
+        return nodes::number(nodes, row, node, rows[row * 8 + 5], rows[row * 8 + 6]);
+    }
+    nodes::variable(nodes, row, node)
+}
+
+// An expression: a shift, and operands of `mul` behind signs.
 pub fn add(
     rows: &[u32],
     count: usize,
@@ -143,6 +169,7 @@ pub fn add(
     }
 }
 
+// An operand of `mul`, and further ones behind shifts.
 fn shift(rows: &[u32], count: usize, nodes: &mut [u32], row: usize, node: usize, left: usize) -> Got
     requires { ⌜ Asks (now rows) count row node left ⌝ }
     ensures { λ r. ⌜ Answers (λ ts. shift ts (inner ts left) row) (now (rows .entry)) count row node (now (nodes .entry)) (now (nodes .exit)) r ⌝ }
@@ -170,10 +197,15 @@ fn shift(rows: &[u32], count: usize, nodes: &mut [u32], row: usize, node: usize,
     }
 }
 
+// Operands and the operators of `is_mul` between them; a lone variable or number is written at once.
+// An operand, and further ones behind `*`, `/` and `%`.
 fn mul(rows: &[u32], count: usize, nodes: &mut [u32], row: usize, node: usize, left: usize) -> Got
     requires { ⌜ Asks (now rows) count row node left ⌝ }
     ensures { λ r. ⌜ Answers (λ ts. mul ts (inner ts left) row) (now (rows .entry)) count row node (now (nodes .entry)) (now (nodes .exit)) r ⌝ }
 {
+    if is_lone(rows, count, row) {
+        return Got::Done(leaf(rows, count, nodes, row, node));
+    }
     let mut s = match unary(rows, count, nodes, row, node, left) {
         Got::Done(t) => t,
         Got::Refused(why, r) => {
@@ -197,6 +229,7 @@ fn mul(rows: &[u32], count: usize, nodes: &mut [u32], row: usize, node: usize, l
     }
 }
 
+// An operand behind any number of stars.
 fn unary(rows: &[u32], count: usize, nodes: &mut [u32], row: usize, node: usize, left: usize) -> Got
     requires { ⌜ Asks (now rows) count row node left ⌝ }
     ensures { λ r. ⌜ Answers (λ ts. unary ts (inner ts left) row) (now (rows .entry)) count row node (now (nodes .entry)) (now (nodes .exit)) r ⌝ }
@@ -217,6 +250,7 @@ fn unary(rows: &[u32], count: usize, nodes: &mut [u32], row: usize, node: usize,
     prim(rows, count, nodes, row, node, left)
 }
 
+// A number, a variable or a group.
 fn atom(rows: &[u32], count: usize, nodes: &mut [u32], row: usize, node: usize, left: usize) -> Got
     requires { ⌜ Asks (now rows) count row node left ⌝ }
     ensures { λ r. ⌜ Answers (λ ts. atom ts (inner ts left) row) (now (rows .entry)) count row node (now (nodes .entry)) (now (nodes .exit)) r ⌝ }
@@ -255,6 +289,7 @@ fn atom(rows: &[u32], count: usize, nodes: &mut [u32], row: usize, node: usize, 
     Got::Refused(Syntax::Wanted(IDENTIFIER, k), row)
 }
 
+// An atom with its fields and calls.
 fn prim(rows: &[u32], count: usize, nodes: &mut [u32], row: usize, node: usize, left: usize) -> Got
     requires { ⌜ Asks (now rows) count row node left ⌝ }
     ensures { λ r. ⌜ Answers (λ ts. prim ts (inner ts left) row) (now (rows .entry)) count row node (now (nodes .entry)) (now (nodes .exit)) r ⌝ }
@@ -301,12 +336,12 @@ fn post(rows: &[u32], count: usize, nodes: &mut [u32], s: At, left: usize) -> Go
     }
     match args(rows, count, nodes, open, n, left) {
         Got::Done(a) => {
-            let j = a.row;
-            let found = nodes::kind_at(rows, count, j);
+            let close = a.row;
+            let found = nodes::kind_at(rows, count, close);
             if found != RPAREN {
-                return Got::Refused(Syntax::Wanted(RPAREN, found), j);
+                return Got::Refused(Syntax::Wanted(RPAREN, found), close);
             }
-            call_end(nodes, s, a.node, a.tag, j + 1)
+            call_end(nodes, s, a.node, a.tag, close + 1)
         }
         Got::Refused(why, r) => Got::Refused(why, r),
     }

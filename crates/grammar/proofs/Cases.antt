@@ -72,24 +72,12 @@ module _ (ts : List Tok) where
     unfolding Parse.quoted
     quoted-yes e = want-yes StringLiteral (f (spellingOf (tokAt ts i))) i e
 
-    pub quoted-no : (kindAt ts i ≡ StringLiteral → ⊥) → Parse.quoted ts f i ≡ no (Wanted StringLiteral (kindAt ts i)) i
-    unfolding Parse.quoted
-    quoted-no h = want-no StringLiteral (f (spellingOf (tokAt ts i))) i h
-
   module _ (f : ℕ → P) (i : ℕ) where
     pub valued-yes : kindAt ts i ≡ Number → Parse.valued ts f i ≡ f (bitsIn (tokAt ts i)) (i + 1)
     unfolding Parse.valued
     valued-yes e = want-yes Number (f (bitsIn (tokAt ts i))) i e
 
-    pub valued-no : (kindAt ts i ≡ Number → ⊥) → Parse.valued ts f i ≡ no (Wanted Number (kindAt ts i)) i
-    unfolding Parse.valued
-    valued-no h = want-no Number (f (bitsIn (tokAt ts i))) i h
-
   -- ---- loops and lists
-
-  pub loop-is : (test : ℕ → Bool) (step : Tree → P) (t : Tree) (j : ℕ) → Parse.loop ts test step t j ≡ many test step (suc (length ts)) (test j) t j
-  unfolding Parse.loop
-  loop-is test step t j = refl
 
   pub list-is : (stop : ℕ) (p : P) (j : ℕ)
       → Parse.listTo ts stop p j ≡ many (λ r. not (eqb (kindAt ts r) stop)) (Parse.listStep ts p) (suc (length ts)) (not (eqb (kindAt ts j) stop)) none j
@@ -209,10 +197,6 @@ module _ (ts : List Tok) where
           → Parse.post ts g t j ≡ then (Parse.args ts g (j + 1 + 1)) (λ a r. Parse.want ts RParen (Parse.called ts t (spellingOf (tokAt ts (j + 1))) a (j + 1)) r)
       unfolding Parse.post Parse.openBy Parse.callBy
       post-args e f h = named-yes _ (j + 1) e ∙ rw (f, ne-eqb (kindAt ts (j + 1 + 1 + 1)) RParen h)
-
-  pub expr-is : (d i : ℕ) → Parse.expr ts d i ≡ Parse.add ts (Parse.inner ts d) i
-  unfolding Parse.expr
-  expr-is d i = refl
 
   -- ---- statements
 

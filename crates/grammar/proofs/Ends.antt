@@ -1,22 +1,22 @@
 -- Where what the parser reads ends: for each function of the parser, the row behind its tree, whatever the tokens hold.
 use mathlib.Core.Path.{_≡_, refl}
 use mathlib.Core.Bool.{Bool, true, false}
-use mathlib.Core.List.{List, [], _∷_, _++_}
+use mathlib.Core.List.{List}
 use Prim.Native.Nat.{ℕ, zero, suc, _+_, _≤_, _<_}
 use native.Mathlib.Omega.{arith}
 use lib.Dec.{eqb}
-use lib.ListN.{length, length-append}
+use lib.ListN.{length}
 use borrow.Author.Tests.{eqb-true}
 use Rattle.rules.specs.declared.Syntax.the-variants.{CallOnOther}
-use Rattle.rules.specs.Kinds.{KeywordKey, KeywordValue, LBrace, RBrace, LParen, RParen, Identifier, Eof}
-use Rattle.rules.specs.Tree.{Tok, sign, name, spellingOf, Tree, none, call, yield, isVariable, count, typeOf, typedBy, limitOf, lacking}
+use Rattle.rules.specs.Kinds.{RBrace, LParen, RParen, Identifier, Eof}
+use Rattle.rules.specs.Tree.{Tok, spellingOf, Tree, none, call, isVariable, count}
 use Rattle.rules.specs.Nodes.{width}
 use Rattle.rules.specs.Parse
 use Rattle.rules.specs.Parse.{Out, ok, no, pick, tokAt, kindAt}
-use Rattle.rules.specs.Grammar.{Nt, Add, Shift, Mul, Unary, Basic, Args, Stmt, Stmts, Item, Items, Chain, MapField, MapFields, EventField, EventFields, Decl, Decls, i-no-stmts, i-stmts, i-no-items, i-items, i-no-fields, i-fields, i-no-event-fields, i-event-fields}
-use Rattle.grammar.proofs.Laws.{here, yield-width, fewest, is-wide, is-count}
-use Rattle.grammar.proofs.Runs.{Run, All, then-all, map-all, want-all, named-all}
-use Rattle.grammar.proofs.Sound.{Reads, Under, BodyUnder, atom-sound, prim-sound, unary-sound, mul-sound, shift-sound, add-sound, args-sound, inner-sound, expr-sound, list-sound, stmt-sound, body-sound, braced-sound, item-sound, chain-sound, map-field-sound, event-field-sound, top-sound, decls-sound, Accepts, program-sound}
+use Rattle.rules.specs.Grammar.{Nt, Args, Stmt, Stmts, Item, Items, Chain, MapField, MapFields, EventField, EventFields, Decl, i-no-stmts, i-stmts, i-no-items, i-items, i-no-fields, i-fields, i-no-event-fields, i-event-fields}
+use Rattle.grammar.proofs.Laws.{here, fewest, is-wide, is-count}
+use Rattle.grammar.proofs.Runs.{All, then-all, map-all, want-all, named-all}
+use Rattle.grammar.proofs.Sound.{Reads, Under, BodyUnder, args-sound, inner-sound, list-sound, stmt-sound, body-sound, item-sound, chain-sound, map-field-sound, event-field-sound, top-sound, Accepts, program-sound}
 
 -- where a tree ends, of what is read from row i on
 abbrev pub Ends : List Tok → ℕ → Tree → ℕ → Type 0
@@ -45,27 +45,6 @@ under-ends ts (suc d) o t j u = (u .next, u .inside, is-count (u .is))
 -- ---- expressions
 
 module _ (ts : List Tok) (d : ℕ) where
-  pub ends-atom : (i : ℕ) → All (Ends ts i) (Parse.atom ts (Parse.inner ts d) i)
-  ends-atom i = reads-ends ts Basic d i (Parse.atom ts (Parse.inner ts d) i) (atom-sound ts d (Parse.inner ts d) (inner-sound ts d) i)
-
-  pub ends-prim : (i : ℕ) → All (Ends ts i) (Parse.prim ts (Parse.inner ts d) i)
-  ends-prim i = reads-ends ts Basic d i (Parse.prim ts (Parse.inner ts d) i) (prim-sound ts d (Parse.inner ts d) (inner-sound ts d) i)
-
-  pub ends-unary : (i : ℕ) → All (Ends ts i) (Parse.unary ts (Parse.inner ts d) i)
-  ends-unary i = reads-ends ts Unary d i (Parse.unary ts (Parse.inner ts d) i) (unary-sound ts d (Parse.inner ts d) (inner-sound ts d) i)
-
-  pub ends-mul : (i : ℕ) → All (Ends ts i) (Parse.mul ts (Parse.inner ts d) i)
-  ends-mul i = reads-ends ts Mul d i (Parse.mul ts (Parse.inner ts d) i) (mul-sound ts d (Parse.inner ts d) (inner-sound ts d) i)
-
-  pub ends-shift : (i : ℕ) → All (Ends ts i) (Parse.shift ts (Parse.inner ts d) i)
-  ends-shift i = reads-ends ts Shift d i (Parse.shift ts (Parse.inner ts d) i) (shift-sound ts d (Parse.inner ts d) (inner-sound ts d) i)
-
-  pub ends-add : (i : ℕ) → All (Ends ts i) (Parse.add ts (Parse.inner ts d) i)
-  ends-add i = reads-ends ts Add d i (Parse.add ts (Parse.inner ts d) i) (add-sound ts d (Parse.inner ts d) (inner-sound ts d) i)
-
-  pub ends-expr : (i : ℕ) → All (Ends ts i) (Parse.expr ts d i)
-  ends-expr i = reads-ends ts Add d i (Parse.expr ts d i) (expr-sound ts d i)
-
   -- arguments, behind the parenthesis at row o
   pub ends-args : (o : ℕ) → o < length ts → All (Ends ts (o + 1)) (Parse.args ts (Parse.inner ts d) o)
   ends-args o h =
@@ -111,12 +90,6 @@ body-ends ts (suc d) o l j u =
     (omega (arith, u .next, u .reads .next), omega (arith, u .next, here ts (u .last) RBrace (u .brace) refl), is-count (u .reads .is))
 
 module _ (ts : List Tok) (d : ℕ) where
-  pub ends-stmt : (i : ℕ) → All (Ends ts i) (Parse.stmt ts d (Parse.body ts d) i)
-  ends-stmt i = reads-ends ts Stmt d i (Parse.stmt ts d (Parse.body ts d) i) (stmt-sound ts d i)
-
-  pub wide-stmt : (i : ℕ) → All (λ t j. 1 ≤ width t) (Parse.stmt ts d (Parse.body ts d) i)
-  wide-stmt i = reads-wide ts Stmt d i (Parse.stmt ts d (Parse.body ts d) i) (omega arith) (stmt-sound ts d i)
-
   -- a body whose brace is at row o: its statements, and the braces around them
   pub ends-body : (o : ℕ) → o < length ts → All (λ l j. (j ≡ o + (1 + width l + 1)) × (j ≤ length ts) × (count l ≤ width l)) (Parse.body ts d o)
   ends-body o h =
@@ -139,9 +112,6 @@ module _ (ts : List Tok) where
   pub ends-chain : (i : ℕ) → All (Ends ts i) (Parse.chain ts i)
   ends-chain i = reads-ends ts Chain 64 i (Parse.chain ts i) (chain-sound ts i)
 
-  pub wide-chain : (i : ℕ) → All (λ t j. 1 ≤ width t) (Parse.chain ts i)
-  wide-chain i = reads-wide ts Chain 64 i (Parse.chain ts i) (omega arith) (chain-sound ts i)
-
   pub ends-map-field : (i : ℕ) → All (Ends ts i) (Parse.mapField ts i)
   ends-map-field i = reads-ends ts MapField 64 i (Parse.mapField ts i) (map-field-sound ts i)
 
@@ -160,34 +130,6 @@ module _ (ts : List Tok) where
   pub wide-top : (i : ℕ) → All (λ t j. 1 ≤ width t) (Parse.top ts i)
   wide-top i = reads-wide ts Decl 64 i (Parse.top ts i) (omega arith) (top-sound ts i)
 
-  -- contents in braces behind a name, the keyword at row i
-  module _ (i : ℕ) (w : List ℕ) (l : Tree) (j : ℕ) (r : Run ts (i + 1) (name w ∷ sign LBrace ∷ (yield l ++ (sign RBrace ∷ []))) j) where
-    braced-next : j ≡ i + (3 + width l + 1)
-    braced-next = omega (arith, r .next, length-append (yield l) (sign RBrace ∷ []), yield-width l)
-
-  pub ends-unit : (i : ℕ) → All (Ends ts i) (Parse.unitAt ts i)
-  unfolding Parse.unitAt width count
-  ends-unit i =
-      braced-sound ts Items Item 64 i-no-items (λ l s a b. i-items a b) (omega arith) (Parse.item ts) (item-sound ts) (Ends ts i) i _
-      (λ w l j h r. (braced-next i w l j r, r .inside, omega arith))
-
-  map-end-ends : (f i : ℕ) (w : List ℕ) (l : Tree) (j : ℕ) → j ≡ i + (3 + width l + 1) → j ≤ length ts → All (Ends ts i) (Parse.mapEnd ts f w l j)
-  unfolding Parse.mapEnd width count
-  map-end-ends zero i w l j n h = (n, h, omega arith)
-  map-end-ends (suc f) i w l j n h = tt
-
-  pub ends-map : (i : ℕ) → All (Ends ts i) (Parse.mapAt ts i)
-  unfolding Parse.mapAt
-  ends-map i =
-      braced-sound ts MapFields MapField 64 i-no-fields (λ l s a b. i-fields a b) (omega arith) (Parse.mapField ts) (map-field-sound ts) (Ends ts i) i _
-      (λ w l j h r. map-end-ends (lacking (typeOf l) (typedBy KeywordKey l) (typedBy KeywordValue l) (limitOf l)) i w l j (braced-next i w l j r) (r .inside))
-
-  pub ends-event : (i : ℕ) → All (Ends ts i) (Parse.eventAt ts i)
-  unfolding Parse.eventAt width count
-  ends-event i =
-      braced-sound ts EventFields EventField 64 i-no-event-fields (λ l s a b. i-event-fields a b) (omega arith) (Parse.eventField ts) (event-field-sound ts) (Ends ts i) i _
-      (λ w l j h r. (braced-next i w l j r, r .inside, omega arith))
-
   -- lists, up to the row that stops them
   pub ends-items : (i : ℕ) → i ≤ length ts → All (λ l j. Ends ts i l j × (kindAt ts j ≡ RBrace)) (Parse.listTo ts RBrace (Parse.item ts) i)
   ends-items i h =
@@ -203,10 +145,6 @@ module _ (ts : List Tok) where
   ends-event-fields i h =
       list-ends ts EventFields 64 i RBrace (Parse.listTo ts RBrace (Parse.eventField ts) i)
       (list-sound ts EventFields EventField 64 i-no-event-fields (λ l s a b. i-event-fields a b) (omega arith) RBrace (Parse.eventField ts) (event-field-sound ts) i h)
-
-  pub ends-decls : All (λ l j. Ends ts 0 l j × (kindAt ts j ≡ Eof)) (Parse.listTo ts Eof (Parse.top ts) 0)
-  ends-decls =
-      list-ends ts Decls 64 0 Eof (Parse.listTo ts Eof (Parse.top ts) 0) (decls-sound ts)
 
   -- a program, where the table has an Eof: its rows are in the table
   pub ends-parse : (e : ℕ) → e < length ts → kindAt ts e ≡ Eof → All (λ t j. (j ≡ width t) × (j ≤ length ts)) (Parse.parse ts)

@@ -471,23 +471,3 @@ module _ (i : ℕ) where
   pub words-program : (l : Tree) → treeWords i (program l) ≡ treeWords i l ++ nodeWords (node 29 (i + width l) missing (count l))
   unfolding treeWords nodesOf wordsOfNodes nodeWords
   words-program l = words-append (nodesOf i l) _
-
-  pub words-map-type : (w : List ℕ) → treeWords i (mapType w) ≡ []
-  unfolding treeWords nodesOf wordsOfNodes nodeWords
-  words-map-type w = refl
-
-  pub words-typed : (k t : ℕ) → treeWords i (typed k t) ≡ []
-  unfolding treeWords nodesOf wordsOfNodes nodeWords
-  words-typed k t = refl
-
-  pub words-limit : (c : Tree) → treeWords i (limit c) ≡ []
-  unfolding treeWords nodesOf wordsOfNodes nodeWords
-  words-limit c = refl
-
-  pub words-first : (v : ℕ) → treeWords i (first v) ≡ []
-  unfolding treeWords nodesOf wordsOfNodes nodeWords
-  words-first v = refl
-
-  pub words-shifted : (k : ℕ) (c : Tree) (v : ℕ) → treeWords i (shifted k c v) ≡ []
-  unfolding treeWords nodesOf wordsOfNodes nodeWords
-  words-shifted k c v = refl

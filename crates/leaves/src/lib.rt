@@ -29,6 +29,7 @@ pub fn shown(text: &[u8], at: usize, whole: bool) -> bool
     at < text.len()
 }
 
+// Whether a byte may stand in a word behind its first.
 fn is_word(b: u8) -> bool
     ensures { λ r. ⌜ r ≡ isWord b ⌝ }
 {
@@ -90,6 +91,7 @@ fn digit_of(b: u8) -> u8
     16
 }
 
+// The base of hex digits or of decimal ones.
 fn base_of(hex: bool) -> u8
     ensures { λ r. ⌜ r ≡ baseOf hex ⌝ }
 {
@@ -157,6 +159,7 @@ pub enum Quoted {
     Escape(usize),
 }
 
+// How the string whose opening quote stands before an index goes on.
 pub fn read_quoted(text: &[u8], at: usize) -> Quoted
     requires { ⌜ at ≤ length (now text) ⌝ }
     ensures { λ r. ⌜ r ≡ quotedFrom false at (drop at (now (text .entry))) ⌝ }

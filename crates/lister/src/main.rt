@@ -1,6 +1,7 @@
 // The lister of document 01: reads a text on standard input and writes its rows, then its nodes or its refusal.
 use libc::STDIN_FILENO;
 
+// Lists the text on standard input.
 fn main() {
     // One byte more than the longest text that is listed, so that a longer one is seen.
     let mut text = [0u8; 16385];

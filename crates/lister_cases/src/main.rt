@@ -1,6 +1,7 @@
 // Lists several texts, one after the other, each under a line that says what it is.
 use libc::STDOUT_FILENO;
 
+// A case's name, and what the lister writes of its text.
 fn case(name: &[u8], text: &[u8]) {
     io::write_all(STDOUT_FILENO, name);
     listing::list(text);
@@ -53,6 +54,7 @@ fn many() {
     case(b"-- 2001 rows\n", &over);
 }
 
+// Every case, one behind the other.
 fn main() {
     refused();
     accepted();

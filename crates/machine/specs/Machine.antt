@@ -1,7 +1,7 @@
 -- The scan rules as a machine that reads one byte at a time. A row ends with the byte just read (`over`) or before it (`back`), so no
 -- row looks further than the one byte behind it: that is in the types, and nothing else need be known of `step`.
-use Prim.Native.Nat.{ℕ, zero, suc, _+_, _-_, _*_, min}
-use mathlib.Core.Bool.{Bool, true, false, cond, _&&_, _||_}
+use Prim.Native.Nat.{ℕ, suc, _+_, _-_, _*_, min}
+use mathlib.Core.Bool.{Bool, true, false, cond}
 use mathlib.Core.List.{List, [], _∷_, _++_}
 use lib.Dec.{eqb, leb}
 use Rattle.rules.specs.declared.Cursor.{Cursor}
@@ -10,7 +10,7 @@ use Rattle.rules.specs.declared.Lexical.the-variants.{NoRowBegins, LoneSign, No
 use Rattle.rules.specs.Text.{isBlank, placeAt}
 use Rattle.rules.specs.Kinds
 use Rattle.rules.specs.Kinds.{Identifier, StringLiteral, Number, SlashEquals, Slash, MinusEquals, Minus, reserved, signs, kindIn}
-use Rattle.rules.specs.Rows.{Row, bitsOf, rowAt, eofRow}
+use Rattle.rules.specs.Rows.{bitsOf, rowAt, eofRow}
 use Rattle.rules.specs.Lex.{isDigit, isLetter, isWord, isHexDigit, digitValue, largest, isEscape, isLone, maybeTwo}
 use Rattle.rules.specs.Scan.{Reading, put, ends, stops}
 

@@ -20,9 +20,6 @@ module _ {R X : Type 0} (done : X → R) (refused : Syntax → ℕ → R) (value
   pub answer-no : (why : Syntax) (p : ℕ) → o ≡ no why p → Answer done refused value o (refused why p)
   answer-no why p e = subst (λ (x : Out). Answer done refused value x (refused why p)) (sym e) refl
 
-  pub answer-as : (o′ : Out) (r : R) → o ≡ o′ → Answer done refused value o′ r → Answer done refused value o r
-  answer-as o′ r e h = subst (λ (x : Out). Answer done refused value x r) (sym e) h
-
 -- the tree that a sum is of
 pub record Summing (o : Out) (s : Sum) : Type 0 where
   pub tree : Tree

@@ -1,7 +1,7 @@
 -- The state and the memory behind a tree, from those behind its parts; and the loops that read a list of things.
-use mathlib.Core.Path.{_≡_, refl, sym, ap, _∙_}
-use mathlib.Core.Bool.{Bool, true, false, not, cond}
-use mathlib.Core.List.{List, [], _∷_, _++_}
+use mathlib.Core.Path.{_≡_, refl, ap, _∙_}
+use mathlib.Core.Bool.{true, false, not}
+use mathlib.Core.List.{List, _++_}
 use Prim.Native.Nat.{ℕ, _+_, _*_, _≤_, _<_}
 use native.Mathlib.Omega.{arith}
 use lib.Dec.{eqb}
@@ -16,7 +16,7 @@ use Rattle.rules.specs.Parse.{Out, ok, no, P, then, kindAt}
 use Rattle.grammar.proofs.Laws.{sets-tree, words-none, words-seq}
 use Rattle.nodes.specs.Post.{tagOf, Met, Stands}
 use Rattle.nodes.specs.declared.At.{At}
-use Rattle.nodes.specs.declared.Got.the-variants.{Done, Refused}
+use Rattle.nodes.specs.declared.Got.the-variants.{Refused}
 use Rattle.nodes.proofs.Turn.{Came, Turn, start, ends, fails, again}
 
 -- the state by its four numbers

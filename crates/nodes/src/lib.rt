@@ -1,9 +1,8 @@
 // Where the parser stands, what it answers, and the nodes it writes. Nothing here reads the grammar.
 use rules::Syntax;
 ghost use mathlib.Core.Path.{_≡_};
-ghost use mathlib.Core.List.{_∷_, []};
 ghost use Prim.Native.Nat.{_+_, _*_, _≤_};
-ghost use lib.ListN.{length, set, getD};
+ghost use lib.ListN.{length, set};
 ghost use lib.Seq.{sets};
 ghost use Rattle.rules.specs.Nodes.{node, factNode, nodeWords, missing};
 ghost use Rattle.nodes.specs.Post.{kindWord};

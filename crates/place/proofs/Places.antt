@@ -3,15 +3,15 @@
 use mathlib.Core.Path.{_≡_, refl, sym, ap, _∙_}
 use mathlib.Core.Bool.{Bool, true, false, cond, not}
 use mathlib.Core.List.{List, [], _∷_, _++_, reverse, reverse-append}
-use Prim.Native.Nat.{ℕ, zero, suc, _+_, _-_, _≤_, _<_, min}
+use Prim.Native.Nat.{ℕ, zero, suc, _+_, _-_, _≤_, _<_}
 use native.Mathlib.Nat.{add-zero, zero-add, add-assoc, le-refl}
 use native.Mathlib.Decide.{decLt}
 use native.Mathlib.Numerals.{add-one}
 use native.Mathlib.Omega.{arith}
-use lib.ListN.{length, take, drop, getD, length-take, length-reverse, length-drop, drop-of-length-le, List·getD-eq-default}
+use lib.ListN.{length, take, drop, getD, drop-of-length-le, List·getD-eq-default}
 use lib.Seq.{take-suc, drop-cons, take-add, drop-drop}
 use lib.Dec.{eqb}
-use borrow.Author.Tests.{eqb-true, ne-eqb}
+use borrow.Author.Tests.{ne-eqb}
 use Rattle.rules.specs.declared.Cursor.{Cursor}
 use Rattle.rules.specs.Text.{front, newlines, notNewline, lineAt, columnAt, place, placeAt, startPlace, moved, over, along, Roomy}
 
@@ -169,10 +169,6 @@ front-whole (b ∷ s) e = pick (eqb b 10) e (front-whole s)
         none z = omega arith
     pick false z r = ap suc (r z)
 
-pub over-line : (c : Cursor) (s : List ℕ) → newlines s ≡ 0 → over c s ≡ along c (length s)
-over-line c s e =
-    ap (over c) (sym (lib.Seq.take-length s)) ∙ over-front c s (length s) (rw (front-whole s e) (le-refl (length s)))
-
 -- ---- by counting
 
 newlines-snoc : (s : List ℕ) (b : ℕ) → newlines (s ++ (b ∷ [])) ≡ cond (eqb b 10) (suc (newlines s)) (newlines s)
@@ -237,14 +233,6 @@ over-at t k (suc n) h =
 pub over-start : (t : List ℕ) (k : ℕ) → k ≤ length t → over startPlace (take k t) ≡ placeAt t k
 over-start t k h = rw (← start-at t) (over-at t 0 k (rw zero-add h) ∙ rw zero-add)
 
-pub line-le : (t : List ℕ) (k : ℕ) → lineAt t k ≤ k + 1
-unfolding lineAt
-line-le t k = omega (arith, newlines-le (take k t), length-take k t)
-
-pub column-le : (t : List ℕ) (k : ℕ) → columnAt t k ≤ k + 1
-unfolding columnAt
-column-le t k = omega (arith, front-le notNewline (reverse (take k t)), length-reverse (take k t), length-take k t)
-
 -- ---- room
 
 pub roomy-less : (n m : ℕ) (c : Cursor) → m ≤ n → Roomy n c → Roomy m c
@@ -263,8 +251,3 @@ pub roomy-over : (n : ℕ) (c : Cursor) (s : List ℕ) → Roomy (n + length s) 
 unfolding over
 roomy-over n c [] r = rw add-zero at r
 roomy-over n c (b ∷ s) r = let e : n + suc (length s) ≡ suc (n + length s) = omega arith in roomy-over n (moved c b) s (roomy-step (n + length s) b c (rw e at r))
-
--- a place of a text that is short enough has room
-pub roomy-at : (t : List ℕ) (k n : ℕ) → k + n < 4294967295 → Roomy n (placeAt t k)
-unfolding placeAt
-roomy-at t k n h = record { offset = omega arith; line = omega (arith, line-le t k); column = omega (arith, column-le t k) }

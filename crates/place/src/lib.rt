@@ -5,6 +5,7 @@ ghost use Prim.Native.Nat.{ℕ, _≤_, _<_};
 ghost use lib.ListN.{length, getD, take};
 ghost use Rattle.rules.specs.Text.{validBytes, over, Roomy};
 
+// The larger of two bytes.
 fn larger(a: u8, b: u8) -> u8
     ensures { λ r. ⌜ (a ≤ r) × (b ≤ r) ⌝ }
 {

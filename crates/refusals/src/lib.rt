@@ -7,6 +7,7 @@ ghost use mathlib.Core.Path.{_≡_};
 ghost use lib.ListN.{getD};
 ghost use Rattle.rules.specs.Refusals.{outerNumber, lexicalNumber, syntaxNumber, reasonNumber, syntaxTells};
 
+// The number of a refusal of the call itself, 1 to 7.
 pub fn outer_number(why: Outer) -> u32
     ensures { λ r. ⌜ r ≡ outerNumber why ⌝ }
 {
@@ -21,6 +22,7 @@ pub fn outer_number(why: Outer) -> u32
     }
 }
 
+// The number of a lexical refusal, 11 to 15.
 pub fn lexical_number(why: Lexical) -> u32
     ensures { λ r. ⌜ r ≡ lexicalNumber why ⌝ }
 {
@@ -35,6 +37,7 @@ pub fn lexical_number(why: Lexical) -> u32
     }
 }
 
+// The number of a refusal of the grammar or of a check, 21 to 32.
 pub fn syntax_number(why: Syntax) -> u32
     ensures { λ r. ⌜ r ≡ syntaxNumber why ⌝ }
 {
@@ -54,6 +57,7 @@ pub fn syntax_number(why: Syntax) -> u32
     }
 }
 
+// The number of whatever a parse is refused with.
 pub fn reason_number(why: Reason) -> u32
     ensures { λ r. ⌜ r ≡ reasonNumber why ⌝ }
 {

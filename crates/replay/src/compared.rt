@@ -4,6 +4,7 @@ use stored::input::Word;
 use stored::input::next_word;
 use stored::more;
 
+// A word as a wider one.
 pub fn wide(x: u32) -> u64 {
     x as u64
 }

@@ -23,6 +23,7 @@ struct Run {
 }
 
 impl Run {
+    // Nothing is read yet.
     fn start(at: usize) -> Run {
         Run {
             read: 0,
@@ -112,6 +113,7 @@ fn cases(sample: &[u8], at: usize, size: u64) -> Run {
     run
 }
 
+// Runs the cases of a sample and writes what agreed.
 fn replay(sample: &[u8]) {
     let size = stored::input::count(sample, stored::header(sample, b"spoonharbor-sample"));
     let run = cases(sample, size.next, size.value);
@@ -130,10 +132,12 @@ fn filled(sample: &mut [u8; 2000000]) -> usize {
     io::read_full(STDIN_FILENO, sample)
 }
 
+// The same with the bytes that were read.
 fn replay_first(sample: &[u8; 2000000], size: usize) {
     replay(stored::first(sample, size as u64));
 }
 
+// Replays the sample on standard input.
 fn main() {
     let mut sample = [0u8; 2000000];
     let size = filled(&mut sample);

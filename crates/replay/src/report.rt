@@ -18,6 +18,7 @@ fn line(name: &[u8], tally: Tally, what: usize) {
     }
 }
 
+// How many of each thing agreed.
 pub fn counts(tally: Tally) {
     line(b"row counts ", tally, TABLES);
     line(b"rows ", tally, ROWS);

@@ -29,6 +29,7 @@ pub struct Tally {
 }
 
 impl Tally {
+    // Nothing is counted yet.
     pub fn start(at: usize) -> Tally {
         Tally {
             at,
@@ -40,11 +41,13 @@ impl Tally {
         }
     }
 
+    // The same counts, further on in the sample.
     pub fn moved(mut self, at: usize) -> Tally {
         self.at = at;
         self
     }
 
+    // The same counts, at another of our nodes.
     pub fn next_node(mut self, node: usize) -> Tally {
         self.node = node;
         self

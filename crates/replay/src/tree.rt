@@ -47,6 +47,7 @@ fn refusal_words(parsed: Parsed) -> [u32; 7] {
     }
 }
 
+// How many nodes a parse gave; none where it is refused.
 fn node_count(parsed: Parsed) -> usize {
     match parsed {
         Parsed::Nodes(n) => n as usize,

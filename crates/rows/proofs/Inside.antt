@@ -255,12 +255,6 @@ module _ {ws : List ℕ} {t : Table} (f : Fine ws t) where
       go (suc k) e =
           omega (arith, in-order i k (omega arith), row-sound (suc (i + k)) (omega arith) .ordered, last-within (suc (i + k)) (omega arith))
 
-  pub line-within : (i : ℕ) → i < t .count → rowNo ws i .line ≤ t .length + 1
-  line-within i h = omega (arith, row-sound i h .line-high, row-sound i h .ordered, within i h)
-
-  pub column-within : (i : ℕ) → i < t .count → rowNo ws i .column ≤ t .length + 1
-  column-within i h = omega (arith, row-sound i h .column-high, row-sound i h .ordered, within i h)
-
   -- no row but the last is Eof
   pub middle-plain : (i : ℕ) → suc i < t .count → rowNo ws i .kind ≡ Eof → ⊥
   middle-plain i h = go (t .ending) (f .ends)

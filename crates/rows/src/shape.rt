@@ -80,7 +80,8 @@ pub const LENGTHS: [u32; 53] = [
     0,
 ];
 
-fn wide(x: u32) -> u64
+// A word as a wider one, in which sums of words fit.
+pub fn wide(x: u32) -> u64
     ensures { λ r. ⌜ r ≡ x ⌝ }
 {
     x as u64

@@ -1,8 +1,8 @@
 -- What the calls over a lent table answer and leave in lent memory: the table test, spelling, the method sets, and the parse.
-use mathlib.Core.Bool.{Bool, true, false, cond, not, _&&_, _||_}
-use mathlib.Core.List.{List, [], _∷_, _++_, map}
+use mathlib.Core.Bool.{cond, not, _&&_}
+use mathlib.Core.List.{List, [], _++_, map}
 use Prim.Native.Nat.{ℕ, _+_, _*_, _/_}
-use lib.ListN.{length, take, drop, getD}
+use lib.ListN.{length, drop}
 use lib.Dec.{eqb, leb, ltb}
 use Rattle.rules.specs.declared.Cursor.{Cursor}
 use Rattle.rules.specs.declared.Ending.{Ending}
@@ -13,14 +13,13 @@ use Rattle.rules.specs.declared.Judged.{Judged}
 use Rattle.rules.specs.declared.Judged.the-variants as verdict
 use Rattle.rules.specs.declared.Asked.{Asked}
 use Rattle.rules.specs.declared.Asked.the-variants as asked
-use Rattle.rules.specs.declared.Reason.{Reason}
 use Rattle.rules.specs.declared.Reason.the-variants as reason
 use Rattle.rules.specs.declared.Parsed.{Parsed}
 use Rattle.rules.specs.declared.Parsed.the-variants as parsed
 use Rattle.rules.specs.Text.{mostBytes, validBytes, valid, placeAt, startPlace}
 use Rattle.rules.specs.Rows.{Row, rowIn, rowsIn, rowPlace, wellFormed, spelling}
 use Rattle.rules.specs.Sets.{allows, setSize}
-use Rattle.rules.specs.Tree.{Tree, Tok, tokOf}
+use Rattle.rules.specs.Tree.{Tok, tokOf}
 use Rattle.rules.specs.Nodes.{size, treeWords}
 use Rattle.rules.specs.Parse.{Out, ok, no, parse}
 

@@ -16,7 +16,7 @@ use Rattle.rules.specs.declared.Restart.{Restart}
 use Rattle.rules.specs.declared.Restart.the-variants as starts
 use Rattle.rules.specs.Text.{mostBytes, validBytes, valid, isBlank, place, startPlace, over}
 use Rattle.rules.specs.Rows.{Row, rowAt, eofRow, rowPlace, rowsIn, wellFormed}
-use Rattle.rules.specs.Lex.{Piece, blank, comment, row, refused, Item, known, end, unknown, item}
+use Rattle.rules.specs.Lex.{blank, comment, row, refused, known, end, unknown, item}
 use Rattle.rules.specs.Scan.{told, laid}
 
 -- ---- kept rows and the restart place

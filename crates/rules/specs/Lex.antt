@@ -1,8 +1,8 @@
 -- "Scan rules": what stands at the front of a text that is not empty. Every definition looks at a suffix of the text alone.
 -- `decided` counts the bytes before the one that settles it; where that is the text's length, only the text's end settles it.
-use mathlib.Core.Bool.{Bool, true, false, cond, not, _&&_, _||_}
+use mathlib.Core.Bool.{Bool, true, false, cond, _&&_, _||_}
 use mathlib.Core.List.{List, [], _∷_}
-use Prim.Native.Nat.{ℕ, zero, suc, _+_, _-_, _*_}
+use Prim.Native.Nat.{ℕ, suc, _+_, _-_, _*_}
 use lib.ListN.{length, take, drop, getD}
 use lib.Dec.{eqb, leb, ltb}
 use Rattle.rules.specs.declared.Lexical.{Lexical}

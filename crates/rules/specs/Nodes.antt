@@ -1,6 +1,6 @@
 -- "Nodes": the nodes of a tree whose first row is row i, children before their parent, in text order.
-use Prim.Native.Nat.{ℕ, zero, suc, pred, _+_, _-_, _*_, _/_, _%_, _^_}
-use mathlib.Core.Bool.{Bool, true, false, cond}
+use Prim.Native.Nat.{ℕ, pred, _+_, _/_, _%_, _^_}
+use mathlib.Core.Bool.{cond}
 use mathlib.Core.List.{List, [], _∷_, _++_}
 use lib.Dec.{eqb}
 use Rattle.rules.specs.Kinds.{KeywordSection, KeywordLicense, KeywordReg, KeywordImm, KeywordKey, KeywordValue, Equals, Plus, Minus, Star, Slash, Percent, Shl}

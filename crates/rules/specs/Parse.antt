@@ -1,8 +1,8 @@
 -- "Grammar" and "Refusal numbers": the parser as a function of the tokens, with every refusal 21 to 32 in reading order. An answer is
 -- a tree and the row behind it, or why and the row where. Every recursion is the one loop `many`, or goes by the nesting that is left.
 use Prim.Native.Nat.{ℕ, zero, suc, _+_, _-_, _^_}
-use mathlib.Core.Bool.{Bool, true, false, cond, not, _&&_, _||_}
-use mathlib.Core.List.{List, [], _∷_}
+use mathlib.Core.Bool.{Bool, true, false, cond, not, _||_}
+use mathlib.Core.List.{List}
 use lib.Dec.{eqb, leb}
 use lib.ListN.{length, getD}
 use Rattle.rules.specs.declared.Syntax.{Syntax}

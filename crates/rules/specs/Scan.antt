@@ -1,5 +1,5 @@
 -- The scan of a text into rows and ending, and what a scan with so much room answers and leaves in lent memory.
-use mathlib.Core.Bool.{Bool, true, false, cond, not}
+use mathlib.Core.Bool.{cond, not}
 use mathlib.Core.List.{List, [], _∷_, _++_}
 use Prim.Native.Nat.{ℕ, zero, suc, pred, _+_, _*_, _/_, min}
 use lib.ListN.{length, take, drop}
@@ -13,7 +13,7 @@ use Rattle.rules.specs.declared.Told.{Told}
 use Rattle.rules.specs.declared.Told.the-variants.{Rows, Refused}
 use Rattle.rules.specs.Text.{mostBytes, validBytes, valid, placeAt, startPlace}
 use Rattle.rules.specs.Rows.{Row, rowAt, eofRow, wordsOf}
-use Rattle.rules.specs.Lex.{Piece, blank, comment, row, refused, piece}
+use Rattle.rules.specs.Lex.{blank, comment, row, refused, piece}
 
 -- A reading: rows, and then the end, which Eof's row stands before, or a refusal with its place and the offset of its deciding byte.
 pub data Reading : Type 0 where

@@ -1,9 +1,9 @@
 -- `from_section`: the program kind of a section's text. `allowed_ctx_methods`: the set of methods of each kind.
-use mathlib.Core.Bool.{Bool, true, false, cond, _&&_, _||_}
+use mathlib.Core.Bool.{Bool, true, false, cond, _||_}
 use mathlib.Core.List.{List, [], _∷_}
 use Prim.Native.Nat.{ℕ}
 use lib.ListN.{length, take, getD}
-use lib.Dec.{eqb, leb}
+use lib.Dec.{eqb}
 use Rattle.rules.specs.Kinds.{sameBytes}
 
 -- The kinds of programs in source order: Xdp 0, Tc 1, Socket 2, Cgroup 3, Kprobe 4, Tracepoint 5, RawTracepoint 6, Fentry 7,

@@ -1,10 +1,10 @@
 -- "Grammar": the rows as tokens, and the tree, with no row numbers in it. `yield` gives the tokens that a tree is read from.
-use Prim.Native.Nat.{ℕ, zero, suc, pred, _+_, _-_, _*_, _/_, _%_, _^_}
+use Prim.Native.Nat.{ℕ, _+_, _-_, _*_, _/_, _%_, _^_}
 use mathlib.Core.Bool.{Bool, true, false, cond}
 use mathlib.Core.List.{List, [], _∷_, _++_}
-use lib.Dec.{eqb, leb, ltb}
+use lib.Dec.{eqb, ltb}
 use lib.ListN.{length, take, drop, getD}
-use Rattle.rules.specs.Kinds.{Spelt, kindIn, KeywordUnit, KeywordSection, KeywordLicense, KeywordReturn, KeywordMap, KeywordType, KeywordMax, KeywordIf, KeywordElse, KeywordGuard, KeywordEvent, LBrace, RBrace, LParen, RParen, Colon, Dot, Comma, Semicolon, LBracket, RBracket, Equals, Star, Shl, Identifier, StringLiteral, Number, KeywordBytes, Eof}
+use Rattle.rules.specs.Kinds.{Spelt, kindIn, KeywordUnit, KeywordSection, KeywordReturn, KeywordMap, KeywordType, KeywordMax, KeywordIf, KeywordElse, KeywordGuard, KeywordEvent, LBrace, RBrace, LParen, RParen, Colon, Dot, Comma, Semicolon, LBracket, RBracket, Equals, Star, Shl, Identifier, StringLiteral, Number, KeywordBytes, Eof}
 use Rattle.rules.specs.Rows.{Row, spelling, valueBits}
 use Rattle.rules.specs.Sets.{fromSection}
 

@@ -13,7 +13,7 @@ use Rattle.rules.specs.Text.{over, Roomy}
 use Rattle.rules.specs.declared.Ending.the-variants as ending
 use Rattle.rules.specs.Rows.{rowsIn, eofRow}
 use Rattle.rules.specs.Lex.{row, Item, item}
-use Rattle.rules.specs.Edit.{Seen, sees, over′, met, short, look, from, opens}
+use Rattle.rules.specs.Edit.{Seen, sees, over′, met, short, look, opens}
 use Rattle.place.proofs.Places.{over-take, over-offset, roomy-over}
 use Rattle.machine.proofs.Spans.{Spans, blank-spans, comment-spans, row-spans, refused-spans, end-spans, unknown-spans}
 use Rattle.reader.specs.declared.Spot.{Spot}

@@ -2,6 +2,7 @@
 // meeting, or that the window is short.
 use reader::Read;
 use reader::Spot;
+use rows::shape::wide;
 use rules::Cursor;
 ghost use mathlib.Core.Path.{_≡_};
 ghost use mathlib.Core.Bool.{_&&_};
@@ -33,12 +34,6 @@ pub enum Next {
 pub struct Found {
     pub row: usize,
     pub met: bool,
-}
-
-fn wide(x: u32) -> u64
-    ensures { λ r. ⌜ r ≡ x ⌝ }
-{
-    x as u64
 }
 
 // Where the reader goes on from a spot.

@@ -45,6 +45,7 @@ const PLUS_EQUALS: u32 = 36;
 
 const IDENTIFIER: u32 = 48;
 
+// Whether a row's kind is reg, imm or heap.
 fn is_declaring(k: u32) -> bool
     ensures { λ r. ⌜ r ≡ isDeclaring k ⌝ }
 {
@@ -54,6 +55,7 @@ fn is_declaring(k: u32) -> bool
     if k == IMM { true } else { k == HEAP }
 }
 
+// Whether a row's kind is `=` or `+=`.
 fn is_assign(k: u32) -> bool
     ensures { λ r. ⌜ r ≡ isAssign k ⌝ }
 {
@@ -235,6 +237,7 @@ fn head(rows: &[u32], count: usize, row: usize) -> Opened
     Opened::Brace(brace)
 }
 
+// A statement.
 pub fn stmt(
     rows: &[u32],
     count: usize,

@@ -11,6 +11,7 @@ pub struct Word {
     pub next: usize,
 }
 
+// No word can be read here.
 fn lost() -> Word {
     Word {
         value: 0,

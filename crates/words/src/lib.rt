@@ -11,18 +11,21 @@ ghost use Rattle.rules.specs.Lex.{isLetter, isDigit, maybeTwo};
 ghost use Rattle.words.specs.Class.{classOf};
 ghost use Rattle.words.specs.Entries.{entryOf, Spellings};
 
+// Whether a byte is one of the six blanks: 9 to 13, and 32.
 pub fn is_blank(b: u8) -> bool
     ensures { λ r. ⌜ r ≡ isBlank b ⌝ }
 {
     (9 <= b) & (b <= 13) | (b == 32)
 }
 
+// Whether a byte is a letter or an underscore.
 pub fn is_letter(b: u8) -> bool
     ensures { λ r. ⌜ r ≡ isLetter b ⌝ }
 {
     ((65 <= b) & (b <= 90) | (97 <= b) & (b <= 122)) | (b == 95)
 }
 
+// Whether a byte is a decimal digit.
 pub fn is_digit(b: u8) -> bool
     ensures { λ r. ⌜ r ≡ isDigit b ⌝ }
 {

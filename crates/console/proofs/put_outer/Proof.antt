@@ -1,5 +1,5 @@
 -- `console::put_outer` meets its contract: the words of the number at the start.
-use mathlib.Core.Path.{_≡_, refl, sym, ap, _∙_}
+use mathlib.Core.Path.{_∙_}
 use borrow.Author.Needs.{needs}
 use Rattle.console.proofs.put_outer.Statement.{statement}
 use Rattle.console.proofs.put_outer.Tie as tie

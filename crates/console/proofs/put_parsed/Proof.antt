@@ -1,5 +1,5 @@
 -- `console::put_parsed` meets its contract: the arms are the cases of the definition.
-use mathlib.Core.Path.{_≡_, refl, sym, ap, _∙_}
+use mathlib.Core.Path.{_∙_}
 use borrow.Author.Needs.{needs}
 use Rattle.console.proofs.put_parsed.Statement.{statement}
 use Rattle.console.proofs.put_parsed.Tie as tie

@@ -1,5 +1,5 @@
 -- `console::put_syntax` meets its contract: the number and the two words told.
-use mathlib.Core.Path.{_≡_, refl, sym, ap, _∙_}
+use mathlib.Core.Path.{_∙_}
 use borrow.Author.Needs.{needs}
 use Rattle.console.proofs.put_syntax.Statement.{statement}
 use Rattle.console.proofs.put_syntax.Tie as tie

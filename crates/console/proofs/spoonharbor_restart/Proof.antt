@@ -1,5 +1,5 @@
 -- `console::spoonharbor_restart` meets its contract: the arms are the cases of the definition.
-use mathlib.Core.Path.{_≡_, refl, sym, ap, _∙_}
+use mathlib.Core.Path.{sym, _∙_}
 use borrow.Author.Tests.{not-true, not-false}
 use borrow.Author.Needs.{needs}
 use Rattle.console.proofs.spoonharbor_restart.Statement.{statement}

@@ -1,5 +1,5 @@
 -- `console::spoonharbor_scan` meets its contract: the answer's words and the rows are those of the call's.
-use mathlib.Core.Path.{_≡_, refl, sym, ap, _∙_}
+use mathlib.Core.Path.{ap, _∙_}
 use Rattle.console.specs.Layout.{toldWords}
 use borrow.Author.Needs.{needs}
 use Rattle.console.proofs.spoonharbor_scan.Statement.{statement}

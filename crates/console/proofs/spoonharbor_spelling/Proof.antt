@@ -1,5 +1,5 @@
 -- `console::spoonharbor_spelling` meets its contract: where the row is judged fine, its start and end are read.
-use mathlib.Core.Path.{_≡_, refl, sym, ap, _∙_}
+use mathlib.Core.Path.{sym, _∙_}
 use borrow.Author.Tests.{not-true, not-false}
 use native.Mathlib.Omega.{arith}
 use Rattle.rows.proofs.Judging.{told}

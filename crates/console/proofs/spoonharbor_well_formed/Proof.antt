@@ -1,7 +1,6 @@
 -- `console::spoonharbor_well_formed` meets its contract: the two tests are the definition's.
-use mathlib.Core.Path.{_≡_, refl, sym, ap, _∙_}
+use mathlib.Core.Path.{sym, _∙_}
 use borrow.Author.Tests.{not-true, not-false}
-use Rattle.rules.specs.Rows.{wellFormed}
 use borrow.Author.Needs.{needs}
 use Rattle.console.proofs.spoonharbor_well_formed.Statement.{statement}
 use Rattle.console.proofs.spoonharbor_well_formed.Tie as tie

@@ -1,5 +1,4 @@
 -- `console::table_of` meets its contract: number 0 is no ending.
-use mathlib.Core.Path.{_≡_, refl, sym, ap, _∙_}
 use borrow.Author.Tests.{ne-eqb}
 use borrow.Author.Needs.{needs}
 use Rattle.console.proofs.table_of.Statement.{statement}

@@ -1,5 +1,4 @@
 -- `nodes::kind_at` meets its contract.
-use mathlib.Core.Path.{_≡_, sym}
 use borrow.Author.Tests.{lt-ltb, le-ltb}
 use Rattle.nodes.specs.Post.{kindWord}
 use borrow.Author.Needs.{needs}

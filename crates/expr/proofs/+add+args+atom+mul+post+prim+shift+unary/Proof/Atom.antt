@@ -1,10 +1,9 @@
 -- `atom` of the circle: a number, a variable, or an expression in parentheses.
-use Prim.Native.Nat.{ℕ, _+_, _-_, _*_, _/_, _%_, _^_, _<_}
+use Prim.Native.Nat.{ℕ, _+_, _-_, _*_, _<_}
 use mathlib.Core.Path.{_≡_, refl, sym, ap, _∙_}
 use mathlib.Core.List.{List}
 use native.Mathlib.Omega.{arith}
 use borrow.Author.Needs.{needs}
-use lib.ListN.{length, getD}
 use Rattle.rules.specs.declared.Syntax.the-variants.{Wanted, TooDeep}
 use Rattle.rules.specs.Kinds.{Number, Identifier, LParen, RParen}
 use Rattle.rules.specs.Tree.{Tok, bitsIn, spellingOf, num, var, group}
@@ -15,9 +14,9 @@ use Rattle.grammar.proofs.Cases.{then-ok, then-no, want-yes, want-no, inner-non
 use Rattle.grammar.proofs.Sound.{Reads, add-sound, inner-sound}
 use Rattle.nodes.specs.Post.{Tells}
 use Rattle.nodes.specs.declared.At.{At}
-use Rattle.nodes.proofs.Rows.{tokens, tells-some, tells-kind, tells-value, word-at, word-here, low-word, high-word}
+use Rattle.nodes.proofs.Rows.{tokens, tells-some, tells-kind, word-here}
 use Rattle.nodes.proofs.Turn.{Came, came-reads, refused, met-ok, met-no}
-use Rattle.expr.proofs.Trees.{add-single, stands-num, stands-var, stands-group}
+use Rattle.expr.proofs.Trees.{add-single, stands-number, stands-var, stands-group}
 use Rattle.expr.proofs.add.Reads as add
 use Rattle.expr.proofs.atom.Reads as atom
 use Rattle.nodes.proofs.kind_at.Reads as kind-at-reads
@@ -33,16 +32,9 @@ cs t = (kind-at-reads.Asked, kind-at-reads.Learnt, number-reads.Asked, number-re
 kind-is : (t : ℕ) (c : lts.After-kind-at (cs t) (atom-at t) atom.Post) (ts : List Tok) → Tells ts (c .before .before .before .args .rows .now) (c .before .before .before .args .count) → c .kind-at .result ≡ kindAt ts (c .before .before .before .args .row)
 kind-is t c ts tl = c .kind-at .ensures ∙ tells-kind ts (c .before .before .before .args .rows .now) (c .before .before .before .args .count) tl (c .before .before .before .args .row)
 
--- a number's row, and its words
+-- a number's row
 number-here : (t : ℕ) (c : lts.Then1 (cs t) (atom-at t) atom.Post) → c .before .before .before .before .args .row < c .before .before .before .before .args .count
 number-here t c = word-here (c .before .before .before .before .args .rows .now) (c .before .before .before .before .args .count) (c .before .before .before .before .args .row) Number (sym (c .before .kind-at .ensures) ∙ c .if1 .taken) refl
-
-bits : (t : ℕ) (c : lts.Then1 (cs t) (atom-at t) atom.Post) (ts : List Tok) → Tells ts (c .before .before .before .before .args .rows .now) (c .before .before .before .before .args .count)
-    → bitsIn (tokAt ts (c .before .before .before .before .args .row)) ≡ getD (c .before .before .before .before .args .rows .now) (c .before .before .before .before .args .row * 8 + 6) 0 * 2 ^ 32 + getD (c .before .before .before .before .args .rows .now) (c .before .before .before .before .args .row * 8 + 5) 0
-bits t c ts tl =
-    let a = c .before .before .before .before .args in
-    let h = number-here t c in
-    tells-value ts (a .rows .now) (a .count) tl (a .row) h (sym (word-at (a .rows .now) (a .count) (a .row) h) ∙ sym (c .before .kind-at .ensures) ∙ c .if1 .taken)
 
 -- the parenthesis's row
 is-paren : (t : ℕ) (c : lts.Then2 (cs t) (atom-at t) atom.Post) (ts : List Tok) → Tells ts (c .before .before .before .before .before .args .rows .now) (c .before .before .before .before .before .args .count) → kindAt ts (c .before .before .before .before .before .args .row) ≡ LParen
@@ -105,15 +97,15 @@ same-length t c = search needs
 pub returns : (t : ℕ) → lts.Need-returns (cs t) (atom-at t) atom.Post
 returns t c = λ ts tl.
     let a = c .before .before .before .before .before .before .before .before .before .before .args in
+    let k = c .before .before .before .before .before .before in
+    let r = c .before .before .number in
     let v = bitsIn (tokAt ts (a .row)) in
-    let low = getD (a .rows .now) (a .row * 8 + 5) 0 in
-    let high = getD (a .rows .now) (a .row * 8 + 6) 0 in
-    let e = bits t (c .before .before .before .before .before .before) ts tl in
-    let f : low < 2 ^ 32 = omega (arith, c .before .before .before .before .shared-slice-known2 .given (a .row * 8 + 5)) in
-    met-ok (Parse.atom ts (Parse.inner ts (a .left)) (a .row)) (a .row) (a .node) (num v) (a .nodes .now) (c .before .before .number .last .0) (c .before .before .number .result)
-    (atom-num ts (Parse.inner ts (a .left)) (a .row) (sym (kind-is t (c .before .before .before .before .before .before .before) ts tl) ∙ c .before .before .before .before .before .before .if1 .taken) ∙ ap (λ (x : ℕ). ok (num v) x) (sym (ap (λ (x : At). x .row) (c .before .before .number .ensures .0))))
-    (stands-num (a .row) (a .node) (a .nodes .now) (c .before .before .number .last .0) (c .before .before .number .result) v low high (ap (λ (x : ℕ). x % 2 ^ 32) e ∙ low-word high low f) (ap (λ (x : ℕ). x / 2 ^ 32) e ∙ high-word high low f)
-    (c .before .before .number .ensures .0) (c .before .before .number .ensures .1))
+    let e = atom-num ts (Parse.inner ts (a .left)) (a .row) (sym (kind-is t (k .before) ts tl) ∙ k .if1 .taken) in
+    met-ok (Parse.atom ts (Parse.inner ts (a .left)) (a .row)) (a .row) (a .node) (num v) (a .nodes .now) (r .last .0) (r .result)
+    (e ∙ ap (λ (x : ℕ). ok (num v) x) (sym (ap (λ (x : At). x .row) (r .ensures .0))))
+    (stands-number (a .row) (a .node) (a .nodes .now) (r .last .0) (r .result) ts (a .rows .now) (a .count) tl
+    (sym (k .before .kind-at .ensures) ∙ k .if1 .taken) (omega (arith, c .before .before .before .before .shared-slice-known2 .given (a .row * 8 + 5)))
+    (r .ensures .0) (r .ensures .1))
 
 pub returns-2 : (t : ℕ) → lts.Need-returns-2 (cs t) (atom-at t) atom.Post
 returns-2 t c = λ ts tl.
