@@ -80,6 +80,18 @@ fn a_refusal_shows_its_line() {
 }
 
 #[test]
+fn a_line_is_shown_without_its_carriage_return() {
+    let folder = Folder::new("carriage-return");
+    folder.file("probe.snx", "unit u{\r\n reg a = b 1;\r\n}\r\n");
+    let ran = folder.run(&["check", "probe.snx"]);
+    assert_eq!(
+        ran.out,
+        "probe.snx:2:12: expected ';', found number\n     reg a = b 1;\n               ^\n"
+    );
+    assert_eq!(ran.status, 1);
+}
+
+#[test]
 fn each_refusal_has_its_words() {
     let deep = format!("unit u{{{}1;}}", "(".repeat(65));
     let cases: [(&str, &str); 24] = [

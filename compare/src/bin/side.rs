@@ -13,7 +13,7 @@ usage: side scan [TEXTS [SEED]]      rows, values, refusals, every lent word
        side small [LENGTH]           every edit of every text of at most LENGTH bytes over 16 bytes, at every window length
        side chains [EDITS [SEED]]    edits one after the other on documents of up to 60,000 bytes
        side tables [TABLES [SEED]]   tables with words changed, sets, sections
-       side full                     all of them, as long as docs say
+       side full                     all of them, at length
 ";
 
 /// The counts of a full run.

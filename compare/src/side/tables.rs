@@ -16,7 +16,7 @@ pub fn run(count: u64, seed: u64) -> Compared {
     let mut memory = Memory::default();
     let mut random = Random::new(seed);
     for _ in 0..count {
-        let text = random_text(&mut random);
+        let mut text = random_text(&mut random);
         let mut rows = vec![0; (text.len() + 1) * 8];
         let mut table = lent::scan(&text, &mut rows);
         if random.one_in(2) {
@@ -25,11 +25,26 @@ pub fn run(count: u64, seed: u64) -> Compared {
         for _ in 0..random.below(4) {
             change_a_word(&mut random, &mut rows, &mut table);
         }
+        if random.one_in(8) {
+            spoil(&mut random, &mut text);
+            counts.add("texts with a bad byte, or too long");
+        }
         hold(&mut random, &text, &rows, &table, &mut memory, &mut counts)?;
     }
     hold_sets(&mut counts)?;
     hold_sections(&mut random, count, &mut counts)?;
     Ok(counts)
+}
+
+/// Puts a byte of 128 or more into a text, or makes it too long, or both.
+fn spoil(random: &mut Random, text: &mut Vec<u8>) {
+    if random.one_in(8) {
+        text.resize(65_537, b' ');
+    }
+    if text.len() <= 65_536 || random.one_in(2) {
+        let at = random.below(text.len() + 1);
+        text.insert(at, 128 + random.below(128) as u8);
+    }
 }
 
 /// Changes a word of the rows or of the table, mostly by little.

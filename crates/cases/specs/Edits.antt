@@ -2,7 +2,7 @@
 use mathlib.Core.Path.{_≡_, refl}
 use mathlib.Core.Bool.{Bool, true, false, cond}
 use mathlib.Core.List.{List, [], _∷_, _++_, map}
-use Prim.Native.Nat.{ℕ, _+_}
+use Prim.Native.Nat.{ℕ, _+_, _*_}
 use lib.ListN.{length, take, drop}
 use Rattle.rules.specs.declared.Told.{Told}
 use Rattle.rules.specs.declared.Told.the-variants.{Refused}
@@ -15,7 +15,7 @@ use Rattle.rules.specs.Rows
 use Rattle.rules.specs.Rows.{Row, wordsOf}
 use Rattle.rules.specs.Lex
 use Rattle.rules.specs.Scan
-use Rattle.rules.specs.Scan.{scan, readRows, readEnding, scanTold, scanLeaves}
+use Rattle.rules.specs.Scan.{scan, readRows, readEnding, roomOf, scanTold, scanLeaves}
 use Rattle.rules.specs.Edit
 use Rattle.rules.specs.Edit.{restart, editTold, editLeaves}
 
@@ -30,7 +30,7 @@ pub record Case : Type 0 where
   pub room : ℕ
   pub short : Bool
 
--- what is told, and the words left in memory of which the first is 7
+-- what is told, and the words left in the lent memory
 pub record Outcome : Type 0 where
   pub told : Told
   pub words : List ℕ
@@ -38,9 +38,12 @@ pub record Outcome : Type 0 where
 pub newText : Case → List ℕ
 newText c = take (c .a) (c .text) ++ (c .bytes ++ drop (c .b) (c .text))
 
--- eight words, all 7
-abbrev pub words : List ℕ
-words = 7 ∷ 7 ∷ 7 ∷ 7 ∷ 7 ∷ 7 ∷ 7 ∷ 7 ∷ []
+-- the lent memory: room for so many rows, at most ten, every word 7
+abbrev sevens : List ℕ
+sevens = 7 ∷ 7 ∷ 7 ∷ 7 ∷ 7 ∷ 7 ∷ 7 ∷ 7 ∷ []
+
+abbrev pub memory : Case → List ℕ
+memory c = take (c .room * 8) (sevens ++ sevens ++ sevens ++ sevens ++ sevens ++ sevens ++ sevens ++ sevens ++ sevens ++ sevens)
 
 pub told : Case → Outcome
 told c =
@@ -49,44 +52,44 @@ told c =
     let start : ℕ = restart rows (c .a) .offset .0 in
     let window : List ℕ = take (c .shown) (drop start (newText c)) in
     record {
-      told = editTold (wordsOf rows) table (c .a) (c .b) (length (c .bytes)) start window (c .room);
-      words = editLeaves (wordsOf rows) table (c .a) (c .b) (length (c .bytes)) start window words;
+      told = editTold (wordsOf rows) table (c .a) (c .b) (length (c .bytes)) start window (roomOf (memory c));
+      words = editLeaves (wordsOf rows) table (c .a) (c .b) (length (c .bytes)) start window (memory c);
     }
 
 pub means : Case → Outcome
 means c = record {
-  told = cond (c .short) (Refused WindowShort startPlace 0) (scanTold (newText c) (c .room));
-  words = cond (c .short) words (scanLeaves (newText c) words);
+  told = cond (c .short) (Refused WindowShort startPlace 0) (scanTold (newText c) (roomOf (memory c)));
+  words = cond (c .short) (memory c) (scanLeaves (newText c) (memory c));
 }
 
 abbrev pub cases : List Case
 cases =
     -- the lister's text, 13 to 14 becomes `12`: four window bytes suffice
-    record { text = 117 ∷ 110 ∷ 105 ∷ 116 ∷ 32 ∷ 117 ∷ 123 ∷ 10 ∷ 32 ∷ 120 ∷ 43 ∷ 61 ∷ 45 ∷ 49 ∷ 59 ∷ 10 ∷ 125 ∷ 10 ∷ []; a = 13; b = 14; bytes = 49 ∷ 50 ∷ []; shown = 4; room = 100; short = false }
+    record { text = 117 ∷ 110 ∷ 105 ∷ 116 ∷ 32 ∷ 117 ∷ 123 ∷ 10 ∷ 32 ∷ 120 ∷ 43 ∷ 61 ∷ 45 ∷ 49 ∷ 59 ∷ 10 ∷ 125 ∷ 10 ∷ []; a = 13; b = 14; bytes = 49 ∷ 50 ∷ []; shown = 4; room = 10; short = false }
     -- and three are short
-    ∷ record { text = 117 ∷ 110 ∷ 105 ∷ 116 ∷ 32 ∷ 117 ∷ 123 ∷ 10 ∷ 32 ∷ 120 ∷ 43 ∷ 61 ∷ 45 ∷ 49 ∷ 59 ∷ 10 ∷ 125 ∷ 10 ∷ []; a = 13; b = 14; bytes = 49 ∷ 50 ∷ []; shown = 3; room = 100; short = true }
+    ∷ record { text = 117 ∷ 110 ∷ 105 ∷ 116 ∷ 32 ∷ 117 ∷ 123 ∷ 10 ∷ 32 ∷ 120 ∷ 43 ∷ 61 ∷ 45 ∷ 49 ∷ 59 ∷ 10 ∷ 125 ∷ 10 ∷ []; a = 13; b = 14; bytes = 49 ∷ 50 ∷ []; shown = 3; room = 10; short = true }
     -- a `/` last in the window is no comment: the refusal behind it moves
-    ∷ record { text = 47 ∷ 34 ∷ []; a = 0; b = 0; bytes = []; shown = 1; room = 100; short = false }
+    ∷ record { text = 47 ∷ 34 ∷ []; a = 0; b = 0; bytes = []; shown = 1; room = 10; short = false }
     -- no meeting place lies before a + n
-    ∷ record { text = 47 ∷ []; a = 0; b = 1; bytes = 42 ∷ []; shown = 1; room = 100; short = false }
+    ∷ record { text = 47 ∷ []; a = 0; b = 1; bytes = 42 ∷ []; shown = 1; room = 10; short = false }
     -- none lies at the window's end
-    ∷ record { text = 47 ∷ []; a = 0; b = 0; bytes = []; shown = 0; room = 100; short = true }
+    ∷ record { text = 47 ∷ []; a = 0; b = 0; bytes = []; shown = 0; room = 10; short = true }
     -- a lone `<` is not decided at the window's end
-    ∷ record { text = 47 ∷ []; a = 0; b = 0; bytes = 60 ∷ []; shown = 1; room = 100; short = true }
+    ∷ record { text = 47 ∷ []; a = 0; b = 0; bytes = 60 ∷ []; shown = 1; room = 10; short = true }
     -- nor is `0x`
-    ∷ record { text = 47 ∷ []; a = 0; b = 0; bytes = 48 ∷ 120 ∷ []; shown = 2; room = 100; short = true }
+    ∷ record { text = 47 ∷ []; a = 0; b = 0; bytes = 48 ∷ 120 ∷ []; shown = 2; room = 10; short = true }
     -- nor 15 at the digit that overflows
-    ∷ record { text = 57 ∷ 92 ∷ 56 ∷ 97 ∷ []; a = 1; b = 1; bytes = 57 ∷ 57 ∷ 57 ∷ 57 ∷ 57 ∷ 57 ∷ 57 ∷ 57 ∷ 57 ∷ 57 ∷ 57 ∷ 57 ∷ 57 ∷ 57 ∷ 57 ∷ 57 ∷ 57 ∷ 57 ∷ 57 ∷ 57 ∷ []; shown = 21; room = 100; short = true }
+    ∷ record { text = 57 ∷ 92 ∷ 56 ∷ 97 ∷ []; a = 1; b = 1; bytes = 57 ∷ 57 ∷ 57 ∷ 57 ∷ 57 ∷ 57 ∷ 57 ∷ 57 ∷ 57 ∷ 57 ∷ 57 ∷ 57 ∷ 57 ∷ 57 ∷ 57 ∷ 57 ∷ 57 ∷ 57 ∷ 57 ∷ 57 ∷ []; shown = 21; room = 10; short = true }
     -- a column moves on the meeting row's old line only
-    ∷ record { text = 47 ∷ 10 ∷ []; a = 0; b = 0; bytes = 42 ∷ []; shown = 2; room = 100; short = false }
+    ∷ record { text = 47 ∷ 10 ∷ []; a = 0; b = 0; bytes = 42 ∷ []; shown = 2; room = 10; short = false }
     -- the restart column is behind the kept row
-    ∷ record { text = 47 ∷ 34 ∷ []; a = 2; b = 2; bytes = []; shown = 1; room = 100; short = false }
+    ∷ record { text = 47 ∷ 34 ∷ []; a = 2; b = 2; bytes = []; shown = 1; room = 10; short = false }
     -- 7 comes before 4
     ∷ record { text = []; a = 0; b = 0; bytes = 47 ∷ []; shown = 0; room = 0; short = true }
     -- a row that ends at a is not kept: `ab`, `c` behind it
-    ∷ record { text = 97 ∷ 98 ∷ []; a = 2; b = 2; bytes = 99 ∷ []; shown = 3; room = 100; short = false }
+    ∷ record { text = 97 ∷ 98 ∷ []; a = 2; b = 2; bytes = 99 ∷ []; shown = 3; room = 10; short = false }
     -- no old row is met inside a new comment: `a b`, `/*` before `b`
-    ∷ record { text = 97 ∷ 32 ∷ 98 ∷ []; a = 2; b = 2; bytes = 47 ∷ 42 ∷ []; shown = 4; room = 100; short = false }
+    ∷ record { text = 97 ∷ 32 ∷ 98 ∷ []; a = 2; b = 2; bytes = 47 ∷ 42 ∷ []; shown = 4; room = 10; short = false }
     ∷ []
 
 pub right : map told cases ≡ map means cases

@@ -11,7 +11,6 @@ use Rattle.rules.specs.declared.Lexical.the-variants.{NoRowBegins, OpenComment,
 use Rattle.rules.specs.declared.Ending.{Ending}
 use Rattle.rules.specs.declared.Ending.the-variants as ending
 use Rattle.rules.specs.declared.Outer.{Outer}
-use Rattle.rules.specs.declared.Outer.the-variants.{NotWellFormed}
 use Rattle.rules.specs.declared.Table.{Table}
 use Rattle.rules.specs.declared.Told.{Told}
 use Rattle.rules.specs.declared.Told.the-variants as told
@@ -92,16 +91,12 @@ abbrev pub endingOf : List ℕ → Ending
 endingOf ws =
     cond (eqb (getD ws 0 0) 0) ending.None (ending.Refused (lexicalOf (getD ws 0 0)) (place (getD ws 1 0) (getD ws 2 0) (getD ws 3 0)))
 
+-- Words whose first is no ending tell no table: their length is one that no text has, so no call takes them for well formed.
+unfoldable pub lengthOf : List ℕ → ℕ
+lengthOf ws = cond (isEnding (getD ws 0 0)) (getD ws 7 0) 4294967295
+
 abbrev pub tableOf : List ℕ → Table
-tableOf ws = record { count = getD ws 6 0; length = getD ws 7 0; ending = endingOf ws }
-
--- x where the lent words are a table's, else 3
-abbrev pub withTable : List ℕ → List ℕ → List ℕ
-withTable ws x = cond (isEnding (getD ws 0 0)) x (outerWords NotWellFormed)
-
--- lent memory stays as it was where the lent words are no table's
-abbrev pub untouched : List ℕ → List ℕ → List ℕ → List ℕ
-untouched ws entry exit = cond (isEnding (getD ws 0 0)) exit entry
+tableOf ws = record { count = getD ws 6 0; length = lengthOf ws; ending = endingOf ws }
 
 -- the spelling's start and end
 abbrev pub spellingWords : List ℕ → List ℕ → Table → ℕ → List ℕ

@@ -28,7 +28,7 @@ ghost use Rattle.rules.specs.Scan.{scanTold, scanLeaves, roomOf};
 ghost use Rattle.rules.specs.Edit.{editTold, editLeaves, restartTold};
 ghost use Rattle.rules.specs.Sets.{fromSection};
 ghost use Rattle.rules.specs.Calls.{memberAsked, sizeAsked, parseTold, parseLeaves, nodeRoom};
-ghost use Rattle.console.specs.Layout.{words, nowhere, syntaxWords, toldWords, outerWords, askedWords, restartWords, parsedWords, isEnding, lexicalOf, tableOf, withTable, untouched, spellingWords};
+ghost use Rattle.console.specs.Layout.{words, nowhere, syntaxWords, toldWords, outerWords, askedWords, restartWords, parsedWords, isEnding, lexicalOf, lengthOf, tableOf, spellingWords};
 
 // ---- numbers
 
@@ -167,21 +167,32 @@ fn put_asked(answer: &mut [u32; 8], asked: Asked)
     }
 }
 
+// The length that eight words tell, and one that no text has where their first is no ending.
+fn length_of(told: &[u32; 8]) -> u32
+    ensures { λ r. ⌜ r ≡ lengthOf (now (told .entry)) ⌝ }
+{
+    if is_ending(told[0]) {
+        return told[7];
+    }
+    4294967295
+}
+
 // The table that eight words tell.
 fn table_of(told: &[u32; 8]) -> Table
     ensures { λ r. ⌜ r ≡ tableOf (now (told .entry)) ⌝ }
 {
     let number = told[0];
+    let length = length_of(told);
     if number == 0 {
         return Table {
             count: told[6],
-            length: told[7],
+            length,
             ending: Ending::None,
         };
     }
     Table {
         count: told[6],
-        length: told[7],
+        length,
         ending: Ending::Refused(
             lexical_of(number),
             Cursor {
@@ -206,11 +217,8 @@ pub extern "C" fn spoonharbor_scan(text: &[u8], rows: &mut [u32], answer: &mut [
 // 1 if a table is well formed, 0 if not.
 #[no_mangle]
 pub extern "C" fn spoonharbor_well_formed(rows: &[u32], table: &[u32; 8]) -> u32
-    ensures { λ r. ⌜ r ≡ cond (isEnding (getD (now (table .entry)) 0 0)) (cond (wellFormed (now (rows .entry)) (tableOf (now (table .entry)))) 1 0) 0 ⌝ }
+    ensures { λ r. ⌜ r ≡ cond (wellFormed (now (rows .entry)) (tableOf (now (table .entry)))) 1 0 ⌝ }
 {
-    if !is_ending(table[0]) {
-        return 0;
-    }
     if rows::well_formed(rows, table_of(table)) {
         1
     } else {
@@ -227,12 +235,8 @@ pub extern "C" fn spoonharbor_spelling(
     row: u32,
     answer: &mut [u32; 8],
 )
-    ensures { λ _. ⌜ now (answer .exit) ≡ withTable (now (table .entry)) (spellingWords (now (text .entry)) (now (rows .entry)) (tableOf (now (table .entry))) row) ⌝ }
+    ensures { λ _. ⌜ now (answer .exit) ≡ spellingWords (now (text .entry)) (now (rows .entry)) (tableOf (now (table .entry))) row ⌝ }
 {
-    if !is_ending(table[0]) {
-        put_outer(answer, Outer::NotWellFormed);
-        return;
-    }
     match rows::spelling_judge(text, rows, table_of(table), row) {
         Judged::Fine => {
             let at = (row as usize) * 8;
@@ -253,12 +257,8 @@ pub extern "C" fn spoonharbor_parse(
     nodes: &mut [u32],
     answer: &mut [u32; 8],
 )
-    ensures { λ _. ⌜ (now (answer .exit) ≡ withTable (now (table .entry)) (parsedWords (parseTold (now (text .entry)) (now (rows .entry)) (tableOf (now (table .entry))) (nodeRoom (now (nodes .entry)))))) × (now (nodes .exit) ≡ untouched (now (table .entry)) (now (nodes .entry)) (parseLeaves (now (text .entry)) (now (rows .entry)) (tableOf (now (table .entry))) (now (nodes .entry)))) ⌝ }
+    ensures { λ _. ⌜ (now (answer .exit) ≡ parsedWords (parseTold (now (text .entry)) (now (rows .entry)) (tableOf (now (table .entry))) (nodeRoom (now (nodes .entry))))) × (now (nodes .exit) ≡ parseLeaves (now (text .entry)) (now (rows .entry)) (tableOf (now (table .entry))) (now (nodes .entry))) ⌝ }
 {
-    if !is_ending(table[0]) {
-        put_outer(answer, Outer::NotWellFormed);
-        return;
-    }
     put_parsed(answer, parse::parse(text, rows, table_of(table), nodes));
 }
 
@@ -275,12 +275,8 @@ pub extern "C" fn spoonharbor_edit(
     new: &mut [u32],
     answer: &mut [u32; 8],
 )
-    ensures { λ _. ⌜ (now (answer .exit) ≡ withTable (now (table .entry)) (toldWords (editTold (now (old .entry)) (tableOf (now (table .entry))) a b n start (now (window .entry)) (roomOf (now (new .entry)))))) × (now (new .exit) ≡ untouched (now (table .entry)) (now (new .entry)) (editLeaves (now (old .entry)) (tableOf (now (table .entry))) a b n start (now (window .entry)) (now (new .entry)))) ⌝ }
+    ensures { λ _. ⌜ (now (answer .exit) ≡ toldWords (editTold (now (old .entry)) (tableOf (now (table .entry))) a b n start (now (window .entry)) (roomOf (now (new .entry))))) × (now (new .exit) ≡ editLeaves (now (old .entry)) (tableOf (now (table .entry))) a b n start (now (window .entry)) (now (new .entry))) ⌝ }
 {
-    if !is_ending(table[0]) {
-        put_outer(answer, Outer::NotWellFormed);
-        return;
-    }
     put_told(
         answer,
         edit::edit(old, table_of(table), a, b, n, start, window, new),
@@ -290,12 +286,8 @@ pub extern "C" fn spoonharbor_edit(
 // Where the window for an edit at a must start.
 #[no_mangle]
 pub extern "C" fn spoonharbor_restart(old: &[u32], table: &[u32; 8], a: u32, answer: &mut [u32; 8])
-    ensures { λ _. ⌜ now (answer .exit) ≡ withTable (now (table .entry)) (restartWords (restartTold (now (old .entry)) (tableOf (now (table .entry))) a)) ⌝ }
+    ensures { λ _. ⌜ now (answer .exit) ≡ restartWords (restartTold (now (old .entry)) (tableOf (now (table .entry))) a) ⌝ }
 {
-    if !is_ending(table[0]) {
-        put_outer(answer, Outer::NotWellFormed);
-        return;
-    }
     match edit::restart(old, table_of(table), a) {
         Restart::At(p) => {
             put(answer, 0, p, 0, 0, 0, 0);

@@ -1,3 +1,4 @@
+-- What the proofs of this crate use, from joined lists up to the whole call.
 pub mod Joins
 pub mod Facts
 pub mod Tails

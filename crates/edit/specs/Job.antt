@@ -1,7 +1,5 @@
 -- What the parts of the edit call ask and give: an edit whose numbers are sensible, what is seen of its window, and what is written
 -- behind the kept rows.
--- ---- the numbers of an edit
--- the tests of 6, where the window of so many bytes must start at an offset
 use mathlib.Core.Path.{_≡_}
 use mathlib.Core.Bool.{Bool, true, false, cond, _&&_}
 use mathlib.Core.List.{List, map}

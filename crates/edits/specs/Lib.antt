@@ -1,3 +1,4 @@
+-- The words in which demand 3 is stated.
 pub mod Shows
 pub mod Change
 pub mod Scanned

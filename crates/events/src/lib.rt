@@ -38,6 +38,7 @@ pub struct Shape {
     pub length: u32,
 }
 
+// A field's shape, or why there is none and the row where.
 pub enum Shaped {
     Done(Shape),
     Refused(Syntax, usize),

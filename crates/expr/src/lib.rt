@@ -1,5 +1,6 @@
 // Expressions. The functions from `add` to `args` call each other in a circle, the rest of the nesting limit and the rows falling:
-// add = shift (('+'|'-') mul)*, shift = mul (('<<'|'>>') mul)*, mul = unary (('*'|'/'|'%') unary)*, unary = '*' unary | prim.
+// add = shift (('+'|'-') mul)*, shift = mul (('<<'|'>>') mul)*, mul = unary (('*'|'/'|'%') unary)*, unary = '*' unary | prim,
+// prim = (Number | Identifier | '(' add ')') ('.' Identifier ['(' [add (',' add)*] ')'])*.
 use nodes::At;
 use nodes::Got;
 use rules::Syntax;
@@ -197,8 +198,7 @@ fn shift(rows: &[u32], count: usize, nodes: &mut [u32], row: usize, node: usize,
     }
 }
 
-// Operands and the operators of `is_mul` between them; a lone variable or number is written at once.
-// An operand, and further ones behind `*`, `/` and `%`.
+// An operand, and further ones behind `*`, `/` and `%`; a lone variable or number is written at once.
 fn mul(rows: &[u32], count: usize, nodes: &mut [u32], row: usize, node: usize, left: usize) -> Got
     requires { ⌜ Asks (now rows) count row node left ⌝ }
     ensures { λ r. ⌜ Answers (λ ts. mul ts (inner ts left) row) (now (rows .entry)) count row node (now (nodes .entry)) (now (nodes .exit)) r ⌝ }

@@ -8,7 +8,8 @@ pub mod Ends
 pub mod Refused
 pub mod Complete
 pub mod Same
-pub mod Tables
 pub mod Local
 pub mod GoesOn
 pub mod Place
+pub mod Tables
+pub mod Order

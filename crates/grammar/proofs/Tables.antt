@@ -1,5 +1,5 @@
 -- The tokens of a table: what their kinds are, that they are given as such, and that a well-formed table with no refused ending has one
--- Eof, its last row. So the parse call accepts exactly the programs of the grammar.
+-- Eof, its last row. So the parse call accepts exactly the programs of the grammar, and refuses at the first row with which none goes on.
 use mathlib.Core.Path.{_≡_, refl, sym, ap, _∙_, subst}
 use mathlib.Core.Bool.{Bool, true, false, not, cond, _&&_, true≢false, and-eq-true-iff}
 use mathlib.Core.List.{List, [], _∷_, map}
@@ -11,16 +11,19 @@ use lib.Dec.{eqb, leb}
 use lib.ListN.{length, drop, length-map}
 use borrow.Author.Tests.{eqb-true, eqb-false, not-true}
 use Rattle.rules.specs.declared.Ending.the-variants.{None}
+use Rattle.rules.specs.declared.Syntax.{Syntax}
 use Rattle.rules.specs.declared.Table.{Table}
 use Rattle.rules.specs.Text.{mostBytes}
 use Rattle.rules.specs.Kinds.{Identifier, StringLiteral, Number, Eof}
 use Rattle.rules.specs.Rows.{Row, rowsIn, every, chained, follows, rowFits, isEof, eofLast, endingFits, rowsFit, wellFormed, spelling, valueBits}
 use Rattle.rules.specs.Tree.{Tok, sign, name, string, value, kindOf, tokOf, Tree, yield}
-use Rattle.rules.specs.Parse.{ok, tokAt, kindAt}
+use Rattle.rules.specs.Parse.{ok, no, tokAt, kindAt}
 use Rattle.rules.specs.Calls.{tokens, reading}
 use Rattle.rules.specs.Grammar.{Program, Is}
+use Rattle.grammar.specs.Spot.{isMisfit}
 use Rattle.grammar.specs.Tokens.{isProper, Proper, Whole}
 use Rattle.grammar.proofs.Same.{accepts-exactly}
+use Rattle.grammar.proofs.Place.{First, refused-first}
 
 -- ---- one row
 
@@ -119,3 +122,8 @@ module _ (t ws : List ℕ) (tbl : Table) (good : wellFormed ws tbl ≡ true) (fi
   reads-exactly p =
       subst (λ (n : ℕ). (reading t ws tbl ≡ ok p n) ↔ (Is true Program 64 p × (tokens t (rowsIn (tbl .count) ws) ≡ yield p))) (tokens-length t (tbl .count) ws)
       (accepts-exactly (tokens t (rowsIn (tbl .count) ws)) p table-whole)
+
+  -- The theorem: what is refused with 21, 22, 23, 25 or 30 is refused at the first row of the table with which no program goes on.
+  pub refuses-first : (why : Syntax) (r : ℕ) → reading t ws tbl ≡ no why r → isMisfit why ≡ true → First (tokens t (rowsIn (tbl .count) ws)) why r
+  unfolding reading
+  refuses-first why r e m = refused-first (tokens t (rowsIn (tbl .count) ws)) why r (table-whole .proper) e m

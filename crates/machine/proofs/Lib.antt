@@ -1,3 +1,4 @@
+-- The laws of each kind of piece, and the theorems that the machine gives what the scan rules give.
 pub mod Spans
 pub mod Shown
 pub mod Runs

@@ -57,6 +57,7 @@ pub struct Facts {
     pub limit: u64,
 }
 
+// What the fields give with one field more, or why not and the row where.
 pub enum Found {
     Done(Facts),
     Refused(Syntax, usize),
@@ -68,6 +69,7 @@ pub struct Sum {
     pub bits: u64,
 }
 
+// The value of a max with one shift more, or why not and the row where.
 pub enum Summed {
     Done(Sum),
     Refused(Syntax, usize),
@@ -207,9 +209,10 @@ fn typed_field(rows: &[u32], count: usize, f: Facts, kind: u32) -> Found
         return Found::Refused(Syntax::Wanted(SEMICOLON, k2), end);
     }
     let number = t - 20;
+    let next = end + 1;
     if kind == KEY {
         return Found::Done(Facts {
-            row: end + 1,
+            row: next,
             kind: f.kind,
             key: number,
             value: f.value,
@@ -217,7 +220,7 @@ fn typed_field(rows: &[u32], count: usize, f: Facts, kind: u32) -> Found
         });
     }
     Found::Done(Facts {
-        row: end + 1,
+        row: next,
         kind: f.kind,
         key: f.key,
         value: number,

@@ -1,1 +1,2 @@
+-- What the contracts of this crate cite: the reading of a whole table.
 pub mod Program

@@ -1,3 +1,4 @@
+-- What the proofs of this crate use: lists of rows, what a well-formed table holds, lengths, shapes, whole tables, judging.
 pub mod Lists
 pub mod Inside
 pub mod Lengths

@@ -1,3 +1,4 @@
+-- Document 01 as definitions, a module for each of its sections.
 pub mod Text
 pub mod Kinds
 pub mod Refusals

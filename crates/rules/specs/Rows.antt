@@ -123,7 +123,7 @@ rowFits r =
 unfoldable pub follows : Row → Row → Bool
 follows r q = leb (r .end) (q .start) && linesFit (rowPlace r) (rowPlace q)
 
--- A refused ending's place is between the last row's end and the length, under the same line rules. `last` has the last row, if there is one.
+-- A refused ending's place is between the last row's end and the length, under the same line rules. `lastRow` has the last row, if there is one.
 unfoldable pub lastRow : List Row → List Row
 lastRow [] = []
 lastRow (r ∷ []) = r ∷ []

@@ -212,10 +212,11 @@ sectionsOf (arrayField w t v) = []
 sectionsOf (event w l) = []
 sectionsOf (program l) = []
 
--- A section's text is the string's content, escapes undecoded, without its last byte if that is a quote.
+-- what stands between a string's quotes, escapes undecoded
 unfoldable pub content : List ℕ → List ℕ
 content w = take (length w - 2) (drop 1 w)
 
+-- A section's text is the string's content without its last byte if that is a quote.
 unfoldable pub sectionText : List ℕ → List ℕ
 sectionText w =
     cond (ltb 0 (length (content w)))
@@ -294,6 +295,7 @@ lastOf x y = cond (eqb y 0) x y
 abbrev pub typeNumber : ℕ → ℕ
 typeNumber k = k - 20
 
+-- the number of a map's type, 0 if none is given
 unfoldable pub typeOf : Tree → ℕ
 typeOf none = 0
 typeOf (num v) = 0
@@ -361,7 +363,7 @@ typedBy f (arrayField w t v) = 0
 typedBy f (event w l) = 0
 typedBy f (program l) = 0
 
--- one more than max
+-- one more than max, 0 if none is given
 unfoldable pub limitOf : Tree → ℕ
 limitOf none = 0
 limitOf (num v) = 0

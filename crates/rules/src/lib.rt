@@ -87,7 +87,7 @@ pub struct Table {
     pub ending: Ending,
 }
 
-// Why a call is refused, whatever it was lent.
+// Refusals 1 to 7: what is wrong with what a call was lent, or lacks.
 pub enum Outer {
     TextTooLong,
     BadByte,

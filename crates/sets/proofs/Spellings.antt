@@ -1,4 +1,4 @@
--- Laws of bytes that are compared, and of the table of sections.
+-- Laws of the table of sections.
 use mathlib.Core.Path.{_≡_, refl, sym, ap, _∙_}
 use mathlib.Core.Bool.{Bool, true, false, _&&_}
 use mathlib.Core.List.{List, [], _∷_}

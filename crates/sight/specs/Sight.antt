@@ -1,6 +1,5 @@
 -- What a pass over the window sees before anything is written: where the new scan meets the old rows, that it is over without a
 -- meeting, or that the window is short.
--- ---- where the reader goes on
 use mathlib.Core.Bool.{Bool, true, not, _&&_}
 use mathlib.Core.List.{List}
 use mathlib.Core.Path.{_≡_}

@@ -44,6 +44,7 @@ pub struct Contents {
     pub licence: u32,
 }
 
+// The contents with one thing more, or why not and the row where.
 pub enum Went {
     Done(Contents),
     Refused(Syntax, usize),

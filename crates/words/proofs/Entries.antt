@@ -7,7 +7,7 @@ use Prim.Native.Nat.{ℕ, suc, _+_, _≤_, _<_}
 use native.Mathlib.Omega.{arith}
 use lib.ListN.{length, getD, take}
 use lib.Dec.{eqb, leb}
-use borrow.Author.Tests.{eqb-true, leb-true, eq-eqb}
+use borrow.Author.Tests.{eqb-true, leb-true, eq-eqb, not-true}
 use Rattle.rules.specs.Kinds.{Spelt, Identifier, reserved, sameBytes, kindIn}
 use Rattle.words.specs.Entries.{noEntry, spellingAt, lastByte, framed, entryIn, entryOf, Spellings}
 use Rattle.laws.proofs.Tables.{both-true, allBelow, below}
@@ -98,10 +98,6 @@ unfolding framed
 frame-eq e x y h =
     let b = both-true (eqb (getD (e .spelling) 0 0) x) (eqb (lastByte (e .spelling)) y) h in
     (eqb-true _ _ (b .0), eqb-true _ _ (b .1))
-
-not-true : (p : Bool) → not p ≡ true → p ≡ false
-not-true true e = sym e
-not-true false e = refl
 
 at-head : (e : Spelt) (es : List Spelt) (d : ℕ) (w : List ℕ) → kindIn es d w ≡ d
     → kindIn (e ∷ es) d w ≡ cond (sameBytes (e .spelling) w) (e .kind) d

@@ -1,8 +1,9 @@
--- Laws of spellings that are compared byte by byte, and of the kind that a table gives a spelling.
-use mathlib.Core.Path.{_≡_, refl, sym}
-use mathlib.Core.Bool.{Bool, true, false, not, _&&_}
+-- A table that has no entry for a word gives it the kind of the rest.
+use mathlib.Core.Path.{_≡_, refl}
+use mathlib.Core.Bool.{Bool, true, not, _&&_}
 use mathlib.Core.List.{List, [], _∷_}
 use Prim.Native.Nat.{ℕ}
+use borrow.Author.Tests.{not-true}
 use Rattle.rules.specs.Kinds.{Spelt, sameBytes, kindIn}
 use Rattle.laws.proofs.Tables.{both-true}
 
@@ -11,10 +12,6 @@ use Rattle.laws.proofs.Tables.{both-true}
 unfoldable pub allFail : List Spelt → List ℕ → Bool
 allFail [] w = true
 allFail (e ∷ es) w = not (sameBytes (e .spelling) w) && allFail es w
-
-not-true : (p : Bool) → not p ≡ true → p ≡ false
-not-true true e = sym e
-not-true false e = refl
 
 pub no-entry : (es : List Spelt) (d : ℕ) (w : List ℕ) → allFail es w ≡ true → kindIn es d w ≡ d
 unfolding allFail kindIn

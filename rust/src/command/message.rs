@@ -75,6 +75,8 @@ impl SourceLine {
             .iter()
             .position(|&byte| byte == b'\n')
             .map_or(text.len(), |length| offset + length);
+        let ends_in_return = end > offset && text[end - 1] == b'\r';
+        let end = end - usize::from(ends_in_return);
         let (from, to) = part_shown(begin, offset, end);
         let cut_before = if from > begin { "..." } else { "" };
         let cut_behind = if to < end { "..." } else { "" };

@@ -1,21 +1,8 @@
 -- `console::spoonharbor_restart` meets its contract: the arms are the cases of the definition.
 use mathlib.Core.Path.{sym, _∙_}
-use borrow.Author.Tests.{not-true, not-false}
 use borrow.Author.Needs.{needs}
 use Rattle.console.proofs.spoonharbor_restart.Statement.{statement}
 use Rattle.console.proofs.spoonharbor_restart.Tie as tie
-
-element-copy-out-is-ending : tie.Need-element-copy-out-is-ending
-element-copy-out-is-ending c = search needs
-
-is-ending-requires : tie.Need-is-ending-requires
-is-ending-requires c κs = search needs
-
-put-outer-requires : tie.Need-put-outer-requires
-put-outer-requires c κs = search needs
-
-returns : tie.Need-returns
-returns c = rw (sym (c .before .before .before .is-ending .ensures) ∙ not-true _ (c .before .before .if1 .taken)) (c .put-outer .ensures)
 
 table-of-requires : tie.Need-table-of-requires
 table-of-requires c κs = search needs
@@ -32,28 +19,24 @@ put-requires c κs = search needs
 enum-known-why : tie.Need-enum-known-why
 enum-known-why c = search needs
 
-put-outer-requires-2 : tie.Need-put-outer-requires-2
-put-outer-requires-2 c κs = search needs
+put-outer-requires : tie.Need-put-outer-requires
+put-outer-requires c κs = search needs
+
+returns : tie.Need-returns
+returns c = rw (← c .before .before .before .before .before .before .table-of .ensures, sym (c .before .before .before .before .before .restart .ensures) ∙ c .before .before .before .p .given .1) (c .put .ensures)
 
 returns-2 : tie.Need-returns-2
-returns-2 c = rw (sym (c .before .before .before .before .before .before .before .before .is-ending .ensures) ∙ not-false _ (c .before .before .before .before .before .before .before .if1 .left), ← c .before .before .before .before .before .before .table-of .ensures, sym (c .before .before .before .before .before .restart .ensures) ∙ c .before .before .before .p .given .1) (c .put .ensures)
-
-returns-3 : tie.Need-returns-3
-returns-3 c = rw (sym (c .before .before .before .before .before .before .before .before .is-ending .ensures) ∙ not-false _ (c .before .before .before .before .before .before .before .if1 .left), ← c .before .before .before .before .before .before .table-of .ensures, sym (c .before .before .before .before .before .restart .ensures) ∙ c .before .before .before .why .given .1) (c .put-outer2 .ensures)
+returns-2 c = rw (← c .before .before .before .before .before .before .table-of .ensures, sym (c .before .before .before .before .before .restart .ensures) ∙ c .before .before .before .why .given .1) (c .put-outer .ensures)
 
 pub spoonharbor-restart-spec : {M : Type 1} → statement M
 spoonharbor-restart-spec =
     tie.close
     (tie.spec
-    element-copy-out-is-ending
-    is-ending-requires
-    put-outer-requires
-    returns
     table-of-requires
     restart-requires
     enum-known-p
     put-requires
     enum-known-why
-    put-outer-requires-2
-    returns-2
-    returns-3)
+    put-outer-requires
+    returns
+    returns-2)

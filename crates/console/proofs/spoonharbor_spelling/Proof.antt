@@ -1,23 +1,10 @@
 -- `console::spoonharbor_spelling` meets its contract: where the row is judged fine, its start and end are read.
 use mathlib.Core.Path.{sym, _∙_}
-use borrow.Author.Tests.{not-true, not-false}
 use native.Mathlib.Omega.{arith}
 use Rattle.rows.proofs.Judging.{told}
 use borrow.Author.Needs.{needs}
 use Rattle.console.proofs.spoonharbor_spelling.Statement.{statement}
 use Rattle.console.proofs.spoonharbor_spelling.Tie as tie
-
-element-copy-out-is-ending : tie.Need-element-copy-out-is-ending
-element-copy-out-is-ending c = search needs
-
-is-ending-requires : tie.Need-is-ending-requires
-is-ending-requires c κs = search needs
-
-put-outer-requires : tie.Need-put-outer-requires
-put-outer-requires c κs = search needs
-
-returns : tie.Need-returns
-returns c = rw (sym (c .before .before .before .is-ending .ensures) ∙ not-true _ (c .before .before .if1 .taken)) (c .put-outer .ensures)
 
 table-of-requires : tie.Need-table-of-requires
 table-of-requires c κs = search needs
@@ -41,7 +28,7 @@ mul-put : tie.Need-mul-put
 mul-put c = search needs
 
 shared-slice-read-put : tie.Need-shared-slice-read-put
-shared-slice-read-put c = let h = told (c .before .before .before .before .before .before .before .before .before .before .before .before .args .text .now) (c .before .before .before .before .before .before .before .before .before .before .before .before .args .rows .now) (c .before .before .before .before .before .before .table-of .result) (c .before .before .before .before .before .before .before .before .before .before .before .before .args .row) (sym (c .before .before .before .before .before .spelling-judge .ensures) ∙ c .before .before .before .enum-told .given .1) in omega (arith, h .lent)
+shared-slice-read-put c = let h = told (c .before .before .before .before .before .before .before .before .before .args .text .now) (c .before .before .before .before .before .before .before .before .before .args .rows .now) (c .before .before .before .before .before .before .table-of .result) (c .before .before .before .before .before .before .before .before .before .args .row) (sym (c .before .before .before .before .before .spelling-judge .ensures) ∙ c .before .before .before .enum-told .given .1) in omega (arith, h .lent)
 
 add-put-2 : tie.Need-add-put-2
 add-put-2 c = search needs
@@ -50,7 +37,7 @@ mul-put-2 : tie.Need-mul-put-2
 mul-put-2 c = search needs
 
 shared-slice-read-put-2 : tie.Need-shared-slice-read-put-2
-shared-slice-read-put-2 c = let h = told (c .before .before .before .before .before .before .before .before .before .before .before .before .before .args .text .now) (c .before .before .before .before .before .before .before .before .before .before .before .before .before .args .rows .now) (c .before .before .before .before .before .before .before .table-of .result) (c .before .before .before .before .before .before .before .before .before .before .before .before .before .args .row) (sym (c .before .before .before .before .before .before .spelling-judge .ensures) ∙ c .before .before .before .before .enum-told .given .1) in omega (arith, h .lent)
+shared-slice-read-put-2 c = let h = told (c .before .before .before .before .before .before .before .before .before .before .args .text .now) (c .before .before .before .before .before .before .before .before .before .before .args .rows .now) (c .before .before .before .before .before .before .before .table-of .result) (c .before .before .before .before .before .before .before .before .before .before .args .row) (sym (c .before .before .before .before .before .before .spelling-judge .ensures) ∙ c .before .before .before .before .enum-told .given .1) in omega (arith, h .lent)
 
 put-requires : tie.Need-put-requires
 put-requires c κs = search needs
@@ -64,20 +51,16 @@ outer-number-requires c κs = search needs
 put-requires-2 : tie.Need-put-requires-2
 put-requires-2 c κs = search needs
 
-returns-2 : tie.Need-returns-2
-returns-2 c = rw (sym (c .before .before .before .before .before .before .before .before .before .before .is-ending .ensures) ∙ not-false _ (c .before .before .before .before .before .before .before .before .before .if1 .left), ← c .before .before .before .before .before .before .before .before .table-of .ensures, sym (c .before .before .before .before .before .before .before .spelling-judge .ensures) ∙ c .before .before .before .before .before .enum-told .given .1) (c .put .ensures ∙ rw (c .before .before .before .no-place .ensures))
+returns : tie.Need-returns
+returns c = rw (← c .before .before .before .before .before .before .before .before .table-of .ensures, sym (c .before .before .before .before .before .before .before .spelling-judge .ensures) ∙ c .before .before .before .before .before .enum-told .given .1) (c .put .ensures ∙ rw (c .before .before .before .no-place .ensures))
 
-returns-3 : tie.Need-returns-3
-returns-3 c = rw (sym (c .before .before .before .before .before .before .before .before .before .is-ending .ensures) ∙ not-false _ (c .before .before .before .before .before .before .before .before .if1 .left), ← c .before .before .before .before .before .before .before .table-of .ensures, sym (c .before .before .before .before .before .before .spelling-judge .ensures) ∙ c .before .before .before .before .why .given .1) (c .put2 .ensures ∙ rw (c .before .outer-number .ensures))
+returns-2 : tie.Need-returns-2
+returns-2 c = rw (← c .before .before .before .before .before .before .before .table-of .ensures, sym (c .before .before .before .before .before .before .spelling-judge .ensures) ∙ c .before .before .before .before .why .given .1) (c .put2 .ensures ∙ rw (c .before .outer-number .ensures))
 
 pub spoonharbor-spelling-spec : {M : Type 1} → statement M
 spoonharbor-spelling-spec =
     tie.close
     (tie.spec
-    element-copy-out-is-ending
-    is-ending-requires
-    put-outer-requires
-    returns
     table-of-requires
     spelling-judge-requires
     enum-told
@@ -93,5 +76,5 @@ spoonharbor-spelling-spec =
     enum-known-why
     outer-number-requires
     put-requires-2
-    returns-2
-    returns-3)
+    returns
+    returns-2)

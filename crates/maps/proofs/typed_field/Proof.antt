@@ -90,17 +90,14 @@ returns-4 c ts h =
 sub-number : tie.Need-sub-number
 sub-number c = omega (arith, type-low (c .before .before .before .before .kind-at2 .result) (not-false _ (c .before .before .if3 .left)))
 
-add-t19 : tie.Need-add-t19
-add-t19 c = search needs
+add-next : tie.Need-add-next
+add-next c = search needs
 
 returns-5 : tie.Need-returns-5
 returns-5 c ts h =
     let a = c .before .before .before .before .before .before .before .before .before .before .args in
     steps-to (a .f) _ (typed KeywordKey (c .before .before .before .before .before .kind-at2 .result)) (a .f .row + 1 + 1 + 1 + 1) _ (whole (c .before) ts h ∙ ap (λ (x : ℕ). ok (typed x (c .before .before .before .before .before .kind-at2 .result)) (a .f .row + 1 + 1 + 1 + 1)) (c .if5 .taken))
     (over-key (a .f) _ (c .before .before .before .before .before .kind-at2 .result) (type-low (c .before .before .before .before .before .kind-at2 .result) (not-false _ (c .before .before .before .if3 .left))))
-
-add-t21 : tie.Need-add-t21
-add-t21 c = search needs
 
 returns-6 : tie.Need-returns-6
 returns-6 c ts h =
@@ -124,7 +121,6 @@ typed-field-spec =
     kind-at-requires-3
     returns-4
     sub-number
-    add-t19
+    add-next
     returns-5
-    add-t21
     returns-6)

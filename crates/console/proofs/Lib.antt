@@ -1,0 +1,4 @@
+-- The theorems on the outer face: tables that its words do not tell apart, demand 3 through them, and how tight each promise is.
+pub mod Alike
+pub mod Outer
+pub mod Tight
