@@ -210,7 +210,9 @@ fn typed_field(rows: &[u32], count: usize, f: Facts, kind: u32) -> Found
     }
     let number = t - 20;
     let next = end + 1;
-    if kind == KEY {
+    let held = f.key;
+    let is_key = kind == KEY;
+    if is_key {
         return Found::Done(Facts {
             row: next,
             kind: f.kind,
@@ -222,7 +224,7 @@ fn typed_field(rows: &[u32], count: usize, f: Facts, kind: u32) -> Found
     Found::Done(Facts {
         row: next,
         kind: f.kind,
-        key: f.key,
+        key: held,
         value: number,
         limit: f.limit,
     })
