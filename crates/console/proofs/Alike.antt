@@ -57,10 +57,10 @@ pub told-alike : (table : Table) → Alike (tableOf (toldWords (Rows table))) ta
 told-alike table = by (table .count) (table .length) (table .ending)
   where
     by : (k n : ℕ) (e : Ending) → Alike (tableOf (endingWords k n e)) (record { count = k; length = n; ending = e })
-    by k n None = record { count = refl; length = told-length k n None; ending = both-none }
+    by k n None = record { count = refl; size = told-length k n None; ending = both-none }
     by k n (Refused why p) =
         rw (is-lexical why .not-0)
-        (record { count = refl; length = told-length k n (Refused why p); ending = both-refused (is-lexical why .again) })
+        (record { count = refl; size = told-length k n (Refused why p); ending = both-refused (is-lexical why .again) })
 
 -- The table read from words whose first is no ending is not well formed, whatever rows are lent: every call answers 3.
 pub no-table : (ws answer : List ℕ) → isEnding (getD answer 0 0) ≡ false → wellFormed ws (tableOf answer) ≡ false
@@ -93,7 +93,7 @@ alike-carry o p (both-refused e) = both-refused e
 
 pub alike-well-formed : (ws : List ℕ) {t u : Table} → Alike t u → wellFormed ws t ≡ wellFormed ws u
 unfolding wellFormed rowsFit
-alike-well-formed ws s = rw (s .count, s .length, alike-fits _ _ (s .ending))
+alike-well-formed ws s = rw (s .count, s .size, alike-fits _ _ (s .ending))
 
 -- ---- the edit
 
@@ -150,7 +150,7 @@ module _ (ws : List ℕ) {t u : Table} (s : Alike t u) (a b n start : ℕ) (w : 
   same-edit : (room : ℕ) → SameWords (editTold ws t a b n start w room) (editTold ws u a b n start w room)
   unfolding editTold
   same-edit room =
-      rw (alike-well-formed ws s, s .count, s .length, alike-short _ (t .ending) (u .ending) a b n w _, alike-rows _ (t .ending) (u .ending) a b n w _)
+      rw (alike-well-formed ws s, s .count, s .size, alike-short _ (t .ending) (u .ending) a b n w _, alike-rows _ (t .ending) (u .ending) a b n w _)
       (same-else (not (wellFormed ws u)) _
       (same-else (not (sensible (rowsIn (u .count) ws) (u .length) a b n start w)) _
       (same-else (ltb mostBytes (newLength (u .length) a b n)) _
@@ -164,18 +164,18 @@ module _ (ws : List ℕ) {t u : Table} (s : Alike t u) (a b n start : ℕ) (w : 
   pub alike-edit-leaves : (new : List ℕ) → editLeaves ws t a b n start w new ≡ editLeaves ws u a b n start w new
   unfolding editLeaves
   alike-edit-leaves new =
-      rw (alike-well-formed ws s, s .count, s .length, alike-short _ (t .ending) (u .ending) a b n w _, alike-rows _ (t .ending) (u .ending) a b n w _)
+      rw (alike-well-formed ws s, s .count, s .size, alike-short _ (t .ending) (u .ending) a b n w _, alike-rows _ (t .ending) (u .ending) a b n w _)
 
 -- ---- the other calls
 
 module _ (ws : List ℕ) {x y : Table} (s : Alike x y) where
   pub alike-restart : (a : ℕ) → restartTold ws x a ≡ restartTold ws y a
   unfolding restartTold
-  alike-restart a = rw (alike-well-formed ws s, s .count, s .length)
+  alike-restart a = rw (alike-well-formed ws s, s .count, s .size)
 
   alike-judged : (t : List ℕ) → judged t ws x ≡ judged t ws y
   unfolding judged
-  alike-judged t = rw (alike-well-formed ws s, s .length)
+  alike-judged t = rw (alike-well-formed ws s, s .size)
 
   pub alike-spelling : (t : List ℕ) (row : ℕ) → spellingJudged t ws x row ≡ spellingJudged t ws y row
   unfolding spellingJudged

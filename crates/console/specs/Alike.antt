@@ -23,7 +23,7 @@ pub data EndsAlike : Ending → Ending → Type 0 where
 
 pub record Alike (t u : Table) : Type 0 where
   pub count : t .count ≡ u .count
-  pub length : t .length ≡ u .length
+  pub size : t .length ≡ u .length
   pub ending : EndsAlike (t .ending) (u .ending)
 
 -- ---- demand 3 in words
