@@ -1,6 +1,6 @@
 /* Scans a text, edits it, parses it, and prints what comes of each.
  *
- *     cc -I include include/example.c target/staticlib/libconsole.a -o example && ./example
+ *     cc -I include include/example.c target/staticlib/libspoonharbor.a -o example && ./example
  */
 #include <inttypes.h>
 #include <stdio.h>

@@ -1,5 +1,5 @@
-/* Spoonharbor's calls for C and Rust. Link with target/staticlib/libconsole.a (`rt staticlib console`), which is for x86-64; for
- * another processor `rust/archive` writes target/staticlib/PROCESSOR/libconsole.a. `example.c` shows the calls.
+/* Spoonharbor's calls for C and Rust. Link with target/staticlib/libspoonharbor.a (`rt staticlib spoonharbor`), which is for x86-64; for
+ * another processor `rust/archive` writes target/staticlib/PROCESSOR/libspoonharbor.a. `example.c` shows the calls.
  *
  * Every call answers for every argument, reads and writes only what it is lent, and keeps nothing. Parts of memory that are lent for
  * writing must overlap neither each other nor what is lent for reading. A length of 0 is fine (with any pointer that is not null).

@@ -1,7 +1,7 @@
-//! Links the proved library, `libconsole.a`; builds it if it is not there.
+//! Links the proved library, `libspoonharbor.a`; builds it if it is not there.
 //!
 //! The archive stands in the folder that the environment variable `SPOONHARBOR_ARCHIVE` names. Without the variable it is
-//! `../target/staticlib` on x86-64, where `rt staticlib console` in the repository root writes it, and
+//! `../target/staticlib` on x86-64, where `rt staticlib spoonharbor` in the repository root writes it, and
 //! `../target/staticlib/PROCESSOR` on another processor, where `./archive` does.
 
 use std::env;
@@ -9,7 +9,7 @@ use std::path::{Path, PathBuf};
 use std::process::{self, Command};
 
 const FOLDER_VARIABLE: &str = "SPOONHARBOR_ARCHIVE";
-const ARCHIVE: &str = "libconsole.a";
+const ARCHIVE: &str = "libspoonharbor.a";
 
 fn main() {
     println!("cargo:rerun-if-env-changed={FOLDER_VARIABLE}");

@@ -22,7 +22,7 @@ fn the_sample_is_as_written() {
     let answers: Vec<Answer> = on_deep_stack(|| texts.iter().map(|text| answer(text)).collect());
     let written = sample_file(texts.iter().map(Vec::as_slice).zip(&answers));
     let here = concat!(env!("CARGO_MANIFEST_DIR"), "/sample.txt");
-    let replayed = concat!(env!("CARGO_MANIFEST_DIR"), "/../crates/replay/stdin");
+    let replayed = concat!(env!("CARGO_MANIFEST_DIR"), "/../crates/replay_texts/stdin");
     assert!(
         written.as_bytes() == read(here),
         "write it again with `sample 4000 1`"

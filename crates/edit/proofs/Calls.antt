@@ -20,10 +20,10 @@ use Rattle.rules.specs.Edit.{Seen, sees, over′, met, short, isShort, kept, la
 use Rattle.rows.proofs.Lists.{both-true}
 use Rattle.rows.specs.Shape.{rowNo}
 use Rattle.rows.proofs.Inside.{fine}
-use Rattle.place.proofs.Places.{front-le}
-use Rattle.carry.specs.Moves.{Ended}
-use Rattle.carry.proofs.Kept.{kept-inside, kept-rows}
-use Rattle.sight.specs.Sight.{sightOf}
+use Rattle.scan_place.proofs.Places.{front-le}
+use Rattle.edit_carry.specs.Moves.{Ended}
+use Rattle.edit_carry.proofs.Kept.{kept-inside, kept-rows}
+use Rattle.edit_sight.specs.Sight.{sightOf}
 use Rattle.edit.specs.declared.Job.{Job}
 use Rattle.edit.specs.Job.{sensibleAt, oldRows, sizeAfter, Ready, jobSeen, jobRows, jobEnding, jobSight, isShortSight, rereadTold, rereadLeaves}
 use Rattle.edit.proofs.Facts.{ended}

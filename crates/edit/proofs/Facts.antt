@@ -21,8 +21,8 @@ use Rattle.rows.specs.Shape.{rowNo, behind, allBelow}
 use Rattle.rows.proofs.Lists.{both-true, below}
 use Rattle.rows.proofs.Inside
 use Rattle.rows.proofs.Inside.{Fine, Sound, Ends, Broken, clean, broken, row-sound, in-order, middle-plain}
-use Rattle.carry.specs.Moves.{MovesPlace, MovesRow, MovesEnding, none, refused, Ended}
-use Rattle.sight.specs.Sight.{Rising}
+use Rattle.edit_carry.specs.Moves.{MovesPlace, MovesRow, MovesEnding, none, refused, Ended}
+use Rattle.edit_sight.specs.Sight.{Rising}
 
 hasBytes : ℕ → Bool
 hasBytes k = not ((isMade k && not (eqb k Eof)) && lengthFits k 0)

@@ -13,18 +13,18 @@ use Rattle.rules.specs.Text.{mostBytes, startPlace, over, Roomy}
 use Rattle.rules.specs.Rows.{Row, rowIn, rowsIn, rowPlace, wordsOf}
 use Rattle.rules.specs.Scan.{roomOf, laid}
 use Rattle.rules.specs.Edit.{Seen, look, kept, endPlace, lastEnd, restart, from, firstPlace, carryRow, carryEnding, meets, windowPlace, seen, seenRows}
-use Rattle.place.proofs.Places.{over-offset, roomy-less, roomy-over}
-use Rattle.reader.specs.declared.Spot.{Spot}
-use Rattle.reader.specs.Read.{onward, Ahead}
+use Rattle.scan_place.proofs.Places.{over-offset, roomy-less, roomy-over}
+use Rattle.scan_reader.specs.declared.Spot.{Spot}
+use Rattle.scan_reader.specs.Read.{onward, Ahead}
 use Rattle.rows.specs.Shape.{rowNo}
 use Rattle.rows.proofs.Lists.{rowsIn-length, rowsIn-at}
 use Rattle.rows.proofs.Inside
 use Rattle.rows.proofs.Inside.{Fine, fine, row-sound}
-use Rattle.carry.proofs.Words.{take-rows}
-use Rattle.carry.proofs.Laid.{laid-all}
-use Rattle.carry.proofs.Kept.{keptCount, kept-inside, kept-rows, kept-below, behind-rows}
-use Rattle.sight.specs.declared.Sight.the-variants.{Met, Over}
-use Rattle.sight.specs.Sight.{Sightable, meetsAt, placeIn, startOf, sightOf, seenFrom}
+use Rattle.edit_carry.proofs.Words.{take-rows}
+use Rattle.edit_carry.proofs.Laid.{laid-all}
+use Rattle.edit_carry.proofs.Kept.{keptCount, kept-inside, kept-rows, kept-below, behind-rows}
+use Rattle.edit_sight.specs.declared.Sight.the-variants.{Met, Over}
+use Rattle.edit_sight.specs.Sight.{Sightable, meetsAt, placeIn, startOf, sightOf, seenFrom}
 use Rattle.scan.specs.declared.Stop.the-variants as stops
 use Rattle.scan.specs.Writing.{written, spotFrom, rowsOf, stopOf, wroteOf, leaves}
 use Rattle.edit.specs.declared.Job.{Job}

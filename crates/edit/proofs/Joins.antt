@@ -15,9 +15,9 @@ use Rattle.rules.specs.declared.Ending.the-variants as ending
 use Rattle.rules.specs.Rows.{Row, rowAt, eofRow}
 use Rattle.rules.specs.Lex.{blank, comment, row, refused, Item, known, end, unknown, item, piece, decidedAt}
 use Rattle.rules.specs.Edit.{Seen, sees, over′, met, short, look, opens}
-use Rattle.machine.proofs.Spans.{Spans, blank-spans, comment-spans, row-spans, refused-spans, end-spans, unknown-spans}
-use Rattle.reader.specs.declared.Spot.{Spot}
-use Rattle.sight.proofs.Looks.{front-spans}
+use Rattle.theory_machine.proofs.Spans.{Spans, blank-spans, comment-spans, row-spans, refused-spans, end-spans, unknown-spans}
+use Rattle.scan_reader.specs.declared.Spot.{Spot}
+use Rattle.edit_sight.proofs.Looks.{front-spans}
 use Rattle.scan.specs.declared.Stop.the-variants as stops
 use Rattle.scan.specs.Writing.{Writing, put, stop, following, write}
 

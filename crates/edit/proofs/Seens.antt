@@ -15,11 +15,11 @@ use Rattle.rules.specs.Rows.{Row, eofRow}
 use Rattle.rules.specs.Lex.{Item, item, known, blank, comment, row, refused, end, unknown}
 use Rattle.rules.specs.Edit.{Seen, sees, over′, met, short, look, opens, from, some, firstPlace, carryRow, carryEnding, oldOffset, windowPlace, seenRows, seenEnding}
 use Rattle.rows.proofs.Lists.{both-true}
-use Rattle.reader.specs.declared.Spot.{Spot}
-use Rattle.reader.specs.Read.{onward}
-use Rattle.carry.proofs.Carried.{map-length}
-use Rattle.sight.specs.declared.Sight.the-variants.{Met, Over}
-use Rattle.sight.specs.Sight.{meetsAt, startOf, sightOf}
+use Rattle.scan_reader.specs.declared.Spot.{Spot}
+use Rattle.scan_reader.specs.Read.{onward}
+use Rattle.edit_carry.proofs.Carried.{map-length}
+use Rattle.edit_sight.specs.declared.Sight.the-variants.{Met, Over}
+use Rattle.edit_sight.specs.Sight.{meetsAt, startOf, sightOf}
 use Rattle.scan.specs.declared.Stop.the-variants as stops
 use Rattle.scan.specs.Writing.{Writing, rowsOf, stopOf}
 use Rattle.edit.proofs.Joins.{Joins, rows, meets, ends, refuses, lacks, Reaches, lookNext, look-next, look-meets}

@@ -24,11 +24,11 @@ use Rattle.rules.specs.Rows.{Row, rowsIn, rowPlace, wordsOf}
 use Rattle.rules.specs.Scan.{roomOf, laid, told}
 use Rattle.rules.specs.Edit.{carryRow}
 use Rattle.rows.specs.Shape.{rowNo}
-use Rattle.carry.proofs.Words.{words-length, take-rows, drop-rows}
-use Rattle.carry.proofs.Carried.{map-length, lent-tail, back-tail}
-use Rattle.carry.proofs.Laid.{told-full, room-behind, laid-behind, laid-front, laid-part, laid-all}
+use Rattle.edit_carry.proofs.Words.{words-length, take-rows, drop-rows}
+use Rattle.edit_carry.proofs.Carried.{map-length, lent-tail, back-tail}
+use Rattle.edit_carry.proofs.Laid.{told-full, room-behind, laid-behind, laid-front, laid-part, laid-all}
 use Rattle.rows.proofs.Lists.{rowsIn-length}
-use Rattle.reader.specs.declared.Spot.{Spot}
+use Rattle.scan_reader.specs.declared.Spot.{Spot}
 use Rattle.scan.specs.declared.Stop.{Stop}
 use Rattle.scan.specs.declared.Stop.the-variants as stops
 use Rattle.scan.specs.declared.Wrote.{Wrote}

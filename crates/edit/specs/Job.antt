@@ -17,13 +17,13 @@ use Rattle.rules.specs.Text.{mostBytes, startPlace}
 use Rattle.rules.specs.Rows.{Row, rowsIn, rowPlace, wellFormed}
 use Rattle.rules.specs.Edit.{Seen, kept, restart, newLength, seen, seenRows, seenEnding, carryRow, carryEnding, ends, windowShort, newRows, newEnding}
 use Rattle.rules.specs.Scan.{told, laid}
-use Rattle.reader.specs.declared.Spot.{Spot}
-use Rattle.reader.specs.Read.{Ahead}
+use Rattle.scan_reader.specs.declared.Spot.{Spot}
+use Rattle.scan_reader.specs.Read.{Ahead}
 use Rattle.rows.specs.Shape.{rowNo}
-use Rattle.carry.specs.Moves.{MovesRow, MovesEnding}
-use Rattle.sight.specs.declared.Sight.{Sight}
-use Rattle.sight.specs.declared.Sight.the-variants as sights
-use Rattle.sight.specs.Sight.{startOf, sightOf, seenFrom}
+use Rattle.edit_carry.specs.Moves.{MovesRow, MovesEnding}
+use Rattle.edit_sight.specs.declared.Sight.{Sight}
+use Rattle.edit_sight.specs.declared.Sight.the-variants as sights
+use Rattle.edit_sight.specs.Sight.{startOf, sightOf, seenFrom}
 use Rattle.scan.specs.declared.Stop.{Stop}
 use Rattle.scan.specs.declared.Stop.the-variants as stops
 use Rattle.scan.specs.declared.Wrote.{Wrote}

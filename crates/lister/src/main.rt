@@ -6,5 +6,5 @@ fn main() {
     // One byte more than the longest text that is listed, so that a longer one is seen.
     let mut text = [0u8; 16385];
     let n = io::read_full(STDIN_FILENO, &mut text);
-    listing::list(&text[..n]);
+    lister_lines::list(&text[..n]);
 }

@@ -4,7 +4,7 @@ use libc::STDOUT_FILENO;
 // A case's name, and what the lister writes of its text.
 fn case(name: &[u8], text: &[u8]) {
     io::write_all(STDOUT_FILENO, name);
-    listing::list(text);
+    lister_lines::list(text);
 }
 
 // Texts that are refused, and an empty one.

@@ -16,7 +16,7 @@ use Rattle.rules.specs.Text.{within}
 use Rattle.rules.specs.Kinds.{StringLiteral, Eof, isMade}
 use Rattle.rules.specs.Rows.{Row, rowIn, lengthFits, rowPlace}
 use Rattle.rules.specs.Calls.{nodeRoom, placeOfRow}
-use Rattle.nodes.specs.Names.{Spans}
+use Rattle.parse_nodes.specs.Names.{Spans}
 use Rattle.rows.specs.Shape.{rowNo, allBelow}
 use Rattle.rows.proofs.Lists.{both-true, below}
 use Rattle.rows.proofs.Lengths.{lengths, length-least, length-own}

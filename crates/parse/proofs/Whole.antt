@@ -28,18 +28,18 @@ use Rattle.rules.specs.Nodes.{node, missing, nodeWords, width, size, placeOf, t
 use Rattle.rules.specs.Parse
 use Rattle.rules.specs.Parse.{Out, ok, no, kindAt}
 use Rattle.rules.specs.Calls.{judged, tokens, nodeRoom, placeOfRow, outTold, outLeaves, reading, endingTold, endingLeaves, parseTold, parseLeaves}
-use Rattle.grammar.proofs.Laws.{nodes-within-rows, tree-length, words-program}
-use Rattle.grammar.proofs.Runs.{all-ok}
-use Rattle.grammar.proofs.Ends.{Ends, ends-top, wide-top, ends-parse}
-use Rattle.grammar.proofs.Refused.{refused-inside}
-use Rattle.nodes.specs.Post.{kindWord, tagOf, Met, Stands}
-use Rattle.nodes.specs.declared.At.{At}
-use Rattle.nodes.specs.declared.Got.{Got}
-use Rattle.nodes.specs.declared.Got.the-variants.{Done}
-use Rattle.nodes.proofs.Rows.{word-test}
-use Rattle.nodes.proofs.Turn.{Came, came-ends}
-use Rattle.nodes.proofs.Steps.{stands-at, mem-over}
-use Rattle.nodes.proofs.Told.{names-told}
+use Rattle.theory_grammar.proofs.Laws.{nodes-within-rows, tree-length, words-program}
+use Rattle.theory_grammar.proofs.Runs.{all-ok}
+use Rattle.theory_grammar.proofs.Ends.{Ends, ends-top, wide-top, ends-parse}
+use Rattle.theory_grammar.proofs.Refused.{refused-inside}
+use Rattle.parse_nodes.specs.Post.{kindWord, tagOf, Met, Stands}
+use Rattle.parse_nodes.specs.declared.At.{At}
+use Rattle.parse_nodes.specs.declared.Got.{Got}
+use Rattle.parse_nodes.specs.declared.Got.the-variants.{Done}
+use Rattle.parse_nodes.proofs.Rows.{word-test}
+use Rattle.parse_nodes.proofs.Turn.{Came, came-ends}
+use Rattle.parse_nodes.proofs.Steps.{stands-at, mem-over}
+use Rattle.parse_nodes.proofs.Told.{names-told}
 use Rattle.parse.specs.Program.{AsksWhole, readingOf, Final}
 
 -- ---- one thing of a program, and its end

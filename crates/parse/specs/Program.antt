@@ -10,9 +10,9 @@ use Rattle.rules.specs.Tree.{Tok}
 use Rattle.rules.specs.Parse
 use Rattle.rules.specs.Parse.{Out}
 use Rattle.rules.specs.Calls.{tokens, nodeRoom, outTold, outLeaves}
-use Rattle.nodes.specs.Post.{Met}
-use Rattle.nodes.specs.Names.{Names, Spans}
-use Rattle.nodes.specs.declared.Got.{Got}
+use Rattle.parse_nodes.specs.Post.{Met}
+use Rattle.parse_nodes.specs.Names.{Names, Spans}
+use Rattle.parse_nodes.specs.declared.Got.{Got}
 
 -- the map, the unit or the event at row i
 abbrev pub TopMet : List ℕ → List ℕ → ℕ → ℕ → ℕ → List ℕ → List ℕ → Got → Type 0

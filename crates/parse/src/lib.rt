@@ -1,7 +1,7 @@
 // The parse call: a text, its table and lent room for nodes. It is read twice, first into no memory at all, so that a refused parse
 // leaves node memory as it was.
-use nodes::At;
-use nodes::Got;
+use parse_nodes::At;
+use parse_nodes::Got;
 use rules::Column;
 use rules::Cursor;
 use rules::Ending;
@@ -20,8 +20,8 @@ ghost use Rattle.rules.specs.Text.{startPlace};
 ghost use Rattle.rules.specs.Calls.{parseTold, parseLeaves, nodeRoom, placeOfRow};
 ghost use Rattle.rules.specs.declared.Parsed.the-variants as parsed;
 ghost use Rattle.rules.specs.declared.Reason.the-variants as reason;
-ghost use Rattle.nodes.specs.Post.{AsksOpen};
-ghost use Rattle.nodes.specs.Names.{Spans};
+ghost use Rattle.parse_nodes.specs.Post.{AsksOpen};
+ghost use Rattle.parse_nodes.specs.Names.{Spans};
 ghost use Rattle.parse.specs.Program.{TopMet, ProgramMet, AsksTable, AsksWhole, readingOf, Final};
 
 const UNIT: u32 = 0;
@@ -37,15 +37,15 @@ fn top(text: &[u8], rows: &[u32], count: usize, nodes: &mut [u32], row: usize, n
     requires { ⌜ AsksOpen (now rows) count row node 64 × Spans (now text) (now rows) count ⌝ }
     ensures { λ r. ⌜ TopMet (now (text .entry)) (now (rows .entry)) count row node (now (nodes .entry)) (now (nodes .exit)) r ⌝ }
 {
-    let k = nodes::kind_at(rows, count, row);
+    let k = parse_nodes::kind_at(rows, count, row);
     if k == MAP {
-        return maps::map(text, rows, count, nodes, row, node);
+        return parse_maps::map(text, rows, count, nodes, row, node);
     }
     if k == UNIT {
-        return units::unit(text, rows, count, nodes, row, node);
+        return parse_units::unit(text, rows, count, nodes, row, node);
     }
     if k == EVENT {
-        return events::event(rows, count, nodes, row, node);
+        return parse_events::event(rows, count, nodes, row, node);
     }
     Got::Refused(Syntax::NotTopLevel, row)
 }
@@ -63,12 +63,12 @@ fn program(text: &[u8], rows: &[u32], count: usize, nodes: &mut [u32]) -> Got
     };
     loop {
         let at = s.row;
-        if nodes::kind_at(rows, count, at) == EOF {
-            return Got::Done(nodes::ended(nodes, s, 29, at, s.tag));
+        if parse_nodes::kind_at(rows, count, at) == EOF {
+            return Got::Done(parse_nodes::ended(nodes, s, 29, at, s.tag));
         }
         match top(text, rows, count, nodes, at, s.node) {
             Got::Done(t) => {
-                s = nodes::counted(t, s.place, s.tag + 1);
+                s = parse_nodes::counted(t, s.place, s.tag + 1);
             }
             Got::Refused(why, r) => {
                 return Got::Refused(why, r);

@@ -14,9 +14,9 @@ use crate::words::told_words;
 use crate::words::words_read;
 use rules::Table;
 use rules::Told;
-use stored::input::LOST;
-use stored::input::count;
-use stored::input::letter;
+use replay_input::input::LOST;
+use replay_input::input::count;
+use replay_input::input::letter;
 ghost use Prim.Native.Nat.{_≤_};
 
 // What stands in lent memory before a call.

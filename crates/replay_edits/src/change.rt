@@ -1,8 +1,8 @@
 // An edit of the sample: its numbers, the text that it makes, the old table changed, and the rows that are expected.
 use crate::part::number;
-use stored::input::LOST;
-use stored::input::count;
-use stored::input::letter;
+use replay_input::input::LOST;
+use replay_input::input::count;
+use replay_input::input::letter;
 
 // The most bytes of a text, and the words that there are for its rows.
 pub const BYTES: usize = 600;
@@ -62,7 +62,7 @@ fn behind(text: &[u8], b: u32) -> &[u8] {
 
 // The text that an edit makes of an old one: how many bytes it has.
 pub fn edited(text: &mut [u8; BYTES], old: &[u8], edit: Edit, new: &[u8]) -> usize {
-    let kept = put(text, 0, stored::first(old, edit.a as u64));
+    let kept = put(text, 0, replay_input::first(old, edit.a as u64));
     let grown = put(text, kept, new);
     put(text, grown, behind(old, edit.b))
 }

@@ -7,11 +7,11 @@ use change::BYTES;
 use change::WORDS;
 use libc::STDIN_FILENO;
 use rules::Table;
-use stored::input::LOST;
-use stored::input::count;
-use stored::input::letter;
-use stored::lines;
-use stored::told::table_of;
+use replay_input::input::LOST;
+use replay_input::input::count;
+use replay_input::input::letter;
+use replay_input::lines;
+use replay_input::told::table_of;
 use tally::RESTARTS;
 use tally::Tally;
 
@@ -89,13 +89,13 @@ fn edits(sample: &[u8], at: usize, size: u64) -> Tally {
 
 // The counts of a sample.
 fn replay(sample: &[u8]) {
-    let size = count(sample, stored::header(sample, b"spoonharbor-edits"));
+    let size = count(sample, replay_input::header(sample, b"spoonharbor-edits"));
     let heading = part::part_at(sample, size.next, b'H');
     let tally = edits(sample, heading.end, size.value);
     lines::two(b"edits ", tally.edit, b" of ", size.value);
     lines::one(
         b"bytes behind the last edit ",
-        stored::rest(sample, tally.at),
+        replay_input::rest(sample, tally.at),
     );
     report::counts(tally);
 }
@@ -107,7 +107,7 @@ fn filled(sample: &mut [u8; 500000]) -> usize {
 
 // The counts of the first so many bytes.
 fn replay_first(sample: &[u8; 500000], size: usize) {
-    replay(stored::first(sample, size as u64));
+    replay(replay_input::first(sample, size as u64));
 }
 
 // The counts of the sample on standard input.

@@ -1,7 +1,7 @@
 // Numbers of one word, and stretches of bytes as they are, read from the sample.
-use stored::input::LOST;
-use stored::input::count;
-use stored::input::letter;
+use replay_input::input::LOST;
+use replay_input::input::count;
+use replay_input::input::letter;
 
 // A number below 2^32, and the place behind it.
 pub struct Small {

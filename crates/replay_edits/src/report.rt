@@ -5,9 +5,9 @@ use crate::tally::RESTARTS;
 use crate::tally::ROWS;
 use crate::tally::Tally;
 use libc::STDOUT_FILENO;
-use stored::lines::one;
-use stored::lines::told;
-use stored::lines::two;
+use replay_input::lines::one;
+use replay_input::lines::told;
+use replay_input::lines::two;
 
 // Which edit, and which call of it; no call where it is the restart place.
 fn place(tally: Tally) {

@@ -1,5 +1,5 @@
 // Where the reading of the sample stands, and what was counted.
-use stored::more;
+use replay_input::more;
 
 // What is counted: calls by the number that is expected of them, 0 where all rows are; by the kind of edit; and all of a thing.
 pub const KINDS: usize = 16;

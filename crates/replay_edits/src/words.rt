@@ -4,9 +4,9 @@ use refusals::outer_number;
 use rules::Cursor;
 use rules::Restart;
 use rules::Told;
-use stored::told::at_place;
-use stored::told::ending_words;
-use stored::told::table_of;
+use replay_input::told::at_place;
+use replay_input::told::ending_words;
+use replay_input::told::table_of;
 
 // The sample's next so many numbers, at most six, over the first of these: the place behind them.
 pub fn words_read(sample: &[u8], at: usize, words: &mut [u32; 6], size: usize) -> usize {

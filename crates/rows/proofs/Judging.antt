@@ -16,7 +16,7 @@ use Rattle.rules.specs.declared.Judged.the-variants as verdict
 use Rattle.rules.specs.Text.{mostBytes, validBytes, valid, placeAt, startPlace}
 use Rattle.rules.specs.Rows.{wellFormed, spelling}
 use Rattle.rules.specs.Calls.{judged, spellingJudged, spellingPart}
-use Rattle.place.proofs.Places.{front-le}
+use Rattle.scan_place.proofs.Places.{front-le}
 use Rattle.rows.specs.Shape.{rowNo}
 use Rattle.rows.proofs.Lists.{both-true}
 use Rattle.rows.proofs.Inside.{Fine, fine, row-sound, within}

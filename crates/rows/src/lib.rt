@@ -131,9 +131,9 @@ pub fn judge(text: &[u8], rows: &[u32], table: Table) -> Judged
     if 65536 < text.len() {
         return Judged::Refused(Outer::TextTooLong, Cursor::start());
     }
-    let n = place::valid_bytes(text);
+    let n = scan_place::valid_bytes(text);
     if n < text.len() {
-        let at = place::pass(text, Cursor::start(), n);
+        let at = scan_place::pass(text, Cursor::start(), n);
         return Judged::Refused(Outer::BadByte, at);
     }
     let size = table.length as usize;

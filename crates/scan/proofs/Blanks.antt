@@ -15,12 +15,12 @@ use Rattle.rules.specs.Text.{front, isBlank, moved}
 use Rattle.rules.specs.Lex
 use Rattle.rules.specs.Lex.{isLetter, isDigit, maybeTwo, blank, known, piece, beginning, decidedAt, item}
 use Rattle.rules.specs.Kinds.{signs, kindIn, sameBytes}
-use Rattle.words.specs.Class.{classOf, markOf, Classes}
+use Rattle.scan_words.specs.Class.{classOf, markOf, Classes}
 use Rattle.laws.proofs.Tables.{allBelow, below}
-use Rattle.place.proofs.Places.{front-le}
-use Rattle.reader.specs.declared.Spot.{Spot}
-use Rattle.reader.specs.Read.{onward, Ahead}
-use Rattle.reader.proofs.Moves.{onward-none, onward-more, onward-one, ahead-more}
+use Rattle.scan_place.proofs.Places.{front-le}
+use Rattle.scan_reader.specs.declared.Spot.{Spot}
+use Rattle.scan_reader.specs.Read.{onward, Ahead}
+use Rattle.scan_reader.proofs.Moves.{onward-none, onward-more, onward-one, ahead-more}
 use Rattle.scan.specs.Writing.{following, write, blanksBelow}
 
 -- ---- the class of a blank

@@ -14,10 +14,10 @@ use Rattle.rules.specs.declared.Lexical.{Lexical}
 use Rattle.rules.specs.Rows.{Row, rowAt, eofRow, wordsOf}
 use Rattle.rules.specs.Lex.{end, unknown}
 use Rattle.rules.specs.Scan.{roomOf}
-use Rattle.reader.specs.declared.Spot.{Spot}
-use Rattle.reader.specs.declared.Token.{Token}
-use Rattle.reader.specs.Read.{onward, Ahead}
-use Rattle.reader.proofs.Moves.{onward-at, onward-none, onward-more, ahead-more}
+use Rattle.scan_reader.specs.declared.Spot.{Spot}
+use Rattle.scan_reader.specs.declared.Token.{Token}
+use Rattle.scan_reader.specs.Read.{onward, Ahead}
+use Rattle.scan_reader.proofs.Moves.{onward-at, onward-none, onward-more, ahead-more}
 use Rattle.scan.specs.declared.Stop.{Stop}
 use Rattle.scan.specs.declared.Stop.the-variants.{At, End, Refused, Full, Unknown}
 use Rattle.scan.specs.declared.Wrote.{Wrote}

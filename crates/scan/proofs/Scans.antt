@@ -17,11 +17,11 @@ use Rattle.rules.specs.Rows.{Row, rowAt}
 use Rattle.rules.specs.Lex.{Piece, blank, comment, row, refused, Item, known, end, unknown, piece, item}
 use Rattle.rules.specs.Scan
 use Rattle.rules.specs.Scan.{Reading, readRows, readEnding, read, scan, roomOf, told, scanTold, scanLeaves}
-use Rattle.machine.proofs.Spans.{Spans, row-spans, refused-spans}
-use Rattle.machine.proofs.Same.{piece-spans}
-use Rattle.place.proofs.Places.{front-le, over-start}
-use Rattle.reader.specs.declared.Spot.{Spot}
-use Rattle.reader.specs.Read.{onward, Ahead}
+use Rattle.theory_machine.proofs.Spans.{Spans, row-spans, refused-spans}
+use Rattle.theory_machine.proofs.Same.{piece-spans}
+use Rattle.scan_place.proofs.Places.{front-le, over-start}
+use Rattle.scan_reader.specs.declared.Spot.{Spot}
+use Rattle.scan_reader.specs.Read.{onward, Ahead}
 use Rattle.scan.specs.declared.Stop.{Stop}
 use Rattle.scan.specs.declared.Stop.the-variants.{At, End, Refused, Full, Unknown}
 use Rattle.scan.specs.declared.Wrote.{Wrote}

@@ -14,12 +14,12 @@ use Rattle.rules.specs.declared.Cursor.{Cursor}
 use Rattle.rules.specs.declared.Lexical.{Lexical}
 use Rattle.rules.specs.Rows.{Row, rowAt}
 use Rattle.rules.specs.Lex.{Piece, blank, comment, row, refused, Item, known, end, unknown, piece, decidedAt, item}
-use Rattle.machine.proofs.Spans.{Spans, blank-spans, comment-spans, row-spans}
-use Rattle.machine.proofs.Same.{piece-spans}
-use Rattle.reader.specs.declared.Spot.{Spot}
-use Rattle.reader.specs.declared.Token.{Token}
-use Rattle.reader.specs.declared.Read.the-variants as reads
-use Rattle.reader.specs.Read.{onward, pieceRead, readOf}
+use Rattle.theory_machine.proofs.Spans.{Spans, blank-spans, comment-spans, row-spans}
+use Rattle.theory_machine.proofs.Same.{piece-spans}
+use Rattle.scan_reader.specs.declared.Spot.{Spot}
+use Rattle.scan_reader.specs.declared.Token.{Token}
+use Rattle.scan_reader.specs.declared.Read.the-variants as reads
+use Rattle.scan_reader.specs.Read.{onward, pieceRead, readOf}
 use Rattle.scan.specs.declared.Stop.the-variants.{At, End, Refused, Unknown}
 use Rattle.scan.specs.Writing.{Writing, put, stop, following, write}
 

@@ -11,7 +11,7 @@ use Rattle.rules.specs.declared.Told.{Told}
 use Rattle.rules.specs.declared.Told.the-variants as tells
 use Rattle.rules.specs.Text.{startPlace}
 use Rattle.rules.specs.Rows.{Row, rowAt, rowWords}
-use Rattle.reader.specs.declared.Token.{Token}
+use Rattle.scan_reader.specs.declared.Token.{Token}
 use Rattle.scan.specs.declared.Stop.the-variants.{At, End, Refused, Full, Unknown}
 use Rattle.scan.specs.declared.Wrote.{Wrote}
 

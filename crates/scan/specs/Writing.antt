@@ -8,8 +8,8 @@ use Rattle.rules.specs.Text.{front, isBlank}
 use Rattle.rules.specs.Rows.{Row, rowAt, eofRow}
 use Rattle.rules.specs.Lex.{blank, comment, row, refused, Item, known, end, unknown, item}
 use Rattle.rules.specs.Scan.{roomOf, laid}
-use Rattle.reader.specs.declared.Spot.{Spot}
-use Rattle.reader.specs.Read.{onward}
+use Rattle.scan_reader.specs.declared.Spot.{Spot}
+use Rattle.scan_reader.specs.Read.{onward}
 use Rattle.scan.specs.declared.Stop.{Stop}
 use Rattle.scan.specs.declared.Stop.the-variants.{At, End, Refused, Full, Unknown}
 use Rattle.scan.specs.declared.Wrote.{Wrote}

@@ -1,10 +1,10 @@
 // The scan: the rows of a text, written into lent words as far as they go.
-use place::pass;
-use place::valid_bytes;
-use reader::Read;
-use reader::Spot;
-use reader::Token;
-use reader::quick::next;
+use scan_place::pass;
+use scan_place::valid_bytes;
+use scan_reader::Read;
+use scan_reader::Spot;
+use scan_reader::Token;
+use scan_reader::quick::next;
 use rules::Cursor;
 use rules::Ending;
 use rules::Lexical;
@@ -19,8 +19,8 @@ ghost use lib.ListN.{length, drop};
 ghost use lib.Dec.{ltb};
 ghost use Rattle.rules.specs.Rows.{rowWords, eofRow};
 ghost use Rattle.rules.specs.Scan.{roomOf, scanTold, scanLeaves};
-ghost use Rattle.words.specs.Class.{Classes};
-ghost use Rattle.reader.specs.Read.{onward, Ahead};
+ghost use Rattle.scan_words.specs.Class.{Classes};
+ghost use Rattle.scan_reader.specs.Read.{onward, Ahead};
 ghost use Rattle.scan.specs.Writing.{blanksBelow, written, wroteOf, leaves};
 ghost use Rattle.scan.specs.Answer.{rowOf, placed, endOf, noRoom, toldOf};
 
@@ -116,8 +116,8 @@ pub fn write_rows(text: &[u8], from: Spot, until: usize, whole: bool, rows: &mut
     requires { ⌜ Ahead (now text) from ⌝ }
     ensures { λ r. ⌜ (r ≡ wroteOf (now (rows .entry)) (written (now (text .entry)) from until whole)) × (now (rows .exit) ≡ leaves (now (rows .entry)) (written (now (text .entry)) from until whole)) ⌝ }
 {
-    let classes = words::classes::table();
-    let spellings = words::spellings();
+    let classes = scan_words::classes::table();
+    let spellings = scan_words::spellings();
     let mut here = from;
     let mut i = from.at;
     let mut count = 0;

@@ -10,7 +10,7 @@ use Rattle.rules.specs.Rows.{Row}
 use Rattle.rules.specs.Scan.{roomOf, laid}
 use Rattle.scan.specs.declared.Stop.the-variants as stops
 use Rattle.scan.specs.Writing.{Writing, written, wrote, wroteOf, leaves}
-use Rattle.sight.specs.Sight.{startOf}
+use Rattle.edit_sight.specs.Sight.{startOf}
 use Rattle.edit.specs.Job.{rowsBefore, rowsBehind, endingBehind, FewBehind}
 use Rattle.edit.proofs.Tails.{at-count, at-full, full-before, same-room, count-behind, few-behind, met-all}
 use Rattle.edit.proofs.fill_met.Statement.{statement}

@@ -4,7 +4,7 @@ use Prim.Native.Nat.{_+_}
 use lib.ListN.{length}
 use borrow.Author.Needs.{needs}
 use Rattle.scan.specs.Writing.{Writing, written, wroteOf, leaves}
-use Rattle.sight.specs.Sight.{startOf}
+use Rattle.edit_sight.specs.Sight.{startOf}
 use Rattle.edit.specs.Job.{tailOf}
 use Rattle.edit.proofs.Tails.{tail-end, tail-refused, tail-at, tail-full, tail-unknown}
 use Rattle.edit.proofs.fill_over.Statement.{statement}

@@ -9,7 +9,7 @@ use Rattle.rules.specs.declared.Cursor.{Cursor}
 use Rattle.rules.specs.Rows.{rowPlace, rowsIn, wordsOf}
 use Rattle.rules.specs.Edit.{carryRow, carryEnding}
 use Rattle.rows.specs.Shape.{rowNo}
-use Rattle.carry.specs.Moves.{MovesRow, MovesEnding}
+use Rattle.edit_carry.specs.Moves.{MovesRow, MovesEnding}
 use Rattle.edit.specs.Job.{endingBehind}
 use Rattle.edit.proofs.Tails.{follow-full, follow-all}
 use Rattle.edit.proofs.follow.Statement.{statement}

@@ -10,14 +10,14 @@ use Rattle.rules.specs.Tree.{Tok, program}
 use Rattle.rules.specs.Parse
 use Rattle.rules.specs.Parse.{ok, kindAt}
 use Rattle.rules.specs.Calls.{tokens}
-use Rattle.grammar.proofs.Cases.{then-ok, then-no, parse-is}
-use Rattle.grammar.proofs.Ends.{Ends}
-use Rattle.nodes.specs.Names.{Names}
-use Rattle.nodes.specs.declared.At.{At}
-use Rattle.nodes.proofs.Turn.{Any, Came, refused, met-ok, met-no, same-len}
-use Rattle.nodes.proofs.Steps.{Listing, list-start, list-ends, list-count, list-fails, list-again}
-use Rattle.nodes.proofs.Seen.{seen}
-use Rattle.nodes.proofs.Told.{names-told}
+use Rattle.theory_grammar.proofs.Cases.{then-ok, then-no, parse-is}
+use Rattle.theory_grammar.proofs.Ends.{Ends}
+use Rattle.parse_nodes.specs.Names.{Names}
+use Rattle.parse_nodes.specs.declared.At.{At}
+use Rattle.parse_nodes.proofs.Turn.{Any, Came, refused, met-ok, met-no, same-len}
+use Rattle.parse_nodes.proofs.Steps.{Listing, list-start, list-ends, list-count, list-fails, list-again}
+use Rattle.parse_nodes.proofs.Seen.{seen}
+use Rattle.parse_nodes.proofs.Told.{names-told}
 use Rattle.parse.proofs.Whole.{word-in, top-came, top-up, stands-program}
 use Rattle.parse.proofs.program.Statement.{statement}
 use Rattle.parse.proofs.program.Tie as tie

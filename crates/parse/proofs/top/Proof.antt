@@ -2,10 +2,10 @@
 use mathlib.Core.Path.{sym, _∙_, subst}
 use borrow.Author.Needs.{needs}
 use Rattle.rules.specs.Parse.{Out}
-use Rattle.grammar.proofs.Cases.{top-map, top-unit, top-event, top-other}
-use Rattle.nodes.specs.Post.{Met}
-use Rattle.nodes.proofs.Turn.{met-no}
-use Rattle.nodes.proofs.Seen.{seen}
+use Rattle.theory_grammar.proofs.Cases.{top-map, top-unit, top-event, top-other}
+use Rattle.parse_nodes.specs.Post.{Met}
+use Rattle.parse_nodes.proofs.Turn.{met-no}
+use Rattle.parse_nodes.proofs.Seen.{seen}
 use Rattle.parse.proofs.top.Statement.{statement}
 use Rattle.parse.proofs.top.Tie as tie
 

@@ -8,9 +8,9 @@ use lib.Seq.{length-take-le}
 use Rattle.rules.specs.Calls.{nodeRoom}
 use borrow.Author.Needs.{needs}
 use Rattle.rules.specs.Parse.{no}
-use Rattle.nodes.specs.Post.{Met}
-use Rattle.nodes.proofs.Turn.{refused}
-use Rattle.nodes.proofs.Told.{names-told}
+use Rattle.parse_nodes.specs.Post.{Met}
+use Rattle.parse_nodes.proofs.Turn.{refused}
+use Rattle.parse_nodes.proofs.Told.{names-told}
 use Rattle.parse.specs.Program.{readingOf}
 use Rattle.parse.proofs.Whole.{none-written, Wrote, wrote, final-ok, final-no, nodes-fit, room-fits, refused-in}
 use Rattle.parse.proofs.twice.Statement.{statement}

@@ -3,7 +3,7 @@ use mathlib.Core.Bool.{true, false}
 use mathlib.Core.Path.{sym, _∙_}
 use native.Mathlib.Omega.{arith}
 use Rattle.rules.specs.declared.Judged.the-variants as verdict
-use Rattle.place.proofs.Places.{over-start}
+use Rattle.scan_place.proofs.Places.{over-start}
 use Rattle.rows.proofs.Judging.{judged-long, judged-byte, judged-size, judged-table}
 use borrow.Author.Needs.{needs}
 use Rattle.rows.proofs.judge.Statement.{statement}

@@ -10,10 +10,10 @@ use lib.Dec.{ltb}
 use borrow.Author.Needs.{needs}
 use borrow.Author.Tests.{not-true, not-false}
 use Rattle.rules.specs.Scan.{roomOf}
-use Rattle.words.specs.Class.{Classes}
-use Rattle.words.specs.Entries.{Spellings}
-use Rattle.reader.specs.declared.Spot.{Spot}
-use Rattle.reader.specs.Read.{Ahead, readOf}
+use Rattle.scan_words.specs.Class.{Classes}
+use Rattle.scan_words.specs.Entries.{Spellings}
+use Rattle.scan_reader.specs.declared.Spot.{Spot}
+use Rattle.scan_reader.specs.Read.{Ahead, readOf}
 use Rattle.scan.specs.declared.Wrote.{Wrote}
 use Rattle.scan.specs.Writing.{written}
 use Rattle.scan.specs.Answer.{rowOf, placed}

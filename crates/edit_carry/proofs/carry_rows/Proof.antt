@@ -1,0 +1,105 @@
+-- `carry::carry_rows` meets its contract: the moved rows so far stand before what was there.
+use mathlib.Core.Path.{_≡_, refl, sym, ap, _∙_}
+use mathlib.Core.List.{_++_}
+use Prim.Native.Nat.{_+_, _-_, _*_, _≤_}
+use native.Mathlib.Omega.{arith}
+use lib.ListN.{length, take, drop, length-take, length-drop}
+use Rattle.rules.specs.Rows.{Row, rowWords}
+use Rattle.rules.specs.Edit.{carryRow}
+use Rattle.rows.specs.Shape.{asRow, rowNo}
+use Rattle.edit_carry.proofs.Carried.{carried-step, row-from, carried, carried-none, carried-length}
+use Rattle.edit_carry.proofs.carry_rows.Statement.{statement}
+use Rattle.edit_carry.proofs.carry_rows.Tie as tie
+
+abbrev Inv-loop : tie.InvT-loop
+Inv-loop old from n o p new₀ i₀ new i = (i ≤ n) × (length new ≡ length new₀) × (new ≡ carried (carryRow o p) (drop (8 * from) old) i new₀)
+
+abbrev μ-loop : tie.MeasureT-loop
+μ-loop old from n o p new₀ i₀ new i = n - i
+
+loop-holds : tie.Need-loop-holds Inv-loop μ-loop
+loop-holds c = (omega arith, refl, sym (carried-none _ _ _))
+
+add-row-at : tie.Need-add-row-at Inv-loop μ-loop
+add-row-at c = omega arith
+
+row-at-requires : tie.Need-row-at-requires Inv-loop μ-loop
+row-at-requires c κs = omega arith
+
+carry-row-requires : tie.Need-carry-row-requires Inv-loop μ-loop
+carry-row-requires c κs =
+    let l = c .before .before in
+    let s = l .before .before .before in
+    rw (c .row-at .ensures) (s .pre .1 .1 (l .loop .i) (omega arith))
+
+mul-base : tie.Need-mul-base Inv-loop μ-loop
+mul-base c = omega arith
+
+mul-put-row : tie.Need-mul-put-row Inv-loop μ-loop
+mul-put-row c =
+    let l = c .before .before .before in
+    omega (arith, l .before .before .before .good .1 .1 .1 .1 .1 .0 .1, l .loop .inv .1)
+
+sub-put-row : tie.Need-sub-put-row Inv-loop μ-loop
+sub-put-row c = omega (arith, c .before .before .before .loop .inv .1)
+
+part-put-row-start : tie.Need-part-put-row-start Inv-loop μ-loop
+part-put-row-start c = omega (arith, c .before .before .before .loop .inv .1)
+
+part-put-row-end : tie.Need-part-put-row-end Inv-loop μ-loop
+part-put-row-end c = omega arith
+
+put-row-requires : tie.Need-put-row-requires Inv-loop μ-loop
+put-row-requires c κs = simp (length-take, length-drop) (omega (arith, c .before .before .before .before .loop .inv .1))
+
+add-i : tie.Need-add-i Inv-loop μ-loop
+add-i c = omega arith
+
+loop-less : tie.Need-loop-less Inv-loop μ-loop
+loop-less c = omega arith
+
+loop-again : tie.Need-loop-again Inv-loop μ-loop
+unfolding rowWords
+loop-again c =
+    let k = c .before .before .before .before in
+    let l = k .before .before .before in
+    let s = l .before .before .before in
+    let ws = drop (8 * s .args .from) (s .args .old .now) in
+    let f = carryRow (s .args .o) (s .args .p) in
+    let r : asRow (k .carry-row .result) ≡ f (rowNo ws (l .loop .i)) =
+    k .carry-row .ensures ∙ ap f (k .before .row-at .ensures ∙ sym (row-from (s .args .old .now) (s .args .from) (l .loop .i))) in
+    let e = carried-step f ws (s .args .new .now) (l .loop .i) (omega (arith, l .loop .inv .0)) (l .loop .new) (c .before .before .put-row .last .0) (l .loop .inv .2)
+    (c .before .before .put-row .ensures ∙ ap (λ (z : Row). rowWords z ++ drop 8 (take (length (l .loop .new) - l .loop .i * 8) (drop (l .loop .i * 8) (l .loop .new)))) r) in
+    (omega arith, ap length e ∙ carried-length f ws (s .args .new .now) (l .loop .i + 1) (omega (arith, l .loop .inv .0)), e)
+
+same-length : tie.Need-same-length Inv-loop μ-loop
+same-length c = c .before .loop .inv .1
+
+returns : tie.Need-returns Inv-loop μ-loop
+unfolding carried
+returns c =
+    let l = c .before .loop in
+    let e : l .i ≡ c .before .before .before .before .args .n = omega arith in
+    l .inv .2 ∙ rw e
+
+pub carry-rows-spec : {M : Type 1} → statement M
+carry-rows-spec =
+    tie.close
+    (tie.spec
+    Inv-loop
+    μ-loop
+    loop-holds
+    add-row-at
+    row-at-requires
+    carry-row-requires
+    mul-base
+    mul-put-row
+    sub-put-row
+    part-put-row-start
+    part-put-row-end
+    put-row-requires
+    add-i
+    loop-less
+    loop-again
+    same-length
+    returns)

@@ -1,0 +1,151 @@
+// What an edit takes over from the old table: the rows that it keeps, the place behind them, and the rows that it moves.
+use rows::shape::Row;
+use rules::Column;
+use rules::Cursor;
+use rules::Ending;
+use rules::Line;
+use rules::Offset;
+ghost use mathlib.Core.Path.{_≡_};
+ghost use mathlib.Core.List.{_++_, map};
+ghost use Prim.Native.Nat.{ℕ, suc, _+_, _-_, _*_, _≤_, _<_};
+ghost use lib.ListN.{length, drop};
+ghost use Rattle.rules.specs.Text.{startPlace};
+ghost use Rattle.rules.specs.Rows.{rowWords, rowsIn, wordsOf};
+ghost use Rattle.rules.specs.Edit.{kept, lastEnd, carry, carryRow, carryEnding};
+ghost use Rattle.rows.specs.Shape.{asRow, rowNo};
+ghost use Rattle.edit_carry.specs.Moves.{Moves, MovesPlace, MovesRow, MovesEnding, Ended};
+
+// How many of the first rows end below a.
+pub fn kept_rows(old: &[u32], count: usize, a: u32) -> usize
+    requires { ⌜ count * 8 ≤ length (now old) ⌝ }
+    ensures { λ r. ⌜ r ≡ length (kept a (rowsIn count (now (old .entry)))) ⌝ }
+{
+    let mut i = 0;
+    while i < count {
+        if a <= old[i * 8 + 2] {
+            return i;
+        }
+        i += 1;
+    }
+    i
+}
+
+// The place behind the first n rows.
+pub fn place_behind(old: &[u32], n: usize) -> Cursor
+    requires { ⌜ (n * 8 ≤ length (now old)) × ((i : ℕ) → suc i ≡ n → Ended (rowNo (now old) i)) ⌝ }
+    ensures { λ r. ⌜ r ≡ lastEnd startPlace (rowsIn n (now (old .entry))) ⌝ }
+{
+    if n == 0 {
+        return Cursor::start();
+    }
+    let last = rows::shape::row_at(old, n - 1);
+    Cursor {
+        offset: Offset(last.end),
+        line: Line(last.line),
+        column: Column(last.column + (last.end - last.start)),
+    }
+}
+
+// The first n rows into the first words.
+pub fn copy_rows(old: &[u32], n: usize, new: &mut [u32])
+    requires { ⌜ (n * 8 ≤ length (now old)) × (n * 8 ≤ length (now new)) ⌝ }
+    ensures { λ _. ⌜ now (new .exit) ≡ wordsOf (rowsIn n (now (old .entry))) ++ drop (8 * n) (now (new .entry)) ⌝ }
+{
+    let words = n * 8;
+    let mut i = 0;
+    while i < words {
+        new[i] = old[i];
+        i += 1;
+    }
+}
+
+// A counter moved.
+fn moved(x: u32, o: u32, p: u32) -> u32
+    requires { ⌜ Moves o p x ⌝ }
+    ensures { λ r. ⌜ r ≡ x + p - o ⌝ }
+{
+    x - o + p
+}
+
+// A place moved, where what stood at o stands at p.
+pub fn carry_place(q: Cursor, o: Cursor, p: Cursor) -> Cursor
+    requires { ⌜ MovesPlace o p q ⌝ }
+    ensures { λ r. ⌜ r ≡ carry o p q ⌝ }
+{
+    let offset = Offset(moved(q.offset.0, o.offset.0, p.offset.0));
+    let line = Line(moved(q.line.0, o.line.0, p.line.0));
+    let from = q.line.0;
+    let to = o.line.0;
+    if from == to {
+        return Cursor {
+            offset,
+            line,
+            column: Column(moved(q.column.0, o.column.0, p.column.0)),
+        };
+    }
+    let column = q.column;
+    Cursor {
+        offset,
+        line,
+        column,
+    }
+}
+
+// An ending moved.
+pub fn carry_ending(e: Ending, o: Cursor, p: Cursor) -> Ending
+    requires { ⌜ MovesEnding o p e ⌝ }
+    ensures { λ r. ⌜ r ≡ carryEnding o p e ⌝ }
+{
+    match e {
+        Ending::None => Ending::None,
+        Ending::Refused(why, q) => Ending::Refused(why, carry_place(q, o, p)),
+    }
+}
+
+// A row moved.
+fn carry_row(r: Row, o: Cursor, p: Cursor) -> Row
+    requires { ⌜ MovesRow o p (asRow r) ⌝ }
+    ensures { λ q. ⌜ asRow q ≡ carryRow o p (asRow r) ⌝ }
+{
+    let start = carry_place(rows::shape::row_place(r), o, p);
+    let end = moved(r.end, o.offset.0, p.offset.0);
+    Row {
+        kind: r.kind,
+        start: start.offset.0,
+        end,
+        line: start.line.0,
+        column: start.column.0,
+        low: r.low,
+        high: r.high,
+        spare: r.spare,
+    }
+}
+
+// A row into the first eight words.
+fn put_row(words: &mut [u32], r: Row)
+    requires { ⌜ 8 ≤ length (now words) ⌝ }
+    ensures { λ _. ⌜ now (words .exit) ≡ rowWords (asRow r) ++ drop 8 (now (words .entry)) ⌝ }
+{
+    words[0] = r.kind;
+    words[1] = r.start;
+    words[2] = r.end;
+    words[3] = r.line;
+    words[4] = r.column;
+    words[5] = r.low;
+    words[6] = r.high;
+    words[7] = r.spare;
+}
+
+// The n rows from row `from` on, moved, into the first words.
+pub fn carry_rows(old: &[u32], from: usize, n: usize, o: Cursor, p: Cursor, new: &mut [u32])
+    requires { ⌜ (from * 8 + n * 8 ≤ length (now old)) × ((n * 8 ≤ length (now new)) × ((i : ℕ) → i < n → MovesRow o p (rowNo (now old) (from + i)))) ⌝ }
+    ensures { λ _. ⌜ now (new .exit) ≡ wordsOf (map (carryRow o p) (rowsIn n (drop (8 * from) (now (old .entry))))) ++ drop (8 * n) (now (new .entry)) ⌝ }
+{
+    let mut i = 0;
+    while i < n {
+        let r = carry_row(rows::shape::row_at(old, from + i), o, p);
+        let base = i * 8;
+        put_row(&mut new[base..], r);
+        i += 1;
+    }
+}

@@ -1,0 +1,34 @@
+-- `sight::gap_opens` meets its contract.
+use borrow.Author.Needs.{needs}
+use Rattle.edit_sight.proofs.Looks.{opens-two, opens-last, opens-other}
+use Rattle.edit_sight.proofs.gap_opens.Statement.{statement}
+use Rattle.edit_sight.proofs.gap_opens.Tie as tie
+
+shared-slice-read-b : tie.Need-shared-slice-read-b
+shared-slice-read-b c = search needs
+
+add-behind : tie.Need-add-behind
+add-behind c = search needs
+
+shared-slice-read-c : tie.Need-shared-slice-read-c
+shared-slice-read-c c = search needs
+
+returns : tie.Need-returns
+returns c =
+    let s = c .before .before .before .before in
+    opens-two (s .args .window .now) (s .args .at) (c .before .before .if1 .taken) (c .before .if2 .taken)
+
+returns-2 : tie.Need-returns-2
+returns-2 c =
+    let s = c .before .before .before in
+    opens-last (s .args .window .now) (s .args .at) (s .pre) (c .before .if1 .taken) (c .if2 .left)
+
+returns-3 : tie.Need-returns-3
+returns-3 c =
+    let s = c .before .before in
+    opens-other (s .args .window .now) (s .args .at) (s .pre) (c .if1 .left)
+
+pub gap-opens-spec : {M : Type 1} → statement M
+gap-opens-spec =
+    tie.close
+    (tie.spec shared-slice-read-b add-behind shared-slice-read-c returns returns-2 returns-3)

@@ -1,0 +1,214 @@
+// Events: fields of a type, a type with a length or bytes with a length.
+use parse_nodes::At;
+use parse_nodes::Got;
+use parse_nodes::Words;
+use rules::Syntax;
+ghost use Prim.Native.Nat.{_+_, _<_};
+ghost use Rattle.rules.specs.Parse.{eventField, eventAt};
+ghost use Rattle.parse_nodes.specs.Post.{Answers, Asks, AsksOpen};
+ghost use Rattle.parse_events.specs.Shapes.{LengthFound, TypeFound, ShapeFound, AsksType, FieldsMet};
+
+const TYPE_U32: u32 = 21;
+
+const TYPE_I64: u32 = 24;
+
+const LBRACE: u32 = 25;
+
+const RBRACE: u32 = 26;
+
+const COLON: u32 = 29;
+
+const SEMICOLON: u32 = 32;
+
+const LBRACKET: u32 = 33;
+
+const RBRACKET: u32 = 34;
+
+const IDENTIFIER: u32 = 48;
+
+const NUMBER: u32 = 50;
+
+const BYTES: u32 = 51;
+
+// A field's facts and the row behind it.
+pub struct Shape {
+    pub row: usize,
+    pub form: u32,
+    pub element: u32,
+    pub length: u32,
+}
+
+// A field's shape, or why there is none and the row where.
+pub enum Shaped {
+    Done(Shape),
+    Refused(Syntax, usize),
+}
+
+// The length at the row, `]` and `;`, of a field of a form and element.
+fn length_at(rows: &[u32], count: usize, row: usize, form: u32, element: u32) -> Shaped
+    requires { ⌜ Asks (now rows) count row 0 0 ⌝ }
+    ensures { λ r. ⌜ LengthFound (now (rows .entry)) count row form element r ⌝ }
+{
+    let k1 = parse_nodes::kind_at(rows, count, row);
+    if k1 != NUMBER {
+        return Shaped::Refused(Syntax::Wanted(NUMBER, k1), row);
+    }
+    let at = row * 8;
+    if rows[at + 6] != 0 {
+        return Shaped::Refused(Syntax::OutOfRange, row);
+    }
+    let length = rows[at + 5];
+    let close = row + 1;
+    let k2 = parse_nodes::kind_at(rows, count, close);
+    if k2 != RBRACKET {
+        return Shaped::Refused(Syntax::Wanted(RBRACKET, k2), close);
+    }
+    let end = close + 1;
+    let k3 = parse_nodes::kind_at(rows, count, end);
+    if k3 != SEMICOLON {
+        return Shaped::Refused(Syntax::Wanted(SEMICOLON, k3), end);
+    }
+    Shaped::Done(Shape {
+        row: end + 1,
+        form,
+        element,
+        length,
+    })
+}
+
+// The type at the row, with a length or without, and `;`.
+fn typed_at(rows: &[u32], count: usize, row: usize, kind: u32) -> Shaped
+    requires { ⌜ AsksType (now rows) count row kind ⌝ }
+    ensures { λ r. ⌜ TypeFound (now (rows .entry)) count row r ⌝ }
+{
+    let next = row + 1;
+    let k = parse_nodes::kind_at(rows, count, next);
+    if k == LBRACKET {
+        return length_at(rows, count, next + 1, 3, kind - 20);
+    }
+    if k != SEMICOLON {
+        return Shaped::Refused(Syntax::Wanted(SEMICOLON, k), next);
+    }
+    Shaped::Done(Shape {
+        row: next + 1,
+        form: 1,
+        element: kind - 20,
+        length: 0,
+    })
+}
+
+// What stands behind a field's colon.
+fn shape_at(rows: &[u32], count: usize, row: usize) -> Shaped
+    requires { ⌜ Asks (now rows) count row 0 0 ⌝ }
+    ensures { λ r. ⌜ ShapeFound (now (rows .entry)) count row r ⌝ }
+{
+    let k = parse_nodes::kind_at(rows, count, row);
+    if k == BYTES {
+        let open = row + 1;
+        let found = parse_nodes::kind_at(rows, count, open);
+        if found != LBRACKET {
+            return Shaped::Refused(Syntax::Wanted(LBRACKET, found), open);
+        }
+        return length_at(rows, count, open + 1, 2, 0);
+    }
+    if (TYPE_U32 <= k) & (k <= TYPE_I64) {
+        return typed_at(rows, count, row, k);
+    }
+    Shaped::Refused(Syntax::NotEventType, row)
+}
+
+// A field at the row.
+fn field(rows: &[u32], count: usize, nodes: &mut [u32], row: usize, node: usize) -> Got
+    requires { ⌜ Asks (now rows) count row node 0 ⌝ }
+    ensures { λ r. ⌜ Answers (λ ts. eventField ts row) (now (rows .entry)) count row node (now (nodes .entry)) (now (nodes .exit)) r ⌝ }
+{
+    let k1 = parse_nodes::kind_at(rows, count, row);
+    if k1 != IDENTIFIER {
+        return Got::Refused(Syntax::Wanted(IDENTIFIER, k1), row);
+    }
+    let colon = row + 1;
+    let k2 = parse_nodes::kind_at(rows, count, colon);
+    if k2 != COLON {
+        return Got::Refused(Syntax::Wanted(COLON, k2), colon);
+    }
+    match shape_at(rows, count, colon + 1) {
+        Shaped::Done(f) => {
+            let name = row as u32;
+            parse_nodes::store(
+                nodes,
+                node,
+                Words {
+                    kind: 26,
+                    place: name,
+                    name,
+                    children: 0,
+                    fact0: f.form,
+                    fact1: f.element,
+                    fact2: f.length,
+                    fact3: 0,
+                },
+            );
+            Got::Done(At {
+                row: f.row,
+                node: node + 1,
+                place: row,
+                tag: 0,
+            })
+        }
+        Shaped::Refused(why, r) => Got::Refused(why, r),
+    }
+}
+
+// The fields of the event whose word is at the row, up to `}`, and the event's node.
+fn fields(rows: &[u32], count: usize, nodes: &mut [u32], row: usize, node: usize) -> Got
+    requires { ⌜ AsksOpen (now rows) count row node 0 × (row + 1 + 1 < count) ⌝ }
+    ensures { λ r. ⌜ FieldsMet (now (rows .entry)) count row node (now (nodes .entry)) (now (nodes .exit)) r ⌝ }
+{
+    let name = row + 1;
+    let first = name + 1 + 1;
+    let mut s = At {
+        row: first,
+        node,
+        place: first,
+        tag: 0,
+    };
+    loop {
+        let at = s.row;
+        if parse_nodes::kind_at(rows, count, at) == RBRACE {
+            let n = s.node;
+            parse_nodes::close(nodes, n, 27, name, name as u32, s.tag);
+            return Got::Done(At {
+                row: at + 1,
+                node: n + 1,
+                place: name,
+                tag: 0,
+            });
+        }
+        match field(rows, count, nodes, at, s.node) {
+            Got::Done(t) => {
+                s = parse_nodes::counted(t, s.place, s.tag + 1);
+            }
+            Got::Refused(why, r) => {
+                return Got::Refused(why, r);
+            }
+        }
+    }
+}
+
+// The event whose word is at the row.
+pub fn event(rows: &[u32], count: usize, nodes: &mut [u32], row: usize, node: usize) -> Got
+    requires { ⌜ AsksOpen (now rows) count row node 0 ⌝ }
+    ensures { λ r. ⌜ Answers (λ ts. eventAt ts row) (now (rows .entry)) count row node (now (nodes .entry)) (now (nodes .exit)) r ⌝ }
+{
+    let name = row + 1;
+    let k1 = parse_nodes::kind_at(rows, count, name);
+    if k1 != IDENTIFIER {
+        return Got::Refused(Syntax::Wanted(IDENTIFIER, k1), name);
+    }
+    let open = name + 1;
+    let k2 = parse_nodes::kind_at(rows, count, open);
+    if k2 != LBRACE {
+        return Got::Refused(Syntax::Wanted(LBRACE, k2), open);
+    }
+    fields(rows, count, nodes, row, node)
+}

@@ -1,0 +1,43 @@
+-- `expr::call_end` meets its contract.
+use mathlib.Core.Path.{_≡_, refl}
+use mathlib.Core.Bool.{true, false}
+use lib.Dec.{eqb}
+use borrow.Author.Tests.{eq-eqb, ne-eqb}
+use borrow.Author.Needs.{needs}
+use Rattle.parse_expr.proofs.call_end.Statement.{statement}
+use Rattle.parse_expr.proofs.call_end.Tie as tie
+
+add-name : tie.Need-add-name
+add-name c = search needs
+
+cast-close : tie.Need-cast-close
+cast-close c = search needs
+
+add-close : tie.Need-add-close
+add-close c = search needs
+
+close-requires : tie.Need-close-requires
+close-requires c κs = search needs
+
+add-t12 : tie.Need-add-t12
+add-t12 c = search needs
+
+same-length : tie.Need-same-length
+same-length c = search needs
+
+returns : tie.Need-returns
+returns c =
+    let e : eqb (c .before .before .before .before .before .before .before .before .args .s .tag) 1 ≡ true = eq-eqb (c .before .before .before .before .before .before .before .before .args .s .tag) 1 (c .before .before .before .before .before .if1 .taken) in
+    rw e (refl, c .before .before .close .ensures)
+
+add-t15 : tie.Need-add-t15
+add-t15 c = search needs
+
+returns-2 : tie.Need-returns-2
+returns-2 c =
+    let e : eqb (c .before .before .before .before .args .s .tag) 1 ≡ false = ne-eqb (c .before .before .before .before .args .s .tag) 1 (c .before .if1 .left) in
+    rw e refl
+
+pub call-end-spec : {M : Type 1} → statement M
+call-end-spec =
+    tie.close (tie.spec add-name cast-close add-close close-requires add-t12 same-length returns add-t15 returns-2)

@@ -1,0 +1,378 @@
+// Expressions. The functions from `add` to `args` call each other in a circle, the rest of the nesting limit and the rows falling:
+// add = shift (('+'|'-') mul)*, shift = mul (('<<'|'>>') mul)*, mul = unary (('*'|'/'|'%') unary)*, unary = '*' unary | prim,
+// prim = (Number | Identifier | '(' add ')') ('.' Identifier ['(' [add (',' add)*] ')'])*.
+use parse_nodes::At;
+use parse_nodes::Got;
+use rules::Syntax;
+ghost use mathlib.Core.Path.{_≡_};
+ghost use Prim.Native.Nat.{_+_, _*_, _≤_, _<_};
+ghost use lib.ListN.{length};
+ghost use lib.Seq.{sets};
+ghost use lib.Dec.{eqb};
+ghost use Rattle.rules.specs.Nodes.{binaryNode, node, nodeWords};
+ghost use Rattle.rules.specs.Parse.{isAdd, isShift, isMul, inner, atom, prim, unary, mul, shift, add, args, post};
+ghost use Rattle.parse_nodes.specs.Post.{kindWord, Answers, Onward, Asks, AsksAt, AsksOpen};
+ghost use Rattle.parse_expr.specs.Calls.{CallEnd};
+ghost use Rattle.parse_expr.specs.Lone.{isLone, Leaf};
+
+const LPAREN: u32 = 27;
+
+const RPAREN: u32 = 28;
+
+const DOT: u32 = 30;
+
+const COMMA: u32 = 31;
+
+const PLUS: u32 = 41;
+
+const MINUS: u32 = 42;
+
+const STAR: u32 = 43;
+
+const SLASH: u32 = 44;
+
+const PERCENT: u32 = 45;
+
+const SHR: u32 = 46;
+
+const SHL: u32 = 47;
+
+const IDENTIFIER: u32 = 48;
+
+const NUMBER: u32 = 50;
+
+// Whether a row's kind is `+` or `-`.
+fn is_add(k: u32) -> bool
+    ensures { λ r. ⌜ r ≡ isAdd k ⌝ }
+{
+    if k == PLUS { true } else { k == MINUS }
+}
+
+// Whether a row's kind is `<<` or `>>`.
+fn is_shift(k: u32) -> bool
+    ensures { λ r. ⌜ r ≡ isShift k ⌝ }
+{
+    if k == SHL { true } else { k == SHR }
+}
+
+// Whether a row's kind is `*`, `/` or `%`.
+fn is_mul(k: u32) -> bool
+    ensures { λ r. ⌜ r ≡ isMul k ⌝ }
+{
+    if k == STAR {
+        return true;
+    }
+    if k == SLASH { true } else { k == PERCENT }
+}
+
+// The node kind of an operator's row kind.
+fn binary_node(k: u32) -> u32
+    ensures { λ r. ⌜ r ≡ binaryNode k ⌝ }
+{
+    match k {
+        PLUS => 4,
+        MINUS => 5,
+        STAR => 6,
+        SLASH => 7,
+        PERCENT => 8,
+        SHL => 9,
+        _ => 10,
+    }
+}
+
+// The end of a call: s stands behind the receiver, at the dot; m is the next node, and next the row behind the call.
+fn call_end(nodes: &mut [u32], s: At, m: usize, count: usize, next: usize) -> Got
+    requires { ⌜ (s .place ≤ 65536) × ((s .row ≤ 65536) × ((m ≤ 65537) × (count ≤ 65536))) ⌝ }
+    ensures { λ r. ⌜ CallEnd (eqb (s .tag) 1) s m count next (now (nodes .entry)) (now (nodes .exit)) r ⌝ }
+{
+    if s.tag == 1 {
+        let name = s.row + 1;
+        parse_nodes::close(nodes, m, 11, s.place, name as u32, count + 1);
+        return Got::Done(At {
+            row: next,
+            node: m + 1,
+            place: s.place,
+            tag: 0,
+        });
+    }
+    Got::Refused(Syntax::CallOnOther, s.row + 1)
+}
+
+// The state behind a field of what s stands behind, at the dot.
+fn field_end(nodes: &mut [u32], s: At) -> At
+    requires { ⌜ (s .row ≤ 65535) × (s .node ≤ 65537) ⌝ }
+    ensures { λ r. ⌜ (r ≡ record { row = s .row + 1 + 1; node = s .node + 1; place = s .row + 1; tag = 0 }) × (now (nodes .exit) ≡ sets (now (nodes .entry)) (8 * s .node) (nodeWords (node 12 (s .row + 1) (s .row + 1) 1))) ⌝ }
+{
+    let name = s.row + 1;
+    let n = s.node;
+    parse_nodes::close(nodes, n, 12, name, name as u32, 1);
+    At {
+        row: name + 1,
+        node: n + 1,
+        place: name,
+        tag: 0,
+    }
+}
+
+// Whether a variable or a number stands at a row, and neither a dot nor an operator of `mul` behind it.
+fn is_lone(rows: &[u32], count: usize, row: usize) -> bool
+    requires { ⌜ (count * 8 ≤ length (now rows)) × (row ≤ 65537) ⌝ }
+    ensures { λ r. ⌜ r ≡ isLone (kindWord (now (rows .entry)) count row) (kindWord (now (rows .entry)) count (row + 1)) ⌝ }
+{
+    let k = parse_nodes::kind_at(rows, count, row);
+    let next = parse_nodes::kind_at(rows, count, row + 1);
+    ((k == IDENTIFIER) | (k == NUMBER)) & ((next != DOT) & ((next < STAR) | (PERCENT < next)))
+}
+
+// The state behind the number at a row, or behind a variable if no number stands there.
+fn leaf(rows: &[u32], count: usize, nodes: &mut [u32], row: usize, node: usize) -> At
+    requires { ⌜ (count * 8 ≤ length (now rows)) × ((row ≤ 65537) × (node ≤ 65537)) ⌝ }
+    ensures { λ r. ⌜ Leaf (now (rows .entry)) count row node (now (nodes .entry)) (now (nodes .exit)) r ⌝ }
+{
+    if parse_nodes::kind_at(rows, count, row) == NUMBER {
+        return parse_nodes::number(nodes, row, node, rows[row * 8 + 5], rows[row * 8 + 6]);
+    }
+    parse_nodes::variable(nodes, row, node)
+}
+
+// An expression: a shift, and operands of `mul` behind signs.
+pub fn add(
+    rows: &[u32],
+    count: usize,
+    nodes: &mut [u32],
+    row: usize,
+    node: usize,
+    left: usize,
+) -> Got
+    requires { ⌜ Asks (now rows) count row node left ⌝ }
+    ensures { λ r. ⌜ Answers (λ ts. add ts (inner ts left) row) (now (rows .entry)) count row node (now (nodes .entry)) (now (nodes .exit)) r ⌝ }
+{
+    let mut s = match shift(rows, count, nodes, row, node, left) {
+        Got::Done(t) => t,
+        Got::Refused(why, r) => {
+            return Got::Refused(why, r);
+        }
+    };
+    loop {
+        let at = s.row;
+        let k = parse_nodes::kind_at(rows, count, at);
+        if !is_add(k) {
+            return Got::Done(s);
+        }
+        match mul(rows, count, nodes, at + 1, s.node, left) {
+            Got::Done(t) => {
+                s = parse_nodes::shut(nodes, t, binary_node(k), s.place, 2);
+            }
+            Got::Refused(why, r) => {
+                return Got::Refused(why, r);
+            }
+        }
+    }
+}
+
+// An operand of `mul`, and further ones behind shifts.
+fn shift(rows: &[u32], count: usize, nodes: &mut [u32], row: usize, node: usize, left: usize) -> Got
+    requires { ⌜ Asks (now rows) count row node left ⌝ }
+    ensures { λ r. ⌜ Answers (λ ts. shift ts (inner ts left) row) (now (rows .entry)) count row node (now (nodes .entry)) (now (nodes .exit)) r ⌝ }
+{
+    let mut s = match mul(rows, count, nodes, row, node, left) {
+        Got::Done(t) => t,
+        Got::Refused(why, r) => {
+            return Got::Refused(why, r);
+        }
+    };
+    loop {
+        let at = s.row;
+        let k = parse_nodes::kind_at(rows, count, at);
+        if !is_shift(k) {
+            return Got::Done(s);
+        }
+        match mul(rows, count, nodes, at + 1, s.node, left) {
+            Got::Done(t) => {
+                s = parse_nodes::shut(nodes, t, binary_node(k), s.place, 2);
+            }
+            Got::Refused(why, r) => {
+                return Got::Refused(why, r);
+            }
+        }
+    }
+}
+
+// An operand, and further ones behind `*`, `/` and `%`; a lone variable or number is written at once.
+fn mul(rows: &[u32], count: usize, nodes: &mut [u32], row: usize, node: usize, left: usize) -> Got
+    requires { ⌜ Asks (now rows) count row node left ⌝ }
+    ensures { λ r. ⌜ Answers (λ ts. mul ts (inner ts left) row) (now (rows .entry)) count row node (now (nodes .entry)) (now (nodes .exit)) r ⌝ }
+{
+    if is_lone(rows, count, row) {
+        return Got::Done(leaf(rows, count, nodes, row, node));
+    }
+    let mut s = match unary(rows, count, nodes, row, node, left) {
+        Got::Done(t) => t,
+        Got::Refused(why, r) => {
+            return Got::Refused(why, r);
+        }
+    };
+    loop {
+        let at = s.row;
+        let k = parse_nodes::kind_at(rows, count, at);
+        if !is_mul(k) {
+            return Got::Done(s);
+        }
+        match unary(rows, count, nodes, at + 1, s.node, left) {
+            Got::Done(t) => {
+                s = parse_nodes::shut(nodes, t, binary_node(k), s.place, 2);
+            }
+            Got::Refused(why, r) => {
+                return Got::Refused(why, r);
+            }
+        }
+    }
+}
+
+// An operand behind any number of stars.
+fn unary(rows: &[u32], count: usize, nodes: &mut [u32], row: usize, node: usize, left: usize) -> Got
+    requires { ⌜ Asks (now rows) count row node left ⌝ }
+    ensures { λ r. ⌜ Answers (λ ts. unary ts (inner ts left) row) (now (rows .entry)) count row node (now (nodes .entry)) (now (nodes .exit)) r ⌝ }
+{
+    if parse_nodes::kind_at(rows, count, row) == STAR {
+        if left == 0 {
+            return Got::Refused(Syntax::TooDeep, row);
+        }
+        match unary(rows, count, nodes, row + 1, node, left - 1) {
+            Got::Done(t) => {
+                return Got::Done(parse_nodes::shut(nodes, t, 3, t.place, 1));
+            }
+            Got::Refused(why, r) => {
+                return Got::Refused(why, r);
+            }
+        }
+    }
+    prim(rows, count, nodes, row, node, left)
+}
+
+// A number, a variable or a group.
+fn atom(rows: &[u32], count: usize, nodes: &mut [u32], row: usize, node: usize, left: usize) -> Got
+    requires { ⌜ Asks (now rows) count row node left ⌝ }
+    ensures { λ r. ⌜ Answers (λ ts. atom ts (inner ts left) row) (now (rows .entry)) count row node (now (nodes .entry)) (now (nodes .exit)) r ⌝ }
+{
+    let k = parse_nodes::kind_at(rows, count, row);
+    if k == NUMBER {
+        let at = row * 8;
+        return Got::Done(parse_nodes::number(nodes, row, node, rows[at + 5], rows[at + 6]));
+    }
+    if k == LPAREN {
+        if left == 0 {
+            return Got::Refused(Syntax::TooDeep, row);
+        }
+        match add(rows, count, nodes, row + 1, node, left - 1) {
+            Got::Done(t) => {
+                let j = t.row;
+                let found = parse_nodes::kind_at(rows, count, j);
+                if found == RPAREN {
+                    return Got::Done(At {
+                        row: j + 1,
+                        node: t.node,
+                        place: t.place,
+                        tag: t.tag,
+                    });
+                }
+                return Got::Refused(Syntax::Wanted(RPAREN, found), j);
+            }
+            Got::Refused(why, r) => {
+                return Got::Refused(why, r);
+            }
+        }
+    }
+    if k == IDENTIFIER {
+        return Got::Done(parse_nodes::variable(nodes, row, node));
+    }
+    Got::Refused(Syntax::Wanted(IDENTIFIER, k), row)
+}
+
+// An atom with its fields and calls.
+fn prim(rows: &[u32], count: usize, nodes: &mut [u32], row: usize, node: usize, left: usize) -> Got
+    requires { ⌜ Asks (now rows) count row node left ⌝ }
+    ensures { λ r. ⌜ Answers (λ ts. prim ts (inner ts left) row) (now (rows .entry)) count row node (now (nodes .entry)) (now (nodes .exit)) r ⌝ }
+{
+    let mut s = match atom(rows, count, nodes, row, node, left) {
+        Got::Done(t) => t,
+        Got::Refused(why, r) => {
+            return Got::Refused(why, r);
+        }
+    };
+    loop {
+        let at = s.row;
+        if parse_nodes::kind_at(rows, count, at) != DOT {
+            return Got::Done(s);
+        }
+        match post(rows, count, nodes, s, left) {
+            Got::Done(t) => {
+                s = t;
+            }
+            Got::Refused(why, r) => {
+                return Got::Refused(why, r);
+            }
+        }
+    }
+}
+
+// A field or a call behind what s stands behind, whose dot is at s's row.
+fn post(rows: &[u32], count: usize, nodes: &mut [u32], s: At, left: usize) -> Got
+    requires { ⌜ AsksAt (now rows) count s left ⌝ }
+    ensures { λ r. ⌜ Onward (λ ts t. post ts (inner ts left) t (s .row)) (now (rows .entry)) count s (now (nodes .entry)) (now (nodes .exit)) r ⌝ }
+{
+    let name = s.row + 1;
+    let n = s.node;
+    let k = parse_nodes::kind_at(rows, count, name);
+    if k != IDENTIFIER {
+        return Got::Refused(Syntax::Wanted(IDENTIFIER, k), name);
+    }
+    let open = name + 1;
+    if parse_nodes::kind_at(rows, count, open) != LPAREN {
+        return Got::Done(field_end(nodes, s));
+    }
+    if parse_nodes::kind_at(rows, count, open + 1) == RPAREN {
+        return call_end(nodes, s, n, 0, open + 1 + 1);
+    }
+    match args(rows, count, nodes, open, n, left) {
+        Got::Done(a) => {
+            let close = a.row;
+            let found = parse_nodes::kind_at(rows, count, close);
+            if found != RPAREN {
+                return Got::Refused(Syntax::Wanted(RPAREN, found), close);
+            }
+            call_end(nodes, s, a.node, a.tag, close + 1)
+        }
+        Got::Refused(why, r) => Got::Refused(why, r),
+    }
+}
+
+// Arguments behind the parenthesis at `row`.
+fn args(rows: &[u32], count: usize, nodes: &mut [u32], row: usize, node: usize, left: usize) -> Got
+    requires { ⌜ AsksOpen (now rows) count row node left ⌝ }
+    ensures { λ r. ⌜ Answers (λ ts. args ts (inner ts left) row) (now (rows .entry)) count (row + 1) node (now (nodes .entry)) (now (nodes .exit)) r ⌝ }
+{
+    if left == 0 {
+        return Got::Refused(Syntax::TooDeep, row);
+    }
+    let mut s = match add(rows, count, nodes, row + 1, node, left - 1) {
+        Got::Done(t) => parse_nodes::counted(t, t.place, 1),
+        Got::Refused(why, r) => {
+            return Got::Refused(why, r);
+        }
+    };
+    loop {
+        let at = s.row;
+        if parse_nodes::kind_at(rows, count, at) != COMMA {
+            return Got::Done(s);
+        }
+        match add(rows, count, nodes, at + 1, s.node, left - 1) {
+            Got::Done(t) => {
+                s = parse_nodes::counted(t, s.place, s.tag + 1);
+            }
+            Got::Refused(why, r) => {
+                return Got::Refused(why, r);
+            }
+        }
+    }
+}

@@ -1,0 +1,26 @@
+-- `maps::map_node` meets its contract: the last fact is max.
+use native.Mathlib.Numerals.{sub-one}
+use borrow.Author.Needs.{needs}
+use Rattle.parse_maps.proofs.map_node.Statement.{statement}
+use Rattle.parse_maps.proofs.map_node.Tie as tie
+
+cast-at : tie.Need-cast-at
+cast-at c = search needs
+
+sub-t9 : tie.Need-sub-t9
+sub-t9 c = search needs
+
+cast-t10 : tie.Need-cast-t10
+cast-t10 c = search needs
+
+store-requires : tie.Need-store-requires
+store-requires c κs = search needs
+
+same-length : tie.Need-same-length
+same-length c = search needs
+
+returns : tie.Need-returns
+returns c = rw (← sub-one (c .before .before .before .before .before .before .args .f .limit)) (c .before .before .store .ensures)
+
+pub map-node-spec : {M : Type 1} → statement M
+map-node-spec = tie.close (tie.spec cast-at sub-t9 cast-t10 store-requires same-length returns)

@@ -1,0 +1,97 @@
+-- `maps::type_number` meets its contract: the first spelling that the word has, or none.
+use mathlib.Core.Path.{sym, ap, _∙_}
+use mathlib.Core.Bool.{true≢false}
+use borrow.Author.Needs.{needs}
+use Rattle.rules.specs.Kinds.{sameBytes, kindIn}
+use Rattle.rules.specs.Tree.{mapTypes, mapTypeNumber}
+use Rattle.parse_maps.proofs.Words.{not-in}
+use Rattle.parse_maps.proofs.type_number.Statement.{statement}
+use Rattle.parse_maps.proofs.type_number.Tie as tie
+
+slice-aggregate-same : tie.Need-slice-aggregate-same
+slice-aggregate-same c = search needs
+
+same-requires : tie.Need-same-requires
+same-requires c κs = search needs
+
+returns : tie.Need-returns
+unfolding mapTypeNumber mapTypes kindIn sameBytes
+returns c = sym (ap mapTypeNumber (c .before .same .ensures .0 (c .if1 .taken)))
+
+slice-aggregate-same-2 : tie.Need-slice-aggregate-same-2
+slice-aggregate-same-2 c = search needs
+
+same-requires-2 : tie.Need-same-requires-2
+same-requires-2 c κs = search needs
+
+returns-2 : tie.Need-returns-2
+unfolding mapTypeNumber mapTypes kindIn sameBytes
+returns-2 c = sym (ap mapTypeNumber (c .before .same2 .ensures .0 (c .if2 .taken)))
+
+slice-aggregate-same-3 : tie.Need-slice-aggregate-same-3
+slice-aggregate-same-3 c = search needs
+
+same-requires-3 : tie.Need-same-requires-3
+same-requires-3 c κs = search needs
+
+returns-3 : tie.Need-returns-3
+unfolding mapTypeNumber mapTypes kindIn sameBytes
+returns-3 c = sym (ap mapTypeNumber (c .before .same3 .ensures .0 (c .if3 .taken)))
+
+slice-aggregate-same-4 : tie.Need-slice-aggregate-same-4
+slice-aggregate-same-4 c = search needs
+
+same-requires-4 : tie.Need-same-requires-4
+same-requires-4 c κs = search needs
+
+returns-4 : tie.Need-returns-4
+unfolding mapTypeNumber mapTypes kindIn sameBytes
+returns-4 c = sym (ap mapTypeNumber (c .before .same4 .ensures .0 (c .if4 .taken)))
+
+slice-aggregate-same-5 : tie.Need-slice-aggregate-same-5
+slice-aggregate-same-5 c = search needs
+
+same-requires-5 : tie.Need-same-requires-5
+same-requires-5 c κs = search needs
+
+returns-5 : tie.Need-returns-5
+unfolding mapTypeNumber mapTypes kindIn sameBytes
+returns-5 c = sym (ap mapTypeNumber (c .before .same5 .ensures .0 (c .if5 .taken)))
+
+returns-6 : tie.Need-returns-6
+unfolding mapTypeNumber mapTypes
+returns-6 c =
+    sym (not-in mapTypes 0 (c .before .before .before .before .before .before .before .before .before .before .before .before .before .before .before .before .args .word .now) (
+      λ e. true≢false (sym (c .before .before .before .before .before .before .before .before .before .before .before .before .before .same .ensures .1 e) ∙ c .before .before .before .before .before .before .before .before .before .before .before .before .if1 .left),
+      (
+        λ e. true≢false (sym (c .before .before .before .before .before .before .before .before .before .before .same2 .ensures .1 e) ∙ c .before .before .before .before .before .before .before .before .before .if2 .left),
+        (
+          λ e. true≢false (sym (c .before .before .before .before .before .before .before .same3 .ensures .1 e) ∙ c .before .before .before .before .before .before .if3 .left),
+          (
+            λ e. true≢false (sym (c .before .before .before .before .same4 .ensures .1 e) ∙ c .before .before .before .if4 .left),
+            (λ e. true≢false (sym (c .before .same5 .ensures .1 e) ∙ c .if5 .left), tt),
+          ),
+        ),
+      ),
+    ))
+
+pub type-number-spec : {M : Type 1} → statement M
+type-number-spec =
+    tie.close
+    (tie.spec
+    slice-aggregate-same
+    same-requires
+    returns
+    slice-aggregate-same-2
+    same-requires-2
+    returns-2
+    slice-aggregate-same-3
+    same-requires-3
+    returns-3
+    slice-aggregate-same-4
+    same-requires-4
+    returns-4
+    slice-aggregate-same-5
+    same-requires-5
+    returns-5
+    returns-6)

@@ -1,0 +1,425 @@
+// Maps: fields repeat freely, the last holds; after `}` the required ones are asked for.
+use parse_nodes::At;
+use parse_nodes::Got;
+use parse_nodes::Words;
+use rules::Syntax;
+ghost use mathlib.Core.Path.{_≡_};
+ghost use mathlib.Core.Bool.{true};
+ghost use Prim.Native.Nat.{pred, _+_, _*_, _≤_, _<_};
+ghost use lib.ListN.{length};
+ghost use lib.Seq.{sets};
+ghost use Rattle.rules.specs.Kinds.{KeywordType, KeywordMax};
+ghost use Rattle.rules.specs.Tree.{mapTypeNumber, lacking, shiftBits};
+ghost use Rattle.rules.specs.Parse.{isTyped};
+ghost use Rattle.rules.specs.Nodes.{factNode, nodeWords};
+ghost use Rattle.parse_nodes.specs.Post.{Asks, AsksOpen};
+ghost use Rattle.parse_nodes.specs.Names.{Spans};
+ghost use Rattle.parse_maps.specs.Steps.{bitsAt, AsksRow, ShiftFound, ChainFound, FieldFound, RowsFound, FieldsFound, MapMet};
+
+const TYPE: u32 = 7;
+
+const KEY: u32 = 8;
+
+const VALUE: u32 = 9;
+
+const MAX: u32 = 10;
+
+const TYPE_U32: u32 = 21;
+
+const TYPE_I64: u32 = 24;
+
+const LBRACE: u32 = 25;
+
+const RBRACE: u32 = 26;
+
+const COLON: u32 = 29;
+
+const DOT: u32 = 30;
+
+const SEMICOLON: u32 = 32;
+
+const SHR: u32 = 46;
+
+const SHL: u32 = 47;
+
+const IDENTIFIER: u32 = 48;
+
+const NUMBER: u32 = 50;
+
+const EOF: u32 = 52;
+
+// What the fields so far give, 0 for none, `limit` one more than max; and the next row.
+pub struct Facts {
+    pub row: usize,
+    pub kind: u32,
+    pub key: u32,
+    pub value: u32,
+    pub limit: u64,
+}
+
+// What the fields give with one field more, or why not and the row where.
+pub enum Found {
+    Done(Facts),
+    Refused(Syntax, usize),
+}
+
+// The value of a max so far, and the next row.
+pub struct Sum {
+    pub row: usize,
+    pub bits: u64,
+}
+
+// The value of a max with one shift more, or why not and the row where.
+pub enum Summed {
+    Done(Sum),
+    Refused(Syntax, usize),
+}
+
+// The value's bits of the number at a row of the table.
+fn bits_at(rows: &[u32], row: usize) -> u64
+    requires { ⌜ row * 8 + 8 ≤ length (now rows) ⌝ }
+    ensures { λ r. ⌜ r ≡ bitsAt (now (rows .entry)) row ⌝ }
+{
+    let at = row * 8;
+    (rows[at + 6] as u64) * 4294967296 + (rows[at + 5] as u64)
+}
+
+// x shifted by c, left or right, in 64-bit two's complement.
+fn shifted(kind: u32, x: u64, c: u64) -> u64
+    requires { ⌜ c ≤ 63 ⌝ }
+    ensures { λ r. ⌜ r ≡ shiftBits kind x c ⌝ }
+{
+    if kind == SHL {
+        return x << c;
+    }
+    if x < 9223372036854775808 {
+        return x >> c;
+    }
+    18446744073709551615 - ((18446744073709551615 - x) >> c)
+}
+
+// A shift whose sign is at the sum's row.
+fn shift_step(rows: &[u32], count: usize, s: Sum, kind: u32) -> Summed
+    requires { ⌜ AsksRow (now rows) count (s .row) kind ⌝ }
+    ensures { λ r. ⌜ ShiftFound (now (rows .entry)) count s r ⌝ }
+{
+    let number = s.row + 1;
+    let k = parse_nodes::kind_at(rows, count, number);
+    if k != NUMBER {
+        return Summed::Refused(Syntax::Wanted(NUMBER, k), number);
+    }
+    let c = bits_at(rows, number);
+    if 63 < c {
+        return Summed::Refused(Syntax::ShiftCount, number);
+    }
+    Summed::Done(Sum {
+        row: number + 1,
+        bits: shifted(kind, s.bits, c),
+    })
+}
+
+// A number and shifts by numbers, from the row on.
+fn chain(rows: &[u32], count: usize, row: usize) -> Summed
+    requires { ⌜ Asks (now rows) count row 0 0 ⌝ }
+    ensures { λ r. ⌜ ChainFound (now (rows .entry)) count row r ⌝ }
+{
+    let k = parse_nodes::kind_at(rows, count, row);
+    if k != NUMBER {
+        return Summed::Refused(Syntax::Wanted(NUMBER, k), row);
+    }
+    let mut s = Sum {
+        row: row + 1,
+        bits: bits_at(rows, row),
+    };
+    loop {
+        let at = s.row;
+        let sign = parse_nodes::kind_at(rows, count, at);
+        if (sign == SHL) | (sign == SHR) {
+            match shift_step(rows, count, s, sign) {
+                Summed::Done(t) => {
+                    s = t;
+                }
+                Summed::Refused(why, r) => {
+                    return Summed::Refused(why, r);
+                }
+            }
+        } else {
+            return Summed::Done(s);
+        }
+    }
+}
+
+// `max` at the fields' row.
+fn max_field(rows: &[u32], count: usize, f: Facts) -> Found
+    requires { ⌜ AsksRow (now rows) count (f .row) KeywordMax ⌝ }
+    ensures { λ r. ⌜ RowsFound (now (rows .entry)) count f r ⌝ }
+{
+    let colon = f.row + 1;
+    let k1 = parse_nodes::kind_at(rows, count, colon);
+    if k1 != COLON {
+        return Found::Refused(Syntax::Wanted(COLON, k1), colon);
+    }
+    match chain(rows, count, colon + 1) {
+        Summed::Done(s) => {
+            let j = s.row;
+            if 9223372036854775808 <= s.bits {
+                return Found::Refused(Syntax::MaxNegative, j);
+            }
+            if 4294967295 < s.bits {
+                return Found::Refused(Syntax::OutOfRange, j - 1);
+            }
+            let k2 = parse_nodes::kind_at(rows, count, j);
+            if k2 != SEMICOLON {
+                return Found::Refused(Syntax::Wanted(SEMICOLON, k2), j);
+            }
+            Found::Done(Facts {
+                row: j + 1,
+                kind: f.kind,
+                key: f.key,
+                value: f.value,
+                limit: s.bits + 1,
+            })
+        }
+        Summed::Refused(why, r) => Found::Refused(why, r),
+    }
+}
+
+// `key` or `value`, which the kind says, at the fields' row.
+fn typed_field(rows: &[u32], count: usize, f: Facts, kind: u32) -> Found
+    requires { ⌜ AsksRow (now rows) count (f .row) kind × (isTyped kind ≡ true) ⌝ }
+    ensures { λ r. ⌜ RowsFound (now (rows .entry)) count f r ⌝ }
+{
+    let colon = f.row + 1;
+    let k1 = parse_nodes::kind_at(rows, count, colon);
+    if k1 != COLON {
+        return Found::Refused(Syntax::Wanted(COLON, k1), colon);
+    }
+    let at = colon + 1;
+    let t = parse_nodes::kind_at(rows, count, at);
+    if t == EOF {
+        return Found::Refused(Syntax::NotType, at);
+    }
+    let end = at + 1;
+    let known = (TYPE_U32 <= t) & (t <= TYPE_I64);
+    if !known {
+        return Found::Refused(Syntax::NotType, end);
+    }
+    let k2 = parse_nodes::kind_at(rows, count, end);
+    if k2 != SEMICOLON {
+        return Found::Refused(Syntax::Wanted(SEMICOLON, k2), end);
+    }
+    let number = t - 20;
+    let next = end + 1;
+    let held = f.key;
+    let is_key = kind == KEY;
+    if is_key {
+        return Found::Done(Facts {
+            row: next,
+            kind: f.kind,
+            key: number,
+            value: f.value,
+            limit: f.limit,
+        });
+    }
+    Found::Done(Facts {
+        row: next,
+        kind: f.kind,
+        key: held,
+        value: number,
+        limit: f.limit,
+    })
+}
+
+// A map type's number, 1 to 5, or 0.
+fn type_number(word: &[u8]) -> u32
+    ensures { λ r. ⌜ r ≡ mapTypeNumber (now (word .entry)) ⌝ }
+{
+    if check::same(word, b"hash") {
+        return 1;
+    }
+    if check::same(word, b"array") {
+        return 2;
+    }
+    if check::same(word, b"ringbuf") {
+        return 3;
+    }
+    if check::same(word, b"lru_hash") {
+        return 4;
+    }
+    if check::same(word, b"prog_array") {
+        return 5;
+    }
+    0
+}
+
+// `type` at the fields' row. The rows' spellings lie inside the text.
+fn type_field(text: &[u8], rows: &[u32], count: usize, f: Facts) -> Found
+    requires { ⌜ AsksRow (now rows) count (f .row) KeywordType × Spans (now text) (now rows) count ⌝ }
+    ensures { λ r. ⌜ FieldFound (now (text .entry)) (now (rows .entry)) count f r ⌝ }
+{
+    let colon = f.row + 1;
+    let k1 = parse_nodes::kind_at(rows, count, colon);
+    if k1 != COLON {
+        return Found::Refused(Syntax::Wanted(COLON, k1), colon);
+    }
+    let dot = colon + 1;
+    let k2 = parse_nodes::kind_at(rows, count, dot);
+    if k2 != DOT {
+        return Found::Refused(Syntax::Wanted(DOT, k2), dot);
+    }
+    let name = dot + 1;
+    let k3 = parse_nodes::kind_at(rows, count, name);
+    if k3 != IDENTIFIER {
+        return Found::Refused(Syntax::Wanted(IDENTIFIER, k3), name);
+    }
+    let a = rows[name * 8 + 1] as usize;
+    let e = rows[name * 8 + 2] as usize;
+    let number = type_number(&text[a..e]);
+    let end = name + 1;
+    if number == 0 {
+        return Found::Refused(Syntax::MapTypeUnknown, end);
+    }
+    let k4 = parse_nodes::kind_at(rows, count, end);
+    if k4 != SEMICOLON {
+        return Found::Refused(Syntax::Wanted(SEMICOLON, k4), end);
+    }
+    Found::Done(Facts {
+        row: end + 1,
+        kind: number,
+        key: f.key,
+        value: f.value,
+        limit: f.limit,
+    })
+}
+
+// A field at the fields' row.
+fn field(text: &[u8], rows: &[u32], count: usize, f: Facts) -> Found
+    requires { ⌜ Asks (now rows) count (f .row) 0 0 × Spans (now text) (now rows) count ⌝ }
+    ensures { λ r. ⌜ FieldFound (now (text .entry)) (now (rows .entry)) count f r ⌝ }
+{
+    let at = f.row;
+    let k = parse_nodes::kind_at(rows, count, at);
+    if k == TYPE {
+        return type_field(text, rows, count, f);
+    }
+    if (k == KEY) | (k == VALUE) {
+        return typed_field(rows, count, f, k);
+    }
+    if k == MAX {
+        return max_field(rows, count, f);
+    }
+    Found::Refused(Syntax::NotMapField, at)
+}
+
+// Fields from the row on, up to `}`, which is not taken.
+fn fields(text: &[u8], rows: &[u32], count: usize, row: usize) -> Found
+    requires { ⌜ Asks (now rows) count row 0 0 × Spans (now text) (now rows) count ⌝ }
+    ensures { λ r. ⌜ FieldsFound (now (text .entry)) (now (rows .entry)) count row r ⌝ }
+{
+    let mut f = Facts {
+        row,
+        kind: 0,
+        key: 0,
+        value: 0,
+        limit: 0,
+    };
+    loop {
+        let at = f.row;
+        if parse_nodes::kind_at(rows, count, at) == RBRACE {
+            return Found::Done(f);
+        }
+        match field(text, rows, count, f) {
+            Found::Done(g) => {
+                f = g;
+            }
+            Found::Refused(why, r) => {
+                return Found::Refused(why, r);
+            }
+        }
+    }
+}
+
+// The field that a map lacks, 1 to 4, or 0.
+fn lacks(f: Facts) -> u32
+    ensures { λ r. ⌜ r ≡ lacking (f .kind) (f .key) (f .value) (f .limit) ⌝ }
+{
+    if f.kind == 0 {
+        return 1;
+    }
+    if f.kind == 3 {
+        if f.limit == 0 {
+            return 4;
+        }
+        return 0;
+    }
+    if f.key == 0 {
+        return 2;
+    }
+    if f.value == 0 {
+        return 3;
+    }
+    if f.limit == 0 { 4 } else { 0 }
+}
+
+// The map's node, whose name is at a row, from fields that lack nothing.
+fn map_node(nodes: &mut [u32], node: usize, name: usize, f: Facts)
+    requires { ⌜ (node ≤ 65537) × ((name ≤ 65537) × ((1 ≤ f .limit) × (f .limit ≤ 4294967296))) ⌝ }
+    ensures { λ _. ⌜ now (nodes .exit) ≡ sets (now (nodes .entry)) (8 * node) (nodeWords (factNode 28 name name 0 (f .kind) (f .key) (f .value) (pred (f .limit)))) ⌝ }
+{
+    let at = name as u32;
+    parse_nodes::store(
+        nodes,
+        node,
+        Words {
+            kind: 28,
+            place: at,
+            name: at,
+            children: 0,
+            fact0: f.kind,
+            fact1: f.key,
+            fact2: f.value,
+            fact3: (f.limit - 1) as u32,
+        },
+    );
+}
+
+// The map whose word is at the row.
+pub fn map(
+    text: &[u8],
+    rows: &[u32],
+    count: usize,
+    nodes: &mut [u32],
+    row: usize,
+    node: usize,
+) -> Got
+    requires { ⌜ AsksOpen (now rows) count row node 0 × Spans (now text) (now rows) count ⌝ }
+    ensures { λ r. ⌜ MapMet (now (text .entry)) (now (rows .entry)) count row node (now (nodes .entry)) (now (nodes .exit)) r ⌝ }
+{
+    let name = row + 1;
+    let k1 = parse_nodes::kind_at(rows, count, name);
+    if k1 != IDENTIFIER {
+        return Got::Refused(Syntax::Wanted(IDENTIFIER, k1), name);
+    }
+    let open = name + 1;
+    let k2 = parse_nodes::kind_at(rows, count, open);
+    if k2 != LBRACE {
+        return Got::Refused(Syntax::Wanted(LBRACE, k2), open);
+    }
+    match fields(text, rows, count, open + 1) {
+        Found::Done(f) => {
+            let next = f.row + 1;
+            let missing = lacks(f);
+            if missing != 0 {
+                return Got::Refused(Syntax::MapLacks(missing), next);
+            }
+            map_node(nodes, node, name, f);
+            Got::Done(At {
+                row: next,
+                node: node + 1,
+                place: name,
+                tag: 0,
+            })
+        }
+        Found::Refused(why, r) => Got::Refused(why, r),
+    }
+}

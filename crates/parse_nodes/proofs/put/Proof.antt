@@ -1,0 +1,24 @@
+-- `nodes::put` meets its contract.
+use mathlib.Core.Path.{sym}
+use lib.Seq.{set-out}
+use borrow.Author.Needs.{needs}
+use Rattle.parse_nodes.proofs.put.Statement.{statement}
+use Rattle.parse_nodes.proofs.put.Tie as tie
+
+mul-nodes : tie.Need-mul-nodes
+mul-nodes c = search needs
+
+slice-write-nodes : tie.Need-slice-write-nodes
+slice-write-nodes c = search needs
+
+same-length : tie.Need-same-length
+same-length c = search needs
+
+returns : tie.Need-returns
+returns c = search needs
+
+returns-2 : tie.Need-returns-2
+returns-2 c = sym (set-out _ _ _ (c .if1 .left))
+
+pub put-spec : {M : Type 1} → statement M
+put-spec = tie.close (tie.spec mul-nodes slice-write-nodes same-length returns returns-2)

@@ -1,0 +1,80 @@
+-- `nodes::store_part` meets its contract.
+use Rattle.theory_grammar.proofs.Laws.{sets-eight}
+use borrow.Author.Needs.{needs}
+use Rattle.parse_nodes.proofs.store_part.Statement.{statement}
+use Rattle.parse_nodes.proofs.store_part.Tie as tie
+
+put-requires : tie.Need-put-requires
+put-requires c κs = search needs
+
+add-put : tie.Need-add-put
+add-put c = search needs
+
+put-requires-2 : tie.Need-put-requires-2
+put-requires-2 c κs = search needs
+
+add-put-2 : tie.Need-add-put-2
+add-put-2 c = search needs
+
+put-requires-3 : tie.Need-put-requires-3
+put-requires-3 c κs = search needs
+
+add-put-3 : tie.Need-add-put-3
+add-put-3 c = search needs
+
+put-requires-4 : tie.Need-put-requires-4
+put-requires-4 c κs = search needs
+
+add-put-4 : tie.Need-add-put-4
+add-put-4 c = search needs
+
+put-requires-5 : tie.Need-put-requires-5
+put-requires-5 c κs = search needs
+
+add-put-5 : tie.Need-add-put-5
+add-put-5 c = search needs
+
+put-requires-6 : tie.Need-put-requires-6
+put-requires-6 c κs = search needs
+
+add-put-6 : tie.Need-add-put-6
+add-put-6 c = search needs
+
+put-requires-7 : tie.Need-put-requires-7
+put-requires-7 c κs = search needs
+
+add-put-7 : tie.Need-add-put-7
+add-put-7 c = search needs
+
+put-requires-8 : tie.Need-put-requires-8
+put-requires-8 c κs = search needs
+
+same-length : tie.Need-same-length
+same-length c = search needs
+
+returns : tie.Need-returns
+returns c =
+    let a = c .before .before .before .before .before .before .before .before .before .before .before .before .before .before .before .before .before .before .before .before .before .before .before .before .before .before .before .before .before .before .before .before .before .args in
+    sets-eight (a .nodes .now) _ _ _ _ _ _ _ _ (a .at) (a .w .kind) _ _ _ _ _ _ _ (c .before .before .before .before .before .before .before .before .before .before .before .before .before .before .before .before .before .before .before .before .before .before .before .before .before .before .before .before .before .before .put .ensures) (c .before .before .before .before .before .before .before .before .before .before .before .before .before .before .before .before .before .before .before .before .before .before .before .before .before .before .put2 .ensures) (c .before .before .before .before .before .before .before .before .before .before .before .before .before .before .before .before .before .before .before .before .before .before .put3 .ensures) (c .before .before .before .before .before .before .before .before .before .before .before .before .before .before .before .before .before .before .put4 .ensures) (c .before .before .before .before .before .before .before .before .before .before .before .before .before .before .put5 .ensures) (c .before .before .before .before .before .before .before .before .before .before .put6 .ensures) (c .before .before .before .before .before .before .put7 .ensures) (c .before .before .put8 .ensures)
+
+pub store-part-spec : {M : Type 1} → statement M
+store-part-spec =
+    tie.close
+    (tie.spec
+    put-requires
+    add-put
+    put-requires-2
+    add-put-2
+    put-requires-3
+    add-put-3
+    put-requires-4
+    add-put-4
+    put-requires-5
+    add-put-5
+    put-requires-6
+    add-put-6
+    put-requires-7
+    add-put-7
+    put-requires-8
+    same-length
+    returns)

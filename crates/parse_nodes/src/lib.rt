@@ -1,0 +1,205 @@
+// Where the parser stands, what it answers, and the nodes it writes. Nothing here reads the grammar.
+use rules::Syntax;
+ghost use mathlib.Core.Path.{_≡_};
+ghost use Prim.Native.Nat.{_+_, _*_, _≤_};
+ghost use lib.ListN.{length, set};
+ghost use lib.Seq.{sets};
+ghost use Rattle.rules.specs.Nodes.{node, factNode, nodeWords, missing};
+ghost use Rattle.parse_nodes.specs.Post.{kindWord};
+
+pub const MISSING: u32 = 4294967295;
+
+pub const EOF: u32 = 52;
+
+// Where the parser stands: the next row, the next node, the place of what was read, and 1 if that is a variable or, of a list, how
+// many things it has.
+pub struct At {
+    pub row: usize,
+    pub node: usize,
+    pub place: usize,
+    pub tag: usize,
+}
+
+// What was read, or why not and the row where.
+pub enum Got {
+    Done(At),
+    Refused(Syntax, usize),
+}
+
+// The words of a node.
+pub struct Words {
+    pub kind: u32,
+    pub place: u32,
+    pub name: u32,
+    pub children: u32,
+    pub fact0: u32,
+    pub fact1: u32,
+    pub fact2: u32,
+    pub fact3: u32,
+}
+
+// The kind of row i of a table of so many rows, and Eof past the last.
+pub fn kind_at(rows: &[u32], count: usize, i: usize) -> u32
+    requires { ⌜ (count * 8 ≤ length (now rows)) ⌝ }
+    ensures { λ r. ⌜ r ≡ kindWord (now (rows .entry)) count i ⌝ }
+{
+    if i < count { rows[i * 8] } else { EOF }
+}
+
+// A word, if there is room.
+fn put(nodes: &mut [u32], at: usize, v: u32)
+    ensures { λ _. ⌜ now (nodes .exit) ≡ set (now (nodes .entry)) at v ⌝ }
+{
+    if at < nodes.len() {
+        nodes[at] = v;
+    }
+}
+
+// A node's words from an index on, one by one, as far as there is room.
+fn store_part(nodes: &mut [u32], at: usize, w: Words)
+    requires { ⌜ at ≤ 524296 ⌝ }
+    ensures { λ _. ⌜ now (nodes .exit) ≡ sets (now (nodes .entry)) at (nodeWords (factNode (w .kind) (w .place) (w .name) (w .children) (w .fact0) (w .fact1) (w .fact2) (w .fact3))) ⌝ }
+{
+    put(nodes, at, w.kind);
+    put(nodes, at + 1, w.place);
+    put(nodes, at + 2, w.name);
+    put(nodes, at + 3, w.children);
+    put(nodes, at + 4, w.fact0);
+    put(nodes, at + 5, w.fact1);
+    put(nodes, at + 6, w.fact2);
+    put(nodes, at + 7, w.fact3);
+}
+
+// A node's words from an index on, where there is room for all.
+fn store_whole(nodes: &mut [u32], at: usize, w: Words)
+    requires { ⌜ at + 8 ≤ length (now nodes) ⌝ }
+    ensures { λ _. ⌜ now (nodes .exit) ≡ sets (now (nodes .entry)) at (nodeWords (factNode (w .kind) (w .place) (w .name) (w .children) (w .fact0) (w .fact1) (w .fact2) (w .fact3))) ⌝ }
+{
+    nodes[at] = w.kind;
+    nodes[at + 1] = w.place;
+    nodes[at + 2] = w.name;
+    nodes[at + 3] = w.children;
+    nodes[at + 4] = w.fact0;
+    nodes[at + 5] = w.fact1;
+    nodes[at + 6] = w.fact2;
+    nodes[at + 7] = w.fact3;
+}
+
+// Node n, as far as there is room.
+pub fn store(nodes: &mut [u32], n: usize, w: Words)
+    requires { ⌜ n ≤ 65537 ⌝ }
+    ensures { λ _. ⌜ now (nodes .exit) ≡ sets (now (nodes .entry)) (8 * n) (nodeWords (factNode (w .kind) (w .place) (w .name) (w .children) (w .fact0) (w .fact1) (w .fact2) (w .fact3))) ⌝ }
+{
+    let at = 8 * n;
+    if nodes.len() <= at {
+        return;
+    }
+    if nodes.len() < at + 8 {
+        store_part(nodes, at, w);
+        return;
+    }
+    store_whole(nodes, at, w);
+}
+
+// Node n with no facts; `name` is a row, or MISSING.
+pub fn close(nodes: &mut [u32], n: usize, kind: u32, place: usize, name: u32, children: usize)
+    requires { ⌜ (n ≤ 65537) × ((place ≤ 65537) × (children ≤ 65537)) ⌝ }
+    ensures { λ _. ⌜ now (nodes .exit) ≡ sets (now (nodes .entry)) (8 * n) (nodeWords (node kind place name children)) ⌝ }
+{
+    store(
+        nodes,
+        n,
+        Words {
+            kind,
+            place: place as u32,
+            name,
+            children: children as u32,
+            fact0: 0,
+            fact1: 0,
+            fact2: 0,
+            fact3: 0,
+        },
+    );
+}
+
+// The state behind a nameless node that is written at t, over what was read up to t.
+pub fn shut(nodes: &mut [u32], t: At, kind: u32, place: usize, children: usize) -> At
+    requires { ⌜ (t .node ≤ 65537) × ((place ≤ 65537) × (children ≤ 65537)) ⌝ }
+    ensures { λ r. ⌜ (r ≡ record { row = t .row; node = t .node + 1; place = place; tag = 0 }) × (now (nodes .exit) ≡ sets (now (nodes .entry)) (8 * t .node) (nodeWords (node kind place missing children))) ⌝ }
+{
+    let n = t.node;
+    close(nodes, n, kind, place, MISSING, children);
+    At {
+        row: t.row,
+        node: n + 1,
+        place,
+        tag: 0,
+    }
+}
+
+// The state behind a nameless node over what was read up to t, and behind the row that ends it.
+pub fn ended(nodes: &mut [u32], t: At, kind: u32, place: usize, children: usize) -> At
+    requires { ⌜ (t .node ≤ 65537) × ((place ≤ 65537) × ((children ≤ 65537) × (t .row ≤ 65537))) ⌝ }
+    ensures { λ r. ⌜ (r ≡ record { row = t .row + 1; node = t .node + 1; place = place; tag = 0 }) × (now (nodes .exit) ≡ sets (now (nodes .entry)) (8 * t .node) (nodeWords (node kind place missing children))) ⌝ }
+{
+    let s = shut(nodes, t, kind, place, children);
+    At {
+        row: s.row + 1,
+        node: s.node,
+        place: s.place,
+        tag: s.tag,
+    }
+}
+
+// The state behind a variable at a row.
+pub fn variable(nodes: &mut [u32], row: usize, n: usize) -> At
+    requires { ⌜ (row ≤ 65537) × (n ≤ 65537) ⌝ }
+    ensures { λ r. ⌜ (r ≡ record { row = row + 1; node = n + 1; place = row; tag = 1 }) × (now (nodes .exit) ≡ sets (now (nodes .entry)) (8 * n) (nodeWords (node 1 row row 0))) ⌝ }
+{
+    close(nodes, n, 1, row, row as u32, 0);
+    At {
+        row: row + 1,
+        node: n + 1,
+        place: row,
+        tag: 1,
+    }
+}
+
+// The state behind a number at a row, with its value's words.
+pub fn number(nodes: &mut [u32], row: usize, n: usize, low: u32, high: u32) -> At
+    requires { ⌜ (row ≤ 65537) × (n ≤ 65537) ⌝ }
+    ensures { λ r. ⌜ (r ≡ record { row = row + 1; node = n + 1; place = row; tag = 0 }) × (now (nodes .exit) ≡ sets (now (nodes .entry)) (8 * n) (nodeWords (factNode 2 row missing 0 low high 0 0))) ⌝ }
+{
+    store(
+        nodes,
+        n,
+        Words {
+            kind: 2,
+            place: row as u32,
+            name: MISSING,
+            children: 0,
+            fact0: low,
+            fact1: high,
+            fact2: 0,
+            fact3: 0,
+        },
+    );
+    At {
+        row: row + 1,
+        node: n + 1,
+        place: row,
+        tag: 0,
+    }
+}
+
+// The state t, with another place and tag.
+pub fn counted(t: At, place: usize, tag: usize) -> At
+    ensures { λ r. ⌜ r ≡ record { row = t .row; node = t .node; place = place; tag = tag } ⌝ }
+{
+    At {
+        row: t.row,
+        node: t.node,
+        place,
+        tag,
+    }
+}

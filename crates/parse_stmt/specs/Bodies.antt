@@ -1,0 +1,63 @@
+-- What the functions over guards and bodies ask and promise.
+use mathlib.Core.Path.{_≡_}
+use mathlib.Core.List.{List, _++_}
+use Prim.Native.Nat.{ℕ, _+_, _*_, _≤_, _<_}
+use lib.Dec.{eqb}
+use lib.ListN.{length}
+use lib.Seq.{sets}
+use Rattle.rules.specs.Kinds.{KeywordElse}
+use Rattle.rules.specs.Tree.{Tok, spellingOf, Tree, thenBody, count}
+use Rattle.rules.specs.Nodes.{width, size, treeWords, node, nodeWords, missing}
+use Rattle.rules.specs.Parse
+use Rattle.rules.specs.Parse.{Out, ok, no, P, then, branching, tokAt, kindAt}
+use Rattle.parse_nodes.specs.declared.At.{At}
+use Rattle.parse_nodes.specs.declared.Got.{Got}
+use Rattle.parse_nodes.specs.declared.Got.the-variants.{Done, Refused}
+use Rattle.parse_nodes.specs.Post.{Tells, Met}
+use Rattle.parse_stmt.specs.declared.Opened.{Opened}
+use Rattle.parse_stmt.specs.declared.Opened.the-variants as opened
+
+-- ---- the rows from `if` to the brace
+
+-- The `if` is at row i: the rows up to its brace, behind which the bodies are read, or why not.
+abbrev pub HeadSays : List ℕ → ℕ → ℕ → Opened → Type 0
+HeadSays ws n i (opened.Brace o) =
+    (o ≡ i + 5) × (o < n) × ((ts : List Tok) → Tells ts ws n → (d : ℕ) (p : P)
+    → Parse.stmtBy ts d p branching i
+    ≡ then (p o) (λ l k. Parse.elseBy ts d p (eqb (kindAt ts k) KeywordElse) (spellingOf (tokAt ts (i + 3))) (thenBody l) k))
+HeadSays ws n i (opened.Refused why q) = (ts : List Tok) → Tells ts ws n → (d : ℕ) (p : P) → Parse.stmtBy ts d p branching i ≡ no why q
+
+-- ---- bodies
+
+-- a body's statements l, read behind the brace at row i, and its node of a kind behind theirs
+abbrev pub BodyMet : Out → ℕ → ℕ → ℕ → List ℕ → List ℕ → Got → Type 0
+BodyMet (ok l j) kind i n m m′ r =
+    (r ≡ Done (record { row = j; node = n + size l + 1; place = i; tag = 0 }))
+    × (m′ ≡ sets m (8 * n) (treeWords (i + 1) l ++ nodeWords (node kind i missing (count l))))
+BodyMet (no why p) kind i n m m′ r = r ≡ Refused why p
+
+abbrev pub BodyAnswers : (List Tok → Out) → ℕ → List ℕ → ℕ → ℕ → ℕ → List ℕ → List ℕ → Got → Type 0
+BodyAnswers f kind ws n i nd m m′ r = (ts : List Tok) → Tells ts ws n → BodyMet (f ts) kind i nd m m′ r
+
+-- ---- behind a then body
+
+-- what is asked there: g is the guard's row
+pub record AsksElse (ws : List ℕ) (n : ℕ) (s : At) (g d : ℕ) : Type 0 where
+  pub lent : n * 8 ≤ length ws
+  pub inside : s .row ≤ n
+  pub few : s .node ≤ s .row
+  pub guard : g ≤ s .row
+  pub short : n ≤ 65537
+  pub nest : d ≤ 64
+
+-- The state s and the memory m′ are those behind the name and the then body, with statements l, of the `if` at row i, its first node
+-- at n, read into the memory m.
+pub record Guarded (i n : ℕ) (l : Tree) (m : List ℕ) (s : At) (m′ : List ℕ) : Type 0 where
+  pub rows : s .row ≡ i + 5 + width (thenBody l)
+  pub nodes : s .node ≡ n + 1 + size (thenBody l)
+  pub mem : m′ ≡ sets m (8 * n) (nodeWords (node 1 (i + 3) (i + 3) 0) ++ treeWords (i + 5) (thenBody l))
+
+-- the answer there, whatever name and statements were read
+abbrev pub Elsewise : (List Tok → List ℕ → Tree → Out) → List ℕ → ℕ → At → ℕ → List ℕ → List ℕ → Got → Type 0
+Elsewise f ws n s g m m′ r =
+    (ts : List Tok) → Tells ts ws n → (i nd : ℕ) (w : List ℕ) (l : Tree) (m₀ : List ℕ) → g ≡ i + 1 → Guarded i nd l m₀ s m → Met (f ts w l) i nd m₀ m′ r

@@ -1,0 +1,347 @@
+// Statements. `stmt`, `branch`, `otherwise` and `body` call each other in a circle, the rest of the nesting limit falling with each body.
+use parse_nodes::At;
+use parse_nodes::Got;
+use rules::Syntax;
+ghost use mathlib.Core.Path.{_≡_};
+ghost use mathlib.Core.Bool.{true};
+ghost use Prim.Native.Nat.{_+_, _*_, _≤_, _<_};
+ghost use lib.Dec.{eqb};
+ghost use lib.ListN.{length};
+ghost use lib.Seq.{sets};
+ghost use Rattle.rules.specs.Kinds.{KeywordElse};
+ghost use Rattle.rules.specs.Tree.{thenBody};
+ghost use Rattle.rules.specs.Nodes.{declNode, assignNode, node, nodeWords};
+ghost use Rattle.rules.specs.Parse.{isDeclaring, isAssign, declaring, returning, branching, expression, stmtBy, assignBy, elseBy, stmt, body, kindAt};
+ghost use Rattle.parse_nodes.specs.Post.{Answers, Onward, Asks, AsksAt, AsksOpen};
+ghost use Rattle.parse_stmt.specs.Bodies.{HeadSays, BodyAnswers, AsksElse, Elsewise};
+
+const RETURN: u32 = 3;
+
+const REG: u32 = 4;
+
+const IMM: u32 = 5;
+
+const IF: u32 = 11;
+
+const ELSE: u32 = 12;
+
+const GUARD: u32 = 13;
+
+const HEAP: u32 = 14;
+
+const LBRACE: u32 = 25;
+
+const RBRACE: u32 = 26;
+
+const LPAREN: u32 = 27;
+
+const RPAREN: u32 = 28;
+
+const SEMICOLON: u32 = 32;
+
+const EQUALS: u32 = 35;
+
+const PLUS_EQUALS: u32 = 36;
+
+const IDENTIFIER: u32 = 48;
+
+// Whether a row's kind is reg, imm or heap.
+fn is_declaring(k: u32) -> bool
+    ensures { λ r. ⌜ r ≡ isDeclaring k ⌝ }
+{
+    if k == REG {
+        return true;
+    }
+    if k == IMM { true } else { k == HEAP }
+}
+
+// Whether a row's kind is `=` or `+=`.
+fn is_assign(k: u32) -> bool
+    ensures { λ r. ⌜ r ≡ isAssign k ⌝ }
+{
+    if k == EQUALS { true } else { k == PLUS_EQUALS }
+}
+
+// The node kind of a declaration's first row.
+fn decl_node(k: u32) -> u32
+    ensures { λ r. ⌜ r ≡ declNode k ⌝ }
+{
+    if k == REG {
+        return 16;
+    }
+    if k == IMM { 17 } else { 18 }
+}
+
+// The node kind of an assignment's sign.
+fn assign_node(k: u32) -> u32
+    ensures { λ r. ⌜ r ≡ assignNode k ⌝ }
+{
+    if k == EQUALS { 14 } else { 15 }
+}
+
+// The state behind a named node with one child, over what was read up to t, and behind the row that ends it.
+fn named_end(nodes: &mut [u32], t: At, kind: u32, name: usize) -> At
+    requires { ⌜ (t .node ≤ 65537) × ((name ≤ 65537) × (t .row ≤ 65537)) ⌝ }
+    ensures { λ r. ⌜ (r ≡ record { row = t .row + 1; node = t .node + 1; place = name; tag = 0 }) × (now (nodes .exit) ≡ sets (now (nodes .entry)) (8 * t .node) (nodeWords (node kind name name 1))) ⌝ }
+{
+    let n = t.node;
+    parse_nodes::close(nodes, n, kind, name, name as u32, 1);
+    At {
+        row: t.row + 1,
+        node: n + 1,
+        place: name,
+        tag: 0,
+    }
+}
+
+// `reg`, `imm` or `heap` at the row: name `=` expression `;`.
+fn declare(
+    rows: &[u32],
+    count: usize,
+    nodes: &mut [u32],
+    row: usize,
+    node: usize,
+    left: usize,
+) -> Got
+    requires { ⌜ AsksOpen (now rows) count row node left ⌝ }
+    ensures { λ r. ⌜ Answers (λ ts. stmtBy ts left (body ts left) declaring row) (now (rows .entry)) count row node (now (nodes .entry)) (now (nodes .exit)) r ⌝ }
+{
+    let name = row + 1;
+    let k1 = parse_nodes::kind_at(rows, count, name);
+    if k1 != IDENTIFIER {
+        return Got::Refused(Syntax::Wanted(IDENTIFIER, k1), name);
+    }
+    let sign = name + 1;
+    let k2 = parse_nodes::kind_at(rows, count, sign);
+    if k2 != EQUALS {
+        return Got::Refused(Syntax::Wanted(EQUALS, k2), sign);
+    }
+    match parse_expr::add(rows, count, nodes, sign + 1, node, left) {
+        Got::Done(t) => {
+            let j = t.row;
+            let k3 = parse_nodes::kind_at(rows, count, j);
+            if k3 != SEMICOLON {
+                return Got::Refused(Syntax::Wanted(SEMICOLON, k3), j);
+            }
+            let kind = decl_node(parse_nodes::kind_at(rows, count, row));
+            Got::Done(named_end(nodes, t, kind, name))
+        }
+        Got::Refused(why, r) => Got::Refused(why, r),
+    }
+}
+
+// `return` at the row: expression `;`.
+fn give(rows: &[u32], count: usize, nodes: &mut [u32], row: usize, node: usize, left: usize) -> Got
+    requires { ⌜ AsksOpen (now rows) count row node left ⌝ }
+    ensures { λ r. ⌜ Answers (λ ts. stmtBy ts left (body ts left) returning row) (now (rows .entry)) count row node (now (nodes .entry)) (now (nodes .exit)) r ⌝ }
+{
+    let place = row + 1;
+    match parse_expr::add(rows, count, nodes, place, node, left) {
+        Got::Done(t) => {
+            let j = t.row;
+            let k = parse_nodes::kind_at(rows, count, j);
+            if k != SEMICOLON {
+                return Got::Refused(Syntax::Wanted(SEMICOLON, k), j);
+            }
+            Got::Done(parse_nodes::ended(nodes, t, 19, place, 1))
+        }
+        Got::Refused(why, r) => Got::Refused(why, r),
+    }
+}
+
+// The value and `;` behind the target t, whose sign is at t's row.
+fn assigned(rows: &[u32], count: usize, nodes: &mut [u32], t: At, left: usize) -> Got
+    requires { ⌜ AsksAt (now rows) count t left ⌝ }
+    ensures { λ r. ⌜ Onward (λ ts e. assignBy ts left (body ts left) true e (t .row)) (now (rows .entry)) count t (now (nodes .entry)) (now (nodes .exit)) r ⌝ }
+{
+    let sign = t.row;
+    let n = t.node;
+    let k = parse_nodes::kind_at(rows, count, sign);
+    match parse_expr::add(rows, count, nodes, sign + 1, n, left) {
+        Got::Done(u) => {
+            let j = u.row;
+            let end = parse_nodes::kind_at(rows, count, j);
+            if end != SEMICOLON {
+                return Got::Refused(Syntax::Wanted(SEMICOLON, end), j);
+            }
+            Got::Done(parse_nodes::ended(nodes, u, assign_node(k), t.place, 2))
+        }
+        Got::Refused(why, r) => Got::Refused(why, r),
+    }
+}
+
+// An expression, or one and `=` or `+=` and another; then `;`.
+fn effect(
+    rows: &[u32],
+    count: usize,
+    nodes: &mut [u32],
+    row: usize,
+    node: usize,
+    left: usize,
+) -> Got
+    requires { ⌜ Asks (now rows) count row node left ⌝ }
+    ensures { λ r. ⌜ Answers (λ ts. stmtBy ts left (body ts left) expression row) (now (rows .entry)) count row node (now (nodes .entry)) (now (nodes .exit)) r ⌝ }
+{
+    match parse_expr::add(rows, count, nodes, row, node, left) {
+        Got::Done(t) => {
+            let j = t.row;
+            let k = parse_nodes::kind_at(rows, count, j);
+            if is_assign(k) {
+                return assigned(rows, count, nodes, t, left);
+            }
+            if k != SEMICOLON {
+                return Got::Refused(Syntax::Wanted(SEMICOLON, k), j);
+            }
+            Got::Done(parse_nodes::ended(nodes, t, 13, t.place, 1))
+        }
+        Got::Refused(why, r) => Got::Refused(why, r),
+    }
+}
+
+// What stands behind `if`: guard ( name ) and the row of a brace, or why not.
+pub enum Opened {
+    Brace(usize),
+    Refused(Syntax, usize),
+}
+
+// `guard ( name ) {` behind the `if` at the row.
+fn head(rows: &[u32], count: usize, row: usize) -> Opened
+    requires { ⌜ (count * 8 ≤ length (now rows)) × ((row < count) × (count ≤ 65537)) ⌝ }
+    ensures { λ r. ⌜ HeadSays (now (rows .entry)) count row r ⌝ }
+{
+    let guard = row + 1;
+    let k1 = parse_nodes::kind_at(rows, count, guard);
+    if k1 != GUARD {
+        return Opened::Refused(Syntax::Wanted(GUARD, k1), guard);
+    }
+    let open = guard + 1;
+    let k2 = parse_nodes::kind_at(rows, count, open);
+    if k2 != LPAREN {
+        return Opened::Refused(Syntax::Wanted(LPAREN, k2), open);
+    }
+    let name = open + 1;
+    let k3 = parse_nodes::kind_at(rows, count, name);
+    if k3 != IDENTIFIER {
+        return Opened::Refused(Syntax::Wanted(IDENTIFIER, k3), name);
+    }
+    let close = name + 1;
+    let k4 = parse_nodes::kind_at(rows, count, close);
+    if k4 != RPAREN {
+        return Opened::Refused(Syntax::Wanted(RPAREN, k4), close);
+    }
+    let brace = close + 1;
+    let k5 = parse_nodes::kind_at(rows, count, brace);
+    if k5 != LBRACE {
+        return Opened::Refused(Syntax::Wanted(LBRACE, k5), brace);
+    }
+    Opened::Brace(brace)
+}
+
+// A statement.
+pub fn stmt(
+    rows: &[u32],
+    count: usize,
+    nodes: &mut [u32],
+    row: usize,
+    node: usize,
+    left: usize,
+) -> Got
+    requires { ⌜ Asks (now rows) count row node left ⌝ }
+    ensures { λ r. ⌜ Answers (λ ts. stmt ts left (body ts left) row) (now (rows .entry)) count row node (now (nodes .entry)) (now (nodes .exit)) r ⌝ }
+{
+    let k = parse_nodes::kind_at(rows, count, row);
+    if is_declaring(k) {
+        return declare(rows, count, nodes, row, node, left);
+    }
+    if k == RETURN {
+        return give(rows, count, nodes, row, node, left);
+    }
+    if k == IF {
+        return branch(rows, count, nodes, row, node, left);
+    }
+    effect(rows, count, nodes, row, node, left)
+}
+
+// `if` at the row.
+fn branch(
+    rows: &[u32],
+    count: usize,
+    nodes: &mut [u32],
+    row: usize,
+    node: usize,
+    left: usize,
+) -> Got
+    requires { ⌜ AsksOpen (now rows) count row node left ⌝ }
+    ensures { λ r. ⌜ Answers (λ ts. stmtBy ts left (body ts left) branching row) (now (rows .entry)) count row node (now (nodes .entry)) (now (nodes .exit)) r ⌝ }
+{
+    match head(rows, count, row) {
+        Opened::Brace(brace) => {
+            let name = row + 3;
+            parse_nodes::close(nodes, node, 1, name, name as u32, 0);
+            match body(rows, count, nodes, brace, node + 1, left, 21) {
+                Got::Done(t) => otherwise(rows, count, nodes, t, row + 1, left),
+                Got::Refused(why, r) => Got::Refused(why, r),
+            }
+        }
+        Opened::Refused(why, r) => Got::Refused(why, r),
+    }
+}
+
+// Behind a then body at t: an else body, if there is one, and the node of the `if` whose guard is at `guard`.
+fn otherwise(rows: &[u32], count: usize, nodes: &mut [u32], t: At, guard: usize, left: usize) -> Got
+    requires { ⌜ AsksElse (now rows) count t guard left ⌝ }
+    ensures { λ r. ⌜ Elsewise (λ ts w l. elseBy ts left (body ts left) (eqb (kindAt ts (t .row)) KeywordElse) w (thenBody l) (t .row)) (now (rows .entry)) count t guard (now (nodes .entry)) (now (nodes .exit)) r ⌝ }
+{
+    let j = t.row;
+    let n = t.node;
+    if parse_nodes::kind_at(rows, count, j) != ELSE {
+        return Got::Done(parse_nodes::shut(nodes, t, 20, guard, 2));
+    }
+    let brace = j + 1;
+    let k = parse_nodes::kind_at(rows, count, brace);
+    if k != LBRACE {
+        return Got::Refused(Syntax::Wanted(LBRACE, k), brace);
+    }
+    match body(rows, count, nodes, brace, n, left, 22) {
+        Got::Done(u) => Got::Done(parse_nodes::shut(nodes, u, 20, guard, 3)),
+        Got::Refused(why, r) => Got::Refused(why, r),
+    }
+}
+
+// The body whose brace is at the row: its statements, and its node, of a kind: 21 then, 22 else.
+fn body(
+    rows: &[u32],
+    count: usize,
+    nodes: &mut [u32],
+    row: usize,
+    node: usize,
+    left: usize,
+    kind: u32,
+) -> Got
+    requires { ⌜ AsksOpen (now rows) count row node left ⌝ }
+    ensures { λ r. ⌜ BodyAnswers (λ ts. body ts left row) kind (now (rows .entry)) count row node (now (nodes .entry)) (now (nodes .exit)) r ⌝ }
+{
+    if left == 0 {
+        return Got::Refused(Syntax::TooDeep, row);
+    }
+    let mut s = At {
+        row: row + 1,
+        node,
+        place: row + 1,
+        tag: 0,
+    };
+    loop {
+        let at = s.row;
+        if parse_nodes::kind_at(rows, count, at) == RBRACE {
+            return Got::Done(parse_nodes::ended(nodes, s, kind, row, s.tag));
+        }
+        match stmt(rows, count, nodes, at, s.node, left - 1) {
+            Got::Done(t) => {
+                s = parse_nodes::counted(t, s.place, s.tag + 1);
+            }
+            Got::Refused(why, r) => {
+                return Got::Refused(why, r);
+            }
+        }
+    }
+}

@@ -1,0 +1,269 @@
+// Units: statements, sections and licences in any order. The first section gives the kind, the last licence holds.
+use parse_nodes::At;
+use parse_nodes::Got;
+use parse_nodes::Words;
+use rules::Syntax;
+ghost use mathlib.Core.Path.{_≡_};
+ghost use mathlib.Core.Bool.{cond};
+ghost use Prim.Native.Nat.{_+_, _-_, _*_, _≤_, _<_};
+ghost use lib.Dec.{eqb};
+ghost use lib.ListN.{length, take, drop};
+ghost use lib.Seq.{sets};
+ghost use Rattle.rules.specs.Sets.{fromSection};
+ghost use Rattle.rules.specs.Tree.{sectionText};
+ghost use Rattle.rules.specs.Nodes.{factNode, nodeWords};
+ghost use Rattle.parse_nodes.specs.Post.{Asks, AsksOpen};
+ghost use Rattle.parse_nodes.specs.Names.{Spans};
+ghost use Rattle.parse_units.specs.Contents.{unset, firstOf, spelt, AsksItem, AsksString, AsksText, AsksQuoted, Texted, ItemMet, ItemsMet, UnitMet};
+
+const SECTION: u32 = 1;
+
+const LICENSE: u32 = 2;
+
+const LBRACE: u32 = 25;
+
+const RBRACE: u32 = 26;
+
+const SEMICOLON: u32 = 32;
+
+const IDENTIFIER: u32 = 48;
+
+const STRING: u32 = 49;
+
+const QUOTE: u8 = 34;
+
+const UNKNOWN: u32 = 10;
+
+const NO_SECTION: u32 = 11;
+
+// Where the parser stands in a unit's contents, the kind that the first section gives (11 while there is none), and the row of the
+// last licence's string.
+pub struct Contents {
+    pub at: At,
+    pub kind: u32,
+    pub licence: u32,
+}
+
+// The contents with one thing more, or why not and the row where.
+pub enum Went {
+    Done(Contents),
+    Refused(Syntax, usize),
+}
+
+// The kind of the section whose string is the text from a to e, its quotes with it.
+fn kind_of_string(text: &[u8], a: usize, e: usize) -> u32
+    requires { ⌜ (a + 2 ≤ e) × (e ≤ length (now text)) ⌝ }
+    ensures { λ r. ⌜ r ≡ fromSection (sectionText (take (e - a) (drop a (now (text .entry))))) ⌝ }
+{
+    let from = a + 1;
+    let to = e - 1;
+    if to <= from {
+        return methods::section_kind(&text[from..to]);
+    }
+    let last = to - 1;
+    if text[last] == QUOTE {
+        return methods::section_kind(&text[from..last]);
+    }
+    methods::section_kind(&text[from..to])
+}
+
+// The kind, if there is one, or that of the section whose string is at the row.
+fn first_kind(text: &[u8], rows: &[u32], row: usize, kind: u32) -> u32
+    requires { ⌜ AsksString (now text) (now rows) row ⌝ }
+    ensures { λ r. ⌜ r ≡ firstOf kind (fromSection (sectionText (spelt (now (text .entry)) (now (rows .entry)) row))) ⌝ }
+{
+    if kind != NO_SECTION {
+        return kind;
+    }
+    let at = row * 8;
+    let a = rows[at + 1] as usize;
+    let e = rows[at + 2] as usize;
+    kind_of_string(text, a, e)
+}
+
+// The contents with the section or the licence, which the word says, at their row.
+fn with_text(text: &[u8], rows: &[u32], nodes: &mut [u32], u: Contents, word: u32) -> Contents
+    requires { ⌜ AsksQuoted (now text) (now rows) u word ⌝ }
+    ensures { λ r. ⌜ Texted (now (text .entry)) (now (rows .entry)) u word (now (nodes .entry)) (now (nodes .exit)) r ⌝ }
+{
+    let here = u.at;
+    let string = here.row + 1;
+    let name = string as u32;
+    let n = here.node;
+    let at = At {
+        row: string + 1 + 1,
+        node: n + 1,
+        place: here.place,
+        tag: here.tag + 1,
+    };
+    if word == LICENSE {
+        parse_nodes::close(nodes, n, 24, string, name, 0);
+        return Contents {
+            at,
+            kind: u.kind,
+            licence: name,
+        };
+    }
+    parse_nodes::close(nodes, n, 23, string, name, 0);
+    Contents {
+        at,
+        kind: first_kind(text, rows, string, u.kind),
+        licence: u.licence,
+    }
+}
+
+// A section or a licence, which the word says, at the contents' row.
+fn text_item(
+    text: &[u8],
+    rows: &[u32],
+    count: usize,
+    nodes: &mut [u32],
+    u: Contents,
+    word: u32,
+) -> Went
+    requires { ⌜ AsksText (now text) (now rows) count u word ⌝ }
+    ensures { λ r. ⌜ ItemMet (now (text .entry)) (now (rows .entry)) count u (now (nodes .entry)) (now (nodes .exit)) r ⌝ }
+{
+    let here = u.at;
+    let string = here.row + 1;
+    let k1 = parse_nodes::kind_at(rows, count, string);
+    if k1 != STRING {
+        return Went::Refused(Syntax::Wanted(STRING, k1), string);
+    }
+    let end = string + 1;
+    let k2 = parse_nodes::kind_at(rows, count, end);
+    if k2 != SEMICOLON {
+        return Went::Refused(Syntax::Wanted(SEMICOLON, k2), end);
+    }
+    Went::Done(with_text(text, rows, nodes, u, word))
+}
+
+// A statement, a section or a licence at the contents' row.
+fn item(text: &[u8], rows: &[u32], count: usize, nodes: &mut [u32], u: Contents) -> Went
+    requires { ⌜ AsksItem (now text) (now rows) count u ⌝ }
+    ensures { λ r. ⌜ ItemMet (now (text .entry)) (now (rows .entry)) count u (now (nodes .entry)) (now (nodes .exit)) r ⌝ }
+{
+    let here = u.at;
+    let row = here.row;
+    let k = parse_nodes::kind_at(rows, count, row);
+    if (k == SECTION) | (k == LICENSE) {
+        return text_item(text, rows, count, nodes, u, k);
+    }
+    match parse_stmt::stmt(rows, count, nodes, row, here.node, 64) {
+        Got::Done(t) => {
+            let at = parse_nodes::counted(t, here.place, here.tag + 1);
+            Went::Done(Contents {
+                at,
+                kind: u.kind,
+                licence: u.licence,
+            })
+        }
+        Got::Refused(why, r) => Went::Refused(why, r),
+    }
+}
+
+// The contents from the row on, up to `}`, which is not taken.
+fn items(
+    text: &[u8],
+    rows: &[u32],
+    count: usize,
+    nodes: &mut [u32],
+    row: usize,
+    node: usize,
+) -> Went
+    requires { ⌜ Asks (now rows) count row node 64 × Spans (now text) (now rows) count ⌝ }
+    ensures { λ r. ⌜ ItemsMet (now (text .entry)) (now (rows .entry)) count row node (now (nodes .entry)) (now (nodes .exit)) r ⌝ }
+{
+    let start = At {
+        row,
+        node,
+        place: row,
+        tag: 0,
+    };
+    let mut u = Contents {
+        at: start,
+        kind: NO_SECTION,
+        licence: parse_nodes::MISSING,
+    };
+    loop {
+        let here = u.at;
+        if parse_nodes::kind_at(rows, count, here.row) == RBRACE {
+            return Went::Done(u);
+        }
+        match item(text, rows, count, nodes, u) {
+            Went::Done(v) => {
+                u = v;
+            }
+            Went::Refused(why, r) => {
+                return Went::Refused(why, r);
+            }
+        }
+    }
+}
+
+// The kind of a unit, Unknown if it has no section.
+fn kind_or_unknown(kind: u32) -> u32
+    ensures { λ r. ⌜ r ≡ cond (eqb kind unset) 10 kind ⌝ }
+{
+    if kind == NO_SECTION {
+        return UNKNOWN;
+    }
+    kind
+}
+
+// The node of the unit whose word is at a row, over its contents, and the state behind it.
+fn unit_node(nodes: &mut [u32], row: usize, u: Contents) -> At
+    requires { ⌜ (row < 65537) × ((u .at .row ≤ 65537) × ((u .at .node ≤ 65537) × (u .at .tag ≤ 65537))) ⌝ }
+    ensures { λ r. ⌜ (r ≡ record { row = u .at .row + 1; node = u .at .node + 1; place = row; tag = 0 }) × (now (nodes .exit) ≡ sets (now (nodes .entry)) (8 * u .at .node) (nodeWords (factNode 25 row (row + 1) (u .at .tag) (cond (eqb (u .kind) unset) 10 (u .kind)) (u .licence) 0 0))) ⌝ }
+{
+    let here = u.at;
+    let n = here.node;
+    parse_nodes::store(
+        nodes,
+        n,
+        Words {
+            kind: 25,
+            place: row as u32,
+            name: (row + 1) as u32,
+            children: here.tag as u32,
+            fact0: kind_or_unknown(u.kind),
+            fact1: u.licence,
+            fact2: 0,
+            fact3: 0,
+        },
+    );
+    At {
+        row: here.row + 1,
+        node: n + 1,
+        place: row,
+        tag: 0,
+    }
+}
+
+// The unit whose word is at the row.
+pub fn unit(
+    text: &[u8],
+    rows: &[u32],
+    count: usize,
+    nodes: &mut [u32],
+    row: usize,
+    node: usize,
+) -> Got
+    requires { ⌜ AsksOpen (now rows) count row node 64 × Spans (now text) (now rows) count ⌝ }
+    ensures { λ r. ⌜ UnitMet (now (text .entry)) (now (rows .entry)) count row node (now (nodes .entry)) (now (nodes .exit)) r ⌝ }
+{
+    let name = row + 1;
+    let k1 = parse_nodes::kind_at(rows, count, name);
+    if k1 != IDENTIFIER {
+        return Got::Refused(Syntax::Wanted(IDENTIFIER, k1), name);
+    }
+    let open = name + 1;
+    let k2 = parse_nodes::kind_at(rows, count, open);
+    if k2 != LBRACE {
+        return Got::Refused(Syntax::Wanted(LBRACE, k2), open);
+    }
+    match items(text, rows, count, nodes, open + 1, node) {
+        Went::Done(u) => Got::Done(unit_node(nodes, row, u)),
+        Went::Refused(why, r) => Got::Refused(why, r),
+    }
+}

@@ -1,0 +1,39 @@
+// The rows of a text and their ending, held against the sample's.
+use crate::compared::compared;
+use crate::compared::part;
+use crate::tally::ENDINGS;
+use crate::tally::ROWS;
+use crate::tally::TABLES;
+use crate::tally::Tally;
+use rules::Told;
+use replay_input::input::LOST;
+use replay_input::input::count;
+use replay_input::input::letter;
+use replay_input::told::ending_words;
+use replay_input::told::table_of;
+
+// The next so many rows of the sample against ours.
+fn rows_compared(sample: &[u8], tally: Tally, rows: &[u32], own: usize, size: u64) -> Tally {
+    let mut now = tally;
+    let mut i = 0;
+    while (i as u64) < size {
+        if now.at == LOST {
+            return now;
+        }
+        now = compared(sample, now, ROWS, part(rows, own, i), 7);
+        i += 1;
+    }
+    now
+}
+
+// The sample's rows and ending against what a scan told and wrote.
+pub fn table_compared(sample: &[u8], tally: Tally, rows: &[u32], told: Told) -> Tally {
+    let own = table_of(told).count;
+    let size = count(sample, letter(sample, tally.at, b'R'));
+    let headed = tally
+        .moved(size.next)
+        .held(TABLES, size.value == own as u64);
+    let listed = rows_compared(sample, headed, rows, own as usize, size.value);
+    let ended = listed.moved(letter(sample, listed.at, b'E'));
+    compared(sample, ended, ENDINGS, &ending_words(told), 4)
+}

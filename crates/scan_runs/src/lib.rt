@@ -1,0 +1,190 @@
+// Leaves over the lent bytes and an index into them: where runs end, what digits are worth, and how a string closes.
+ghost use mathlib.Core.Path.{_≡_};
+ghost use mathlib.Core.Bool.{_||_};
+ghost use Prim.Native.Nat.{_+_, _*_, _≤_, _<_};
+ghost use lib.ListN.{length, getD, drop};
+ghost use lib.Dec.{ltb};
+ghost use Rattle.rules.specs.Text.{front, notNewline};
+ghost use mathlib.Core.Bool.{false};
+ghost use Rattle.rules.specs.Lex.{isWord, isEscape};
+ghost use Rattle.scan_runs.specs.Leaf.{digitOf, baseOf, clipped, digitsOf, quotedFrom};
+
+// The byte at an index, and 0 behind the end.
+pub fn peek(text: &[u8], at: usize) -> u8
+    ensures { λ r. ⌜ r ≡ getD (now (text .entry)) at 0 ⌝ }
+{
+    if at < text.len() {
+        return text[at];
+    }
+    0
+}
+
+// Whether the byte at an index is shown, or the text ends with the bytes.
+pub fn shown(text: &[u8], at: usize, whole: bool) -> bool
+    ensures { λ r. ⌜ r ≡ (whole || ltb at (length (now (text .entry)))) ⌝ }
+{
+    if whole {
+        return true;
+    }
+    at < text.len()
+}
+
+// Whether a byte may stand in a word behind its first.
+fn is_word(b: u8) -> bool
+    ensures { λ r. ⌜ r ≡ isWord b ⌝ }
+{
+    scan_words::is_letter(b) | scan_words::is_digit(b)
+}
+
+// Where the letters, digits and underscores from an index on end.
+pub fn word_end(text: &[u8], at: usize) -> usize
+    requires { ⌜ at ≤ length (now text) ⌝ }
+    ensures { λ r. ⌜ r ≡ at + front isWord (drop at (now (text .entry))) ⌝ }
+{
+    let mut i = at;
+    while i < text.len() {
+        if !is_word(text[i]) {
+            return i;
+        }
+        i += 1;
+    }
+    i
+}
+
+// Where the line ends: at its newline, or with the bytes.
+pub fn line_end(text: &[u8], at: usize) -> usize
+    requires { ⌜ at ≤ length (now text) ⌝ }
+    ensures { λ r. ⌜ r ≡ at + front notNewline (drop at (now (text .entry))) ⌝ }
+{
+    let mut i = at;
+    while i < text.len() {
+        if text[i] == 10 {
+            return i;
+        }
+        i += 1;
+    }
+    i
+}
+
+// What a byte is worth as a hex digit, and 16 for any other.
+fn digit_of(b: u8) -> u8
+    ensures { λ r. ⌜ r ≡ digitOf b ⌝ }
+{
+    if b < 48 {
+        return 16;
+    }
+    if b <= 57 {
+        return b - 48;
+    }
+    if b < 65 {
+        return 16;
+    }
+    if b <= 70 {
+        return b - 55;
+    }
+    if b < 97 {
+        return 16;
+    }
+    if b <= 102 {
+        return b - 87;
+    }
+    16
+}
+
+// The base of hex digits or of decimal ones.
+fn base_of(hex: bool) -> u8
+    ensures { λ r. ⌜ r ≡ baseOf hex ⌝ }
+{
+    if hex { 16 } else { 10 }
+}
+
+// What digits spell with one digit more, as far as it is told apart.
+fn longer(value: u64, digit: u8, hex: bool) -> u64
+    requires { ⌜ digit < baseOf hex ⌝ }
+    ensures { λ r. ⌜ r ≡ clipped (value * baseOf hex + digit) ⌝ }
+{
+    let d = digit as u64;
+    if hex {
+        if 576460752303423487 < value {
+            return 9223372036854775808;
+        }
+        return value * 16 + d;
+    }
+    if 922337203685477580 < value {
+        return 9223372036854775808;
+    }
+    let next = value * 10 + d;
+    if 9223372036854775807 < next {
+        return 9223372036854775808;
+    }
+    next
+}
+
+// A run of digits: where it ends, and what it spells.
+pub struct Digits {
+    pub end: usize,
+    pub value: u64,
+}
+
+// The digits from an index on. Those that spell too large a number are read to their end.
+pub fn read_digits(text: &[u8], at: usize, hex: bool) -> Digits
+    requires { ⌜ at ≤ length (now text) ⌝ }
+    ensures { λ r. ⌜ r ≡ digitsOf hex at (drop at (now (text .entry))) ⌝ }
+{
+    let base = base_of(hex);
+    let mut value: u64 = 0;
+    let mut i = at;
+    while i < text.len() {
+        let digit = digit_of(text[i]);
+        if base <= digit {
+            return Digits { end: i, value };
+        }
+        value = longer(value, digit, hex);
+        i += 1;
+    }
+    Digits { end: i, value }
+}
+
+// Whether a byte may follow a backslash.
+fn escapes(b: u8) -> bool
+    ensures { λ r. ⌜ r ≡ isEscape b ⌝ }
+{
+    (b == 34) | (b == 92) | (b == 110)
+}
+
+// A string behind its opening quote: closed by the quote at an index; open at a newline or the end; or a backslash that escapes nothing.
+pub enum Quoted {
+    Closed(usize),
+    Open(usize),
+    Escape(usize),
+}
+
+// How the string whose opening quote stands before an index goes on.
+pub fn read_quoted(text: &[u8], at: usize) -> Quoted
+    requires { ⌜ at ≤ length (now text) ⌝ }
+    ensures { λ r. ⌜ r ≡ quotedFrom false at (drop at (now (text .entry))) ⌝ }
+{
+    let mut i = at;
+    while i < text.len() {
+        let b = text[i];
+        if b == 34 {
+            return Quoted::Closed(i);
+        }
+        if b == 10 {
+            return Quoted::Open(i);
+        }
+        if b == 92 {
+            let next = i + 1;
+            if text.len() <= next {
+                return Quoted::Open(next);
+            }
+            if !escapes(text[next]) {
+                return Quoted::Escape(i);
+            }
+            i = next + 1;
+        } else {
+            i += 1;
+        }
+    }
+    Quoted::Open(i)
+}

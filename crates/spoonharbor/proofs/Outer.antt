@@ -1,0 +1,146 @@
+-- Demand 3 at the outer face: a table lent in the words in which it was told serves as the table itself.
+use Prim.Native.Nat.{ℕ, _+_}
+use native.Mathlib.Omega.{arith}
+use mathlib.Core.Bool.{true, false, true≢false}
+use mathlib.Core.List.{List}
+use mathlib.Core.Logic.{_⊎_, inl, inr}
+use mathlib.Core.Path.{_≡_, refl, ap, sym, _∙_}
+use lib.Dec.{ltb}
+use lib.ListN.{length, getD, length-append}
+use borrow.Author.Tests.{le-ltb}
+use Rattle.rules.specs.declared.Table.{Table}
+use Rattle.rules.specs.declared.Told.{Told}
+use Rattle.rules.specs.declared.Told.the-variants.{Rows}
+use Rattle.rules.specs.Refusals.{outerNumber}
+use Rattle.rules.specs.Rows.{wellFormed}
+use Rattle.rules.specs.Scan.{roomOf, scanTold}
+use Rattle.rules.specs.Edit.{restart, editTold, editLeaves, restartTold}
+use Rattle.rules.specs.Calls.{parseTold, parseLeaves}
+use Rattle.theory_edits.specs.Scanned as scanned
+use Rattle.theory_edits.specs.Change.{Change, oldText, newText, a, oldRows, Window}
+use Rattle.theory_edits.specs.Demand3.{Given, Due, tells, leaves, SaysSeven, IsFresh}
+use Rattle.theory_edits.proofs.WellFormed.{Scans, says-1, says-2, says-4, says-rows, scan-says, scan-scanned, scan-valid, scanned-rows, scanned-well-formed}
+use Rattle.theory_edits.proofs.Demand3.{demand-3}
+use Rattle.spoonharbor.specs.Layout.{words, toldWords, restartWords, parsedWords, isEnding, tableOf, spellingWords}
+use Rattle.spoonharbor.specs.Alike.{OuterGiven, outerTells, outerLeaves, OuterSeven, OuterFresh}
+use Rattle.spoonharbor.proofs.Alike.{told-alike, alike-well-formed, alike-edit-told, alike-edit-leaves, alike-restart, alike-spelling, alike-parse-told, alike-parse-leaves}
+
+-- ---- each call, lent the words in which a table was told, answers and leaves as the call over that table does
+
+module _ (ws : List ℕ) (table : Table) where
+  -- the table read from the words of the table
+  abbrev read : Table
+  read = tableOf (toldWords (Rows table))
+
+  pub outer-well-formed : wellFormed ws read ≡ wellFormed ws table
+  outer-well-formed = alike-well-formed ws (told-alike table)
+
+  pub outer-spelling : (t : List ℕ) (row : ℕ) → spellingWords t ws read row ≡ spellingWords t ws table row
+  outer-spelling t row = rw (alike-spelling ws (told-alike table) t row)
+
+  pub outer-parse-tells : (t : List ℕ) (room : ℕ)
+      → parsedWords (parseTold t ws read room) ≡ parsedWords (parseTold t ws table room)
+  outer-parse-tells t room = alike-parse-told ws (told-alike table) t room
+
+  pub outer-parse-leaves : (t new : List ℕ) → parseLeaves t ws read new ≡ parseLeaves t ws table new
+  outer-parse-leaves t new = alike-parse-leaves ws (told-alike table) t new
+
+  pub outer-restart : (a : ℕ) → restartWords (restartTold ws read a) ≡ restartWords (restartTold ws table a)
+  outer-restart a = rw (alike-restart ws (told-alike table) a)
+
+  module _ (a b n start : ℕ) (w : List ℕ) where
+    pub outer-edit-tells : (room : ℕ)
+        → toldWords (editTold ws read a b n start w room) ≡ toldWords (editTold ws table a b n start w room)
+    outer-edit-tells room = alike-edit-told ws (told-alike table) a b n start w room
+
+    pub outer-edit-leaves : (new : List ℕ)
+        → editLeaves ws read a b n start w new ≡ editLeaves ws table a b n start w new
+    outer-edit-leaves new = alike-edit-leaves ws (told-alike table) a b n start w new
+
+-- ---- the theorem
+
+module _ (c : Change) (ws : List ℕ) (table : Table) (answer w : List ℕ) (e : answer ≡ toldWords (Rows table)) where
+  tells-words : (new : List ℕ) {x : Told} → tells c ws table w (roomOf new) ≡ x → outerTells c ws answer w new ≡ toldWords x
+  tells-words new h = rw e (outer-edit-tells ws table _ _ _ _ w (roomOf new) ∙ ap (λ (x : Told). toldWords x) h)
+
+  leaves-words : (new : List ℕ) {x : List ℕ} → leaves c ws table w new ≡ x → outerLeaves c ws answer w new ≡ x
+  leaves-words new h = rw e (outer-edit-leaves ws table _ _ _ _ w new ∙ h)
+
+  outer-seven : SaysSeven c ws table w → OuterSeven c ws answer w
+  unfolding outerNumber
+  outer-seven s = record { told = λ new. tells-words new (s .told (roomOf new)); left = λ new. leaves-words new (s .left new) }
+
+  outer-fresh : IsFresh c ws table w → OuterFresh c ws answer w
+  outer-fresh s = record { told = λ new. tells-words new (s .told (roomOf new)); left = λ new. leaves-words new (s .left new) }
+
+-- Demand 3 at the outer face. `spoonharbor_edit` is given what demand 3 asks for, and the old table in the words in which it was told. Then there
+-- are two cases, for every lent memory:
+--
+-- 1. 7 is due. The answer's words are 7's, at 0, line 1, column 1, and no lent word changes.
+-- 2. 7 is not due. The answer's words and every lent word are those that `spoonharbor_scan` of the whole new text promises.
+pub outer-demand-3 : (c : Change) (ws : List ℕ) (table : Table) (answer w : List ℕ) → Given c ws table w → answer ≡ toldWords (Rows table)
+    → (Due c w × OuterSeven c ws answer w) ⊎ ((Due c w → ⊥) × OuterFresh c ws answer w)
+outer-demand-3 c ws table answer w g e = by (demand-3 c ws table w g)
+  where
+    by : (Due c w × SaysSeven c ws table w) ⊎ ((Due c w → ⊥) × IsFresh c ws table w)
+        → (Due c w × OuterSeven c ws answer w) ⊎ ((Due c w → ⊥) × OuterFresh c ws answer w)
+    by (inl h) = inl (h .0, outer-seven c ws table answer w e (h .1))
+    by (inr h) = inr (h .0, outer-fresh c ws table answer w e (h .1))
+
+-- ---- the theorem in the outer face's own words
+
+-- a scan whose answer's words are a table's tells its rows
+rows-told : (t : List ℕ) (m : ℕ) → isEnding (getD (toldWords (scanTold t m)) 0 0) ≡ true → scanTold t m ≡ Rows (scanned.tableOf t)
+unfolding isEnding outerNumber
+rows-told t m h = by (scan-says t m) h
+  where
+    by : {x : Told} → Scans t m x → isEnding (getD (toldWords x) 0 0) ≡ true → x ≡ Rows (scanned.tableOf t)
+    by says-1 k = absurd (true≢false (sym k))
+    by says-2 k = absurd (true≢false (sym k))
+    by says-4 k = absurd (true≢false (sym k))
+    by (says-rows l v r) k = refl
+
+module _ (c : Change) (ws answer w : List ℕ) (g : OuterGiven c ws answer w) where
+  tells-rows : scanTold (oldText c) (roomOf (g .lent)) ≡ Rows (scanned.tableOf (oldText c))
+  tells-rows = rows-told (oldText c) (roomOf (g .lent)) (rw (g .told) at (g .table))
+
+  given : Given c ws (scanned.tableOf (oldText c)) w
+  given = record {
+    scanned = rw (g .left) (scan-scanned (oldText c) (g .lent) _ tells-rows);
+    good = scan-valid (oldText c) (roomOf (g .lent)) _ tells-rows;
+    window = g .window;
+  }
+
+  table-words : answer ≡ toldWords (Rows (scanned.tableOf (oldText c)))
+  table-words = g .told ∙ ap (λ (x : Told). toldWords x) tells-rows
+
+  -- `spoonharbor_restart` for the change's place answers the restart place, where the window starts.
+  pub outer-starts : restartWords (restartTold ws (tableOf answer) (a c)) ≡ words 0 (restart (oldRows c) (a c)) 0 0 0 0
+  unfolding restartTold
+  outer-starts =
+      let l : length (oldText c) ≡ a c + (length (c .removed) + length (c .behind)) = simp length-append in
+      let h : ltb (length (oldText c)) (a c) ≡ false = le-ltb (length (oldText c)) (a c) (omega arith) in
+      rw (table-words, outer-restart ws (scanned.tableOf (oldText c)) (a c), scanned-well-formed (given .scanned), h, scanned-rows (given .scanned))
+
+  -- `spoonharbor_edit`, lent what `spoonharbor_scan` of the old text left and told, says 7 and touches nothing exactly where 7 is due, and else tells and
+  -- leaves what `spoonharbor_scan` of the new text promises.
+  pub outer-edit : (Due c w × OuterSeven c ws answer w) ⊎ ((Due c w → ⊥) × OuterFresh c ws answer w)
+  outer-edit = outer-demand-3 c ws (scanned.tableOf (oldText c)) answer w given table-words
+
+  -- Where its answer is a table's, the next edit may be lent what it left and told.
+  pub outer-again : (new : List ℕ) → isEnding (getD (outerTells c ws answer w new) 0 0) ≡ true → (d : Change) (u : List ℕ) → newText c ≡ oldText d
+      → Window d u
+      → OuterGiven d (outerLeaves c ws answer w new) (outerTells c ws answer w new) u
+  unfolding isEnding
+  outer-again new h d u e v = by outer-edit
+    where
+      by : (Due c w × OuterSeven c ws answer w) ⊎ ((Due c w → ⊥) × OuterFresh c ws answer w)
+          → OuterGiven d (outerLeaves c ws answer w new) (outerTells c ws answer w new) u
+      by (inl x) = absurd (true≢false (sym (rw (x .1 .told new) at h)))
+      by (inr x) = record {
+        lent = new;
+        told = rw (← e) (x .1 .told new);
+        left = rw (← e) (x .1 .left new);
+        table = h;
+        window = v;
+      }

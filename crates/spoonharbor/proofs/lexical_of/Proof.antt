@@ -1,0 +1,28 @@
+-- `console::lexical_of` meets its contract: the arms are the cases of the definition.
+use borrow.Author.Tests.{ne-eqb}
+use Rattle.spoonharbor.specs.Layout.{lexicalOf}
+use Rattle.spoonharbor.proofs.lexical_of.Statement.{statement}
+use Rattle.spoonharbor.proofs.lexical_of.Tie as tie
+
+returns : tie.Need-returns
+unfolding lexicalOf
+returns c = rw (c .match .keys1)
+
+returns-2 : tie.Need-returns-2
+unfolding lexicalOf
+returns-2 c = rw (c .match .keys2)
+
+returns-3 : tie.Need-returns-3
+unfolding lexicalOf
+returns-3 c = rw (c .match .keys3)
+
+returns-4 : tie.Need-returns-4
+unfolding lexicalOf
+returns-4 c = rw (c .match .keys4)
+
+returns-5 : tie.Need-returns-5
+unfolding lexicalOf
+returns-5 c = rw (ne-eqb _ 12 (c .match .rest .0 .0 .0 .1), ne-eqb _ 13 (c .match .rest .0 .0 .1), ne-eqb _ 14 (c .match .rest .0 .1), ne-eqb _ 15 (c .match .rest .1))
+
+pub lexical-of-spec : {M : Type 1} → statement M
+lexical-of-spec = tie.close (tie.spec returns returns-2 returns-3 returns-4 returns-5)

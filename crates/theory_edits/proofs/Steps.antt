@@ -1,0 +1,228 @@
+-- All that the theorems on edits know of `begin`, `step` and `finish`: a machine in a gap only begins, no row holds a newline, and no row
+-- starts where a gap goes on.
+use Prim.Native.Nat.{ℕ, _≤_}
+use native.Mathlib.Omega.{arith}
+use mathlib.Core.Bool.{Bool, true, false, cond, not, _&&_, _||_, true≢false}
+use mathlib.Core.List.{List, [], _∷_, _++_}
+use mathlib.Core.Path.{_≡_, refl, sym, _∙_}
+use lib.Dec.{eqb, leb}
+use borrow.Author.Tests.{eqb-true}
+use Rattle.rules.specs.Text.{isBlank}
+use Rattle.rules.specs.Kinds
+use Rattle.rules.specs.Kinds.{Spelt, signs, sameBytes, kindIn}
+use Rattle.rules.specs.Lex.{isDigit, isLetter, isWord, isHexDigit, isEscape, largest, isLone}
+use Rattle.rules.specs.Edit.{opens, slashOrStar}
+use Rattle.theory_machine.specs.Machine.{St, gap, slash, line, block, star, minus, str, esc, two, name, zer, hex0, dec, hex, Spot, mark, opened, here, before, First, go, clear, over, bad, Move, fresh, on, back, Last, clean, ended, cut, spot, number, begin, step, finish}
+
+pub and-left : (x y : Bool) → (x && y) ≡ true → x ≡ true
+and-left true y h = refl
+and-left false y h = h
+
+pub and-right : (x y : Bool) → (x && y) ≡ true → y ≡ true
+and-right true y h = h
+and-right false y h = absurd (true≢false (sym h))
+
+pub and-both : {x y : Bool} → x ≡ true → y ≡ true → (x && y) ≡ true
+and-both {x} {y} e f = rw (e, f)
+
+pub spot-le : (x : Spot) (k : ℕ) → spot x k ≤ k
+unfolding spot
+spot-le mark k = omega arith
+spot-le opened k = omega arith
+spot-le here k = omega arith
+spot-le before k = omega arith
+
+pub step-gap : (k b : ℕ) → step gap k b ≡ fresh
+unfolding step
+step-gap k b = refl
+
+pub finish-gap : (k : ℕ) → finish gap k ≡ clean
+unfolding finish
+finish-gap k = refl
+
+-- ---- no row holds a newline
+
+unfoldable pub comment : St → Bool
+comment gap = false
+comment slash = false
+comment line = true
+comment block = true
+comment star = true
+comment minus = false
+comment str = false
+comment esc = false
+comment (two x) = false
+comment (name w) = false
+comment (zer n) = false
+comment (hex0 n) = false
+comment (dec n v) = false
+comment (hex n v) = false
+
+-- a comment goes on or is over
+unfoldable pub stays : Move → Bool
+stays fresh = false
+stays (on (go st)) = comment st
+stays (on clear) = true
+stays (on (over x)) = false
+stays (on (bad why x)) = false
+stays (back x) = false
+
+-- the byte is not taken into a row
+unfoldable pub halts : First → Bool
+halts (go st) = false
+halts clear = true
+halts (over x) = false
+halts (bad why x) = true
+
+unfoldable pub ceases : Move → Bool
+ceases fresh = true
+ceases (on x) = halts x
+ceases (back x) = true
+
+if-stays : (t : Bool) (x y : Move) → stays x ≡ true → stays y ≡ true → stays (cond t x y) ≡ true
+if-stays true x y p q = p
+if-stays false x y p q = q
+
+pub comment-stays : (st : St) (k b : ℕ) → comment st ≡ true → stays (step st k b) ≡ true
+unfolding comment stays step
+comment-stays gap k b h = absurd (true≢false (sym h))
+comment-stays slash k b h = absurd (true≢false (sym h))
+comment-stays line k b h = if-stays (eqb b 10) _ _ refl refl
+comment-stays block k b h = if-stays (eqb b 42) _ _ refl refl
+comment-stays star k b h = if-stays (eqb b 47) _ _ refl (if-stays (eqb b 42) _ _ refl refl)
+comment-stays minus k b h = absurd (true≢false (sym h))
+comment-stays str k b h = absurd (true≢false (sym h))
+comment-stays esc k b h = absurd (true≢false (sym h))
+comment-stays (two x) k b h = absurd (true≢false (sym h))
+comment-stays (name w) k b h = absurd (true≢false (sym h))
+comment-stays (zer n) k b h = absurd (true≢false (sym h))
+comment-stays (hex0 n) k b h = absurd (true≢false (sym h))
+comment-stays (dec n v) k b h = absurd (true≢false (sym h))
+comment-stays (hex n v) k b h = absurd (true≢false (sym h))
+
+if-ceases : (t : Bool) (x y : Move) → ceases x ≡ true → ceases y ≡ true → ceases (cond t x y) ≡ true
+if-ceases true x y p q = p
+if-ceases false x y p q = q
+
+number-ceases : (n : Bool) (v : ℕ) → ceases (number n v) ≡ true
+unfolding number ceases halts
+number-ceases n v = if-ceases (leb v largest) _ _ refl refl
+
+-- no sign of two bytes has y behind its first
+secondIs : ℕ → List ℕ → Bool
+secondIs y [] = false
+secondIs y (a ∷ []) = false
+secondIs y (a ∷ c ∷ s) = eqb c y
+
+noSecond : ℕ → List Spelt → Bool
+noSecond y [] = true
+noSecond y (e ∷ es) = not (secondIs y (e .spelling)) && noSecond y es
+
+same-second : (x y : ℕ) (s : List ℕ) → sameBytes s (x ∷ y ∷ []) ≡ true → secondIs y s ≡ true
+unfolding sameBytes secondIs
+same-second x y [] h = h
+same-second x y (a ∷ []) h = and-right (eqb a x) false h
+same-second x y (a ∷ c ∷ s) h = and-left (eqb c y) _ (and-right (eqb a x) _ h)
+
+no-sign : (x y d : ℕ) (es : List Spelt) → noSecond y es ≡ true → kindIn es d (x ∷ y ∷ []) ≡ d
+unfolding kindIn noSecond
+no-sign x y d [] h = refl
+no-sign x y d (e ∷ es) h = by (sameBytes (e .spelling) (x ∷ y ∷ [])) refl (secondIs y (e .spelling)) refl h (no-sign x y d es)
+  where
+    by : (p : Bool) → sameBytes (e .spelling) (x ∷ y ∷ []) ≡ p → (q : Bool) → secondIs y (e .spelling) ≡ q → (not q && noSecond y es) ≡ true
+        → (noSecond y es ≡ true → kindIn es d (x ∷ y ∷ []) ≡ d) → kindIn (e ∷ es) d (x ∷ y ∷ []) ≡ d
+    by true p true q h ih = absurd (true≢false (sym h))
+    by true p false q h ih = absurd (true≢false (sym (same-second x y (e .spelling) p) ∙ q))
+    by false p true q h ih = absurd (true≢false (sym h))
+    by false p false q h ih = rw (kindIn, p) (ih h)
+
+two-newline : (x k : ℕ) → ceases (step (two x) k 10) ≡ true
+unfolding step ceases halts noSecond secondIs signs
+two-newline x k = rw (step, no-sign x 10 Kinds.Eof signs refl) (if-ceases (isLone x) _ _ refl refl)
+
+pub newline-ceases : (st : St) (k : ℕ) → comment st ≡ false → ceases (step st k 10) ≡ true
+unfolding comment ceases halts step isDigit isLetter isWord isHexDigit isEscape
+newline-ceases gap k h = refl
+newline-ceases slash k h = refl
+newline-ceases line k h = absurd (true≢false h)
+newline-ceases block k h = absurd (true≢false h)
+newline-ceases star k h = absurd (true≢false h)
+newline-ceases minus k h = refl
+newline-ceases str k h = refl
+newline-ceases esc k h = refl
+newline-ceases (two x) k h = two-newline x k
+newline-ceases (name w) k h = refl
+newline-ceases (zer n) k h = number-ceases n 0
+newline-ceases (hex0 n) k h = refl
+newline-ceases (dec n v) k h = number-ceases n v
+newline-ceases (hex n v) k h = number-ceases n v
+
+pub newline-begins : halts (begin 10) ≡ true
+unfolding halts begin isBlank
+newline-begins = refl
+
+unfoldable pub closes : Last → Bool
+closes clean = true
+closes (ended x) = false
+closes (cut why x) = true
+
+pub comment-closes : (st : St) (k : ℕ) → comment st ≡ true → closes (finish st k) ≡ true
+unfolding comment closes finish
+comment-closes gap k h = refl
+comment-closes slash k h = absurd (true≢false (sym h))
+comment-closes line k h = refl
+comment-closes block k h = refl
+comment-closes star k h = refl
+comment-closes minus k h = absurd (true≢false (sym h))
+comment-closes str k h = refl
+comment-closes esc k h = refl
+comment-closes (two x) k h = absurd (true≢false (sym h))
+comment-closes (name w) k h = absurd (true≢false (sym h))
+comment-closes (zer n) k h = absurd (true≢false (sym h))
+comment-closes (hex0 n) k h = refl
+comment-closes (dec n v) k h = absurd (true≢false (sym h))
+comment-closes (hex n v) k h = absurd (true≢false (sym h))
+
+-- ---- no row starts where a gap goes on
+
+pub data Opens (b : ℕ) (s : List ℕ) : Type 0 where
+  blank : begin b ≡ clear → Opens b s
+  opening : {x : ℕ} {s′ : List ℕ} {st : St} → begin b ≡ go slash → s ≡ x ∷ s′ → step slash 1 x ≡ on (go st) → comment st ≡ true → Opens b s
+
+pub opens-more : (b : ℕ) (w z : List ℕ) → opens (b ∷ w) ≡ true → opens (b ∷ (w ++ z)) ≡ true
+unfolding opens slashOrStar
+opens-more b [] z h = by (isBlank b) (eqb b 47) (slashOrStar z) h
+  where
+    by : (x y t : Bool) → (x || (y && false)) ≡ true → (x || (y && t)) ≡ true
+    by true y t h = refl
+    by false true t h = absurd (true≢false (sym h))
+    by false false t h = h
+opens-more b (x ∷ w) z h = h
+
+begin-slash : (b : ℕ) → b ≡ 47 → begin b ≡ go slash
+unfolding begin isBlank
+begin-slash b e = rw e
+
+if-clear : (t : Bool) (y : First) → t ≡ true → cond t clear y ≡ clear
+if-clear true y h = refl
+if-clear false y h = absurd (true≢false (sym h))
+
+begin-blank : (b : ℕ) → isBlank b ≡ true → begin b ≡ clear
+unfolding begin
+begin-blank b e = if-clear (isBlank b) _ e
+
+slash-opens : (b x : ℕ) (s : List ℕ) → b ≡ 47 → (p q : Bool) → eqb x 47 ≡ p → eqb x 42 ≡ q → (p || q) ≡ true → Opens b (x ∷ s)
+unfolding step comment
+slash-opens b x s e true q h i j = opening {st = line} (begin-slash b e) refl (rw h) refl
+slash-opens b x s e false true h i j = opening {st = block} (begin-slash b e) refl (rw (h, i)) refl
+slash-opens b x s e false false h i j = absurd (true≢false (sym j))
+
+pub opens-is : (b : ℕ) (s : List ℕ) → opens (b ∷ s) ≡ true → Opens b s
+unfolding opens slashOrStar
+opens-is b s h = by s (isBlank b) refl (eqb b 47) refl h
+  where
+    by : (s : List ℕ) (p : Bool) → isBlank b ≡ p → (q : Bool) → eqb b 47 ≡ q → (p || (q && slashOrStar s)) ≡ true → Opens b s
+    by s true e q f i = blank (begin-blank b e)
+    by [] false e true f i = absurd (true≢false (sym i))
+    by (x ∷ s) false e true f i = slash-opens b x s (eqb-true b 47 f) (eqb x 47) (eqb x 42) refl refl i
+    by s false e false f i = absurd (true≢false (sym i))
