@@ -77,7 +77,7 @@ fn binary_node(k: u32) -> u32
 }
 
 // The end of a call: s stands behind the receiver, at the dot; m is the next node, and next the row behind the call.
-fn call_end(nodes: &mut [u32], s: At, m: usize, count: usize, next: usize) -> Got
+fn call_end(nodes: &mut [u32], s: At, m: usize, count: u32, next: usize) -> Got
     requires { ⌜ (s .place ≤ 65536) × ((s .row ≤ 65536) × ((m ≤ 65537) × (count ≤ 65536))) ⌝ }
     ensures { λ r. ⌜ CallEnd (s .variable) s m count next (now (nodes .entry)) (now (nodes .exit)) r ⌝ }
 {

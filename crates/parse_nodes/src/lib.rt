@@ -19,7 +19,7 @@ pub struct At {
     pub node: usize,
     pub place: usize,
     pub variable: bool,
-    pub things: usize,
+    pub things: u32,
 }
 
 // What was read, or why not and the row where.
@@ -104,8 +104,8 @@ pub fn store(nodes: &mut [u32], n: usize, w: Words)
 }
 
 // Node n with no facts; `name` is a row, or MISSING.
-pub fn close(nodes: &mut [u32], n: usize, kind: u32, place: usize, name: u32, children: usize)
-    requires { ⌜ (n ≤ 65537) × ((place ≤ 65537) × (children ≤ 65537)) ⌝ }
+pub fn close(nodes: &mut [u32], n: usize, kind: u32, place: usize, name: u32, children: u32)
+    requires { ⌜ (n ≤ 65537) × (place ≤ 65537) ⌝ }
     ensures { λ _. ⌜ now (nodes .exit) ≡ sets (now (nodes .entry)) (8 * n) (nodeWords (node kind place name children)) ⌝ }
 {
     store(
@@ -115,7 +115,7 @@ pub fn close(nodes: &mut [u32], n: usize, kind: u32, place: usize, name: u32, ch
             kind,
             place: place as u32,
             name,
-            children: children as u32,
+            children,
             fact0: 0,
             fact1: 0,
             fact2: 0,
@@ -125,8 +125,8 @@ pub fn close(nodes: &mut [u32], n: usize, kind: u32, place: usize, name: u32, ch
 }
 
 // The state behind a nameless node that is written at t, over what was read up to t.
-pub fn shut(nodes: &mut [u32], t: At, kind: u32, place: usize, children: usize) -> At
-    requires { ⌜ (t .node ≤ 65537) × ((place ≤ 65537) × (children ≤ 65537)) ⌝ }
+pub fn shut(nodes: &mut [u32], t: At, kind: u32, place: usize, children: u32) -> At
+    requires { ⌜ (t .node ≤ 65537) × (place ≤ 65537) ⌝ }
     ensures { λ r. ⌜ (r ≡ stateAt (t .row) (t .node + 1) place) × (now (nodes .exit) ≡ sets (now (nodes .entry)) (8 * t .node) (nodeWords (node kind place missing children))) ⌝ }
 {
     let n = t.node;
@@ -141,8 +141,8 @@ pub fn shut(nodes: &mut [u32], t: At, kind: u32, place: usize, children: usize) 
 }
 
 // The state behind a nameless node over what was read up to t, and behind the row that ends it.
-pub fn ended(nodes: &mut [u32], t: At, kind: u32, place: usize, children: usize) -> At
-    requires { ⌜ (t .node ≤ 65537) × ((place ≤ 65537) × ((children ≤ 65537) × (t .row ≤ 65537))) ⌝ }
+pub fn ended(nodes: &mut [u32], t: At, kind: u32, place: usize, children: u32) -> At
+    requires { ⌜ (t .node ≤ 65537) × ((place ≤ 65537) × (t .row ≤ 65537)) ⌝ }
     ensures { λ r. ⌜ (r ≡ stateAt (t .row + 1) (t .node + 1) place) × (now (nodes .exit) ≡ sets (now (nodes .entry)) (8 * t .node) (nodeWords (node kind place missing children))) ⌝ }
 {
     let s = shut(nodes, t, kind, place, children);
@@ -199,7 +199,7 @@ pub fn number(nodes: &mut [u32], row: usize, n: usize, low: u32, high: u32) -> A
 }
 
 // The state t as one behind a list of so many things, with another place.
-pub fn counted(t: At, place: usize, things: usize) -> At
+pub fn counted(t: At, place: usize, things: u32) -> At
     ensures { λ r. ⌜ r ≡ listAt (t .row) (t .node) place things ⌝ }
 {
     At {

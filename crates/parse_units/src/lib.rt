@@ -215,7 +215,7 @@ fn kind_or_unknown(kind: u32) -> u32
 
 // The node of the unit whose word is at a row, over its contents, and the state behind it.
 fn unit_node(nodes: &mut [u32], row: usize, u: Contents) -> At
-    requires { ⌜ (row < 65537) × ((u .at .row ≤ 65537) × ((u .at .node ≤ 65537) × (u .at .things ≤ 65537))) ⌝ }
+    requires { ⌜ (row < 65537) × ((u .at .row ≤ 65537) × (u .at .node ≤ 65537)) ⌝ }
     ensures { λ r. ⌜ (r ≡ stateAt (u .at .row + 1) (u .at .node + 1) row) × (now (nodes .exit) ≡ sets (now (nodes .entry)) (8 * u .at .node) (nodeWords (factNode 25 row (row + 1) (u .at .things) (cond (eqb (u .kind) unset) 10 (u .kind)) (u .licence) 0 0))) ⌝ }
 {
     let here = u.at;
@@ -227,7 +227,7 @@ fn unit_node(nodes: &mut [u32], row: usize, u: Contents) -> At
             kind: 25,
             place: row as u32,
             name: (row + 1) as u32,
-            children: here.things as u32,
+            children: here.things,
             fact0: kind_or_unknown(u.kind),
             fact1: u.licence,
             fact2: 0,

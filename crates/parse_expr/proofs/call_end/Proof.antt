@@ -16,8 +16,8 @@ add-close c = search needs
 close-requires : tie.Need-close-requires
 close-requires c κs = search needs
 
-add-t12 : tie.Need-add-t12
-add-t12 c = search needs
+add-t13 : tie.Need-add-t13
+add-t13 c = search needs
 
 same-length : tie.Need-same-length
 same-length c = search needs
@@ -26,8 +26,8 @@ returns : tie.Need-returns
 returns c =
     rw (c .before .before .before .before .before .if1 .taken) (refl, c .before .before .close .ensures)
 
-add-t15 : tie.Need-add-t15
-add-t15 c = search needs
+add-t16 : tie.Need-add-t16
+add-t16 c = search needs
 
 returns-2 : tie.Need-returns-2
 returns-2 c =
@@ -35,4 +35,4 @@ returns-2 c =
 
 pub call-end-spec : {M : Type 1} → statement M
 call-end-spec =
-    tie.close (tie.spec add-name cast-close add-close close-requires add-t12 same-length returns add-t15 returns-2)
+    tie.close (tie.spec add-name cast-close add-close close-requires add-t13 same-length returns add-t16 returns-2)

@@ -13,9 +13,6 @@ add-t10 c = search needs
 cast-t11 : tie.Need-cast-t11
 cast-t11 c = search needs
 
-cast-t12 : tie.Need-cast-t12
-cast-t12 c = search needs
-
 kind-or-unknown-requires : tie.Need-kind-or-unknown-requires
 kind-or-unknown-requires c κs = search needs
 
@@ -25,8 +22,8 @@ store-requires c κs = search needs
 add-t10-2 : tie.Need-add-t10-2
 add-t10-2 c = search needs
 
-add-t15 : tie.Need-add-t15
-add-t15 c = search needs
+add-t14 : tie.Need-add-t14
+add-t14 c = search needs
 
 same-length : tie.Need-same-length
 same-length c = search needs
@@ -41,10 +38,9 @@ unit-node-spec =
     cast-t9
     add-t10
     cast-t11
-    cast-t12
     kind-or-unknown-requires
     store-requires
     add-t10-2
-    add-t15
+    add-t14
     same-length
     returns)
