@@ -300,23 +300,47 @@ fn document_edges() -> Vec<EdgeCase> {
 /// Points of DECISIONS.
 fn scan_readings() -> Vec<EdgeCase> {
     vec![
-        case("DECISIONS, line and column of Eof", "unit", unwanted(4, 48, 52)),
-        case("DECISIONS, a backslash before a newline", "\"\\\n\"", unscanned(14, 1)),
-        case("DECISIONS, a backslash before a newline", "\"a\\", unscanned(13, 3)),
+        case(
+            "DECISIONS, line and column of Eof",
+            "unit",
+            unwanted(4, 48, 52),
+        ),
+        case(
+            "DECISIONS, a backslash before a newline",
+            "\"\\\n\"",
+            unscanned(14, 1),
+        ),
+        case(
+            "DECISIONS, a backslash before a newline",
+            "\"a\\",
+            unscanned(13, 3),
+        ),
         case("LANGUAGE, 13", "\"a\n\"", unscanned(13, 2)),
         case(
             "DECISIONS, other bytes in strings",
             "\"\t\0\r\x7f\"",
             Rows(vec![[49, 0, 6, 1, 1, 0], [52, 6, 6, 1, 7, 0]]),
         ),
-        case("DECISIONS, what ends a line", "\r\n\x0b@", Ending(vec![], [11, 3, 2, 2])),
-        case("DECISIONS, a sign next to a comment", "*/*", Ending(vec![43], [12, 3, 1, 4])),
+        case(
+            "DECISIONS, what ends a line",
+            "\r\n\x0b@",
+            Ending(vec![], [11, 3, 2, 2]),
+        ),
+        case(
+            "DECISIONS, a sign next to a comment",
+            "*/*",
+            Ending(vec![43], [12, 3, 1, 4]),
+        ),
         case(
             "DECISIONS, a sign next to a comment",
             "*//x",
             Rows(vec![[43, 0, 1, 1, 1, 0], [52, 4, 4, 1, 5, 0]]),
         ),
-        case("DECISIONS, a sign next to a comment", "a<=b", Ending(vec![48], [11, 1, 1, 2])),
+        case(
+            "DECISIONS, a sign next to a comment",
+            "a<=b",
+            Ending(vec![48], [11, 1, 1, 2]),
+        ),
         case(
             "DECISIONS, where numbers end",
             "12ab",
@@ -364,7 +388,11 @@ fn scan_readings() -> Vec<EdgeCase> {
             format!("{}1", "0".repeat(30)),
             Rows(vec![[50, 0, 31, 1, 1, 1], [52, 31, 31, 1, 32, 0]]),
         ),
-        case("DECISIONS, the largest number", "-0x8000000000000000", unscanned(15, 0)),
+        case(
+            "DECISIONS, the largest number",
+            "-0x8000000000000000",
+            unscanned(15, 0),
+        ),
         case("DECISIONS, 1", " ".repeat(65_537), NotCompared(1)),
         case("DECISIONS, 2", [0x80], NotCompared(2)),
     ]
@@ -405,9 +433,21 @@ fn wanted_readings() -> Vec<EdgeCase> {
         case(from, "map m{type:hash;", unwanted(11, 30, 48)),
         case(from, "map m{max:a;", unwanted(10, 50, 48)),
         case("DECISIONS, what is not closed", "map m{", refused(23, 6)),
-        case("DECISIONS, what is not closed", "unit u{", unwanted(7, 48, 52)),
-        case("DECISIONS, what is not closed", "event e{", unwanted(8, 48, 52)),
-        case("DECISIONS, what is not closed", "unit u{if guard(a){", unwanted(19, 48, 52)),
+        case(
+            "DECISIONS, what is not closed",
+            "unit u{",
+            unwanted(7, 48, 52),
+        ),
+        case(
+            "DECISIONS, what is not closed",
+            "event e{",
+            unwanted(8, 48, 52),
+        ),
+        case(
+            "DECISIONS, what is not closed",
+            "unit u{if guard(a){",
+            unwanted(19, 48, 52),
+        ),
     ]
 }
 
@@ -421,9 +461,17 @@ fn map_readings() -> Vec<EdgeCase> {
         case("DECISIONS, 25", "map m{key:", refused(25, 10)),
         case("DECISIONS, 25", "map m{key:bytes;}", refused(25, 15)),
         case("DECISIONS, 26, 27, 28", ringbuf("-1<<64"), refused(28, 28)),
-        case("DECISIONS, 26, 27, 28", "map m{max:1<<64 q", refused(28, 13)),
+        case(
+            "DECISIONS, 26, 27, 28",
+            "map m{max:1<<64 q",
+            refused(28, 13),
+        ),
         case("DECISIONS, 26, 27, 28", "map m{max:-1}", refused(26, 12)),
-        case("DECISIONS, 26, 27, 28", "map m{max:4294967296}", NotComparable(27)),
+        case(
+            "DECISIONS, 26, 27, 28",
+            "map m{max:4294967296}",
+            NotComparable(27),
+        ),
         case(
             "DECISIONS, 26, 27, 28",
             ringbuf("1<<40>>40"),
@@ -434,16 +482,32 @@ fn map_readings() -> Vec<EdgeCase> {
             ringbuf("1<<63<<1"),
             nodes(&[&[28, 1, 1, 0, 3, 0, 0, 0]]),
         ),
-        case("DECISIONS, 26, 27, 28", ringbuf("1<<63>>63"), refused(26, 33)),
-        case("DECISIONS, 26, 27, 28", ringbuf("4294967296>>0"), NotComparable(27)),
-        case("DECISIONS, a field that a later one replaces", "map m{max:-1;max:1;}", refused(26, 12)),
+        case(
+            "DECISIONS, 26, 27, 28",
+            ringbuf("1<<63>>63"),
+            refused(26, 33),
+        ),
+        case(
+            "DECISIONS, 26, 27, 28",
+            ringbuf("4294967296>>0"),
+            NotComparable(27),
+        ),
+        case(
+            "DECISIONS, a field that a later one replaces",
+            "map m{max:-1;max:1;}",
+            refused(26, 12),
+        ),
         case("DECISIONS, 29", "map m{}", lacking(1, 7)),
         case(
             "DECISIONS, 29",
             "map m{type:.hash;}\nunit u{}",
             Refused([29, 19, 2, 1, 2, 0]),
         ),
-        case("DECISIONS, 29", "map m{type:.hash;key:u32;}", lacking(3, 26)),
+        case(
+            "DECISIONS, 29",
+            "map m{type:.hash;key:u32;}",
+            lacking(3, 26),
+        ),
         case(
             "DECISIONS, 29",
             "map m{type:.hash;key:u32;value:u32;}",
@@ -461,7 +525,11 @@ fn map_readings() -> Vec<EdgeCase> {
 /// Points of DECISIONS: events.
 fn event_readings() -> Vec<EdgeCase> {
     vec![
-        case("DECISIONS, 27 for lengths", "event e{a:u32[-1;", NotComparable(27)),
+        case(
+            "DECISIONS, 27 for lengths",
+            "event e{a:u32[-1;",
+            NotComparable(27),
+        ),
         case("DECISIONS, 30", "event e{a:", refused(30, 10)),
         case("DECISIONS, 30", "event e{a:q;}", refused(30, 10)),
         case("DECISIONS, 30", "event e{a:bytes;}", unwanted(15, 33, 32)),
@@ -507,9 +575,17 @@ fn nesting_readings() -> Vec<EdgeCase> {
         case("DECISIONS, 32", nested(&full, "z.w(1)"), NotComparable(32)),
         case("DECISIONS, 32", opened(&full) + "(", NotComparable(32)),
         case("DECISIONS, 32", opened(&full) + "*", NotComparable(32)),
-        case("DECISIONS, 32", nested(&full, "a.b.c(1)"), NotComparable(32)),
+        case(
+            "DECISIONS, 32",
+            nested(&full, "a.b.c(1)"),
+            NotComparable(32),
+        ),
         case("DECISIONS, 32", nested(&full, "a.b.c()"), refused(31, 75)),
-        case("DECISIONS, what nesting counts", nested(&bodies, ""), Accepted),
+        case(
+            "DECISIONS, what nesting counts",
+            nested(&bodies, ""),
+            Accepted,
+        ),
         case(
             "DECISIONS, what nesting counts",
             nested(&bodies, "if guard(a){}"),
@@ -520,8 +596,16 @@ fn nesting_readings() -> Vec<EdgeCase> {
             nested(&bodies, "if guard(1"),
             unwanted(behind_bodies + 9, 48, 50),
         ),
-        case("DECISIONS, what nesting counts", nested(&stars, "*a.f(x)"), Accepted),
-        case("DECISIONS, what nesting counts", nested(&stars, "**a.f(x)"), NotComparable(32)),
+        case(
+            "DECISIONS, what nesting counts",
+            nested(&stars, "*a.f(x)"),
+            Accepted,
+        ),
+        case(
+            "DECISIONS, what nesting counts",
+            nested(&stars, "**a.f(x)"),
+            NotComparable(32),
+        ),
     ]
 }
 
@@ -639,8 +723,16 @@ fn node_readings() -> Vec<EdgeCase> {
             unit(r#"section "tc\"";"#),
             nodes(&[&[25, 0, 1, 1, 1, m]]),
         ),
-        case("DECISIONS, signs that no statement takes", unit("1=2;"), Accepted),
-        case("DECISIONS, signs that no statement takes", unit("a*=2;"), unwanted(8, 32, 38)),
+        case(
+            "DECISIONS, signs that no statement takes",
+            unit("1=2;"),
+            Accepted,
+        ),
+        case(
+            "DECISIONS, signs that no statement takes",
+            unit("a*=2;"),
+            unwanted(8, 32, 38),
+        ),
         case(
             "LANGUAGE, licence",
             unit("license \"MIT\";section \"xdp\";license \"GPL\";"),

@@ -13,6 +13,8 @@ pub use original::{ast, ir, lexer, parser};
 
 pub mod agree;
 pub mod answer;
+#[cfg(feature = "library")]
+pub mod bench;
 pub mod deep;
 pub mod differences;
 pub mod edge_cases;

@@ -79,7 +79,10 @@ fn print_method_sets() -> usize {
         .zip(METHOD_SETS)
         .map(|(kind, expected)| {
             let mask = mask_of(kind);
-            println!("DECISIONS, membership: kind {} has methods {mask:04X}", kind as u32);
+            println!(
+                "DECISIONS, membership: kind {} has methods {mask:04X}",
+                kind as u32
+            );
             verdict(mask == expected)
         })
         .sum()

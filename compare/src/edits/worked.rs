@@ -127,7 +127,13 @@ pub const WORKED: [Worked; 14] = [
     },
     Worked {
         room: 0,
-        ..reading("DECISIONS, 7 before 4", b"", (0, 0), b"/", &[(0, 7), (1, 4)])
+        ..reading(
+            "DECISIONS, 7 before 4",
+            b"",
+            (0, 0),
+            b"/",
+            &[(0, 7), (1, 4)],
+        )
     },
     Worked {
         room: 1,
