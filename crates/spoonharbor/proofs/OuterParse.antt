@@ -13,10 +13,10 @@ use Rattle.rules.specs.declared.Outer.the-variants.{NotWellFormed}
 use Rattle.rules.specs.declared.Judged.the-variants as verdict
 use Rattle.rules.specs.declared.Parsed.{Parsed}
 use Rattle.rules.specs.declared.Told.{Told}
-use Rattle.rules.specs.declared.Told.the-variants as of-scan
+use Rattle.rules.specs.declared.Told.the-variants as told
 use Rattle.rules.specs.Text.{mostBytes, valid, startPlace}
 use Rattle.rules.specs.Refusals.{outerNumber}
-use Rattle.rules.specs.Scan.{told, roomOf, scanTold}
+use Rattle.rules.specs.Scan.{roomOf, scanTold}
 use Rattle.rules.specs.Calls.{judged, nodeRoom, parseTold, parseLeaves}
 use Rattle.theory_edits.specs.Scanned as scanned
 use Rattle.theory_edits.specs.Change.{Change, newText}
@@ -24,6 +24,8 @@ use Rattle.theory_edits.proofs.WellFormed.{scan-scanned}
 use Rattle.theory_calls.specs.Demand2.{rowsOf, Readable, Lent, Refused, Answer, too-long, bad-byte, ends-refused, few-nodes, accepted, no-program}
 use Rattle.theory_calls.proofs.Demand2.{demand-2}
 use Rattle.theory_calls.proofs.Answers.{scan-rows, scan-few-rows}
+use Rattle.scan.proofs.scan.Kinds as of-scan
+use Rattle.scan.proofs.scan.Reads.{Post as ScanPost}
 use Rattle.parse.proofs.parse.Kinds as of-parse
 use Rattle.parse.proofs.parse.Reads.{Post as ParsePost}
 use Rattle.spoonharbor.proofs.spoonharbor_parse.Kinds as of-outer-parse
@@ -77,8 +79,8 @@ module _ (t lent ws table new : List ℕ) (g : OuterLent t lent ws table) where
     -- its rows
     has-rows : length (rowsOf t) ≤ roomOf lent → Answers
     has-rows h =
-        let e : scanTold t (roomOf lent) ≡ of-scan.Rows (scanned.tableOf t) = scan-rows t (roomOf lent) k h in
-        let f : table ≡ toldWords (of-scan.Rows (scanned.tableOf t)) = g .told ∙ ap (λ (x : Told). toldWords x) e in
+        let e : scanTold t (roomOf lent) ≡ told.Rows (scanned.tableOf t) = scan-rows t (roomOf lent) k h in
+        let f : table ≡ toldWords (told.Rows (scanned.tableOf t)) = g .told ∙ ap (λ (x : Told). toldWords x) e in
         let a : Lent t ws (scanned.tableOf t) = record { scanned = λ _. rw (g .left) (scan-scanned t lent (scanned.tableOf t) e) } in
         rw (f, outer-parse-tells ws (scanned.tableOf t) t (nodeRoom new), outer-parse-leaves ws (scanned.tableOf t) t new)
         (in-words t lent new _ _ (λ _. h) (demand-2 t ws (scanned.tableOf t) new a))
@@ -122,6 +124,14 @@ module _ (κs : Lfts 3) (a : Dens κs of-parse.ps) (r : Parsed) (e : AtExit (end
       → Answer (a .0 .now) (a .1 .1 .1 .0 .now) r (e .1 .1 .1 .0 .now)
   parse-call p g = rw (p .0, p .1) (demand-2 (a .0 .now) (a .1 .0 .now) (a .1 .1 .0) (a .1 .1 .1 .0 .now) g)
 
+  -- So it does where the library's scan call was made before, of the same text, and the rows that it left and the table that it told are lent.
+  module _ (λs : Lfts 2) (b : Dens λs of-scan.ps) (q : Told) (f : AtExit (endedOf 2 of-scan.ps of-scan.r) λs) where
+    pub scan-then-parse : ScanPost λs b q f → ParsePost κs a r e
+        → a .0 .now ≡ b .0 .now → a .1 .0 .now ≡ f .1 .0 .now → q ≡ told.Rows (a .1 .1 .0)
+        → Answer (a .0 .now) (a .1 .1 .1 .0 .now) r (e .1 .1 .1 .0 .now)
+    scan-then-parse s p x y z =
+        parse-call p (record { scanned = λ k. rw (x, y, s .1) (scan-scanned (b .0 .now) (b .1 .0 .now) (a .1 .1 .0) (sym (s .0) ∙ z)) })
+
 -- The outer face's parse call answers as the theorem says, if it is lent what the outer face's scan leaves and tells.
 module _ (κs : Lfts 5) (a : Dens κs of-outer-parse.ps) (r : Unit {0}) (e : AtExit (endedOf 5 of-outer-parse.ps of-outer-parse.r) κs) where
   pub outer-parse-call : OuterParsePost κs a r e → (lent : List ℕ) → OuterLent (a .0 .now) lent (a .1 .0 .now) (a .1 .1 .0 .now)
@@ -130,7 +140,7 @@ module _ (κs : Lfts 5) (a : Dens κs of-outer-parse.ps) (r : Unit {0}) (e : AtE
 
   -- So it does where the outer face's scan call was made before, of the same text, and the rows and words that it left and gave are lent.
   module _ (λs : Lfts 3) (b : Dens λs of-outer-scan.ps) (q : Unit {0}) (f : AtExit (endedOf 3 of-outer-scan.ps of-outer-scan.r) λs) where
-    pub scan-then-parse : OuterScanPost λs b q f → OuterParsePost κs a r e
+    pub outer-scan-then-parse : OuterScanPost λs b q f → OuterParsePost κs a r e
         → a .0 .now ≡ b .0 .now → a .1 .0 .now ≡ f .1 .0 .now → a .1 .1 .0 .now ≡ f .1 .1 .0 .now
         → OuterAnswer (a .0 .now) (b .1 .0 .now) (a .1 .1 .1 .0 .now) (e .1 .1 .1 .1 .0 .now) (e .1 .1 .1 .0 .now)
-    scan-then-parse s p x y z = outer-parse-call p (b .1 .0 .now) (record { told = rw x (z ∙ s .0); left = rw x (y ∙ s .1) })
+    outer-scan-then-parse s p x y z = outer-parse-call p (b .1 .0 .now) (record { told = rw x (z ∙ s .0); left = rw x (y ∙ s .1) })
