@@ -468,7 +468,8 @@ module _ (ts ts′ : List Tok) (n : ℕ) (fit : n ≤ length ts) (fit′ : n ≤
     unfolding Parse.openBy lost isMisfit
     open-by true t w m q e f h =
         settle ts n (Parse.callBy ts g (eqb (kindAt ts (m + 1 + 1)) RParen) t w m (m + 1)) (Parse.callBy ts′ g′ (eqb (kindAt ts′ (m + 1 + 1)) RParen) t w m (m + 1))
-        (λ why r x. lost-as ts n (m + 1) (Parse.callBy ts′ g′ (eqb (kindAt ts′ (m + 1 + 1)) RParen) t w m (m + 1)) why CallOnOther r m (x .0) (x .1) (refl, refl, call-dead ts′ g′ t w m (x .2) (eqb (kindAt ts′ (m + 1 + 1)) RParen) (m + 1)))
+        (λ why r x. lost-as ts n (m + 1) (Parse.callBy ts′ g′ (eqb (kindAt ts′ (m + 1 + 1)) RParen) t w m (m + 1)) why CallOnOther r m (x .0) (x .1)
+        (refl, refl, call-dead ts′ g′ t w m (x .2) (eqb (kindAt ts′ (m + 1 + 1)) RParen) (m + 1)))
         (ease ts n (omega arith) (omega arith)
         (look (m + 1 + 1) q (λ x. eqb (kindOf x) RParen) (λ b. Parse.callBy ts g b t w m (m + 1)) (λ b. Parse.callBy ts′ g′ b t w m (m + 1))
         (λ b c. call-by b t w m (m + 1) q (omega (arith, list-row ts m e (eqb-true (kindAt ts (m + 1)) LParen f))) (omega arith))))
@@ -601,7 +602,9 @@ module _ (ts ts′ : List Tok) (n : ℕ) (fit : n ≤ length ts) (fit′ : n ≤
     unfolding isMisfit
     branch-none =
         settle ts n (Parse.stmtBy ts zero (Parse.body ts zero) branching i) (Parse.stmtBy ts′ zero (Parse.body ts′ zero) branching i)
-        (λ why r x. lost-as ts n i (Parse.stmtBy ts′ zero (Parse.body ts′ zero) branching i) why TooDeep r (i + 1 + 1 + 1 + 1 + 1) (x .0) (x .1) (brace-row ts i (x .2), refl, branch-dead ts′ i)) (branch-by zero (Parse.body ts zero) (Parse.body ts′ zero) i bodies-none)
+        (λ why r x. lost-as ts n i (Parse.stmtBy ts′ zero (Parse.body ts′ zero) branching i) why TooDeep r (i + 1 + 1 + 1 + 1 + 1) (x .0) (x .1)
+        (brace-row ts i (x .2), refl, branch-dead ts′ i))
+        (branch-by zero (Parse.body ts zero) (Parse.body ts′ zero) i bodies-none)
 
   -- statements, over their ifs
   module _ (d : ℕ) (p p′ : P)

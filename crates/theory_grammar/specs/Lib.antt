@@ -2,3 +2,4 @@
 pub mod Tokens
 pub mod Lost
 pub mod Order
+pub mod Loops
