@@ -20,10 +20,10 @@ use Rattle.rules.specs.Tree.{Tok, sign, name, string, value, kindOf, tokOf, Tre
 use Rattle.rules.specs.Parse.{ok, no, tokAt, kindAt}
 use Rattle.rules.specs.Calls.{tokens, reading}
 use Rattle.rules.specs.Grammar.{Program, Is}
-use Rattle.theory_grammar.specs.Spot.{isMisfit}
+use Rattle.theory_grammar.specs.Lost.{First}
 use Rattle.theory_grammar.specs.Tokens.{isProper, Proper, Whole}
 use Rattle.theory_grammar.proofs.Same.{accepts-exactly}
-use Rattle.theory_grammar.proofs.Place.{First, refused-first}
+use Rattle.theory_grammar.proofs.Place.{refused-first}
 
 -- ---- one row
 
@@ -123,7 +123,7 @@ module _ (t ws : List ℕ) (tbl : Table) (good : wellFormed ws tbl ≡ true) (fi
       subst (λ (n : ℕ). (reading t ws tbl ≡ ok p n) ↔ (Is true Program 64 p × (tokens t (rowsIn (tbl .count) ws) ≡ yield p))) (tokens-length t (tbl .count) ws)
       (accepts-exactly (tokens t (rowsIn (tbl .count) ws)) p table-whole)
 
-  -- The theorem: what is refused with 21, 22, 23, 25 or 30 is refused at the first row of the table with which no program goes on.
-  pub refuses-first : (why : Syntax) (r : ℕ) → reading t ws tbl ≡ no why r → isMisfit why ≡ true → First (tokens t (rowsIn (tbl .count) ws)) why r
+  -- The theorem: what is refused, with any of 21 to 32, is refused for the first row of the table with which no program goes on.
+  pub refuses-first : (why : Syntax) (r : ℕ) → reading t ws tbl ≡ no why r → First (tokens t (rowsIn (tbl .count) ws)) why r
   unfolding reading
-  refuses-first why r e m = refused-first (tokens t (rowsIn (tbl .count) ws)) why r (table-whole .proper) e m
+  refuses-first why r e = refused-first (tokens t (rowsIn (tbl .count) ws)) why r (table-whole .proper) e
