@@ -151,6 +151,22 @@ KeywordBytes = 51
 abbrev pub Eof : ℕ
 Eof = 52
 
+-- 16 to 20 are never made
+abbrev pub firstUnmade : ℕ
+firstUnmade = 16
+
+abbrev pub lastUnmade : ℕ
+lastUnmade = 20
+
+-- all of them, and then the bounds of those never made, as the code lists its own
+abbrev pub rowKinds : List ℕ
+rowKinds =
+    KeywordUnit ∷ KeywordSection ∷ KeywordLicense ∷ KeywordReturn ∷ KeywordReg ∷ KeywordImm ∷ KeywordMap ∷ KeywordType ∷ KeywordKey ∷ KeywordValue ∷
+    KeywordMax ∷ KeywordIf ∷ KeywordElse ∷ KeywordGuard ∷ KeywordHeap ∷ KeywordEvent ∷ TypeU32 ∷ TypeU64 ∷ TypeI32 ∷ TypeI64 ∷ LBrace ∷ RBrace ∷
+    LParen ∷ RParen ∷ Colon ∷ Dot ∷ Comma ∷ Semicolon ∷ LBracket ∷ RBracket ∷ Equals ∷ PlusEquals ∷ MinusEquals ∷ StarEquals ∷ SlashEquals ∷
+    PercentEquals ∷ Plus ∷ Minus ∷ Star ∷ Slash ∷ Percent ∷ Shr ∷ Shl ∷ Identifier ∷ StringLiteral ∷ Number ∷ KeywordBytes ∷ Eof ∷ firstUnmade ∷
+    lastUnmade ∷ []
+
 -- the kinds that are made
 unfoldable pub isMade : ℕ → Bool
 isMade k = leb k Eof && not (within 16 20 k)

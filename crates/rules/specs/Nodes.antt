@@ -17,8 +17,120 @@ pub record Node : Type 0 where
   pub fact2 : ℕ
   pub fact3 : ℕ
 
+abbrev pub wordsPerNode : ℕ
+wordsPerNode = 8
+
 abbrev pub missing : ℕ
 missing = 4294967295
+
+-- 1 variable, 2 number, 3 dereference, 4 to 10 add sub mul div mod shl shr, 11 call, 12 field, 13 expression, 14 assign, 15 add-assign, 16 reg,
+-- 17 imm, 18 heap, 19 return, 20 if, 21 then, 22 else, 23 section, 24 license, 25 unit, 26 event field, 27 event, 28 map, 29 program.
+abbrev pub NodeVariable : ℕ
+NodeVariable = 1
+
+abbrev pub NodeNumber : ℕ
+NodeNumber = 2
+
+abbrev pub NodeDereference : ℕ
+NodeDereference = 3
+
+abbrev pub NodeAdd : ℕ
+NodeAdd = 4
+
+abbrev pub NodeSub : ℕ
+NodeSub = 5
+
+abbrev pub NodeMul : ℕ
+NodeMul = 6
+
+abbrev pub NodeDiv : ℕ
+NodeDiv = 7
+
+abbrev pub NodeMod : ℕ
+NodeMod = 8
+
+abbrev pub NodeShl : ℕ
+NodeShl = 9
+
+abbrev pub NodeShr : ℕ
+NodeShr = 10
+
+abbrev pub NodeCall : ℕ
+NodeCall = 11
+
+abbrev pub NodeField : ℕ
+NodeField = 12
+
+abbrev pub NodeExpression : ℕ
+NodeExpression = 13
+
+abbrev pub NodeAssign : ℕ
+NodeAssign = 14
+
+abbrev pub NodeAddAssign : ℕ
+NodeAddAssign = 15
+
+abbrev pub NodeReg : ℕ
+NodeReg = 16
+
+abbrev pub NodeImm : ℕ
+NodeImm = 17
+
+abbrev pub NodeHeap : ℕ
+NodeHeap = 18
+
+abbrev pub NodeReturn : ℕ
+NodeReturn = 19
+
+abbrev pub NodeIf : ℕ
+NodeIf = 20
+
+abbrev pub NodeThen : ℕ
+NodeThen = 21
+
+abbrev pub NodeElse : ℕ
+NodeElse = 22
+
+abbrev pub NodeSection : ℕ
+NodeSection = 23
+
+abbrev pub NodeLicense : ℕ
+NodeLicense = 24
+
+abbrev pub NodeUnit : ℕ
+NodeUnit = 25
+
+abbrev pub NodeEventField : ℕ
+NodeEventField = 26
+
+abbrev pub NodeEvent : ℕ
+NodeEvent = 27
+
+abbrev pub NodeMap : ℕ
+NodeMap = 28
+
+abbrev pub NodeProgram : ℕ
+NodeProgram = 29
+
+abbrev pub nodeKinds : List ℕ
+nodeKinds =
+    NodeVariable ∷ NodeNumber ∷ NodeDereference ∷ NodeAdd ∷ NodeSub ∷ NodeMul ∷ NodeDiv ∷ NodeMod ∷ NodeShl ∷ NodeShr ∷ NodeCall ∷ NodeField ∷
+    NodeExpression ∷ NodeAssign ∷ NodeAddAssign ∷ NodeReg ∷ NodeImm ∷ NodeHeap ∷ NodeReturn ∷ NodeIf ∷ NodeThen ∷ NodeElse ∷ NodeSection ∷
+    NodeLicense ∷ NodeUnit ∷ NodeEventField ∷ NodeEvent ∷ NodeMap ∷ NodeProgram ∷ []
+
+-- an event field's form: 1 plain, 2 bytes, 3 array
+abbrev pub FormPlain : ℕ
+FormPlain = 1
+
+abbrev pub FormBytes : ℕ
+FormBytes = 2
+
+abbrev pub FormArray : ℕ
+FormArray = 3
+
+abbrev pub eventForms : List ℕ
+eventForms =
+    FormPlain ∷ FormBytes ∷ FormArray ∷ []
 
 -- Unused facts are zero.
 abbrev pub node : ℕ → ℕ → ℕ → ℕ → Node

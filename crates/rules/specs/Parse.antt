@@ -97,6 +97,14 @@ topLead k = cond (eqb k KeywordMap) mapLead (cond (eqb k KeywordUnit) unitLead (
 abbrev pub most32 : ℕ
 most32 = 4294967295
 
+-- how many constructs may be open
+abbrev pub mostOpen : ℕ
+mostOpen = 64
+
+-- the largest shift count
+abbrev pub mostShift : ℕ
+mostShift = 63
+
 -- what can stand behind an opening row: an operand behind a star, an expression behind a parenthesis or a comma
 pub data Sort : Type 0 where
   operand whole : Sort

@@ -12,6 +12,9 @@ use Rattle.rules.specs.Text.{mostBytes, place}
 use Rattle.rules.specs.Kinds.{Identifier, StringLiteral, Number, Eof, isMade, signs, reserved, lengthIn}
 
 -- A row is eight u32 words.
+abbrev pub wordsPerRow : ℕ
+wordsPerRow = 8
+
 pub record Row : Type 0 where
   pub kind : ℕ
   pub start : ℕ

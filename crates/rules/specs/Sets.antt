@@ -6,8 +6,44 @@ use lib.ListN.{length, take, getD}
 use lib.Dec.{eqb}
 use Rattle.rules.specs.Kinds.{sameBytes}
 
--- The kinds of programs in source order: Xdp 0, Tc 1, Socket 2, Cgroup 3, Kprobe 4, Tracepoint 5, RawTracepoint 6, Fentry 7,
--- Fexit 8, Lsm 9, Unknown 10.
+-- The kinds of programs in source order.
+abbrev pub Xdp : ℕ
+Xdp = 0
+
+abbrev pub Tc : ℕ
+Tc = 1
+
+abbrev pub Socket : ℕ
+Socket = 2
+
+abbrev pub Cgroup : ℕ
+Cgroup = 3
+
+abbrev pub Kprobe : ℕ
+Kprobe = 4
+
+abbrev pub Tracepoint : ℕ
+Tracepoint = 5
+
+abbrev pub RawTracepoint : ℕ
+RawTracepoint = 6
+
+abbrev pub Fentry : ℕ
+Fentry = 7
+
+abbrev pub Fexit : ℕ
+Fexit = 8
+
+abbrev pub Lsm : ℕ
+Lsm = 9
+
+abbrev pub Unknown : ℕ
+Unknown = 10
+
+abbrev pub programKinds : List ℕ
+programKinds =
+    Xdp ∷ Tc ∷ Socket ∷ Cgroup ∷ Kprobe ∷ Tracepoint ∷ RawTracepoint ∷ Fentry ∷ Fexit ∷ Lsm ∷ Unknown ∷ []
+
 pub record Section : Type 0 where
   pub whole : Bool
   pub spelling : List ℕ
@@ -42,7 +78,55 @@ kindOfSection (e ∷ es) w = elim (fits e w) [ true ↦ e .kind | false ↦ kind
 unfoldable pub fromSection : List ℕ → ℕ
 fromSection w = kindOfSection sections w
 
--- The methods in source order: LoadU8 0, LoadU16 1, LoadU32 2, LoadU64 3, LoadI8 4, LoadI16 5, LoadI32 6, LoadI64 7, LoadBytes 8, GetPidTgid 9, GetUidGid 10, GetCurrentComm 11, GetCurrentTask 12, GetKtimeNs 13, ProbeReadUserStr 14, ProbeReadKernelStr 15.
+-- The methods in source order.
+abbrev pub LoadU8 : ℕ
+LoadU8 = 0
+
+abbrev pub LoadU16 : ℕ
+LoadU16 = 1
+
+abbrev pub LoadU32 : ℕ
+LoadU32 = 2
+
+abbrev pub LoadU64 : ℕ
+LoadU64 = 3
+
+abbrev pub LoadI8 : ℕ
+LoadI8 = 4
+
+abbrev pub LoadI16 : ℕ
+LoadI16 = 5
+
+abbrev pub LoadI32 : ℕ
+LoadI32 = 6
+
+abbrev pub LoadI64 : ℕ
+LoadI64 = 7
+
+abbrev pub LoadBytes : ℕ
+LoadBytes = 8
+
+abbrev pub GetPidTgid : ℕ
+GetPidTgid = 9
+
+abbrev pub GetUidGid : ℕ
+GetUidGid = 10
+
+abbrev pub GetCurrentComm : ℕ
+GetCurrentComm = 11
+
+abbrev pub GetCurrentTask : ℕ
+GetCurrentTask = 12
+
+abbrev pub GetKtimeNs : ℕ
+GetKtimeNs = 13
+
+abbrev pub ProbeReadUserStr : ℕ
+ProbeReadUserStr = 14
+
+abbrev pub ProbeReadKernelStr : ℕ
+ProbeReadKernelStr = 15
+
 -- The methods that each kind allows, as the source lists them: Xdp first, Unknown last.
 unfoldable pub allowed : List (List ℕ)
 allowed =

@@ -233,7 +233,26 @@ unitKind l = kindOfFirst (sectionsOf l)
 
 -- ---- maps: fields repeat freely, the last holds
 
--- the types in source order: hash 1, array 2, ringbuf 3, lru_hash 4, prog_array 5
+-- the types in source order
+abbrev pub MapHash : ℕ
+MapHash = 1
+
+abbrev pub MapArray : ℕ
+MapArray = 2
+
+abbrev pub MapRingbuf : ℕ
+MapRingbuf = 3
+
+abbrev pub MapLruHash : ℕ
+MapLruHash = 4
+
+abbrev pub MapProgArray : ℕ
+MapProgArray = 5
+
+abbrev pub mapTypeNumbers : List ℕ
+mapTypeNumbers =
+    MapHash ∷ MapArray ∷ MapRingbuf ∷ MapLruHash ∷ MapProgArray ∷ []
+
 unfoldable pub mapTypes : List Spelt
 mapTypes =
     record { spelling = 104 ∷ 97 ∷ 115 ∷ 104 ∷ []; kind = 1 }
@@ -396,6 +415,23 @@ limitOf (bytesField w v) = 0
 limitOf (arrayField w t v) = 0
 limitOf (event w l) = 0
 limitOf (program l) = 0
+
+-- the fields that a map may lack
+abbrev pub FieldType : ℕ
+FieldType = 1
+
+abbrev pub FieldKey : ℕ
+FieldKey = 2
+
+abbrev pub FieldValue : ℕ
+FieldValue = 3
+
+abbrev pub FieldMax : ℕ
+FieldMax = 4
+
+abbrev pub mapFieldNumbers : List ℕ
+mapFieldNumbers =
+    FieldType ∷ FieldKey ∷ FieldValue ∷ FieldMax ∷ []
 
 -- After `}`: type is required, then key, value, max in that order (ringbuf: max only). The field that lacks, 1 to 4, or 0.
 unfoldable pub lacking : (type key val lim : ℕ) → ℕ

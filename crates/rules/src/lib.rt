@@ -1,4 +1,11 @@
-// The plain data that the definitions and the code share: places, refusals, endings, tables and answers.
+// The plain data that the definitions and the code share: places, refusals, endings, tables and answers, and the names of numbers.
+pub mod fact;
+pub mod kind;
+pub mod limit;
+pub mod node;
+pub mod node_kind;
+pub mod row;
+
 ghost use mathlib.Core.Path.{_≡_};
 ghost use Rattle.rules.specs.Text.{startPlace, moved, along, Roomy};
 
