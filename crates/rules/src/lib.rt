@@ -41,7 +41,7 @@ impl Cursor {
         ensures { λ r. ⌜ r ≡ moved self byte ⌝ }
     {
         let offset = Offset(self.offset.0 + 1);
-        if byte == 10 {
+        if byte == b'\n' {
             return Cursor {
                 offset,
                 line: Line(self.line.0 + 1),
