@@ -13,6 +13,13 @@ use rules::Parsed;
 use rules::Reason;
 use rules::Syntax;
 use rules::Table;
+use rules::kind::EOF;
+use rules::kind::EVENT;
+use rules::kind::MAP;
+use rules::kind::UNIT;
+use rules::node;
+use rules::node_kind;
+use rules::row;
 ghost use mathlib.Core.Path.{_≡_};
 ghost use Prim.Native.Nat.{_+_, _*_, _≤_};
 ghost use lib.ListN.{length};
@@ -23,14 +30,6 @@ ghost use Rattle.rules.specs.declared.Reason.the-variants as reason;
 ghost use Rattle.parse_nodes.specs.Post.{AsksOpen};
 ghost use Rattle.parse_nodes.specs.Names.{Spans};
 ghost use Rattle.parse.specs.Program.{TopMet, ProgramMet, AsksTable, AsksWhole, readingOf, Final};
-
-const UNIT: u32 = 0;
-
-const MAP: u32 = 6;
-
-const EVENT: u32 = 15;
-
-const EOF: u32 = 52;
 
 // A map, an event or a unit at the row.
 fn top(text: &[u8], rows: &[u32], count: usize, nodes: &mut [u32], row: usize, node: usize) -> Got
@@ -64,7 +63,7 @@ fn program(text: &[u8], rows: &[u32], count: usize, nodes: &mut [u32]) -> Got
     loop {
         let at = s.row;
         if parse_nodes::kind_at(rows, count, at) == EOF {
-            return Got::Done(parse_nodes::ended(nodes, s, 29, at, s.tag));
+            return Got::Done(parse_nodes::ended(nodes, s, node_kind::PROGRAM, at, s.tag));
         }
         match top(text, rows, count, nodes, at, s.node) {
             Got::Done(t) => {
@@ -82,11 +81,11 @@ fn place_of(rows: &[u32], row: usize) -> Cursor
     requires { ⌜ row * 8 + 8 ≤ length (now rows) ⌝ }
     ensures { λ r. ⌜ r ≡ placeOfRow (now (rows .entry)) row ⌝ }
 {
-    let at = row * 8;
+    let at = row * row::WORDS;
     Cursor {
-        offset: Offset(rows[at + 1]),
-        line: Line(rows[at + 3]),
-        column: Column(rows[at + 4]),
+        offset: Offset(rows[at + row::START]),
+        line: Line(rows[at + row::LINE]),
+        column: Column(rows[at + row::COLUMN]),
     }
 }
 
@@ -129,7 +128,7 @@ pub fn parse(text: &[u8], rows: &[u32], table: Table, nodes: &mut [u32]) -> Pars
         Ending::None => {}
     }
     let count = table.count as usize;
-    if nodes.len() / 8 < count {
+    if nodes.len() / node::WORDS < count {
         return outer(Outer::NoNodeRoom);
     }
     twice(text, rows, count, nodes)

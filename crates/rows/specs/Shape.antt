@@ -6,8 +6,9 @@ use Prim.Native.Nat.{ℕ, zero, suc, _-_, _*_, _≤_}
 use lib.ListN.{drop, getD}
 use lib.Dec.{eqb, leb}
 use Rattle.rules.specs.declared.Cursor.{Cursor}
+use Rattle.rules.specs.Kinds.{Identifier, Number, Eof}
 use Rattle.rules.specs.Rows
-use Rattle.rules.specs.Rows.{rowIn, rowPlace, lengthFits, rowFits, follows, linesFit, placeFits, isEof}
+use Rattle.rules.specs.Rows.{wordsPerRow, rowIn, rowPlace, lengthFits, rowFits, follows, linesFit, placeFits, isEof}
 use Rattle.rows.specs.declared.shape.Row.{Row}
 
 abbrev pub asRow : Row → Rows.Row
@@ -24,12 +25,12 @@ asRow r = record {
 
 -- each kind's entry says how long its spelling is: so long or longer for identifiers, strings and numbers, just so long for the others
 pub record LengthTable (ls : List ℕ) : Type 0 where
-  pub least : (k n : ℕ) → 48 ≤ k → k ≤ 50 → leb (getD ls k 0) n ≡ lengthFits k n
-  pub own : (k n : ℕ) → k ≤ 52 → (48 ≤ k → k ≤ 50 → ⊥) → eqb n (getD ls k 0) ≡ lengthFits k n
+  pub least : (k n : ℕ) → Identifier ≤ k → k ≤ Number → leb (getD ls k 0) n ≡ lengthFits k n
+  pub own : (k n : ℕ) → k ≤ Eof → (Identifier ≤ k → k ≤ Number → ⊥) → eqb n (getD ls k 0) ≡ lengthFits k n
 
 -- row i of a list of words
 abbrev pub rowNo : List ℕ → ℕ → Rows.Row
-rowNo ws i = rowIn (drop (8 * i) ws)
+rowNo ws i = rowIn (drop (wordsPerRow * i) ws)
 
 -- a place stands behind a row
 unfoldable pub behind : Rows.Row → Cursor → Bool
