@@ -58,16 +58,17 @@ fn program(text: &[u8], rows: &[u32], count: usize, nodes: &mut [u32]) -> Got
         row: 0,
         node: 0,
         place: 0,
-        tag: 0,
+        variable: false,
+        things: 0,
     };
     loop {
         let at = s.row;
         if parse_nodes::kind_at(rows, count, at) == EOF {
-            return Got::Done(parse_nodes::ended(nodes, s, node_kind::PROGRAM, at, s.tag));
+            return Got::Done(parse_nodes::ended(nodes, s, node_kind::PROGRAM, at, s.things));
         }
         match top(text, rows, count, nodes, at, s.node) {
             Got::Done(t) => {
-                s = parse_nodes::counted(t, s.place, s.tag + 1);
+                s = parse_nodes::counted(t, s.place, s.things + 1);
             }
             Got::Refused(why, r) => {
                 return Got::Refused(why, r);

@@ -151,7 +151,8 @@ fn field(rows: &[u32], count: usize, nodes: &mut [u32], row: usize, node: usize)
                 row: f.row,
                 node: node + 1,
                 place: row,
-                tag: 0,
+                variable: false,
+                things: 0,
             })
         }
         Shaped::Refused(why, r) => Got::Refused(why, r),
@@ -169,23 +170,25 @@ fn fields(rows: &[u32], count: usize, nodes: &mut [u32], row: usize, node: usize
         row: first,
         node,
         place: first,
-        tag: 0,
+        variable: false,
+        things: 0,
     };
     loop {
         let at = s.row;
         if parse_nodes::kind_at(rows, count, at) == RBRACE {
             let n = s.node;
-            parse_nodes::close(nodes, n, node_kind::EVENT, name, name as u32, s.tag);
+            parse_nodes::close(nodes, n, node_kind::EVENT, name, name as u32, s.things);
             return Got::Done(At {
                 row: at + 1,
                 node: n + 1,
                 place: name,
-                tag: 0,
+                variable: false,
+                things: 0,
             });
         }
         match field(rows, count, nodes, at, s.node) {
             Got::Done(t) => {
-                s = parse_nodes::counted(t, s.place, s.tag + 1);
+                s = parse_nodes::counted(t, s.place, s.things + 1);
             }
             Got::Refused(why, r) => {
                 return Got::Refused(why, r);

@@ -25,35 +25,31 @@ ghost use mathlib.Core.Path.{_≡_};
 ghost use Prim.Native.Nat.{_+_, _*_, _≤_, _<_};
 ghost use lib.ListN.{length};
 ghost use lib.Seq.{sets};
-ghost use lib.Dec.{eqb};
 ghost use Rattle.rules.specs.Nodes.{binaryNode, node, nodeWords};
 ghost use Rattle.rules.specs.Parse.{isAdd, isShift, isMul, inner, atom, prim, unary, mul, shift, add, args, post};
-ghost use Rattle.parse_nodes.specs.Post.{kindWord, Answers, Onward, Asks, AsksAt, AsksOpen};
+ghost use Rattle.parse_nodes.specs.Post.{kindWord, stateAt, Answers, Onward, Asks, AsksAt, AsksOpen};
 ghost use Rattle.parse_expr.specs.Calls.{CallEnd};
 ghost use Rattle.parse_expr.specs.Lone.{isLone, Leaf};
 
-// Whether a row's kind is `+` or `-`.
+// Whether a row's kind is `+` or `-`, which stand side by side among the kinds.
 fn is_add(k: u32) -> bool
     ensures { λ r. ⌜ r ≡ isAdd k ⌝ }
 {
-    if k == PLUS { true } else { k == MINUS }
+    (PLUS <= k) & (k <= MINUS)
 }
 
 // Whether a row's kind is `<<` or `>>`.
 fn is_shift(k: u32) -> bool
     ensures { λ r. ⌜ r ≡ isShift k ⌝ }
 {
-    if k == SHL { true } else { k == SHR }
+    (k == SHL) | (k == SHR)
 }
 
 // Whether a row's kind is `*`, `/` or `%`.
 fn is_mul(k: u32) -> bool
     ensures { λ r. ⌜ r ≡ isMul k ⌝ }
 {
-    if k == STAR {
-        return true;
-    }
-    if k == SLASH { true } else { k == PERCENT }
+    ((k == STAR) | (k == SLASH)) | (k == PERCENT)
 }
 
 // The node kind of an operator's row kind.
@@ -74,16 +70,17 @@ fn binary_node(k: u32) -> u32
 // The end of a call: s stands behind the receiver, at the dot; m is the next node, and next the row behind the call.
 fn call_end(nodes: &mut [u32], s: At, m: usize, count: usize, next: usize) -> Got
     requires { ⌜ (s .place ≤ 65536) × ((s .row ≤ 65536) × ((m ≤ 65537) × (count ≤ 65536))) ⌝ }
-    ensures { λ r. ⌜ CallEnd (eqb (s .tag) 1) s m count next (now (nodes .entry)) (now (nodes .exit)) r ⌝ }
+    ensures { λ r. ⌜ CallEnd (s .variable) s m count next (now (nodes .entry)) (now (nodes .exit)) r ⌝ }
 {
-    if s.tag == 1 {
+    if s.variable {
         let name = s.row + 1;
         parse_nodes::close(nodes, m, node_kind::CALL, s.place, name as u32, count + 1);
         return Got::Done(At {
             row: next,
             node: m + 1,
             place: s.place,
-            tag: 0,
+            variable: false,
+            things: 0,
         });
     }
     Got::Refused(Syntax::CallOnOther, s.row + 1)
@@ -92,7 +89,7 @@ fn call_end(nodes: &mut [u32], s: At, m: usize, count: usize, next: usize) -> Go
 // The state behind a field of what s stands behind, at the dot.
 fn field_end(nodes: &mut [u32], s: At) -> At
     requires { ⌜ (s .row ≤ 65535) × (s .node ≤ 65537) ⌝ }
-    ensures { λ r. ⌜ (r ≡ record { row = s .row + 1 + 1; node = s .node + 1; place = s .row + 1; tag = 0 }) × (now (nodes .exit) ≡ sets (now (nodes .entry)) (8 * s .node) (nodeWords (node 12 (s .row + 1) (s .row + 1) 1))) ⌝ }
+    ensures { λ r. ⌜ (r ≡ stateAt (s .row + 1 + 1) (s .node + 1) (s .row + 1)) × (now (nodes .exit) ≡ sets (now (nodes .entry)) (8 * s .node) (nodeWords (node 12 (s .row + 1) (s .row + 1) 1))) ⌝ }
 {
     let name = s.row + 1;
     let n = s.node;
@@ -101,7 +98,8 @@ fn field_end(nodes: &mut [u32], s: At) -> At
         row: name + 1,
         node: n + 1,
         place: name,
-        tag: 0,
+        variable: false,
+        things: 0,
     }
 }
 
@@ -112,7 +110,7 @@ fn is_lone(rows: &[u32], count: usize, row: usize) -> bool
 {
     let k = parse_nodes::kind_at(rows, count, row);
     let next = parse_nodes::kind_at(rows, count, row + 1);
-    ((k == IDENTIFIER) | (k == NUMBER)) & ((next != DOT) & ((next < STAR) | (PERCENT < next)))
+    ((k == IDENTIFIER) | (k == NUMBER)) & !((next == DOT) | is_mul(next))
 }
 
 // The state behind the number at a row, or behind a variable if no number stands there.
@@ -270,7 +268,8 @@ fn atom(rows: &[u32], count: usize, nodes: &mut [u32], row: usize, node: usize, 
                         row: j + 1,
                         node: t.node,
                         place: t.place,
-                        tag: t.tag,
+                        variable: t.variable,
+                        things: 0,
                     });
                 }
                 return Got::Refused(Syntax::Wanted(RPAREN, found), j);
@@ -338,7 +337,7 @@ fn post(rows: &[u32], count: usize, nodes: &mut [u32], s: At, left: usize) -> Go
             if found != RPAREN {
                 return Got::Refused(Syntax::Wanted(RPAREN, found), close);
             }
-            call_end(nodes, s, a.node, a.tag, close + 1)
+            call_end(nodes, s, a.node, a.things, close + 1)
         }
         Got::Refused(why, r) => Got::Refused(why, r),
     }
@@ -365,7 +364,7 @@ fn args(rows: &[u32], count: usize, nodes: &mut [u32], row: usize, node: usize, 
         }
         match add(rows, count, nodes, at + 1, s.node, left - 1) {
             Got::Done(t) => {
-                s = parse_nodes::counted(t, s.place, s.tag + 1);
+                s = parse_nodes::counted(t, s.place, s.things + 1);
             }
             Got::Refused(why, r) => {
                 return Got::Refused(why, r);

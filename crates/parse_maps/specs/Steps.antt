@@ -58,7 +58,7 @@ ChainFound ws n i r = (ts : List Tok) → Tells ts ws n → Adds (Parse.chain ts
 abbrev pub over : Facts → Tree → ℕ → Facts
 over f t j = record {
   row = j;
-  kind = lastOf (f .kind) (typeOf t);
+  maptype = lastOf (f .maptype) (typeOf t);
   key = lastOf (f .key) (typedBy KeywordKey t);
   value = lastOf (f .value) (typedBy KeywordValue t);
   limit = lastOf (f .limit) (limitOf t);
@@ -77,7 +77,7 @@ FieldFound t ws n f r = (ts : List Tok) → Names ts t ws n → Steps f (Parse.m
 
 -- what a list of fields gives
 abbrev pub factsOf : Tree → ℕ → Facts
-factsOf l j = record { row = j; kind = typeOf l; key = typedBy KeywordKey l; value = typedBy KeywordValue l; limit = limitOf l }
+factsOf l j = record { row = j; maptype = typeOf l; key = typedBy KeywordKey l; value = typedBy KeywordValue l; limit = limitOf l }
 
 abbrev pub Gives : Out → Found → Type 0
 Gives = Answer found.Done found.Refused factsOf

@@ -40,7 +40,7 @@ ghost use Rattle.parse_maps.specs.Steps.{bitsAt, AsksRow, ShiftFound, Ch
 // What the fields so far give, 0 for none, `limit` one more than max; and the next row.
 pub struct Facts {
     pub row: usize,
-    pub kind: u32,
+    pub maptype: u32,
     pub key: u32,
     pub value: u32,
     pub limit: u64,
@@ -163,7 +163,7 @@ fn max_field(rows: &[u32], count: usize, f: Facts) -> Found
             }
             Found::Done(Facts {
                 row: j + 1,
-                kind: f.kind,
+                maptype: f.maptype,
                 key: f.key,
                 value: f.value,
                 limit: s.bits + 1,
@@ -199,12 +199,10 @@ fn typed_field(rows: &[u32], count: usize, f: Facts, kind: u32) -> Found
     }
     let number = t - kind::LAST_UNMADE;
     let next = end + 1;
-    let held = f.key;
-    let is_key = kind == KEY;
-    if is_key {
+    if kind == KEY {
         return Found::Done(Facts {
             row: next,
-            kind: f.kind,
+            maptype: f.maptype,
             key: number,
             value: f.value,
             limit: f.limit,
@@ -212,8 +210,8 @@ fn typed_field(rows: &[u32], count: usize, f: Facts, kind: u32) -> Found
     }
     Found::Done(Facts {
         row: next,
-        kind: f.kind,
-        key: held,
+        maptype: f.maptype,
+        key: f.key,
         value: number,
         limit: f.limit,
     })
@@ -274,7 +272,7 @@ fn type_field(text: &[u8], rows: &[u32], count: usize, f: Facts) -> Found
     }
     Found::Done(Facts {
         row: end + 1,
-        kind: number,
+        maptype: number,
         key: f.key,
         value: f.value,
         limit: f.limit,
@@ -307,7 +305,7 @@ fn fields(text: &[u8], rows: &[u32], count: usize, row: usize) -> Found
 {
     let mut f = Facts {
         row,
-        kind: 0,
+        maptype: 0,
         key: 0,
         value: 0,
         limit: 0,
@@ -330,12 +328,12 @@ fn fields(text: &[u8], rows: &[u32], count: usize, row: usize) -> Found
 
 // The field that a map lacks, 1 to 4, or 0.
 fn lacks(f: Facts) -> u32
-    ensures { λ r. ⌜ r ≡ lacking (f .kind) (f .key) (f .value) (f .limit) ⌝ }
+    ensures { λ r. ⌜ r ≡ lacking (f .maptype) (f .key) (f .value) (f .limit) ⌝ }
 {
-    if f.kind == 0 {
+    if f.maptype == 0 {
         return fact::FIELD_TYPE;
     }
-    if f.kind == fact::MAP_RINGBUF {
+    if f.maptype == fact::MAP_RINGBUF {
         if f.limit == 0 {
             return fact::FIELD_MAX;
         }
@@ -353,7 +351,7 @@ fn lacks(f: Facts) -> u32
 // The map's node, whose name is at a row, from fields that lack nothing.
 fn map_node(nodes: &mut [u32], node: usize, name: usize, f: Facts)
     requires { ⌜ (node ≤ 65537) × ((name ≤ 65537) × ((1 ≤ f .limit) × (f .limit ≤ 4294967296))) ⌝ }
-    ensures { λ _. ⌜ now (nodes .exit) ≡ sets (now (nodes .entry)) (8 * node) (nodeWords (factNode NodeMap name name 0 (f .kind) (f .key) (f .value) (pred (f .limit)))) ⌝ }
+    ensures { λ _. ⌜ now (nodes .exit) ≡ sets (now (nodes .entry)) (8 * node) (nodeWords (factNode NodeMap name name 0 (f .maptype) (f .key) (f .value) (pred (f .limit)))) ⌝ }
 {
     let at = name as u32;
     parse_nodes::store(
@@ -364,7 +362,7 @@ fn map_node(nodes: &mut [u32], node: usize, name: usize, f: Facts)
             place: at,
             name: at,
             children: 0,
-            fact0: f.kind,
+            fact0: f.maptype,
             fact1: f.key,
             fact2: f.value,
             fact3: (f.limit - 1) as u32,
@@ -406,7 +404,8 @@ pub fn map(
                 row: next,
                 node: node + 1,
                 place: name,
-                tag: 0,
+                variable: false,
+                things: 0,
             })
         }
         Found::Refused(why, r) => Got::Refused(why, r),

@@ -13,7 +13,7 @@ use Rattle.rules.specs.Parse.{Out, ok, no, P, then, branching, tokAt, kindAt}
 use Rattle.parse_nodes.specs.declared.At.{At}
 use Rattle.parse_nodes.specs.declared.Got.{Got}
 use Rattle.parse_nodes.specs.declared.Got.the-variants.{Done, Refused}
-use Rattle.parse_nodes.specs.Post.{Tells, Met}
+use Rattle.parse_nodes.specs.Post.{Tells, stateAt, Met}
 use Rattle.parse_stmt.specs.declared.Opened.{Opened}
 use Rattle.parse_stmt.specs.declared.Opened.the-variants as opened
 
@@ -32,7 +32,7 @@ HeadSays ws n i (opened.Refused why q) = (ts : List Tok) → Tells ts ws n → (
 -- a body's statements l, read behind the brace at row i, and its node of a kind behind theirs
 abbrev pub BodyMet : Out → ℕ → ℕ → ℕ → List ℕ → List ℕ → Got → Type 0
 BodyMet (ok l j) kind i n m m′ r =
-    (r ≡ Done (record { row = j; node = n + size l + 1; place = i; tag = 0 }))
+    (r ≡ Done (stateAt j (n + size l + 1) i))
     × (m′ ≡ sets m (8 * n) (treeWords (i + 1) l ++ nodeWords (node kind i missing (count l))))
 BodyMet (no why p) kind i n m m′ r = r ≡ Refused why p
 

@@ -28,7 +28,7 @@ ghost use Rattle.rules.specs.Kinds.{KeywordElse};
 ghost use Rattle.rules.specs.Tree.{thenBody};
 ghost use Rattle.rules.specs.Nodes.{declNode, assignNode, node, nodeWords};
 ghost use Rattle.rules.specs.Parse.{isDeclaring, isAssign, declaring, returning, branching, expression, stmtBy, assignBy, elseBy, stmt, body, kindAt};
-ghost use Rattle.parse_nodes.specs.Post.{Answers, Onward, Asks, AsksAt, AsksOpen};
+ghost use Rattle.parse_nodes.specs.Post.{stateAt, Answers, Onward, Asks, AsksAt, AsksOpen};
 ghost use Rattle.parse_stmt.specs.Bodies.{HeadSays, BodyAnswers, AsksElse, Elsewise};
 
 // Whether a row's kind is reg, imm or heap.
@@ -76,7 +76,7 @@ fn assign_node(k: u32) -> u32
 // The state behind a named node with one child, over what was read up to t, and behind the row that ends it.
 fn named_end(nodes: &mut [u32], t: At, kind: u32, name: usize) -> At
     requires { ⌜ (t .node ≤ 65537) × ((name ≤ 65537) × (t .row ≤ 65537)) ⌝ }
-    ensures { λ r. ⌜ (r ≡ record { row = t .row + 1; node = t .node + 1; place = name; tag = 0 }) × (now (nodes .exit) ≡ sets (now (nodes .entry)) (8 * t .node) (nodeWords (node kind name name 1))) ⌝ }
+    ensures { λ r. ⌜ (r ≡ stateAt (t .row + 1) (t .node + 1) name) × (now (nodes .exit) ≡ sets (now (nodes .entry)) (8 * t .node) (nodeWords (node kind name name 1))) ⌝ }
 {
     let n = t.node;
     parse_nodes::close(nodes, n, kind, name, name as u32, 1);
@@ -84,7 +84,8 @@ fn named_end(nodes: &mut [u32], t: At, kind: u32, name: usize) -> At
         row: t.row + 1,
         node: n + 1,
         place: name,
-        tag: 0,
+        variable: false,
+        things: 0,
     }
 }
 
@@ -322,16 +323,17 @@ fn body(
         row: row + 1,
         node,
         place: row + 1,
-        tag: 0,
+        variable: false,
+        things: 0,
     };
     loop {
         let at = s.row;
         if parse_nodes::kind_at(rows, count, at) == RBRACE {
-            return Got::Done(parse_nodes::ended(nodes, s, kind, row, s.tag));
+            return Got::Done(parse_nodes::ended(nodes, s, kind, row, s.things));
         }
         match stmt(rows, count, nodes, at, s.node, left - 1) {
             Got::Done(t) => {
-                s = parse_nodes::counted(t, s.place, s.tag + 1);
+                s = parse_nodes::counted(t, s.place, s.things + 1);
             }
             Got::Refused(why, r) => {
                 return Got::Refused(why, r);

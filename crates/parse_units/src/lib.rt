@@ -24,7 +24,7 @@ ghost use lib.Seq.{sets};
 ghost use Rattle.rules.specs.Sets.{fromSection};
 ghost use Rattle.rules.specs.Tree.{sectionText};
 ghost use Rattle.rules.specs.Nodes.{factNode, nodeWords};
-ghost use Rattle.parse_nodes.specs.Post.{Asks, AsksOpen};
+ghost use Rattle.parse_nodes.specs.Post.{stateAt, Asks, AsksOpen};
 ghost use Rattle.parse_nodes.specs.Names.{Spans};
 ghost use Rattle.parse_units.specs.Contents.{unset, firstOf, spelt, AsksItem, AsksString, AsksText, AsksQuoted, Texted, ItemMet, ItemsMet, UnitMet};
 
@@ -90,7 +90,8 @@ fn with_text(text: &[u8], rows: &[u32], nodes: &mut [u32], u: Contents, word: u3
         row: string + 1 + 1,
         node: n + 1,
         place: here.place,
-        tag: here.tag + 1,
+        variable: false,
+        things: here.things + 1,
     };
     if word == LICENSE {
         parse_nodes::close(nodes, n, node_kind::LICENSE, string, name, 0);
@@ -147,7 +148,7 @@ fn item(text: &[u8], rows: &[u32], count: usize, nodes: &mut [u32], u: Contents)
     }
     match parse_stmt::stmt(rows, count, nodes, row, here.node, limit::MOST_OPEN) {
         Got::Done(t) => {
-            let at = parse_nodes::counted(t, here.place, here.tag + 1);
+            let at = parse_nodes::counted(t, here.place, here.things + 1);
             Went::Done(Contents {
                 at,
                 kind: u.kind,
@@ -174,7 +175,8 @@ fn items(
         row,
         node,
         place: row,
-        tag: 0,
+        variable: false,
+        things: 0,
     };
     let mut u = Contents {
         at: start,
@@ -209,8 +211,8 @@ fn kind_or_unknown(kind: u32) -> u32
 
 // The node of the unit whose word is at a row, over its contents, and the state behind it.
 fn unit_node(nodes: &mut [u32], row: usize, u: Contents) -> At
-    requires { ⌜ (row < 65537) × ((u .at .row ≤ 65537) × ((u .at .node ≤ 65537) × (u .at .tag ≤ 65537))) ⌝ }
-    ensures { λ r. ⌜ (r ≡ record { row = u .at .row + 1; node = u .at .node + 1; place = row; tag = 0 }) × (now (nodes .exit) ≡ sets (now (nodes .entry)) (8 * u .at .node) (nodeWords (factNode 25 row (row + 1) (u .at .tag) (cond (eqb (u .kind) unset) 10 (u .kind)) (u .licence) 0 0))) ⌝ }
+    requires { ⌜ (row < 65537) × ((u .at .row ≤ 65537) × ((u .at .node ≤ 65537) × (u .at .things ≤ 65537))) ⌝ }
+    ensures { λ r. ⌜ (r ≡ stateAt (u .at .row + 1) (u .at .node + 1) row) × (now (nodes .exit) ≡ sets (now (nodes .entry)) (8 * u .at .node) (nodeWords (factNode 25 row (row + 1) (u .at .things) (cond (eqb (u .kind) unset) 10 (u .kind)) (u .licence) 0 0))) ⌝ }
 {
     let here = u.at;
     let n = here.node;
@@ -221,7 +223,7 @@ fn unit_node(nodes: &mut [u32], row: usize, u: Contents) -> At
             kind: node_kind::UNIT,
             place: row as u32,
             name: (row + 1) as u32,
-            children: here.tag as u32,
+            children: here.things as u32,
             fact0: kind_or_unknown(u.kind),
             fact1: u.licence,
             fact2: 0,
@@ -232,7 +234,8 @@ fn unit_node(nodes: &mut [u32], row: usize, u: Contents) -> At
         row: here.row + 1,
         node: n + 1,
         place: row,
-        tag: 0,
+        variable: false,
+        things: 0,
     }
 }
 
