@@ -27,9 +27,14 @@ use Rattle.theory_grammar.proofs.Complete.{Gives, gives, checked, neste
 -- ---- what is refused whatever stands there
 
 -- a refusal, and by no check where `why` is none
-abbrev Dead : Syntax → Out → Type 0
+abbrev pub Dead : Syntax → Out → Type 0
 Dead why (ok t j) = ⊥
 Dead why (no why′ r′) = isCheck why ≡ false → isCheck why′ ≡ false
+
+pub dead-then : (why : Syntax) (o : Out) (f : Tree → P) → Dead why o → Dead why (then o f)
+unfolding then
+dead-then why (ok t j) f d = absurd d
+dead-then why (no why′ r) f d = d
 
 then-dead : (why : Syntax) (o : Out) (f : Tree → P) → isCheck why ≡ true → ((t : Tree) (j : ℕ) → Dead why (f t j)) → Dead why (then o f)
 unfolding then
@@ -50,7 +55,7 @@ module _ (ts : List Tok) (g : Sort → P) (t : Tree) (w : List ℕ) (m : ℕ) (o
   unfolding Parse.called isCheck
   called-dead a k = rw other (λ e. e)
 
-  call-dead : (b : Bool) (k : ℕ) → Dead CallOnOther (Parse.callBy ts g b t w m k)
+  pub call-dead : (b : Bool) (k : ℕ) → Dead CallOnOther (Parse.callBy ts g b t w m k)
   unfolding Parse.callBy isCheck
   call-dead true k = called-dead none (k + 1 + 1)
   call-dead false k =
@@ -83,29 +88,29 @@ branch-dead ts i =
 
 module _ (ts : List Tok) (n : ℕ) where
   -- an answer that may rest on a row behind the first n
-  abbrev Behind : Out → Type 0
+  abbrev pub Behind : Out → Type 0
   Behind (ok t j) = n ≤ j
   Behind (no why r) = n ≤ lost ts why r
 
   -- a tree ends at row m or behind
-  abbrev Up : ℕ → Out → Type 0
+  abbrev pub Up : ℕ → Out → Type 0
   Up m (ok t j) = m ≤ j
   Up m (no why r) = Unit {0}
 
   -- a refusal of which more is known
-  abbrev Told : (Syntax → ℕ → Type 0) → Out → Type 0
+  abbrev pub Told : (Syntax → ℕ → Type 0) → Out → Type 0
   Told L (ok t j) = ⊥
   Told L (no why r) = L why r
 
   -- Answers from row i on, of a table and of one with the same first n rows: they are the same, or rest on a row behind these, or both are
   -- refused. Of refusals that L tells nothing is said: they stand behind the row that is lost.
-  data LocalBut (L : Syntax → ℕ → Type 0) (i m : ℕ) (o o′ : Out) : Type 0 where
+  pub data LocalBut (L : Syntax → ℕ → Type 0) (i m : ℕ) (o o′ : Out) : Type 0 where
     same : i < n → o ≡ o′ → Up m o → LocalBut L i m o o′
     behind : Behind o → Up m o → LocalBut L i m o o′
     both : i < n → Told (λ why r. (isMisfit why ≡ false) × Dead why o′) o → LocalBut L i m o o′
     late : Told L o → LocalBut L i m o o′
 
-  abbrev Local : ℕ → ℕ → Out → Out → Type 0
+  abbrev pub Local : ℕ → ℕ → Out → Out → Type 0
   Local i m o o′ = LocalBut (λ why r. ⊥) i m o o′
 
   ease-up : (o : Out) (q m : ℕ) → q ≤ m → Up m o → Up q o
@@ -149,7 +154,7 @@ module _ (ts : List Tok) (n : ℕ) where
   along : {L : Syntax → ℕ → Type 0} {i m : ℕ} {o o′ a a′ : Out} → o ≡ a → o′ ≡ a′ → LocalBut L i m a a′ → LocalBut L i m o o′
   along {L} {i} {m} {o} {o′} {a} {a′} e e′ h = subst (λ (x : Out). LocalBut L i m x o′) (sym e) (subst (λ (x : Out). LocalBut L i m a x) (sym e′) h)
 
-  ok-local : {L : Syntax → ℕ → Type 0} (i m : ℕ) (t : Tree) (k : ℕ) → i ≤ k → m ≤ k → LocalBut L i m (ok t k) (ok t k)
+  pub ok-local : {L : Syntax → ℕ → Type 0} (i m : ℕ) (t : Tree) (k : ℕ) → i ≤ k → m ≤ k → LocalBut L i m (ok t k) (ok t k)
   ok-local {L} i m t k h l = go (ltb i n) refl
     where
       go : (c : Bool) → ltb i n ≡ c → LocalBut L i m (ok t k) (ok t k)
@@ -162,11 +167,6 @@ module _ (ts : List Tok) (n : ℕ) where
       go : (c : Bool) → ltb i n ≡ c → LocalBut L i m (no why r) (no why r)
       go true c = same (ltb-true i n c) refl tt
       go false c = behind (omega (arith, ltb-false i n c, h)) tt
-
-  dead-then : (why : Syntax) (o : Out) (f : Tree → P) → Dead why o → Dead why (then o f)
-  unfolding then
-  dead-then why (ok t j) f d = absurd d
-  dead-then why (no why′ r) f d = d
 
   -- one answer and then the next, with what else is known of the tree
   then-known : {L : Syntax → ℕ → Type 0} {i m q : ℕ} (C : Tree → ℕ → Type 0) (o o′ : Out) (f f′ : Tree → P) → All C o → LocalBut L i m o o′
@@ -193,7 +193,7 @@ module _ (ts : List Tok) (n : ℕ) where
   then-known C (no why r) o′ f f′ a (both l d) h = both l (d .0, dead-then why o′ f′ (d .1))
   then-known C (no why r) o′ f f′ a (late p) h = late p
 
-  then-local : {L : Syntax → ℕ → Type 0} {i m q : ℕ} (o o′ : Out) (f f′ : Tree → P) → LocalBut L i m o o′
+  pub then-local : {L : Syntax → ℕ → Type 0} {i m q : ℕ} (o o′ : Out) (f f′ : Tree → P) → LocalBut L i m o o′
       → ((t : Tree) (j : ℕ) → m ≤ j → LocalBut L j q (f t j) (f′ t j)) → LocalBut L i q (then o f) (then o′ f′)
   then-local o o′ f f′ h k = then-known (λ t j. Unit {0}) o o′ f f′ (all-any o) h (λ t j a l. k t j l)
 
@@ -270,7 +270,7 @@ module _ (ts : List Tok) (k : ℕ) (f : P) (i : ℕ) where
 
 module _ (ts : List Tok) where
   -- any but a body's brace is lost itself, or the row behind it
-  deep-row : (o : ℕ) → eqb (kindAt ts o) LBrace ≡ false → o ≤ lost ts TooDeep o
+  pub deep-row : (o : ℕ) → eqb (kindAt ts o) LBrace ≡ false → o ≤ lost ts TooDeep o
   unfolding lost
   deep-row o b = rw b (go (eqb (kindAt ts (o - 1)) Identifier))
     where
@@ -319,14 +319,21 @@ chain-end ts j e =
     go c k s true = number-end ts k (either-kind (λ x. eqb x LBracket ≡ false) (kindAt ts k) Shl Shr s refl refl)
     go c k s false = tt
 
-module _ (ts ts′ : List Tok) (n : ℕ) (fit : n ≤ length ts) (fit′ : n ≤ length ts′) (agree : (i : ℕ) → i < n → tokAt ts i ≡ tokAt ts′ i) where
+-- ---- two tables whose first n rows are alike
+
+pub record Alike (ts ts′ : List Tok) (n : ℕ) : Type 0 where
+  pub fit : n ≤ length ts
+  pub fit′ : n ≤ length ts′
+  pub agree : (i : ℕ) → i < n → tokAt ts i ≡ tokAt ts′ i
+
+module _ (ts ts′ : List Tok) (n : ℕ) (agreed : Alike ts ts′ n) where
   loop-local : (test : ℕ → Bool) (step : Tree → P) (step′ : Tree → P)
       → ((t : Tree) (j : ℕ) → test (kindAt ts j) ≡ true → Local ts n j (j + 1) (step t j) (step′ t j))
       → (t : Tree) (j : ℕ) → Local ts n j j (Parse.loop ts (λ r. test (kindAt ts r)) step t j) (Parse.loop ts′ (λ r. test (kindAt ts′ r)) step′ t j)
   unfolding Parse.loop
   loop-local test step step′ s t j =
-      many-local ts n (λ r. test (kindAt ts r)) step (λ r. test (kindAt ts′ r)) step′ (λ r l. ap (λ (x : Tok). test (kindOf x)) (agree r l)) s
-      (suc (length ts)) (suc (length ts′)) t j (omega arith) (omega arith)
+      many-local ts n (λ r. test (kindAt ts r)) step (λ r. test (kindAt ts′ r)) step′ (λ r l. ap (λ (x : Tok). test (kindOf x)) (agreed .agree r l)) s
+      (suc (length ts)) (suc (length ts′)) t j (omega (arith, agreed .fit)) (omega (arith, agreed .fit′))
 
   -- ---- a row that is looked at
 
@@ -336,7 +343,7 @@ module _ (ts ts′ : List Tok) (n : ℕ) (fit : n ≤ length ts) (fit′ : n ≤
   look-back {L} k i m q φ F F′ h = go (ltb i n) refl (F (φ (tokAt ts k))) (h (φ (tokAt ts k)) refl)
     where
       go : (c : Bool) → ltb i n ≡ c → (o : Out) → LocalBut ts n L i m o (F′ (φ (tokAt ts k))) → LocalBut ts n L i m o (F′ (φ (tokAt ts′ k)))
-      go true c o x = subst (λ (y : Tok). LocalBut ts n L i m o (F′ (φ y))) (agree k (omega (arith, q, ltb-true i n c))) x
+      go true c o x = subst (λ (y : Tok). LocalBut ts n L i m o (F′ (φ y))) (agreed .agree k (omega (arith, q, ltb-true i n c))) x
       go false c o (same l e u) = absurd (omega (arith, ltb-false i n c, l))
       go false c o (behind b u) = behind b u
       go false c o (both l d) = absurd (omega (arith, ltb-false i n c, l))
@@ -435,13 +442,13 @@ module _ (ts ts′ : List Tok) (n : ℕ) (fit : n ≤ length ts) (fit′ : n ≤
         (λ t j l. want-ok RParen (group t) j (i + 1) (omega arith))
     atom-by other i f = look i (i + 1) kindOf (λ x. no (Wanted Identifier x) i) (λ x. no (Wanted Identifier x) i) (λ x e. wanted Identifier i (i + 1) x)
 
-    atom-local : (i : ℕ) → Local ts n i (i + 1) (Parse.atom ts g i) (Parse.atom ts′ g′ i)
+    pub atom-local : (i : ℕ) → Local ts n i (i + 1) (Parse.atom ts g i) (Parse.atom ts′ g′ i)
     unfolding Parse.atom
     atom-local i =
         look i (i + 1) (λ x. lead (kindOf x)) (λ l. Parse.atomBy ts g l i) (λ l. Parse.atomBy ts′ g′ l i)
         (λ l e. atom-by l i (subst (LeadIs (kindAt ts i)) e (lead-is (kindAt ts i))))
 
-    arg-step : (a : Tree) (j : ℕ) → eqb (kindAt ts j) Comma ≡ true → Local ts n j (j + 1) (Parse.argStep ts g a j) (Parse.argStep ts′ g′ a j)
+    pub arg-step : (a : Tree) (j : ℕ) → eqb (kindAt ts j) Comma ≡ true → Local ts n j (j + 1) (Parse.argStep ts g a j) (Parse.argStep ts′ g′ a j)
     unfolding Parse.argStep
     arg-step a j b =
         then-local ts n (g whole j) (g′ whole j) _ _
@@ -475,7 +482,7 @@ module _ (ts ts′ : List Tok) (n : ℕ) (fit : n ≤ length ts) (fit′ : n ≤
         (λ b c. call-by b t w m (m + 1) q (omega (arith, list-row ts m e (eqb-true (kindAt ts (m + 1)) LParen f))) (omega arith))))
     open-by false t w m q e f h = ok-local ts n (m + 1) q _ (m + 1) (omega arith) h
 
-    post-local : (t : Tree) (j : ℕ) → Local ts n j (j + 1) (Parse.post ts g t j) (Parse.post ts′ g′ t j)
+    pub post-local : (t : Tree) (j : ℕ) → Local ts n j (j + 1) (Parse.post ts g t j) (Parse.post ts′ g′ t j)
     unfolding Parse.post
     post-local t j =
         ease ts n (omega arith) (omega arith) (named-at _ _ (j + 1) (j + 1)
@@ -497,13 +504,13 @@ module _ (ts ts′ : List Tok) (n : ℕ) (fit : n ≤ length ts) (fit′ : n ≤
         (λ t j l. ok-local ts n j (i + 1) _ j (omega arith) l)
     unary-by false i b = prim-local i
 
-    unary-local : (i : ℕ) → Local ts n i (i + 1) (Parse.unary ts g i) (Parse.unary ts′ g′ i)
+    pub unary-local : (i : ℕ) → Local ts n i (i + 1) (Parse.unary ts g i) (Parse.unary ts′ g′ i)
     unfolding Parse.unary
     unary-local i = look i (i + 1) (λ x. eqb (kindOf x) Star) (λ b. Parse.unaryBy ts g b i) (λ b. Parse.unaryBy ts′ g′ b i) (λ b e. unary-by b i e)
 
     -- operands p, joined by operators `isOp`
     module _ (isOp : ℕ → Bool) (p p′ : P) (s : (i : ℕ) → Local ts n i (i + 1) (p i) (p′ i)) where
-      bin-step : (t : Tree) (j : ℕ) → Local ts n j (j + 1) (Parse.binStep ts g p t j) (Parse.binStep ts′ g′ p′ t j)
+      pub bin-step : (t : Tree) (j : ℕ) → Local ts n j (j + 1) (Parse.binStep ts g p t j) (Parse.binStep ts′ g′ p′ t j)
       unfolding Parse.binStep
       bin-step t j =
           look j (j + 1) kindOf (λ x. then (p (j + 1)) (λ u k. ok (bin x t u) k)) (λ x. then (p′ (j + 1)) (λ u k. ok (bin x t u) k))
@@ -516,11 +523,11 @@ module _ (ts ts′ : List Tok) (n : ℕ) (fit : n ≤ length ts) (fit′ : n ≤
       ladder i o o′ h =
           then-local ts n o o′ _ _ h (λ t j l. ease ts n (omega arith) l (loop-local isOp (Parse.binStep ts g p) (Parse.binStep ts′ g′ p′) (λ u k b. bin-step u k) t j))
 
-    mul-local : (i : ℕ) → Local ts n i (i + 1) (Parse.mul ts g i) (Parse.mul ts′ g′ i)
+    pub mul-local : (i : ℕ) → Local ts n i (i + 1) (Parse.mul ts g i) (Parse.mul ts′ g′ i)
     unfolding Parse.mul
     mul-local i = ladder isMul (Parse.unary ts g) (Parse.unary ts′ g′) unary-local i (Parse.unary ts g i) (Parse.unary ts′ g′ i) (unary-local i)
 
-    shift-local : (i : ℕ) → Local ts n i (i + 1) (Parse.shift ts g i) (Parse.shift ts′ g′ i)
+    pub shift-local : (i : ℕ) → Local ts n i (i + 1) (Parse.shift ts g i) (Parse.shift ts′ g′ i)
     unfolding Parse.shift
     shift-local i = ladder isShift (Parse.mul ts g) (Parse.mul ts′ g′) mul-local i (Parse.mul ts g i) (Parse.mul ts′ g′ i) (mul-local i)
 
@@ -528,19 +535,19 @@ module _ (ts ts′ : List Tok) (n : ℕ) (fit : n ≤ length ts) (fit′ : n ≤
     unfolding Parse.add
     add-local i = ladder isAdd (Parse.mul ts g) (Parse.mul ts′ g′) mul-local i (Parse.shift ts g i) (Parse.shift ts′ g′ i) (shift-local i)
 
-  inner-local : (d : ℕ) (s : Sort) (o q : ℕ) → q ≤ lost ts TooDeep o → q ≤ o + 1 → Local ts n q (o + 1) (Parse.inner ts d s o) (Parse.inner ts′ d s o)
+  pub inner-local : (d : ℕ) (s : Sort) (o q : ℕ) → q ≤ lost ts TooDeep o → q ≤ o + 1 → Local ts n q (o + 1) (Parse.inner ts d s o) (Parse.inner ts′ d s o)
   unfolding Parse.inner
   inner-local zero s o q h l = no-local ts n q (o + 1) TooDeep o h
   inner-local (suc d) operand o q h l = ease ts n l (omega arith) (unary-local (Parse.inner ts d) (Parse.inner ts′ d) (inner-local d) (o + 1))
   inner-local (suc d) whole o q h l = ease ts n l (omega arith) (add-local (Parse.inner ts d) (Parse.inner ts′ d) (inner-local d) (o + 1))
 
-  expr-local : (d i : ℕ) → Local ts n i (i + 1) (Parse.expr ts d i) (Parse.expr ts′ d i)
+  pub expr-local : (d i : ℕ) → Local ts n i (i + 1) (Parse.expr ts d i) (Parse.expr ts′ d i)
   unfolding Parse.expr
   expr-local d i = add-local (Parse.inner ts d) (Parse.inner ts′ d) (inner-local d) i
 
   -- ---- lists, up to a row of kind `stop`
 
-  list-local : (stop : ℕ) (p p′ : P) → ((i : ℕ) → Local ts n i (i + 1) (p i) (p′ i)) → (j : ℕ)
+  pub list-local : (stop : ℕ) (p p′ : P) → ((i : ℕ) → Local ts n i (i + 1) (p i) (p′ i)) → (j : ℕ)
       → Local ts n j j (Parse.listTo ts stop p j) (Parse.listTo ts′ stop p′ j)
   unfolding Parse.listTo Parse.listStep
   list-local stop p p′ s j =
@@ -560,7 +567,7 @@ module _ (ts ts′ : List Tok) (n : ℕ) (fit : n ≤ length ts) (fit′ : n ≤
 
   module _ (d : ℕ) (p p′ : P) (under : (o : ℕ) → Local ts n (o + 1) (o + 1) (p o) (p′ o)) where
     -- a body at its brace
-    body-at : (i : ℕ) → Local ts n i (i + 1) (Parse.need ts LBrace p i) (Parse.need ts′ LBrace p′ i)
+    pub body-at : (i : ℕ) → Local ts n i (i + 1) (Parse.need ts LBrace p i) (Parse.need ts′ LBrace p′ i)
     body-at i = need-local LBrace p p′ i (i + 1) (ease ts n (omega arith) (omega arith) (under i))
 
     else-by : (c : Bool) (w : List ℕ) (b : Tree) (k q : ℕ) → q ≤ k → Local ts n k q (Parse.elseBy ts d p c w b k) (Parse.elseBy ts′ d p′ c w b k)
@@ -637,12 +644,12 @@ module _ (ts ts′ : List Tok) (n : ℕ) (fit : n ≤ length ts) (fit′ : n ≤
         (λ t j l. look j (i + 1) (λ x. isAssign (kindOf x)) (λ c. Parse.assignBy ts d p c t j) (λ c. Parse.assignBy ts′ d p′ c t j)
         (λ c e. assign-by c t j (i + 1) l))
 
-    stmt-over : (i : ℕ) → Local ts n i (i + 1) (Parse.stmt ts d p i) (Parse.stmt ts′ d p′ i)
+    pub stmt-over : (i : ℕ) → Local ts n i (i + 1) (Parse.stmt ts d p i) (Parse.stmt ts′ d p′ i)
     unfolding Parse.stmt
     stmt-over i = look i (i + 1) (λ x. stmtLead (kindOf x)) (λ l. Parse.stmtBy ts d p l i) (λ l. Parse.stmtBy ts′ d p′ l i) (λ l e. stmt-by l i)
 
   -- the statements of a body whose brace is at row o
-  body-over : (d : ℕ)
+  pub body-over : (d : ℕ)
       → ((i : ℕ) → Local ts n i (i + 1) (Parse.stmtBy ts d (Parse.body ts d) branching i) (Parse.stmtBy ts′ d (Parse.body ts′ d) branching i))
       → (o : ℕ) → Local ts n (o + 1) (o + 1) (Parse.body ts (suc d) o) (Parse.body ts′ (suc d) o)
   unfolding Parse.body
@@ -652,7 +659,7 @@ module _ (ts ts′ : List Tok) (n : ℕ) (fit : n ≤ length ts) (fit′ : n ≤
       (list-local RBrace (Parse.stmt ts d (Parse.body ts d)) (Parse.stmt ts′ d (Parse.body ts′ d)) (stmt-over d (Parse.body ts d) (Parse.body ts′ d) branch) (o + 1))
       (λ l j m. ok-local ts n j (o + 1) l (j + 1) (omega arith) (omega arith))
 
-  branch-local : (d i : ℕ) → Local ts n i (i + 1) (Parse.stmtBy ts d (Parse.body ts d) branching i) (Parse.stmtBy ts′ d (Parse.body ts′ d) branching i)
+  pub branch-local : (d i : ℕ) → Local ts n i (i + 1) (Parse.stmtBy ts d (Parse.body ts d) branching i) (Parse.stmtBy ts′ d (Parse.body ts′ d) branching i)
   branch-local zero i = branch-none i
   branch-local (suc d) i =
       branch-by (suc d) (Parse.body ts (suc d)) (Parse.body ts′ (suc d)) i
@@ -668,7 +675,7 @@ module _ (ts ts′ : List Tok) (n : ℕ) (fit : n ≤ length ts) (fit′ : n ≤
       (λ x e. ease ts n (omega arith) (omega arith) (quoted-local _ _ (i + 1) (i + 1) (λ w. want-ok Semicolon (text x w) (i + 1 + 1) (i + 1) (omega arith))))
   item-by false i = stmt-over 64 (Parse.body ts 64) (Parse.body ts′ 64) (branch-local 64) i
 
-  item-local : (i : ℕ) → Local ts n i (i + 1) (Parse.item ts i) (Parse.item ts′ i)
+  pub item-local : (i : ℕ) → Local ts n i (i + 1) (Parse.item ts i) (Parse.item ts′ i)
   unfolding Parse.item
   item-local i = look i (i + 1) (λ x. isText (kindOf x)) (λ c. Parse.itemBy ts c i) (λ c. Parse.itemBy ts′ c i) (λ c e. item-by c i)
 
@@ -736,7 +743,7 @@ module _ (ts ts′ : List Tok) (n : ℕ) (fit : n ≤ length ts) (fit′ : n ≤
       (λ c k x l. limit-by (leb (2 ^ 63) (maxBits c)) (not (leb (maxBits c) most32)) c k (i + 1) x (omega arith))))
   field-by nothing i f = no-local ts n i (i + 1) NotMapField i (omega arith)
 
-  map-field-local : (i : ℕ) → Local ts n i (i + 1) (Parse.mapField ts i) (Parse.mapField ts′ i)
+  pub map-field-local : (i : ℕ) → Local ts n i (i + 1) (Parse.mapField ts i) (Parse.mapField ts′ i)
   unfolding Parse.mapField
   map-field-local i =
       look i (i + 1) (λ x. fieldLead (kindOf x)) (λ l. Parse.mapFieldBy ts l i) (λ l. Parse.mapFieldBy ts′ l i)
@@ -790,7 +797,7 @@ module _ (ts ts′ : List Tok) (n : ℕ) (fit : n ≤ length ts) (fit′ : n ≤
       ease ts n (omega arith) (omega arith) (want-local LBracket _ _ (j + 1) q (length-local _ (j + 1 + 1) q (omega arith)))
   event-by noLead w j q h = no-local ts n j q NotEventType j (omega arith)
 
-  event-field-local : (i : ℕ) → Local ts n i (i + 1) (Parse.eventField ts i) (Parse.eventField ts′ i)
+  pub event-field-local : (i : ℕ) → Local ts n i (i + 1) (Parse.eventField ts i) (Parse.eventField ts′ i)
   unfolding Parse.eventField
   event-field-local i =
       named-local _ _ i (i + 1) (λ w. want-local Colon _ _ (i + 1) (i + 1)
@@ -810,7 +817,7 @@ module _ (ts ts′ : List Tok) (n : ℕ) (fit : n ≤ length ts) (fit′ : n ≤
   top-by eventTop i = event-local i
   top-by noTop i = no-local ts n i (i + 1) NotTopLevel i (omega arith)
 
-  top-local : (i : ℕ) → Local ts n i (i + 1) (Parse.top ts i) (Parse.top ts′ i)
+  pub top-local : (i : ℕ) → Local ts n i (i + 1) (Parse.top ts i) (Parse.top ts′ i)
   unfolding Parse.top
   top-local i = look i (i + 1) (λ x. topLead (kindOf x)) (λ l. Parse.topBy ts l i) (λ l. Parse.topBy ts′ l i) (λ l e. top-by l i)
 
@@ -820,33 +827,47 @@ module _ (ts ts′ : List Tok) (n : ℕ) (fit : n ≤ length ts) (fit′ : n ≤
       then-local ts n (Parse.listTo ts Eof (Parse.top ts) 0) (Parse.listTo ts′ Eof (Parse.top ts′) 0) _ _ (list-local Eof (Parse.top ts) (Parse.top ts′) top-local 0)
       (λ l j h. ok-local ts n j 0 _ (j + 1) (omega arith) (omega arith))
 
+-- ---- what is read of a table is read of one that has the rows up to its end alike
+
+module _ (ts : List Tok) (n i m : ℕ) (o o′ : Out) (t : Tree) (j : ℕ) (e : o ≡ ok t j) where
+  pub kept : Local ts n i m o o′ → j < n → o′ ≡ ok t j
+  kept (same l q u) h = sym q ∙ e
+  kept (behind b u) h = let x : n ≤ j = subst (Behind ts n) e b in absurd (omega arith)
+  kept (both l d) h = absurd (subst (Told ts n (λ why r. (isMisfit why ≡ false) × Dead why o′)) e d)
+  kept (late x) h = absurd (subst (Told ts n (λ why r. ⊥)) e x)
+
+  pub later : Local ts n i m o o′ → m ≤ j
+  later (same l q u) = subst (Up ts n m) e u
+  later (behind b u) = subst (Up ts n m) e u
+  later (both l d) = absurd (subst (Told ts n (λ why r. (isMisfit why ≡ false) × Dead why o′)) e d)
+  later (late x) = absurd (subst (Told ts n (λ why r. ⊥)) e x)
+
 -- ---- the same first rows
 
-module _ (ts ts′ : List Tok) (n : ℕ) (e : take n ts′ ≡ take n ts) where
-  alike-rows : (i : ℕ) → i < n → tokAt ts i ≡ tokAt ts′ i
-  alike-rows i h = sym (getD-take n ts i (sign Eof) h) ∙ ap (λ (l : List Tok). getD l i (sign Eof)) (sym e) ∙ getD-take n ts′ i (sign Eof) h
+-- either both tables have n rows, or they are the same
+pub alike : (ts ts′ : List Tok) (n : ℕ) → take n ts′ ≡ take n ts → Alike ts ts′ n ⊎ (ts′ ≡ ts)
+alike ts ts′ n e = go (leb n (length ts)) (leb n (length ts′)) refl refl
+  where
+    long : min n (length ts′) ≡ min n (length ts)
+    long = sym (length-take n ts′) ∙ ap length e ∙ length-take n ts
 
-  -- either both tables have n rows, or they are the same
-  alike-long : (n ≤ length ts × n ≤ length ts′) ⊎ (ts′ ≡ ts)
-  alike-long = go (leb n (length ts)) (leb n (length ts′)) refl refl
-    where
-      long : min n (length ts′) ≡ min n (length ts)
-      long = sym (length-take n ts′) ∙ ap length e ∙ length-take n ts
+    rows : (i : ℕ) → i < n → tokAt ts i ≡ tokAt ts′ i
+    rows i h = sym (getD-take n ts i (sign Eof) h) ∙ ap (λ (l : List Tok). getD l i (sign Eof)) (sym e) ∙ getD-take n ts′ i (sign Eof) h
 
-      go : (a b : Bool) → leb n (length ts) ≡ a → leb n (length ts′) ≡ b → (n ≤ length ts × n ≤ length ts′) ⊎ (ts′ ≡ ts)
-      go true true a b = inl (leb-true n (length ts) a, leb-true n (length ts′) b)
-      go true false a b = absurd (omega (arith, long, leb-true n (length ts) a, leb-false n (length ts′) b))
-      go false true a b = absurd (omega (arith, long, leb-false n (length ts) a, leb-true n (length ts′) b))
-      go false false a b =
-          let h : length ts < n = leb-false n (length ts) a in
-          let h′ : length ts′ < n = leb-false n (length ts′) b in
-          inr (sym (take-all n ts′ (omega arith)) ∙ e ∙ take-all n ts (omega arith))
+    go : (a b : Bool) → leb n (length ts) ≡ a → leb n (length ts′) ≡ b → Alike ts ts′ n ⊎ (ts′ ≡ ts)
+    go true true a b = inl (record { fit = leb-true n (length ts) a; fit′ = leb-true n (length ts′) b; agree = rows })
+    go true false a b = absurd (omega (arith, long, leb-true n (length ts) a, leb-false n (length ts′) b))
+    go false true a b = absurd (omega (arith, long, leb-false n (length ts) a, leb-true n (length ts′) b))
+    go false false a b =
+        let h : length ts < n = leb-false n (length ts) a in
+        let h′ : length ts′ < n = leb-false n (length ts′) b in
+        inr (sym (take-all n ts′ (omega arith)) ∙ e ∙ take-all n ts (omega arith))
 
 -- The theorem: a refusal rests on the rows up to the lost one. A table that has them too is refused with the same, at the same row; or, where it
 -- is 31 or 32 of an `if`, it is refused in some way, of an `if` by no check.
 pub settled : (ts ts′ : List Tok) (why : Syntax) (r : ℕ) → Parse.parse ts ≡ no why r → take (lost ts why r + 1) ts′ ≡ take (lost ts why r + 1) ts
     → (Parse.parse ts′ ≡ no why r) ⊎ ((isMisfit why ≡ false) × Dead why (Parse.parse ts′))
-settled ts ts′ why r f e = go (alike-long ts ts′ (lost ts why r + 1) e)
+settled ts ts′ why r f e = go (alike ts ts′ (lost ts why r + 1) e)
   where
     told : Local ts (lost ts why r + 1) 0 0 (no why r) (Parse.parse ts′) → (Parse.parse ts′ ≡ no why r) ⊎ ((isMisfit why ≡ false) × Dead why (Parse.parse ts′))
     told (same l q u) = inl (sym q)
@@ -854,11 +875,10 @@ settled ts ts′ why r f e = go (alike-long ts ts′ (lost ts why r + 1) e)
     told (both l d) = inr d
     told (late p) = absurd p
 
-    go : (lost ts why r + 1 ≤ length ts × lost ts why r + 1 ≤ length ts′) ⊎ (ts′ ≡ ts)
+    go : Alike ts ts′ (lost ts why r + 1) ⊎ (ts′ ≡ ts)
         → (Parse.parse ts′ ≡ no why r) ⊎ ((isMisfit why ≡ false) × Dead why (Parse.parse ts′))
     go (inl h) =
-        told (subst (λ (o : Out). Local ts (lost ts why r + 1) 0 0 o (Parse.parse ts′)) f
-        (parse-local ts ts′ (lost ts why r + 1) (h .0) (h .1) (alike-rows ts ts′ (lost ts why r + 1) e)))
+        told (subst (λ (o : Out). Local ts (lost ts why r + 1) 0 0 o (Parse.parse ts′)) f (parse-local ts ts′ (lost ts why r + 1) h))
     go (inr q) = inl (ap Parse.parse q ∙ f)
 
 -- So no program begins with the rows up to there: of 24, 26 to 29 and 31 none within the checks and the nesting, of 32 none within the

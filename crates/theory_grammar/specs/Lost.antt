@@ -110,8 +110,7 @@ nesting why = cond (isMisfit why) 65 64
 -- more than the parser goes, since an `if` that is nested 65 deep is refused with 32 only at its brace. That none begins with the row
 -- too holds of programs of any nesting, and all the more of those within the checks.
 --
--- For 31 the two sides may stand apart: in `1.f(2.g())` the inner call is told, and it is the outer parenthesis in front of which a
--- program goes on. With the inner one (`lost`) none goes on.
+-- For 31 the row may be the parenthesis of a call around the one that is told: in `1.f(2.g())` the inner call is told, and the outer one is lost.
 pub record First (ts : List Tok) (why : Syntax) (r : ℕ) : Type 0 where
   -- the row that the refusal is about
   pub row : ℕ
@@ -119,4 +118,4 @@ pub record First (ts : List Tok) (why : Syntax) (r : ℕ) : Type 0 where
   -- the rows in front of it begin a program
   pub goes : GoesOn (isCheck why) (nesting why) ts row
   -- and with the row itself they begin none
-  pub stops : (n : ℕ) → (isMisfit why ≡ false → n ≡ 64) → GoesOn (isCheck why) n ts (lost ts why r + 1) → ⊥
+  pub stops : (n : ℕ) → (isMisfit why ≡ false → n ≡ 64) → GoesOn (isCheck why) n ts (row + 1) → ⊥
