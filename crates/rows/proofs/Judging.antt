@@ -1,6 +1,6 @@
 -- Laws of what a call over a text and its table is told, case by case, and what follows where all is well.
 use mathlib.Core.Path.{_≡_, refl}
-use mathlib.Core.Bool.{Bool, true, false, cond, not, _&&_}
+use mathlib.Core.Bool.{Bool, true, false, cond, _&&_, and-true}
 use mathlib.Core.List.{List, []}
 use Prim.Native.Nat.{ℕ, _+_, _-_, _*_, _≤_, _<_}
 use native.Mathlib.Omega.{arith}
@@ -10,69 +10,50 @@ use borrow.Author.Tests.{eqb-true, eq-eqb, ne-eqb, ltb-true, lt-ltb, le-ltb}
 use Rattle.rules.specs.declared.Cursor.{Cursor}
 use Rattle.rules.specs.declared.Table.{Table}
 use Rattle.rules.specs.declared.Outer.{Outer}
-use Rattle.rules.specs.declared.Outer.the-variants.{TextTooLong, BadByte, NotWellFormed}
+use Rattle.rules.specs.declared.Outer.the-variants.{NotWellFormed}
 use Rattle.rules.specs.declared.Judged.{Judged}
 use Rattle.rules.specs.declared.Judged.the-variants as verdict
-use Rattle.rules.specs.Text.{mostBytes, validBytes, valid, placeAt, startPlace}
+use Rattle.rules.specs.Text.{startPlace, textJudged}
 use Rattle.rules.specs.Rows.{wellFormed, spelling}
 use Rattle.rules.specs.Calls.{judged, spellingJudged, spellingPart}
-use Rattle.scan_place.proofs.Places.{front-le}
 use Rattle.rows.specs.Shape.{rowNo}
-use Rattle.rows.proofs.Lists.{both-true}
+use Rattle.laws.proofs.Tests.{both-true}
 use Rattle.rows.proofs.Inside.{Fine, fine, row-sound, within}
-
-valid-le : (t : List ℕ) → validBytes t ≤ length t
-unfolding validBytes
-valid-le t = front-le (λ b. ltb b 128) t
-
-last-test : (a b d : Bool) (x y z : Cursor) →
-    cond a (verdict.Refused TextTooLong x) (cond b (verdict.Refused BadByte y) (cond d verdict.Fine (verdict.Refused NotWellFormed z))) ≡ verdict.Fine → d ≡ true
-last-test true b d x y z e = cc
-last-test false true d x y z e = cc
-last-test false false true x y z e = refl
-last-test false false false x y z e = cc
 
 row-test : (d : Bool) (z : Cursor) → cond d verdict.Fine (verdict.Refused NotWellFormed z) ≡ verdict.Fine → d ≡ true
 row-test true z e = refl
 row-test false z e = cc
 
 module _ (t ws : List ℕ) (tbl : Table) where
-  pub judged-long : mostBytes < length t → judged t ws tbl ≡ verdict.Refused TextTooLong startPlace
+  pub judged-text : (why : Outer) (p : Cursor) → textJudged t ≡ verdict.Refused why p → judged t ws tbl ≡ verdict.Refused why p
   unfolding judged
-  judged-long h = rw (lt-ltb mostBytes (length t) h)
+  judged-text why p e = rw (judged, e)
 
-  module _ (short : length t ≤ mostBytes) where
-    pub judged-byte : validBytes t < length t → judged t ws tbl ≡ verdict.Refused BadByte (placeAt t (validBytes t))
-    unfolding judged valid
-    judged-byte h = rw (le-ltb mostBytes (length t) short, ne-eqb (validBytes t) (length t) (λ e. omega arith))
+  module _ (e : textJudged t ≡ verdict.Fine) where
+    pub judged-size : (tbl .length ≡ length t → ⊥) → judged t ws tbl ≡ verdict.Refused NotWellFormed startPlace
+    unfolding judged
+    judged-size h = rw (judged, e) (rw (ne-eqb (tbl .length) (length t) h) (pick (wellFormed ws tbl)))
+      where
+        pick : (b : Bool) → cond (b && false) verdict.Fine (verdict.Refused NotWellFormed startPlace) ≡ verdict.Refused NotWellFormed startPlace
+        pick true = refl
+        pick false = refl
 
-    module _ (whole : length t ≤ validBytes t) where
-      pub judged-size : (tbl .length ≡ length t → ⊥) → judged t ws tbl ≡ verdict.Refused NotWellFormed startPlace
-      unfolding judged valid
-      judged-size h =
-          let e : validBytes t ≡ length t = omega (arith, valid-le t) in
-          rw (le-ltb mostBytes (length t) short, eq-eqb (validBytes t) (length t) e, ne-eqb (tbl .length) (length t) h) (pick (wellFormed ws tbl))
-        where
-          pick : (b : Bool) → cond (b && false) verdict.Fine (verdict.Refused NotWellFormed startPlace) ≡ verdict.Refused NotWellFormed startPlace
-          pick true = refl
-          pick false = refl
-
-      pub judged-table : tbl .length ≡ length t → (b : Bool) → wellFormed ws tbl ≡ b → judged t ws tbl ≡ cond b verdict.Fine (verdict.Refused NotWellFormed startPlace)
-      unfolding judged valid
-      judged-table h b w =
-          let e : validBytes t ≡ length t = omega (arith, valid-le t) in
-          rw (le-ltb mostBytes (length t) short, eq-eqb (validBytes t) (length t) e, eq-eqb (tbl .length) (length t) h, w) (pick b)
-        where
-          pick : (b : Bool) → cond (b && true) verdict.Fine (verdict.Refused NotWellFormed startPlace) ≡ cond b verdict.Fine (verdict.Refused NotWellFormed startPlace)
-          pick true = refl
-          pick false = refl
+    pub judged-table : tbl .length ≡ length t → (b : Bool) → wellFormed ws tbl ≡ b → judged t ws tbl ≡ cond b verdict.Fine (verdict.Refused NotWellFormed startPlace)
+    unfolding judged
+    judged-table h b w = rw (judged, e) (rw (eq-eqb (tbl .length) (length t) h, w, and-true b))
 
   -- where all is well, the table is well formed and as long as the text
   pub judged-fine : judged t ws tbl ≡ verdict.Fine → (wellFormed ws tbl ≡ true) × (tbl .length ≡ length t)
   unfolding judged
-  judged-fine e =
-      let b = both-true (wellFormed ws tbl) (eqb (tbl .length) (length t)) (last-test (ltb mostBytes (length t)) (not (valid t)) (wellFormed ws tbl && eqb (tbl .length) (length t)) startPlace (placeAt t (validBytes t)) startPlace e) in
-      (b .0, eqb-true (tbl .length) (length t) (b .1))
+  judged-fine e = go (textJudged t) e
+    where
+      go : (v : Judged) →
+          elim v as (λ _. Judged) [ verdict.Fine ↦ cond (wellFormed ws tbl && eqb (tbl .length) (length t)) verdict.Fine (verdict.Refused NotWellFormed startPlace) | verdict.Refused why p ↦ verdict.Refused why p ] ≡ verdict.Fine
+          → (wellFormed ws tbl ≡ true) × (tbl .length ≡ length t)
+      go verdict.Fine e =
+          let b = both-true (wellFormed ws tbl) (eqb (tbl .length) (length t)) (row-test (wellFormed ws tbl && eqb (tbl .length) (length t)) startPlace e) in
+          (b .0, eqb-true (tbl .length) (length t) (b .1))
+      go (verdict.Refused why p) e = absurd (let z : _≡_ {A = ℕ} 0 1 = cc in let y : ⊥ = omega arith in y)
 
   module _ (row : ℕ) where
     pub told-refused : (why : Outer) (p : Cursor) → judged t ws tbl ≡ verdict.Refused why p → spellingJudged t ws tbl row ≡ verdict.Refused why p

@@ -39,6 +39,10 @@ rowIn ws = record {
   spare = getD ws 7 0;
 }
 
+-- row i of a list of words
+abbrev pub rowNo : List ℕ → ℕ → Row
+rowNo ws i = rowIn (drop (8 * i) ws)
+
 -- the first n rows of a list of words, and the words of a list of rows
 unfoldable pub rowsIn : ℕ → List ℕ → List Row
 rowsIn zero ws = []

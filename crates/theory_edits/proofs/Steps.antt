@@ -12,25 +12,8 @@ use Rattle.rules.specs.Kinds
 use Rattle.rules.specs.Kinds.{Spelt, signs, sameBytes, kindIn}
 use Rattle.rules.specs.Lex.{isDigit, isLetter, isWord, isHexDigit, isEscape, largest, isLone}
 use Rattle.rules.specs.Edit.{opens, slashOrStar}
+use Rattle.laws.proofs.Tests.{both-true}
 use Rattle.theory_machine.specs.Machine.{St, gap, slash, line, block, star, minus, str, esc, two, name, zer, hex0, dec, hex, Spot, mark, opened, here, before, First, go, clear, over, bad, Move, fresh, on, back, Last, clean, ended, cut, spot, number, begin, step, finish}
-
-pub and-left : (x y : Bool) → (x && y) ≡ true → x ≡ true
-and-left true y h = refl
-and-left false y h = h
-
-pub and-right : (x y : Bool) → (x && y) ≡ true → y ≡ true
-and-right true y h = h
-and-right false y h = absurd (true≢false (sym h))
-
-pub and-both : {x y : Bool} → x ≡ true → y ≡ true → (x && y) ≡ true
-and-both {x} {y} e f = rw (e, f)
-
-pub spot-le : (x : Spot) (k : ℕ) → spot x k ≤ k
-unfolding spot
-spot-le mark k = omega arith
-spot-le opened k = omega arith
-spot-le here k = omega arith
-spot-le before k = omega arith
 
 pub step-gap : (k b : ℕ) → step gap k b ≡ fresh
 unfolding step
@@ -121,8 +104,8 @@ noSecond y (e ∷ es) = not (secondIs y (e .spelling)) && noSecond y es
 same-second : (x y : ℕ) (s : List ℕ) → sameBytes s (x ∷ y ∷ []) ≡ true → secondIs y s ≡ true
 unfolding sameBytes secondIs
 same-second x y [] h = h
-same-second x y (a ∷ []) h = and-right (eqb a x) false h
-same-second x y (a ∷ c ∷ s) h = and-left (eqb c y) _ (and-right (eqb a x) _ h)
+same-second x y (a ∷ []) h = both-true (eqb a x) false h .1
+same-second x y (a ∷ c ∷ s) h = both-true (eqb c y) _ (both-true (eqb a x) _ h .1) .0
 
 no-sign : (x y d : ℕ) (es : List Spelt) → noSecond y es ≡ true → kindIn es d (x ∷ y ∷ []) ≡ d
 unfolding kindIn noSecond

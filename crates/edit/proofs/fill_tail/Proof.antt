@@ -55,7 +55,6 @@ returns-2 c =
     (o .fill-over .ensures .0 ∙ q .0, o .fill-over .ensures .1 ∙ q .1)
 
 returns-3 : tie.Need-returns-3
-unfolding isShortSight
 returns-3 c =
     let s = c .before .before .before .before .before in
     let z = rw (c .enum-told2 .given .1) at (s .pre .long) in
