@@ -36,7 +36,7 @@ fn main() {
         archive.display()
     );
     println!("cargo:rustc-link-search=native={}", folder.display());
-    println!("cargo:rustc-link-lib=static=console");
+    println!("cargo:rustc-link-lib=static=spoonharbor");
 }
 
 /// The folder above this crate's.
@@ -61,7 +61,7 @@ fn build(root: &Path, processor: &str, archive: &Path) {
     let mut command = match processor {
         "x86_64" => {
             let mut command = Command::new("rt");
-            command.args(["staticlib", "console"]);
+            command.args(["staticlib", "spoonharbor"]);
             command
         }
         _ => {

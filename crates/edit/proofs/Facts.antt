@@ -1,14 +1,14 @@
 -- What a well-formed table gives the edit: starts rise, and what is moved from one of its rows on fits.
 use mathlib.Core.Path.{_≡_, refl, sym}
-use mathlib.Core.Bool.{Bool, true, false, not, _&&_, _||_}
+use mathlib.Core.Bool.{true, not, _&&_, _||_}
 use mathlib.Core.List.{List}
 use Prim.Native.Nat.{ℕ, zero, suc, _+_, _-_, _^_, _≤_, _<_}
 use native.Mathlib.Nat.{le-refl, add-zero}
-use native.Mathlib.Decide.{decLe, ℕ-discrete}
+use native.Mathlib.Decide.{ℕ-discrete}
 use native.Mathlib.Omega.{arith}
 use lib.ListN.{length}
 use lib.Dec.{eqb, leb}
-use borrow.Author.Tests.{eqb-true, eq-eqb, ne-eqb, leb-true}
+use borrow.Author.Tests.{eqb-true, eq-eqb, leb-true}
 use Rattle.rules.specs.declared.Cursor.{Cursor}
 use Rattle.rules.specs.declared.Ending.{Ending}
 use Rattle.rules.specs.declared.Ending.the-variants.{None, Refused}
@@ -18,7 +18,7 @@ use Rattle.rules.specs.Rows.{rowPlace, linesFit, follows, placeFits}
 use Rattle.rows.specs.Shape.{rowNo, behind}
 use Rattle.laws.proofs.Tests.{both-true}
 use Rattle.rows.proofs.Inside
-use Rattle.rows.proofs.Inside.{Fine, Sound, Ends, Broken, clean, broken, row-sound, in-order, middle-plain}
+use Rattle.rows.proofs.Inside.{Fine, Ends, Broken, clean, broken, row-sound, in-order}
 use Rattle.edit_carry.specs.Moves.{MovesPlace, MovesRow, MovesEnding, none, refused, Ended}
 use Rattle.edit_sight.specs.Sight.{Rising}
 

@@ -1,6 +1,6 @@
 -- Laws of tests: of two at once, and of each number below a bound.
 use mathlib.Core.Path.{_≡_, refl, sym, _∙_}
-use mathlib.Core.Bool.{Bool, true, false, _&&_, _||_, true≢false}
+use mathlib.Core.Bool.{Bool, true, false, _&&_, _||_, true≢false, and-eq-true-iff}
 use Prim.Native.Nat.{ℕ, zero, suc, _+_, _<_}
 use native.Mathlib.Nat.{not-suc-le-zero}
 use native.Mathlib.Numerals.{add-one}
@@ -20,8 +20,7 @@ same-bool false true f g = g refl
 same-bool false false f g = refl
 
 pub both-true : (p q : Bool) → (p && q) ≡ true → (p ≡ true) × (q ≡ true)
-both-true true q e = (refl, e)
-both-true false q e = absurd (true≢false (sym e))
+both-true p q = and-eq-true-iff p q .0
 
 pub true-both : {p q : Bool} → p ≡ true → q ≡ true → (p && q) ≡ true
 true-both {p} {q} e f = rw (e, f)

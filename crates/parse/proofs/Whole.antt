@@ -32,7 +32,7 @@ use Rattle.theory_grammar.proofs.Laws.{nodes-within-rows, tree-length, words-pr
 use Rattle.theory_grammar.proofs.Runs.{all-ok}
 use Rattle.theory_grammar.proofs.Ends.{Ends, ends-top, wide-top, ends-parse}
 use Rattle.theory_grammar.proofs.Refused.{refused-inside}
-use Rattle.parse_nodes.specs.Post.{kindWord, tagOf, Met, Stands}
+use Rattle.parse_nodes.specs.Post.{kindWord, stateAt, behind, Met, Stands}
 use Rattle.parse_nodes.specs.declared.At.{At}
 use Rattle.parse_nodes.specs.declared.Got.{Got}
 use Rattle.parse_nodes.specs.declared.Got.the-variants.{Done}
@@ -55,13 +55,13 @@ module _ (ts : List Tok) (i n : ℕ) (m : List ℕ) (s : At) (m′ : List ℕ) w
   pub top-up : Came (Ends ts i) ts (Parse.top ts i) i n m s m′ → i < s .row
   top-up v = omega (arith, all-ok (λ t j. 1 ≤ width t) (Parse.top ts i) (v .tree) (s .row) (wide-top ts i) (v .is), v .stands .rows)
 
-pub stands-program : (m m₁ m₂ : List ℕ) (s s′ : At) (t : Tree) → Stands 0 0 t m s m₁ → s .tag ≡ count t
-    → s′ ≡ record { row = s .row + 1; node = s .node + 1; place = s .row; tag = 0 } → m₂ ≡ sets m₁ (8 * s .node) (nodeWords (node 29 (s .row) missing (s .tag)))
+pub stands-program : (m m₁ m₂ : List ℕ) (s s′ : At) (t : Tree) → Stands 0 0 t m s m₁
+    → s′ ≡ stateAt (s .row + 1) (s .node + 1) (s .row) → m₂ ≡ sets m₁ (8 * s .node) (nodeWords (node 29 (s .row) missing (s .things)))
     → Stands 0 0 (program t) m s′ m₂
-unfolding width size placeOf tagOf isVariable count
-stands-program m m₁ m₂ s s′ t a g e q =
-    stands-at 0 0 (program t) m m₂ s′ e (omega (arith, a .rows)) (omega (arith, a .nodes)) (a .rows) refl
-    (rw (words-program 0 t, ← a .rows, ← g) (mem-over m 0 0 t s m₁ a m₂ (nodeWords (node 29 (s .row) missing (s .tag))) q))
+unfolding width size placeOf isVariable count
+stands-program m m₁ m₂ s s′ t a e q =
+    stands-at 0 0 (program t) m m₂ s′ e (omega (arith, a .rows)) (omega (arith, a .nodes)) (a .rows) refl refl
+    (rw (words-program 0 t, ← a .rows, ← a .things) (mem-over m 0 0 t s m₁ a m₂ (nodeWords (node 29 (s .row) missing (s .things))) q))
 
 -- ---- two passes
 
@@ -78,7 +78,7 @@ pub record Wrote (o : Out) (s : At) : Type 0 where
 
 pub wrote : (o : Out) (m m′ : List ℕ) (r : Got) (s : At) → Met o 0 0 m m′ r → r ≡ Done s → Wrote o s
 wrote (ok t j) m m′ r s h e =
-    let q : s ≡ record { row = j; node = 0 + size t; place = placeOf 0 t; tag = tagOf t } = cc (h .0, e) in
+    let q : s ≡ behind 0 0 t j = cc (h .0, e) in
     record { tree = t; is = ap (λ (x : ℕ). ok t x) (sym (ap (λ (x : At). x .row) q)); node = ap (λ (x : At). x .node) q ∙ zero-add (size t) }
 wrote (no why p) m m′ r s h e = let z : _≡_ {A = ℕ} 0 1 = cc (h, e) in absurd (omega arith)
 

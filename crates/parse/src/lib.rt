@@ -2,6 +2,7 @@
 // leaves node memory as it was.
 use parse_nodes::At;
 use parse_nodes::Got;
+use rows::shape;
 use rules::Cursor;
 use rules::Ending;
 use rules::Judged;
@@ -10,7 +11,12 @@ use rules::Parsed;
 use rules::Reason;
 use rules::Syntax;
 use rules::Table;
-use rows::shape;
+use rules::kind::EOF;
+use rules::kind::EVENT;
+use rules::kind::MAP;
+use rules::kind::UNIT;
+use rules::node;
+use rules::node_kind;
 ghost use mathlib.Core.Path.{_≡_};
 ghost use Prim.Native.Nat.{_+_, _*_, _≤_};
 ghost use lib.ListN.{length};
@@ -21,14 +27,6 @@ ghost use Rattle.rules.specs.declared.Reason.the-variants as reason;
 ghost use Rattle.parse_nodes.specs.Post.{AsksOpen};
 ghost use Rattle.parse_nodes.specs.Names.{Spans};
 ghost use Rattle.parse.specs.Program.{TopMet, ProgramMet, AsksTable, AsksWhole, readingOf, Final};
-
-const UNIT: u32 = 0;
-
-const MAP: u32 = 6;
-
-const EVENT: u32 = 15;
-
-const EOF: u32 = 52;
 
 // A map, an event or a unit at the row.
 fn top(text: &[u8], rows: &[u32], count: usize, nodes: &mut [u32], row: usize, node: usize) -> Got
@@ -57,16 +55,17 @@ fn program(text: &[u8], rows: &[u32], count: usize, nodes: &mut [u32]) -> Got
         row: 0,
         node: 0,
         place: 0,
-        tag: 0,
+        variable: false,
+        things: 0,
     };
     loop {
         let at = s.row;
         if parse_nodes::kind_at(rows, count, at) == EOF {
-            return Got::Done(parse_nodes::ended(nodes, s, 29, at, s.tag));
+            return Got::Done(parse_nodes::ended(nodes, s, node_kind::PROGRAM, at, s.things));
         }
         match top(text, rows, count, nodes, at, s.node) {
             Got::Done(t) => {
-                s = parse_nodes::counted(t, s.place, s.tag + 1);
+                s = parse_nodes::counted(t, s.place, s.things + 1);
             }
             Got::Refused(why, r) => {
                 return Got::Refused(why, r);
@@ -114,7 +113,7 @@ pub fn parse(text: &[u8], rows: &[u32], table: Table, nodes: &mut [u32]) -> Pars
         Ending::None => {}
     }
     let count = table.count as usize;
-    if nodes.len() / 8 < count {
+    if nodes.len() / node::WORDS < count {
         return outer(Outer::NoNodeRoom);
     }
     twice(text, rows, count, nodes)

@@ -1,6 +1,7 @@
 -- The shapes of fields: what is found, and the node of a field.
 -- ---- answers
 use mathlib.Core.Path.{_≡_, refl, sym, subst}
+use mathlib.Core.Bool.{false}
 use mathlib.Core.List.{List}
 use Prim.Native.Nat.{ℕ, _+_, _*_, _≤_, _<_}
 use native.Mathlib.Omega.{arith}
@@ -14,7 +15,7 @@ use Rattle.theory_grammar.proofs.Laws.{words-plain-field, words-bytes-field, wo
 use Rattle.theory_grammar.proofs.Runs.{all-ok}
 use Rattle.theory_grammar.proofs.Ends.{Ends, ends-event-field, wide-event-field}
 use Rattle.parse_nodes.specs.declared.Got.the-variants as got
-use Rattle.parse_nodes.specs.Post.{tagOf, Met, Stands}
+use Rattle.parse_nodes.specs.Post.{stateAt, Met, Stands}
 use Rattle.parse_nodes.specs.declared.At.{At}
 use Rattle.parse_nodes.specs.declared.Got.{Got}
 use Rattle.parse_nodes.proofs.Turn.{Came, came-ends}
@@ -68,18 +69,18 @@ shows-place i (plain w k) = refl
 shows-place i (bytes w v) = refl
 shows-place i (array w k v) = refl
 
-pub shows-tag : {t : Tree} {a b v : ℕ} → Shows t a b v → tagOf t ≡ 0
-unfolding tagOf isVariable count
-shows-tag (plain w k) = refl
-shows-tag (bytes w v) = refl
-shows-tag (array w k v) = refl
+pub shows-one : {t : Tree} {a b v : ℕ} → Shows t a b v → (isVariable t ≡ false) × (count t ≡ 0)
+unfolding isVariable count
+shows-one (plain w k) = (refl, refl)
+shows-one (bytes w v) = (refl, refl)
+shows-one (array w k v) = (refl, refl)
 
 -- the answer of a field whose node is written
 pub field-met : (o : Out) (i n : ℕ) (m m′ : List ℕ) (s : Shape) → Gave o s → m′ ≡ sets m (8 * n) (nodeWords (factNode 26 i i 0 (s .form) (s .element) (s .length) 0))
-    → Met o i n m m′ (got.Done (record { row = s .row; node = n + 1; place = i; tag = 0 }))
+    → Met o i n m m′ (got.Done (stateAt (s .row) (n + 1) i))
 field-met o i n m m′ s g q =
-    subst (λ (x : Out). Met x i n m m′ (got.Done (record { row = s .row; node = n + 1; place = i; tag = 0 }))) (sym (g .is))
-    (rw (shows-size (g .shows), shows-place i (g .shows), shows-tag (g .shows)), rw (shows-words i (g .shows)) q)
+    subst (λ (x : Out). Met x i n m m′ (got.Done (stateAt (s .row) (n + 1) i))) (sym (g .is))
+    (rw (shows-size (g .shows), shows-place i (g .shows), shows-one (g .shows) .0, shows-one (g .shows) .1), rw (shows-words i (g .shows)) q)
 
 -- ---- a field's call, and the event behind its fields
 
@@ -91,11 +92,11 @@ module _ (ts : List Tok) (i n : ℕ) (m : List ℕ) (s : At) (m′ : List ℕ) w
   pub field-up : Came (Ends ts i) ts (Parse.eventField ts i) i n m s m′ → i < s .row
   field-up v = omega (arith, all-ok (λ t j. 1 ≤ width t) (Parse.eventField ts i) (v .tree) (s .row) (wide-event-field ts i) (v .is), v .stands .rows)
 
-pub stands-event : (i n : ℕ) (m m₁ m₂ : List ℕ) (s s′ : At) (t : Tree) (w : List ℕ) → Stands (i + 1 + 1 + 1) n t m s m₁ → s .tag ≡ count t
-    → s′ ≡ record { row = s .row + 1; node = s .node + 1; place = i + 1; tag = 0 } → m₂ ≡ sets m₁ (8 * s .node) (nodeWords (node 27 (i + 1) (i + 1) (s .tag)))
+pub stands-event : (i n : ℕ) (m m₁ m₂ : List ℕ) (s s′ : At) (t : Tree) (w : List ℕ) → Stands (i + 1 + 1 + 1) n t m s m₁
+    → s′ ≡ stateAt (s .row + 1) (s .node + 1) (i + 1) → m₂ ≡ sets m₁ (8 * s .node) (nodeWords (node 27 (i + 1) (i + 1) (s .things)))
     → Stands i n (event w t) m s′ m₂
-unfolding width size placeOf tagOf isVariable count
-stands-event i n m m₁ m₂ s s′ t w a g e q =
+unfolding width size placeOf isVariable count
+stands-event i n m m₁ m₂ s s′ t w a e q =
     let three : i + 1 + 1 + 1 ≡ i + 3 = omega arith in
-    stands-at i n (event w t) m m₂ s′ e (omega (arith, a .rows)) (omega (arith, a .nodes)) refl refl
-    (rw (words-event i w t, ← three, ← g) (mem-over m (i + 1 + 1 + 1) n t s m₁ a m₂ (nodeWords (node 27 (i + 1) (i + 1) (s .tag))) q))
+    stands-at i n (event w t) m m₂ s′ e (omega (arith, a .rows)) (omega (arith, a .nodes)) refl refl refl
+    (rw (words-event i w t, ← three, ← a .things) (mem-over m (i + 1 + 1 + 1) n t s m₁ a m₂ (nodeWords (node 27 (i + 1) (i + 1) (s .things))) q))

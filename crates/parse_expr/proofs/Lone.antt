@@ -2,12 +2,12 @@
 use mathlib.Core.Path.{_≡_, refl, sym, ap, _∙_}
 use mathlib.Core.Bool.{Bool, true, false, cond, not, _&&_, _||_, true≢false}
 use mathlib.Core.List.{List}
-use Prim.Native.Nat.{ℕ, suc, _+_, _≤_}
+use Prim.Native.Nat.{ℕ, suc, _+_}
 use native.Mathlib.Omega.{arith}
-use lib.Dec.{eqb, ltb}
+use lib.Dec.{eqb}
 use lib.ListN.{length}
-use borrow.Author.Tests.{ne-eqb, eq-eqb, eqb-false, ltb-true, ltb-false}
-use Rattle.rules.specs.Kinds.{Dot, Star, Slash, Percent, Identifier, Number}
+use borrow.Author.Tests.{ne-eqb, eq-eqb, eqb-false}
+use Rattle.rules.specs.Kinds.{Dot, Star, Identifier, Number}
 use Rattle.rules.specs.Tree.{Tok, kindOf, spellingOf, bitsIn, Tree, num, var}
 use Rattle.rules.specs.Nodes.{width}
 use Rattle.rules.specs.Parse
@@ -19,34 +19,6 @@ use Rattle.parse_nodes.specs.declared.At.{At}
 use Rattle.parse_nodes.specs.declared.Got.the-variants.{Done}
 use Rattle.parse_nodes.proofs.Turn.{met-ok}
 use Rattle.parse_expr.specs.Lone.{isLone, leafOf}
-
--- ---- kinds
-
--- the operators of `mul` stand side by side among the kinds
-no-mul : (k : ℕ) → (ltb k Star || ltb Percent k) ≡ not (isMul k)
-no-mul k = go (ltb k Star) refl (ltb Percent k) refl
-  where
-    other : (k ≡ Star → ⊥) → (k ≡ Slash → ⊥) → (k ≡ Percent → ⊥) → true ≡ not (isMul k)
-    other a b c = rw (ne-eqb k Star a, ne-eqb k Slash b, ne-eqb k Percent c)
-
-    one-of : Star ≤ k → k ≤ Percent → (a : Bool) → eqb k Star ≡ a → (b : Bool) → eqb k Slash ≡ b → false ≡ not ((a || b) || eqb k Percent)
-    one-of e f true p b q = refl
-    one-of e f false p true q = refl
-    one-of e f false p false q = rw (eq-eqb k Percent (omega (arith, eqb-false k Star p, eqb-false k Slash q)))
-
-    go : (a : Bool) → ltb k Star ≡ a → (b : Bool) → ltb Percent k ≡ b → (a || b) ≡ not (isMul k)
-    go true e b f = let h = ltb-true k Star e in other (λ q. omega arith) (λ q. omega arith) (λ q. omega arith)
-    go false e true f = let h = ltb-true Percent k f in other (λ q. omega arith) (λ q. omega arith) (λ q. omega arith)
-    go false e false f = one-of (ltb-false k Star e) (ltb-false Percent k f) (eqb k Star) refl (eqb k Slash) refl
-
--- the test as the code makes it
-pub lone-test : (k next : ℕ) → (eqb k Identifier || eqb k Number) && (not (eqb next Dot) && (ltb next Star || ltb Percent next)) ≡ isLone k next
-unfolding isLone
-lone-test k next = rw (no-mul next, neither (eqb next Dot) (isMul next))
-  where
-    neither : (a b : Bool) → not a && not b ≡ not (a || b)
-    neither true b = refl
-    neither false b = refl
 
 -- ---- the leaf
 

@@ -4,65 +4,52 @@
 use parse_nodes::At;
 use parse_nodes::Got;
 use rules::Syntax;
+use rules::kind::COMMA;
+use rules::kind::DOT;
+use rules::kind::IDENTIFIER;
+use rules::kind::LPAREN;
+use rules::kind::MINUS;
+use rules::kind::NUMBER;
+use rules::kind::PERCENT;
+use rules::kind::PLUS;
+use rules::kind::RPAREN;
+use rules::kind::SHL;
+use rules::kind::SHR;
+use rules::kind::SLASH;
+use rules::kind::STAR;
+use rules::node_kind;
+use rules::row::HIGH;
+use rules::row::LOW;
+use rules::row::WORDS;
 ghost use mathlib.Core.Path.{_≡_};
 ghost use Prim.Native.Nat.{_+_, _*_, _≤_, _<_};
 ghost use lib.ListN.{length};
 ghost use lib.Seq.{sets};
-ghost use lib.Dec.{eqb};
 ghost use Rattle.rules.specs.Nodes.{binaryNode, node, nodeWords};
 ghost use Rattle.rules.specs.Parse.{isAdd, isShift, isMul, inner, atom, prim, unary, mul, shift, add, args, post};
-ghost use Rattle.parse_nodes.specs.Post.{kindWord, Answers, Onward, Asks, AsksAt, AsksOpen};
+ghost use Rattle.parse_nodes.specs.Post.{kindWord, stateAt, Answers, Onward, Asks, AsksAt, AsksOpen};
 ghost use Rattle.parse_expr.specs.Calls.{CallEnd};
 ghost use Rattle.parse_expr.specs.Lone.{isLone, Leaf};
 
-const LPAREN: u32 = 27;
-
-const RPAREN: u32 = 28;
-
-const DOT: u32 = 30;
-
-const COMMA: u32 = 31;
-
-const PLUS: u32 = 41;
-
-const MINUS: u32 = 42;
-
-const STAR: u32 = 43;
-
-const SLASH: u32 = 44;
-
-const PERCENT: u32 = 45;
-
-const SHR: u32 = 46;
-
-const SHL: u32 = 47;
-
-const IDENTIFIER: u32 = 48;
-
-const NUMBER: u32 = 50;
-
-// Whether a row's kind is `+` or `-`.
+// Whether a row's kind is `+` or `-`, which stand side by side among the kinds.
 fn is_add(k: u32) -> bool
     ensures { λ r. ⌜ r ≡ isAdd k ⌝ }
 {
-    if k == PLUS { true } else { k == MINUS }
+    (PLUS <= k) & (k <= MINUS)
 }
 
 // Whether a row's kind is `<<` or `>>`.
 fn is_shift(k: u32) -> bool
     ensures { λ r. ⌜ r ≡ isShift k ⌝ }
 {
-    if k == SHL { true } else { k == SHR }
+    (k == SHL) | (k == SHR)
 }
 
 // Whether a row's kind is `*`, `/` or `%`.
 fn is_mul(k: u32) -> bool
     ensures { λ r. ⌜ r ≡ isMul k ⌝ }
 {
-    if k == STAR {
-        return true;
-    }
-    if k == SLASH { true } else { k == PERCENT }
+    ((k == STAR) | (k == SLASH)) | (k == PERCENT)
 }
 
 // The node kind of an operator's row kind.
@@ -70,29 +57,30 @@ fn binary_node(k: u32) -> u32
     ensures { λ r. ⌜ r ≡ binaryNode k ⌝ }
 {
     match k {
-        PLUS => 4,
-        MINUS => 5,
-        STAR => 6,
-        SLASH => 7,
-        PERCENT => 8,
-        SHL => 9,
-        _ => 10,
+        PLUS => node_kind::ADD,
+        MINUS => node_kind::SUB,
+        STAR => node_kind::MUL,
+        SLASH => node_kind::DIV,
+        PERCENT => node_kind::MOD,
+        SHL => node_kind::SHL,
+        _ => node_kind::SHR,
     }
 }
 
 // The end of a call: s stands behind the receiver, at the dot; m is the next node, and next the row behind the call.
 fn call_end(nodes: &mut [u32], s: At, m: usize, count: usize, next: usize) -> Got
     requires { ⌜ (s .place ≤ 65536) × ((s .row ≤ 65536) × ((m ≤ 65537) × (count ≤ 65536))) ⌝ }
-    ensures { λ r. ⌜ CallEnd (eqb (s .tag) 1) s m count next (now (nodes .entry)) (now (nodes .exit)) r ⌝ }
+    ensures { λ r. ⌜ CallEnd (s .variable) s m count next (now (nodes .entry)) (now (nodes .exit)) r ⌝ }
 {
-    if s.tag == 1 {
+    if s.variable {
         let name = s.row + 1;
-        parse_nodes::close(nodes, m, 11, s.place, name as u32, count + 1);
+        parse_nodes::close(nodes, m, node_kind::CALL, s.place, name as u32, count + 1);
         return Got::Done(At {
             row: next,
             node: m + 1,
             place: s.place,
-            tag: 0,
+            variable: false,
+            things: 0,
         });
     }
     Got::Refused(Syntax::CallOnOther, s.row + 1)
@@ -101,16 +89,17 @@ fn call_end(nodes: &mut [u32], s: At, m: usize, count: usize, next: usize) -> Go
 // The state behind a field of what s stands behind, at the dot.
 fn field_end(nodes: &mut [u32], s: At) -> At
     requires { ⌜ (s .row ≤ 65535) × (s .node ≤ 65537) ⌝ }
-    ensures { λ r. ⌜ (r ≡ record { row = s .row + 1 + 1; node = s .node + 1; place = s .row + 1; tag = 0 }) × (now (nodes .exit) ≡ sets (now (nodes .entry)) (8 * s .node) (nodeWords (node 12 (s .row + 1) (s .row + 1) 1))) ⌝ }
+    ensures { λ r. ⌜ (r ≡ stateAt (s .row + 1 + 1) (s .node + 1) (s .row + 1)) × (now (nodes .exit) ≡ sets (now (nodes .entry)) (8 * s .node) (nodeWords (node 12 (s .row + 1) (s .row + 1) 1))) ⌝ }
 {
     let name = s.row + 1;
     let n = s.node;
-    parse_nodes::close(nodes, n, 12, name, name as u32, 1);
+    parse_nodes::close(nodes, n, node_kind::FIELD, name, name as u32, 1);
     At {
         row: name + 1,
         node: n + 1,
         place: name,
-        tag: 0,
+        variable: false,
+        things: 0,
     }
 }
 
@@ -121,7 +110,7 @@ fn is_lone(rows: &[u32], count: usize, row: usize) -> bool
 {
     let k = parse_nodes::kind_at(rows, count, row);
     let next = parse_nodes::kind_at(rows, count, row + 1);
-    ((k == IDENTIFIER) | (k == NUMBER)) & ((next != DOT) & ((next < STAR) | (PERCENT < next)))
+    ((k == IDENTIFIER) | (k == NUMBER)) & !((next == DOT) | is_mul(next))
 }
 
 // The state behind the number at a row, or behind a variable if no number stands there.
@@ -130,7 +119,13 @@ fn leaf(rows: &[u32], count: usize, nodes: &mut [u32], row: usize, node: usize) 
     ensures { λ r. ⌜ Leaf (now (rows .entry)) count row node (now (nodes .entry)) (now (nodes .exit)) r ⌝ }
 {
     if parse_nodes::kind_at(rows, count, row) == NUMBER {
-        return parse_nodes::number(nodes, row, node, rows[row * 8 + 5], rows[row * 8 + 6]);
+        return parse_nodes::number(
+            nodes,
+            row,
+            node,
+            rows[row * WORDS + LOW],
+            rows[row * WORDS + HIGH],
+        );
     }
     parse_nodes::variable(nodes, row, node)
 }
@@ -240,7 +235,7 @@ fn unary(rows: &[u32], count: usize, nodes: &mut [u32], row: usize, node: usize,
         }
         match unary(rows, count, nodes, row + 1, node, left - 1) {
             Got::Done(t) => {
-                return Got::Done(parse_nodes::shut(nodes, t, 3, t.place, 1));
+                return Got::Done(parse_nodes::shut(nodes, t, node_kind::DEREFERENCE, t.place, 1));
             }
             Got::Refused(why, r) => {
                 return Got::Refused(why, r);
@@ -257,8 +252,8 @@ fn atom(rows: &[u32], count: usize, nodes: &mut [u32], row: usize, node: usize, 
 {
     let k = parse_nodes::kind_at(rows, count, row);
     if k == NUMBER {
-        let at = row * 8;
-        return Got::Done(parse_nodes::number(nodes, row, node, rows[at + 5], rows[at + 6]));
+        let at = row * WORDS;
+        return Got::Done(parse_nodes::number(nodes, row, node, rows[at + LOW], rows[at + HIGH]));
     }
     if k == LPAREN {
         if left == 0 {
@@ -273,7 +268,8 @@ fn atom(rows: &[u32], count: usize, nodes: &mut [u32], row: usize, node: usize, 
                         row: j + 1,
                         node: t.node,
                         place: t.place,
-                        tag: t.tag,
+                        variable: t.variable,
+                        things: 0,
                     });
                 }
                 return Got::Refused(Syntax::Wanted(RPAREN, found), j);
@@ -341,7 +337,7 @@ fn post(rows: &[u32], count: usize, nodes: &mut [u32], s: At, left: usize) -> Go
             if found != RPAREN {
                 return Got::Refused(Syntax::Wanted(RPAREN, found), close);
             }
-            call_end(nodes, s, a.node, a.tag, close + 1)
+            call_end(nodes, s, a.node, a.things, close + 1)
         }
         Got::Refused(why, r) => Got::Refused(why, r),
     }
@@ -368,7 +364,7 @@ fn args(rows: &[u32], count: usize, nodes: &mut [u32], row: usize, node: usize, 
         }
         match add(rows, count, nodes, at + 1, s.node, left - 1) {
             Got::Done(t) => {
-                s = parse_nodes::counted(t, s.place, s.tag + 1);
+                s = parse_nodes::counted(t, s.place, s.things + 1);
             }
             Got::Refused(why, r) => {
                 return Got::Refused(why, r);

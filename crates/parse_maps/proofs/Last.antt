@@ -10,7 +10,7 @@ use Rattle.rules.specs.Tree.{Tree, isVariable, count, mapDecl, limit, typed, ma
 use Rattle.rules.specs.Nodes.{factNode, nodeWords, width, size, placeOf}
 use Rattle.rules.specs.Parse.{Out, ok}
 use Rattle.theory_grammar.proofs.Laws.{words-map}
-use Rattle.parse_nodes.specs.Post.{tagOf, Stands}
+use Rattle.parse_nodes.specs.Post.{stateAt, Stands}
 use Rattle.parse_nodes.specs.declared.At.{At}
 use Rattle.parse_nodes.proofs.Steps.{stands-at}
 use Rattle.parse_maps.specs.Steps.{over, Steps, factsOf}
@@ -27,28 +27,28 @@ steps-to f o t j g e q = subst (λ (x : Facts). Steps f o (Done x)) q (answer-ok
 
 module _ (f : Facts) (j : ℕ) where
   pub over-type : (w : List ℕ) → (mapTypeNumber w ≡ 0 → ⊥)
-      → over f (mapType w) j ≡ record { row = j; kind = mapTypeNumber w; key = f .key; value = f .value; limit = f .limit }
+      → over f (mapType w) j ≡ record { row = j; maptype = mapTypeNumber w; key = f .key; value = f .value; limit = f .limit }
   unfolding typeOf typedBy limitOf
-  over-type w h = ap (λ (x : ℕ). record { row = j; kind = x; key = f .key; value = f .value; limit = f .limit }) (last-new (f .kind) (mapTypeNumber w) h)
+  over-type w h = ap (λ (x : ℕ). record { row = j; maptype = x; key = f .key; value = f .value; limit = f .limit }) (last-new (f .maptype) (mapTypeNumber w) h)
 
-  pub over-key : (t : ℕ) → 21 ≤ t → over f (typed KeywordKey t) j ≡ record { row = j; kind = f .kind; key = t - 20; value = f .value; limit = f .limit }
+  pub over-key : (t : ℕ) → 21 ≤ t → over f (typed KeywordKey t) j ≡ record { row = j; maptype = f .maptype; key = t - 20; value = f .value; limit = f .limit }
   unfolding typeOf typedBy limitOf
-  over-key t h = ap (λ (x : ℕ). record { row = j; kind = f .kind; key = x; value = f .value; limit = f .limit }) (last-new (f .key) (t - 20) (λ e. omega arith))
+  over-key t h = ap (λ (x : ℕ). record { row = j; maptype = f .maptype; key = x; value = f .value; limit = f .limit }) (last-new (f .key) (t - 20) (λ e. omega arith))
 
-  pub over-value : (t : ℕ) → 21 ≤ t → over f (typed KeywordValue t) j ≡ record { row = j; kind = f .kind; key = f .key; value = t - 20; limit = f .limit }
+  pub over-value : (t : ℕ) → 21 ≤ t → over f (typed KeywordValue t) j ≡ record { row = j; maptype = f .maptype; key = f .key; value = t - 20; limit = f .limit }
   unfolding typeOf typedBy limitOf
-  over-value t h = ap (λ (x : ℕ). record { row = j; kind = f .kind; key = f .key; value = x; limit = f .limit }) (last-new (f .value) (t - 20) (λ e. omega arith))
+  over-value t h = ap (λ (x : ℕ). record { row = j; maptype = f .maptype; key = f .key; value = x; limit = f .limit }) (last-new (f .value) (t - 20) (λ e. omega arith))
 
-  pub over-limit : (c : Tree) → over f (limit c) j ≡ record { row = j; kind = f .kind; key = f .key; value = f .value; limit = maxBits c + 1 }
+  pub over-limit : (c : Tree) → over f (limit c) j ≡ record { row = j; maptype = f .maptype; key = f .key; value = f .value; limit = maxBits c + 1 }
   unfolding typeOf typedBy limitOf
-  over-limit c = ap (λ (x : ℕ). record { row = j; kind = f .kind; key = f .key; value = f .value; limit = x }) (last-new (f .limit) (maxBits c + 1) (λ e. omega arith))
+  over-limit c = ap (λ (x : ℕ). record { row = j; maptype = f .maptype; key = f .key; value = f .value; limit = x }) (last-new (f .limit) (maxBits c + 1) (λ e. omega arith))
 
 -- ---- a map behind its fields
 
 pub stands-map : (i n : ℕ) (m m′ : List ℕ) (s : At) (l : Tree) (f : Facts) (w : List ℕ) → f ≡ factsOf l (f .row) → f .row ≡ i + 1 + 1 + 1 + width l
-    → s ≡ record { row = f .row + 1; node = n + 1; place = i + 1; tag = 0 }
-    → m′ ≡ sets m (8 * n) (nodeWords (factNode 28 (i + 1) (i + 1) 0 (f .kind) (f .key) (f .value) (pred (f .limit)))) → Stands i n (mapDecl w l) m s m′
-unfolding width size placeOf tagOf isVariable count
+    → s ≡ stateAt (f .row + 1) (n + 1) (i + 1)
+    → m′ ≡ sets m (8 * n) (nodeWords (factNode 28 (i + 1) (i + 1) 0 (f .maptype) (f .key) (f .value) (pred (f .limit)))) → Stands i n (mapDecl w l) m s m′
+unfolding width size placeOf isVariable count
 stands-map i n m m′ s l f w k r e q =
-    stands-at i n (mapDecl w l) m m′ s e (omega arith) refl refl refl
-    (q ∙ ap (λ (x : Facts). sets m (8 * n) (nodeWords (factNode 28 (i + 1) (i + 1) 0 (x .kind) (x .key) (x .value) (pred (x .limit))))) k ∙ ap (λ (x : List ℕ). sets m (8 * n) x) (sym (words-map i w l)))
+    stands-at i n (mapDecl w l) m m′ s e (omega arith) refl refl refl refl
+    (q ∙ ap (λ (x : Facts). sets m (8 * n) (nodeWords (factNode 28 (i + 1) (i + 1) 0 (x .maptype) (x .key) (x .value) (pred (x .limit))))) k ∙ ap (λ (x : List ℕ). sets m (8 * n) x) (sym (words-map i w l)))

@@ -3,6 +3,7 @@ use mathlib.Core.Path.{_≡_}
 use mathlib.Core.List.{List}
 use Prim.Native.Nat.{ℕ, _+_, _*_, _^_}
 use lib.ListN.{getD}
+use Rattle.rules.specs.Rows.{atHigh, atLow, wordsPerRow}
 use Rattle.rules.specs.declared.Syntax.{Syntax}
 use Rattle.rules.specs.Kinds.{KeywordKey, KeywordValue, RBrace}
 use Rattle.rules.specs.Tree.{Tok, Tree, maxBits, lastOf, typeOf, typedBy, limitOf}
@@ -22,7 +23,7 @@ use Rattle.parse_maps.specs.declared.Summed.the-variants as summed
 
 -- the value's bits of row i
 abbrev pub bitsAt : List ℕ → ℕ → ℕ
-bitsAt ws i = getD ws (i * 8 + 6) 0 * 2 ^ 32 + getD ws (i * 8 + 5) 0
+bitsAt ws i = getD ws (i * wordsPerRow + atHigh) 0 * 2 ^ 32 + getD ws (i * wordsPerRow + atLow) 0
 
 -- row i is of the kind k
 pub record AsksRow (ws : List ℕ) (n i k : ℕ) : Type 0 where
@@ -57,7 +58,7 @@ ChainFound ws n i r = (ts : List Tok) → Tells ts ws n → Adds (Parse.chain ts
 abbrev pub over : Facts → Tree → ℕ → Facts
 over f t j = record {
   row = j;
-  kind = lastOf (f .kind) (typeOf t);
+  maptype = lastOf (f .maptype) (typeOf t);
   key = lastOf (f .key) (typedBy KeywordKey t);
   value = lastOf (f .value) (typedBy KeywordValue t);
   limit = lastOf (f .limit) (limitOf t);
@@ -76,7 +77,7 @@ FieldFound t ws n f r = (ts : List Tok) → Names ts t ws n → Steps f (Parse.m
 
 -- what a list of fields gives
 abbrev pub factsOf : Tree → ℕ → Facts
-factsOf l j = record { row = j; kind = typeOf l; key = typedBy KeywordKey l; value = typedBy KeywordValue l; limit = limitOf l }
+factsOf l j = record { row = j; maptype = typeOf l; key = typedBy KeywordKey l; value = typedBy KeywordValue l; limit = limitOf l }
 
 abbrev pub Gives : Out → Found → Type 0
 Gives = Answer found.Done found.Refused factsOf

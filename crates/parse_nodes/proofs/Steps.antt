@@ -1,6 +1,6 @@
 -- The state and the memory behind a tree, from those behind its parts; and the loops that read a list of things.
 use mathlib.Core.Path.{_≡_, refl, ap, _∙_}
-use mathlib.Core.Bool.{true, false, not}
+use mathlib.Core.Bool.{Bool, true, not}
 use mathlib.Core.List.{List, _++_}
 use Prim.Native.Nat.{ℕ, _+_, _*_, _≤_, _<_}
 use native.Mathlib.Omega.{arith}
@@ -14,19 +14,20 @@ use Rattle.rules.specs.Nodes.{width, size, placeOf, treeWords}
 use Rattle.rules.specs.Parse
 use Rattle.rules.specs.Parse.{Out, ok, no, P, then, kindAt}
 use Rattle.theory_grammar.proofs.Laws.{sets-tree, words-none, words-seq}
-use Rattle.parse_nodes.specs.Post.{tagOf, Met, Stands}
+use Rattle.parse_nodes.specs.Post.{stateAt, listAt, Met, Stands}
 use Rattle.parse_nodes.specs.declared.At.{At}
 use Rattle.parse_nodes.specs.declared.Got.the-variants.{Refused}
 use Rattle.parse_nodes.proofs.Turn.{Came, Turn, start, ends, fails, again}
 
--- the state by its four numbers
-pub stands-at : (i n : ℕ) (t : Tree) (m m′ : List ℕ) (s : At) {r k p g : ℕ} → s ≡ record { row = r; node = k; place = p; tag = g }
-    → r ≡ i + width t → k ≡ n + size t → p ≡ placeOf i t → g ≡ tagOf t → m′ ≡ sets m (8 * n) (treeWords i t) → Stands i n t m s m′
-stands-at i n t m m′ s e r k p g q = record {
+-- the state by its parts
+pub stands-at : (i n : ℕ) (t : Tree) (m m′ : List ℕ) (s : At) {r k p g : ℕ} {v : Bool} → s ≡ record { row = r; node = k; place = p; variable = v; things = g }
+    → r ≡ i + width t → k ≡ n + size t → p ≡ placeOf i t → v ≡ isVariable t → g ≡ count t → m′ ≡ sets m (8 * n) (treeWords i t) → Stands i n t m s m′
+stands-at i n t m m′ s e r k p v g q = record {
   rows = ap (λ (x : At). x .row) e ∙ r;
   nodes = ap (λ (x : At). x .node) e ∙ k;
   place = ap (λ (x : At). x .place) e ∙ p;
-  tag = ap (λ (x : At). x .tag) e ∙ g;
+  variable = ap (λ (x : At). x .variable) e ∙ v;
+  things = ap (λ (x : At). x .things) e ∙ g;
   mem = q;
 }
 
@@ -46,23 +47,21 @@ module _ (m : List ℕ) (i n : ℕ) (t : Tree) (s : At) (m₁ : List ℕ) (a : S
 -- ---- lists
 
 module _ (i n : ℕ) (m : List ℕ) (s : At) where
-  pub stands-none : s ≡ record { row = i; node = n; place = i; tag = 0 } → Stands i n none m s m
-  unfolding width size placeOf tagOf isVariable count
-  stands-none e = stands-at i n none m m s e (omega arith) (omega arith) refl refl (rw (words-none i))
+  pub stands-none : s ≡ stateAt i n i → Stands i n none m s m
+  unfolding width size placeOf isVariable count
+  stands-none e = stands-at i n none m m s e (omega arith) (omega arith) refl refl refl (rw (words-none i))
 
   -- one thing more
   pub stands-seq : (m₁ : List ℕ) (t : Tree) (s₂ : At) (m₂ : List ℕ) (u : Tree) (s₃ : At) → Stands i n t m s m₁ → Stands (s .row) (s .node) u m₁ s₂ m₂
-      → s₃ ≡ record { row = s₂ .row; node = s₂ .node; place = s .place; tag = s .tag + 1 } → placeOf i t ≡ i → isVariable t ≡ false → Stands i n (seq t u) m s₃ m₂
-  unfolding width size placeOf tagOf isVariable count
-  stands-seq m₁ t s₂ m₂ u s₃ a b e p v =
-      let g : s .tag ≡ count t = a .tag ∙ rw v in
-      stands-at i n (seq t u) m m₂ s₃ e (omega (arith, a .rows, b .rows)) (omega (arith, a .nodes, b .nodes)) (a .place ∙ p) (omega (arith, g))
+      → s₃ ≡ listAt (s₂ .row) (s₂ .node) (s .place) (s .things + 1) → placeOf i t ≡ i → Stands i n (seq t u) m s₃ m₂
+  unfolding width size placeOf isVariable count
+  stands-seq m₁ t s₂ m₂ u s₃ a b e p =
+      stands-at i n (seq t u) m m₂ s₃ e (omega (arith, a .rows, b .rows)) (omega (arith, a .nodes, b .nodes)) (a .place ∙ p) refl (omega (arith, a .things))
       (rw (words-seq i t u, ← a .rows) (mem-join m i n t s m₁ a (s .row) u s₂ m₂ b))
 
 -- a list with the property Q
 pub record Listed (i : ℕ) (Q : Tree → Type 0) (t : Tree) : Type 0 where
   pub place : placeOf i t ≡ i
-  pub bare : isVariable t ≡ false
   pub known : Q t
 
 -- the loop that is to give `whole` has read a list with the property Q, and has things p to read up to a row of the kind `stop`
@@ -70,21 +69,16 @@ abbrev pub Listing : (Tree → Type 0) → List Tok → ℕ → P → Out → �
 Listing Q ts stop p whole i n m s m′ = Turn (Listed i Q) ts (λ r. not (eqb (kindAt ts r) stop)) (Parse.listStep ts p) whole i n m s m′
 
 module _ (Q : Tree → Type 0) (ts : List Tok) (stop : ℕ) (p : P) (whole : Out) (i n : ℕ) (m : List ℕ) (s : At) where
-  pub list-start : whole ≡ Parse.listTo ts stop p i → i ≤ length ts → s ≡ record { row = i; node = n; place = i; tag = 0 } → Q none → Listing Q ts stop p whole i n m s m
-  unfolding Parse.listTo Parse.loop width placeOf isVariable count
+  pub list-start : whole ≡ Parse.listTo ts stop p i → i ≤ length ts → s ≡ stateAt i n i → Q none → Listing Q ts stop p whole i n m s m
+  unfolding Parse.listTo Parse.loop width placeOf count
   list-start e h q g =
       let r : s .row ≡ i = ap (λ (x : At). x .row) q in
-      start (Listed i Q) ts _ _ whole i n m s m none (rw r e) (stands-none i n m s q) (omega (arith, r)) (omega arith) (record { place = refl; bare = refl; known = g })
+      start (Listed i Q) ts _ _ whole i n m s m none (rw r e) (stands-none i n m s q) (omega (arith, r)) (omega arith) (record { place = refl; known = g })
 
   module _ (m′ : List ℕ) (c : Listing Q ts stop p whole i n m s m′) where
     -- the loop ends at the row that stops it
     pub list-ends : kindAt ts (s .row) ≡ stop → whole ≡ ok (c .tree) (s .row)
     list-ends e = ends (Listed i Q) ts _ _ whole i n m s m′ c (rw (eq-eqb (kindAt ts (s .row)) stop e))
-
-    -- how many things it has
-    pub list-count : s .tag ≡ count (c .tree)
-    unfolding tagOf
-    list-count = c .stands .tag ∙ rw (c .known .bare)
 
     module _ (e : kindAt ts (s .row) ≡ stop → ⊥) where
       goes-on : not (eqb (kindAt ts (s .row)) stop) ≡ true
@@ -96,10 +90,10 @@ module _ (Q : Tree → Type 0) (ts : List Tok) (stop : ℕ) (p : P) (whole : Out
 
       -- one thing more, with which the list has the property R
       pub list-again : (R : Tree → Type 0) (C : Tree → ℕ → Type 0) (s₂ : At) (m₂ : List ℕ) (s₃ : At) → (v : Came C ts (p (s .row)) (s .row) (s .node) m′ s₂ m₂) → s .row < s₂ .row
-          → s₃ ≡ record { row = s₂ .row; node = s₂ .node; place = s .place; tag = s .tag + 1 } → R (seq (c .tree) (v .tree)) → Listing R ts stop p whole i n m s₃ m₂
-      unfolding Parse.listStep then width count placeOf isVariable
+          → s₃ ≡ listAt (s₂ .row) (s₂ .node) (s .place) (s .things + 1) → R (seq (c .tree) (v .tree)) → Listing R ts stop p whole i n m s₃ m₂
+      unfolding Parse.listStep then width count placeOf
       list-again R C s₂ m₂ s₃ v up f g =
           let r : s₃ .row ≡ s₂ .row = ap (λ (x : At). x .row) f in
           again (Listed i Q) ts _ _ whole i n m s m′ c goes-on (Listed i R) (seq (c .tree) (v .tree)) s₃ m₂ (rw (v .is, r))
-          (stands-seq i n m s m′ (c .tree) s₂ m₂ (v .tree) s₃ (c .stands) (v .stands) f (c .known .place) (c .known .bare))
-          (omega (arith, r)) (omega (arith, r, v .inside)) (omega (arith, c .counts, v .stands .rows)) (record { place = refl; bare = refl; known = g })
+          (stands-seq i n m s m′ (c .tree) s₂ m₂ (v .tree) s₃ (c .stands) (v .stands) f (c .known .place))
+          (omega (arith, r)) (omega (arith, r, v .inside)) (omega (arith, c .counts, v .stands .rows)) (record { place = refl; known = g })

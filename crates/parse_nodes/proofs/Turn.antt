@@ -1,13 +1,13 @@
 -- What a call of a reading function gives its caller, and what holds at each turn of a loop.
 use mathlib.Core.Path.{_≡_, refl, sym, ap, _∙_, subst}
-use mathlib.Core.Bool.{Bool, true, false, cond, true≢false}
+use mathlib.Core.Bool.{Bool, true, false, true≢false}
 use mathlib.Core.List.{List}
 use Prim.Native.Nat.{ℕ, zero, suc, _+_, _*_, _≤_, _<_}
 use native.Mathlib.Omega.{arith}
 use lib.ListN.{length}
 use lib.Seq.{length-sets}
 use Rattle.rules.specs.declared.Syntax.{Syntax}
-use Rattle.rules.specs.Tree.{Tok, Tree, isVariable, count}
+use Rattle.rules.specs.Tree.{Tok, Tree, count}
 use Rattle.rules.specs.Nodes.{width, size, placeOf, treeWords}
 use Rattle.rules.specs.Parse.{Out, ok, no, P, then, many}
 use Rattle.rules.specs.Grammar.{Nt}
@@ -15,7 +15,7 @@ use Rattle.theory_grammar.proofs.Laws.{nodes-within-rows, place-width, is-count
 use Rattle.theory_grammar.proofs.Runs.{All}
 use Rattle.theory_grammar.proofs.Sound.{Reads}
 use Rattle.theory_grammar.proofs.Ends.{Ends}
-use Rattle.parse_nodes.specs.Post.{tagOf, behind, Met, Stands}
+use Rattle.parse_nodes.specs.Post.{behind, Met, Stands}
 use Rattle.parse_nodes.specs.declared.At.{At}
 use Rattle.parse_nodes.specs.declared.Got.{Got}
 use Rattle.parse_nodes.specs.declared.Got.the-variants.{Done, Refused}
@@ -26,14 +26,6 @@ same-len i n t m s m′ h = ap length (h .mem) ∙ length-sets m (8 * n) (treeWo
 
 -- ---- a call's answer, taken apart
 
-pub tag-width : (t : Tree) → count t ≤ width t → tagOf t ≤ width t + 1
-unfolding tagOf
-tag-width t h = go (isVariable t)
-  where
-    go : (b : Bool) → cond b 1 (count t) ≤ width t + 1
-    go true = omega arith
-    go false = omega arith
-
 -- the call gave s, and behind it stands a tree with the property C
 pub record Came (C : Tree → ℕ → Type 0) (ts : List Tok) (o : Out) (i n : ℕ) (m : List ℕ) (s : At) (m′ : List ℕ) : Type 0 where
   pub tree : Tree
@@ -43,7 +35,6 @@ pub record Came (C : Tree → ℕ → Type 0) (ts : List Tok) (o : Out) (i n : �
   pub few : size tree ≤ width tree
   pub near : placeOf i tree ≤ i + width tree
   pub counts : count tree ≤ width tree
-  pub tags : tagOf tree ≤ width tree + 1
   pub known : C tree (s .row)
 
 pub came : (C : Tree → ℕ → Type 0) (ts : List Tok) (o : Out) (i n : ℕ) (m m′ : List ℕ) (r : Got) (s : At) → All C o → ((t : Tree) (j : ℕ) → C t j → Ends ts i t j)
@@ -55,12 +46,11 @@ came C ts (ok t j) i n m m′ r s a g h e =
     record {
       tree = t;
       is = ap (λ (k : ℕ). ok t k) (sym row);
-      stands = record { rows = row ∙ f .0; nodes = ap (λ (x : At). x .node) q; place = ap (λ (x : At). x .place) q; tag = ap (λ (x : At). x .tag) q; mem = h .1 };
+      stands = record { rows = row ∙ f .0; nodes = ap (λ (x : At). x .node) q; place = ap (λ (x : At). x .place) q; variable = ap (λ (x : At). x .variable) q; things = ap (λ (x : At). x .things) q; mem = h .1 };
       inside = omega (arith, row, f .1);
       few = nodes-within-rows t;
       near = place-width i t;
       counts = f .2;
-      tags = tag-width t (f .2);
       known = subst (C t) (sym row) a;
     }
 came C ts (no why p) i n m m′ r s a g h e = let z : _≡_ {A = ℕ} 0 1 = cc (h, e) in absurd (omega arith)
@@ -80,7 +70,7 @@ refused (no why′ p′) i n m m′ r why p h e = cc (h, e)
 -- an answer, from what the parser says
 pub met-ok : (o : Out) (i n : ℕ) (t : Tree) (m m′ : List ℕ) (s : At) → o ≡ ok t (s .row) → Stands i n t m s m′ → Met o i n m m′ (Done s)
 met-ok o i n t m m′ s e h =
-    subst (λ (x : Out). Met x i n m m′ (Done s)) (sym e) (ap Done (λ j. record { row = s .row; node = h .nodes j; place = h .place j; tag = h .tag j }), h .mem)
+    subst (λ (x : Out). Met x i n m m′ (Done s)) (sym e) (ap Done (λ j. record { row = s .row; node = h .nodes j; place = h .place j; variable = h .variable j; things = h .things j }), h .mem)
 
 pub met-no : (o : Out) (i n : ℕ) (why : Syntax) (p : ℕ) (m m′ : List ℕ) → o ≡ no why p → Met o i n m m′ (Refused why p)
 met-no o i n why p m m′ e = subst (λ (x : Out). Met x i n m m′ (Refused why p)) (sym e) refl
@@ -102,7 +92,6 @@ pub record Turn (Q : Tree → Type 0) (ts : List Tok) (test : ℕ → Bool) (ste
   pub few : size tree ≤ width tree
   pub near : placeOf i tree ≤ i + width tree
   pub counts : count tree ≤ width tree
-  pub tags : tagOf tree ≤ width tree + 1
   pub known : Q tree
 
 module _ (Q : Tree → Type 0) (ts : List Tok) (test : ℕ → Bool) (step : Tree → P) (whole : Out) (i n : ℕ) (m : List ℕ) (s : At) (m′ : List ℕ) where
@@ -117,7 +106,6 @@ module _ (Q : Tree → Type 0) (ts : List Tok) (test : ℕ → Bool) (step : Tre
     few = nodes-within-rows t;
     near = place-width i t;
     counts = g;
-    tags = tag-width t g;
     known = q;
   }
 
@@ -161,6 +149,5 @@ module _ (Q : Tree → Type 0) (ts : List Tok) (test : ℕ → Bool) (step : Tre
       few = nodes-within-rows u;
       near = place-width i u;
       counts = g;
-      tags = tag-width u g;
       known = q;
     }

@@ -1,11 +1,12 @@
 -- What the parser's functions promise: the parser's answer as a function, the state behind a tree, and node memory.
 use mathlib.Core.Path.{_≡_}
-use mathlib.Core.Bool.{cond}
+use mathlib.Core.Bool.{false, cond}
 use mathlib.Core.List.{List}
 use Prim.Native.Nat.{ℕ, _+_, _*_, _^_, _≤_, _<_}
 use lib.ListN.{length, getD}
 use lib.Dec.{ltb}
 use lib.Seq.{sets}
+use Rattle.rules.specs.Rows.{atHigh, atLow, wordsPerRow}
 use Rattle.rules.specs.Kinds.{Number, Eof}
 use Rattle.rules.specs.Tree.{Tok, sign, kindOf, bitsIn, Tree, isVariable, count}
 use Rattle.rules.specs.Nodes.{width, size, placeOf, treeWords}
@@ -16,21 +17,25 @@ use Rattle.parse_nodes.specs.declared.Got.the-variants.{Done, Refused}
 
 -- the kind of row i of n rows that stand in ws, and Eof past the last
 unfoldable pub kindWord : List ℕ → ℕ → ℕ → ℕ
-kindWord ws n i = cond (ltb i n) (getD ws (i * 8) 0) Eof
+kindWord ws n i = cond (ltb i n) (getD ws (i * wordsPerRow) 0) Eof
 
 -- The tokens are those of n rows that stand in ws, as far as kinds and values go.
 pub record Tells (ts : List Tok) (ws : List ℕ) (n : ℕ) : Type 0 where
   pub long : length ts ≡ n
-  pub kinds : (i : ℕ) → i < n → kindOf (getD ts i (sign Eof)) ≡ getD ws (i * 8) 0
-  pub values : (i : ℕ) → i < n → getD ws (i * 8) 0 ≡ Number → bitsIn (getD ts i (sign Eof)) ≡ getD ws (i * 8 + 6) 0 * 2 ^ 32 + getD ws (i * 8 + 5) 0
+  pub kinds : (i : ℕ) → i < n → kindOf (getD ts i (sign Eof)) ≡ getD ws (i * wordsPerRow) 0
+  pub values : (i : ℕ) → i < n → getD ws (i * wordsPerRow) 0 ≡ Number → bitsIn (getD ts i (sign Eof)) ≡ getD ws (i * wordsPerRow + atHigh) 0 * 2 ^ 32 + getD ws (i * wordsPerRow + atLow) 0
 
--- 1 if a tree is a variable; of a list, how many things it has
-unfoldable pub tagOf : Tree → ℕ
-tagOf t = cond (isVariable t) 1 (count t)
+-- the state behind a list of so many things
+abbrev pub listAt : (row node place things : ℕ) → At
+listAt i n p k = record { row = i; node = n; place = p; variable = false; things = k }
+
+-- the state behind what is neither a variable nor a list
+abbrev pub stateAt : (row node place : ℕ) → At
+stateAt i n p = listAt i n p 0
 
 -- the state behind the tree t, which was read from row i, its first node at n, up to row j
 abbrev pub behind : ℕ → ℕ → Tree → ℕ → At
-behind i n t j = record { row = j; node = n + size t; place = placeOf i t; tag = tagOf t }
+behind i n t j = record { row = j; node = n + size t; place = placeOf i t; variable = isVariable t; things = count t }
 
 -- what a function that reads at row i with its first node at n answers, and what node memory is then
 abbrev pub Met : Out → ℕ → ℕ → List ℕ → List ℕ → Got → Type 0
@@ -71,10 +76,11 @@ pub record Stands (i n : ℕ) (t : Tree) (m : List ℕ) (s : At) (m′ : List �
   pub rows : s .row ≡ i + width t
   pub nodes : s .node ≡ n + size t
   pub place : s .place ≡ placeOf i t
-  pub tag : s .tag ≡ tagOf t
+  pub variable : s .variable ≡ isVariable t
+  pub things : s .things ≡ count t
   pub mem : m′ ≡ sets m (8 * n) (treeWords i t)
 
--- what a function that goes on from a state answers: whatever was read before, if it is no list
+-- what a function that goes on from a state answers, whatever was read before
 abbrev pub Onward : (List Tok → Tree → Out) → List ℕ → ℕ → At → List ℕ → List ℕ → Got → Type 0
 Onward f ws n s m m′ r =
-    (ts : List Tok) → Tells ts ws n → (i nd : ℕ) (t : Tree) (m₀ : List ℕ) → Stands i nd t m₀ s m → count t ≡ 0 → Met (f ts t) i nd m₀ m′ r
+    (ts : List Tok) → Tells ts ws n → (i nd : ℕ) (t : Tree) (m₀ : List ℕ) → Stands i nd t m₀ s m → Met (f ts t) i nd m₀ m′ r

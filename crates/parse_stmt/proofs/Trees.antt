@@ -16,7 +16,7 @@ use Rattle.rules.specs.Grammar.{Add}
 use Rattle.theory_grammar.proofs.Laws.{sets-append, sets-tree, tree-length, nodes-within-rows, words-none, words-decl, words-ret, words-plain, words-assign, words-guard, words-then, words-else}
 use Rattle.theory_grammar.proofs.Runs.{All}
 use Rattle.theory_grammar.proofs.Sound.{Reads, expr-sound}
-use Rattle.parse_nodes.specs.Post.{tagOf, Met, Stands}
+use Rattle.parse_nodes.specs.Post.{stateAt, Met, Stands}
 use Rattle.parse_nodes.specs.declared.At.{At}
 use Rattle.parse_nodes.specs.declared.Got.{Got}
 use Rattle.parse_nodes.specs.declared.Got.the-variants.{Done, Refused}
@@ -44,35 +44,35 @@ assign-is ts d p e j = refl
 -- ---- the state and the memory behind a statement with no body
 
 module _ (i n : ℕ) (m m₁ : List ℕ) (s : At) (t : Tree) (s₂ : At) (m₂ : List ℕ) where
-  pub stands-decl : (k : ℕ) (w : List ℕ) → Stands (i + 1 + 1 + 1) n t m s m₁ → s₂ ≡ record { row = s .row + 1; node = s .node + 1; place = i + 1; tag = 0 }
+  pub stands-decl : (k : ℕ) (w : List ℕ) → Stands (i + 1 + 1 + 1) n t m s m₁ → s₂ ≡ stateAt (s .row + 1) (s .node + 1) (i + 1)
       → m₂ ≡ sets m₁ (8 * s .node) (nodeWords (node (declNode k) (i + 1) (i + 1) 1)) → Stands i n (decl k w t) m s₂ m₂
-  unfolding width size placeOf tagOf isVariable count
+  unfolding width size placeOf isVariable count
   stands-decl k w a e q =
       let r : i + 3 ≡ i + 1 + 1 + 1 = omega arith in
-      stands-at i n (decl k w t) m m₂ s₂ e (omega (arith, a .rows)) (omega (arith, a .nodes)) refl refl
+      stands-at i n (decl k w t) m m₂ s₂ e (omega (arith, a .rows)) (omega (arith, a .nodes)) refl refl refl
       (rw (words-decl i k w t, r) (mem-over m (i + 1 + 1 + 1) n t s m₁ a m₂ _ q))
 
-  pub stands-ret : Stands (i + 1) n t m s m₁ → s₂ ≡ record { row = s .row + 1; node = s .node + 1; place = i + 1; tag = 0 }
+  pub stands-ret : Stands (i + 1) n t m s m₁ → s₂ ≡ stateAt (s .row + 1) (s .node + 1) (i + 1)
       → m₂ ≡ sets m₁ (8 * s .node) (nodeWords (node 19 (i + 1) missing 1)) → Stands i n (ret t) m s₂ m₂
-  unfolding width size placeOf tagOf isVariable count
+  unfolding width size placeOf isVariable count
   stands-ret a e q =
-      stands-at i n (ret t) m m₂ s₂ e (omega (arith, a .rows)) (omega (arith, a .nodes)) refl refl
+      stands-at i n (ret t) m m₂ s₂ e (omega (arith, a .rows)) (omega (arith, a .nodes)) refl refl refl
       (rw (words-ret i t) (mem-over m (i + 1) n t s m₁ a m₂ _ q))
 
-  pub stands-plain : Stands i n t m s m₁ → s₂ ≡ record { row = s .row + 1; node = s .node + 1; place = s .place; tag = 0 }
+  pub stands-plain : Stands i n t m s m₁ → s₂ ≡ stateAt (s .row + 1) (s .node + 1) (s .place)
       → m₂ ≡ sets m₁ (8 * s .node) (nodeWords (node 13 (s .place) missing 1)) → Stands i n (plain t) m s₂ m₂
-  unfolding width size placeOf tagOf isVariable count
+  unfolding width size placeOf isVariable count
   stands-plain a e q =
-      stands-at i n (plain t) m m₂ s₂ e (omega (arith, a .rows)) (omega (arith, a .nodes)) (a .place) refl
+      stands-at i n (plain t) m m₂ s₂ e (omega (arith, a .rows)) (omega (arith, a .nodes)) (a .place) refl refl
       (rw (words-plain i t, ← a .place) (mem-over m i n t s m₁ a m₂ _ q))
 
   -- a target, a sign's row and a value
   pub stands-assign : (u : Tree) (s₃ : At) (m₃ : List ℕ) (k : ℕ) → Stands i n t m s m₁ → Stands (s .row + 1) (s .node) u m₁ s₂ m₂
-      → s₃ ≡ record { row = s₂ .row + 1; node = s₂ .node + 1; place = s .place; tag = 0 } → m₃ ≡ sets m₂ (8 * s₂ .node) (nodeWords (node (assignNode k) (s .place) missing 2))
+      → s₃ ≡ stateAt (s₂ .row + 1) (s₂ .node + 1) (s .place) → m₃ ≡ sets m₂ (8 * s₂ .node) (nodeWords (node (assignNode k) (s .place) missing 2))
       → Stands i n (assign k t u) m s₃ m₃
-  unfolding width size placeOf tagOf isVariable count
+  unfolding width size placeOf isVariable count
   stands-assign u s₃ m₃ k a b e q =
-      stands-at i n (assign k t u) m m₃ s₃ e (omega (arith, a .rows, b .rows)) (omega (arith, a .nodes, b .nodes)) (a .place) refl
+      stands-at i n (assign k t u) m m₃ s₃ e (omega (arith, a .rows, b .rows)) (omega (arith, a .nodes, b .nodes)) (a .place) refl refl
       (rw (words-assign i k t u, ← a .rows, ← a .place) (mem-both m i n t s m₁ a (s .row + 1) u s₂ m₂ b m₃ _ q))
 
 -- ---- a body
@@ -90,7 +90,7 @@ pub record Bodied (ts : List Tok) (o : Out) (kind i n : ℕ) (m : List ℕ) (s :
 pub bodied : (ts : List Tok) (o : Out) (kind i n : ℕ) (m m′ : List ℕ) (r : Got) (s : At) → All (λ l j. (j ≡ i + (1 + width l + 1)) × (j ≤ length ts) × (count l ≤ width l)) o
     → BodyMet o kind i n m m′ r → r ≡ Done s → Bodied ts o kind i n m s m′
 bodied ts (ok l j) kind i n m m′ r s a h e =
-    let q : s ≡ record { row = j; node = n + size l + 1; place = i; tag = 0 } = cc (h .0, e) in
+    let q : s ≡ stateAt j (n + size l + 1) i = cc (h .0, e) in
     let row : s .row ≡ j = ap (λ (x : At). x .row) q in
     record {
       list = l;
@@ -108,7 +108,7 @@ body-refused (ok l j) kind i n m m′ r why p h e = let z : _≡_ {A = ℕ} 0 1 
 body-refused (no why′ p′) kind i n m m′ r why p h e = cc (h, e)
 
 -- an answer, from what the parser says
-pub body-ok : (o : Out) (kind i n : ℕ) (l : Tree) (j : ℕ) (m m′ : List ℕ) (s : At) → o ≡ ok l j → s ≡ record { row = j; node = n + size l + 1; place = i; tag = 0 }
+pub body-ok : (o : Out) (kind i n : ℕ) (l : Tree) (j : ℕ) (m m′ : List ℕ) (s : At) → o ≡ ok l j → s ≡ stateAt j (n + size l + 1) i
     → m′ ≡ sets m (8 * n) (treeWords (i + 1) l ++ nodeWords (node kind i missing (count l))) → BodyMet o kind i n m m′ (Done s)
 body-ok o kind i n l j m m′ s e q h = subst (λ (x : Out). BodyMet x kind i n m m′ (Done s)) (sym e) (ap Done q, h)
 
@@ -148,18 +148,18 @@ module _ (ts : List Tok) (i n : ℕ) (m m₁ : List ℕ) (s : At) where
         q ∙ ap (λ (x : List ℕ). sets x (8 * s .node) ws) (a .mem) ∙ ap (λ (x : ℕ). sets (sets m (8 * n) (k ++ b)) x ws) e
         ∙ sym (sets-append (k ++ b) m ws (8 * n)) ∙ ap (λ (x : List ℕ). sets m (8 * n) x) (append-assoc k b ws)
 
-    pub stands-guard : (w : List ℕ) (s₂ : At) (m₂ : List ℕ) → s₂ ≡ record { row = s .row; node = s .node + 1; place = i + 1; tag = 0 }
+    pub stands-guard : (w : List ℕ) (s₂ : At) (m₂ : List ℕ) → s₂ ≡ stateAt (s .row) (s .node + 1) (i + 1)
         → m₂ ≡ sets m₁ (8 * s .node) (nodeWords (node 20 (i + 1) missing 2)) → Stands i n (guard w (thenBody l) none) m s₂ m₂
-    unfolding width size placeOf tagOf isVariable count
+    unfolding width size placeOf isVariable count
     stands-guard w s₂ m₂ e q =
-        stands-at i n (guard w (thenBody l) none) m m₂ s₂ e (omega (arith, a .rows)) (omega (arith, a .nodes)) refl refl
+        stands-at i n (guard w (thenBody l) none) m m₂ s₂ e (omega (arith, a .rows)) (omega (arith, a .nodes)) refl refl refl
         (rw (words-guard i w (thenBody l) none, words-none) (guarded-over m₂ _ q))
 
     -- with an else body
     pub stands-otherwise : (w : List ℕ) (o : Out) (s₂ : At) (m₂ : List ℕ) (v : Bodied ts o 22 (s .row + 1) (s .node) m₁ s₂ m₂) (s₃ : At) (m₃ : List ℕ)
-        → s₃ ≡ record { row = s₂ .row; node = s₂ .node + 1; place = i + 1; tag = 0 }
+        → s₃ ≡ stateAt (s₂ .row) (s₂ .node + 1) (i + 1)
         → m₃ ≡ sets m₂ (8 * s₂ .node) (nodeWords (node 20 (i + 1) missing 3)) → Stands i n (guard w (thenBody l) (elseBody (v .list))) m s₃ m₃
-    unfolding width size placeOf tagOf isVariable count
+    unfolding width size placeOf isVariable count
     stands-otherwise w o s₂ m₂ v s₃ m₃ e q =
         let two : s .row + 2 ≡ s .row + 1 + 1 = omega arith in
         let b : m₂ ≡ sets m₁ (8 * s .node) (treeWords (s .row) (elseBody (v .list))) = rw (words-else (s .row) (v .list), two) (v .mem) in
@@ -167,5 +167,5 @@ module _ (ts : List Tok) (i n : ℕ) (m m₁ : List ℕ) (s : At) where
         let f : m₃ ≡ sets m₁ (8 * s .node) (treeWords (s .row) (elseBody (v .list)) ++ nodeWords (node 20 (i + 1) missing 3)) =
         q ∙ rw (b, k) (sym (sets-tree m₁ (s .node) (s .row) (elseBody (v .list)) (nodeWords (node 20 (i + 1) missing 3)))) in
         let r : i + 5 + width (thenBody l) ≡ s .row = sym (a .rows) in
-        stands-at i n (guard w (thenBody l) (elseBody (v .list))) m m₃ s₃ e (omega (arith, a .rows, v .rows)) (omega (arith, a .nodes, v .nodes)) refl refl
+        stands-at i n (guard w (thenBody l) (elseBody (v .list))) m m₃ s₃ e (omega (arith, a .rows, v .rows)) (omega (arith, a .nodes, v .nodes)) refl refl refl
         (rw (words-guard i w (thenBody l) (elseBody (v .list)), r) (guarded-over m₃ _ f))

@@ -22,11 +22,11 @@ use Rattle.theory_grammar.proofs.Laws.{nodes-within-rows, place-width, sets-tre
 use Rattle.theory_grammar.proofs.Cases.{quoted-yes}
 use Rattle.theory_grammar.proofs.Runs.{all-ok}
 use Rattle.theory_grammar.proofs.Ends.{Ends, ends-item, wide-item, ends-items}
-use Rattle.parse_nodes.specs.Post.{kindWord, Tells, tagOf, behind, Stands}
+use Rattle.parse_nodes.specs.Post.{kindWord, Tells, stateAt, listAt, behind, Stands}
 use Rattle.parse_nodes.specs.declared.At.{At}
 use Rattle.parse_nodes.specs.declared.Got.the-variants as got
-use Rattle.parse_nodes.proofs.Turn.{Came, refused, tag-width}
-use Rattle.parse_nodes.proofs.Steps.{stands-at, Listing, list-start, list-ends, list-count, list-fails, list-again}
+use Rattle.parse_nodes.proofs.Turn.{Came, refused}
+use Rattle.parse_nodes.proofs.Steps.{stands-at, Listing, list-start, list-ends, list-fails, list-again}
 use Rattle.parse_nodes.proofs.Seen.{seen, want-unmet}
 use Rattle.parse_units.specs.Contents.{unset, kindFrom, firstOf, lastRow, spelt, over, Adds, Texted, contentsOf, Holds}
 use Rattle.parse_units.specs.declared.Contents.{Contents}
@@ -94,7 +94,7 @@ stmt-licence i (i-if b) = refl
 stmt-licence i (i-if-else b e) = refl
 
 -- a statement more
-pub with-stmt : (u : Contents) (t : Tree) (s : At) (j : ℕ) {d : ℕ} → Is true Stmt d t → s ≡ record { row = j; node = u .at .node + size t; place = u .at .place; tag = u .at .tag + 1 }
+pub with-stmt : (u : Contents) (t : Tree) (s : At) (j : ℕ) {d : ℕ} → Is true Stmt d t → s ≡ listAt j (u .at .node + size t) (u .at .place) (u .at .things + 1)
     → record { at = s; kind = u .kind; licence = u .licence } ≡ over u t j
 unfolding kindFrom
 with-stmt u t s j h e = rw (stmt-sections h, stmt-licence (u .at .row) h) (λ k. record { at = e k; kind = sym (first-unset (u .kind)) k; licence = u .licence })
@@ -102,12 +102,12 @@ with-stmt u t s j h e = rw (stmt-sections h, stmt-licence (u .at .row) h) (λ k.
 -- a licence more, and a section more
 module _ (t ws : List ℕ) (u : Contents) (k : ℕ) (m m′ : List ℕ) where
   pub with-licence : k ≡ KeywordLicense → u .at .row ≤ 65534 → m′ ≡ sets m (8 * u .at .node) (nodeWords (node 24 (u .at .row + 1) (u .at .row + 1) 0))
-      → Texted t ws u k m m′ (record { at = record { row = u .at .row + 1 + 1 + 1; node = u .at .node + 1; place = u .at .place; tag = u .at .tag + 1 }; kind = u .kind; licence = u .at .row + 1 })
+      → Texted t ws u k m m′ (record { at = listAt (u .at .row + 1 + 1 + 1) (u .at .node + 1) (u .at .place) (u .at .things + 1); kind = u .kind; licence = u .at .row + 1 })
   unfolding kindFrom sectionsOf licenceRow size textNode
   with-licence e h q =
       rw e (
         ap Done (λ x. record {
-          at = record { row = u .at .row + 1 + 1 + 1; node = u .at .node + 1; place = u .at .place; tag = u .at .tag + 1 };
+          at = listAt (u .at .row + 1 + 1 + 1) (u .at .node + 1) (u .at .place) (u .at .things + 1);
           kind = sym (first-unset (u .kind)) x;
           licence = sym (last-here (u .licence) (u .at .row) (omega arith)) x;
         }),
@@ -116,12 +116,12 @@ module _ (t ws : List ℕ) (u : Contents) (k : ℕ) (m m′ : List ℕ) where
 
   pub with-section : isText k ≡ true → (k ≡ KeywordLicense → ⊥) → (x : ℕ) → x ≡ firstOf (u .kind) (fromSection (sectionText (spelt t ws (u .at .row + 1))))
       → m′ ≡ sets m (8 * u .at .node) (nodeWords (node 23 (u .at .row + 1) (u .at .row + 1) 0))
-      → Texted t ws u k m m′ (record { at = record { row = u .at .row + 1 + 1 + 1; node = u .at .node + 1; place = u .at .place; tag = u .at .tag + 1 }; kind = x; licence = u .licence })
+      → Texted t ws u k m m′ (record { at = listAt (u .at .row + 1 + 1 + 1) (u .at .node + 1) (u .at .place) (u .at .things + 1); kind = x; licence = u .licence })
   unfolding kindFrom sectionsOf licenceRow size textNode
   with-section b n x e q =
       rw (is-section b n) (
         ap Done (λ y. record {
-          at = record { row = u .at .row + 1 + 1 + 1; node = u .at .node + 1; place = u .at .place; tag = u .at .tag + 1 };
+          at = listAt (u .at .row + 1 + 1 + 1) (u .at .node + 1) (u .at .place) (u .at .things + 1);
           kind = e y;
           licence = u .licence;
         }),
@@ -145,7 +145,7 @@ pub record Carries (i : ℕ) (u : Contents) (l : Tree) : Type 0 where
 abbrev pub Gathering : List Tok → ℕ → ℕ → List ℕ → Contents → List ℕ → Type 0
 Gathering ts i n m u m′ = Listing (Carries i u) ts RBrace (Parse.item ts) (Parse.listTo ts RBrace (Parse.item ts) i) i n m (u .at) m′
 
-pub items-start : (ts : List Tok) (i n : ℕ) (m : List ℕ) → i ≤ length ts → Gathering ts i n m (record { at = record { row = i; node = n; place = i; tag = 0 }; kind = unset; licence = missing }) m
+pub items-start : (ts : List Tok) (i n : ℕ) (m : List ℕ) → i ≤ length ts → Gathering ts i n m (record { at = stateAt i n i; kind = unset; licence = missing }) m
 unfolding kindFrom sectionsOf licenceRow
 items-start ts i n m h = list-start (Carries i _) ts RBrace (Parse.item ts) (Parse.listTo ts RBrace (Parse.item ts) i) i n m _ refl h refl (record { kind = refl; licence = refl })
 
@@ -164,12 +164,11 @@ module _ (ts : List Tok) (u : Contents) (m m′ : List ℕ) (v : Contents) (g : 
   item-came = record {
     tree = g .tree;
     is = g .is;
-    stands = record { rows = item-ends .0; nodes = refl; place = refl; tag = refl; mem = g .mem };
+    stands = record { rows = item-ends .0; nodes = refl; place = refl; variable = refl; things = refl; mem = g .mem };
     inside = item-ends .1;
     few = nodes-within-rows (g .tree);
     near = place-width (u .at .row) (g .tree);
     counts = item-ends .2;
-    tags = tag-width (g .tree) (item-ends .2);
     known = item-ends;
   }
 
@@ -193,7 +192,7 @@ module _ (ts : List Tok) (i n : ℕ) (m : List ℕ) (u : Contents) (m′ : List 
   items-end e =
       subst (λ (x : Out). Holds x i n m m′ (Done u)) (sym (list-ends (Carries i u) ts RBrace (Parse.item ts) _ i n m (u .at) m′ c e)) (
         ap Done (λ j. record {
-          at = record { row = u .at .row; node = c .stands .nodes j; place = (c .stands .place ∙ c .known .place) j; tag = list-count (Carries i u) ts RBrace (Parse.item ts) _ i n m (u .at) m′ c j };
+          at = record { row = u .at .row; node = c .stands .nodes j; place = c .stands .place j; variable = c .stands .variable j; things = c .stands .things j };
           kind = c .known .known .kind j;
           licence = c .known .known .licence j;
         }),
@@ -229,15 +228,15 @@ pub held-ends : (ts : List Tok) (i n : ℕ) (m m′ : List ℕ) (u : Contents) (
 held-ends ts i n m m′ u v h = all-ok (λ l j. Ends ts i l j × (kindAt ts j ≡ RBrace)) (Parse.listTo ts RBrace (Parse.item ts) i) (v .list) (u .at .row) (ends-items ts i h) (v .is)
 
 pub stands-unit : (o : Out) (i n : ℕ) (m m₁ m₂ : List ℕ) (u : Contents) (s : At) (w : List ℕ) (v : Held o (i + 1 + 1 + 1) n m m₁ u) → u .at .row ≡ i + 1 + 1 + 1 + width (v .list)
-    → s ≡ record { row = u .at .row + 1; node = u .at .node + 1; place = i; tag = 0 }
-    → m₂ ≡ sets m₁ (8 * u .at .node) (nodeWords (factNode 25 i (i + 1) (u .at .tag) (cond (eqb (u .kind) unset) 10 (u .kind)) (u .licence) 0 0))
+    → s ≡ stateAt (u .at .row + 1) (u .at .node + 1) i
+    → m₂ ≡ sets m₁ (8 * u .at .node) (nodeWords (factNode 25 i (i + 1) (u .at .things) (cond (eqb (u .kind) unset) 10 (u .kind)) (u .licence) 0 0))
     → Stands i n (unit w (v .list)) m s m₂
-unfolding width size placeOf tagOf isVariable count unitKind
+unfolding width size placeOf isVariable count unitKind
 stands-unit o i n m m₁ m₂ u s w v r e q =
     let three : i + 1 + 1 + 1 ≡ i + 3 = omega arith in
     let nodes : u .at .node ≡ n + size (v .list) = ap (λ (x : Contents). x .at .node) (v .same) in
-    let tag : u .at .tag ≡ count (v .list) = ap (λ (x : Contents). x .at .tag) (v .same) in
+    let things : u .at .things ≡ count (v .list) = ap (λ (x : Contents). x .at .things) (v .same) in
     let kind : u .kind ≡ kindFrom (sectionsOf (v .list)) = ap (λ (x : Contents). x .kind) (v .same) in
     let licence : u .licence ≡ licenceRow (i + 1 + 1 + 1) (v .list) = ap (λ (x : Contents). x .licence) (v .same) in
-    stands-at i n (unit w (v .list)) m m₂ s e (omega (arith, r)) (omega (arith, nodes)) refl refl
-    (rw (words-unit i w (v .list), ← three, kind-known (sectionsOf (v .list)), ← kind, ← tag, ← licence, sets-tree m n (i + 1 + 1 + 1) (v .list), ← v .mem, ← nodes) q)
+    stands-at i n (unit w (v .list)) m m₂ s e (omega (arith, r)) (omega (arith, nodes)) refl refl refl
+    (rw (words-unit i w (v .list), ← three, kind-known (sectionsOf (v .list)), ← kind, ← things, ← licence, sets-tree m n (i + 1 + 1 + 1) (v .list), ← v .mem, ← nodes) q)

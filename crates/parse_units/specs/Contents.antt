@@ -6,13 +6,14 @@ use Prim.Native.Nat.{ℕ, _+_, _-_, _*_, _≤_}
 use lib.Dec.{eqb}
 use lib.ListN.{length, getD, take, drop}
 use lib.Seq.{sets}
+use Rattle.rules.specs.Rows.{atEnd, atStart, wordsPerRow}
 use Rattle.rules.specs.Kinds.{RBrace}
 use Rattle.rules.specs.Sets.{fromSection}
-use Rattle.rules.specs.Tree.{Tok, Tree, text, count, sectionsOf, sectionText}
+use Rattle.rules.specs.Tree.{Tok, Tree, text, sectionsOf, sectionText}
 use Rattle.rules.specs.Nodes.{missing, size, licenceRow, treeWords}
 use Rattle.rules.specs.Parse
 use Rattle.rules.specs.Parse.{Out, ok, no, isText}
-use Rattle.parse_nodes.specs.Post.{kindWord, Asks, Met}
+use Rattle.parse_nodes.specs.Post.{kindWord, listAt, behind, Asks, Met}
 use Rattle.parse_nodes.specs.Names.{Names, Spans}
 use Rattle.parse_nodes.specs.declared.Got.{Got}
 use Rattle.parse_units.specs.declared.Contents.{Contents}
@@ -40,14 +41,14 @@ lastRow x y = cond (eqb y missing) x y
 
 -- the spelling of row i
 abbrev pub spelt : List ℕ → List ℕ → ℕ → List ℕ
-spelt t ws i = take (getD ws (i * 8 + 2) 0 - getD ws (i * 8 + 1) 0) (drop (getD ws (i * 8 + 1) 0) t)
+spelt t ws i = take (getD ws (i * wordsPerRow + atEnd) 0 - getD ws (i * wordsPerRow + atStart) 0) (drop (getD ws (i * wordsPerRow + atStart) 0) t)
 
 -- ---- one thing more
 
 -- what holds behind the contents u and one thing more, which ends at row j
 abbrev pub over : Contents → Tree → ℕ → Contents
 over u t j = record {
-  at = record { row = j; node = u .at .node + size t; place = u .at .place; tag = u .at .tag + 1 };
+  at = listAt j (u .at .node + size t) (u .at .place) (u .at .things + 1);
   kind = firstOf (u .kind) (kindFrom (sectionsOf t));
   licence = lastRow (u .licence) (licenceRow (u .at .row) t);
 }
@@ -63,14 +64,14 @@ ItemMet t ws n u m m′ r = (ts : List Tok) → Names ts t ws n → Adds u (Pars
 -- what is asked there
 pub record AsksItem (t ws : List ℕ) (n : ℕ) (u : Contents) : Type 0 where
   pub at : Asks ws n (u .at .row) (u .at .node) 64
-  pub tag : u .at .tag ≤ u .at .row
+  pub things : u .at .things ≤ u .at .row
   pub spans : Spans t ws n
 
 -- row i is a string's
 pub record AsksString (t ws : List ℕ) (i : ℕ) : Type 0 where
   pub lent : i * 8 + 8 ≤ length ws
-  pub order : getD ws (i * 8 + 1) 0 + 2 ≤ getD ws (i * 8 + 2) 0
-  pub inside : getD ws (i * 8 + 2) 0 ≤ length t
+  pub order : getD ws (i * wordsPerRow + atStart) 0 + 2 ≤ getD ws (i * wordsPerRow + atEnd) 0
+  pub inside : getD ws (i * wordsPerRow + atEnd) 0 ≤ length t
 
 -- the contents' row has the kind k, a section's or a licence's
 pub record AsksText (t ws : List ℕ) (n : ℕ) (u : Contents) (k : ℕ) : Type 0 where
@@ -84,7 +85,7 @@ pub record AsksQuoted (t ws : List ℕ) (u : Contents) (k : ℕ) : Type 0 where
   pub text : isText k ≡ true
   pub inside : u .at .row ≤ 65534
   pub few : u .at .node ≤ 65537
-  pub tag : u .at .tag ≤ 65537
+  pub things : u .at .things ≤ 65537
 
 -- a section or a licence more
 abbrev pub Texted : List ℕ → List ℕ → Contents → ℕ → List ℕ → List ℕ → Contents → Type 0
@@ -95,7 +96,7 @@ Texted t ws u k m m′ v = Adds u (ok (text k (spelt t ws (u .at .row + 1))) (u 
 -- what holds behind the list l of things, which begins at row i and ends at row j, its first node at n
 abbrev pub contentsOf : ℕ → ℕ → Tree → ℕ → Contents
 contentsOf i n l j = record {
-  at = record { row = j; node = n + size l; place = i; tag = count l };
+  at = behind i n l j;
   kind = kindFrom (sectionsOf l);
   licence = licenceRow i l;
 }

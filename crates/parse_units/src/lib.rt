@@ -3,6 +3,18 @@ use parse_nodes::At;
 use parse_nodes::Got;
 use parse_nodes::Words;
 use rules::Syntax;
+use rules::fact;
+use rules::kind::IDENTIFIER;
+use rules::kind::LBRACE;
+use rules::kind::LICENSE;
+use rules::kind::RBRACE;
+use rules::kind::SECTION;
+use rules::kind::SEMICOLON;
+use rules::kind::STRING;
+use rules::limit;
+use rules::node;
+use rules::node_kind;
+use rules::row;
 ghost use mathlib.Core.Path.{_≡_};
 ghost use mathlib.Core.Bool.{cond};
 ghost use Prim.Native.Nat.{_+_, _-_, _*_, _≤_, _<_};
@@ -12,31 +24,15 @@ ghost use lib.Seq.{sets};
 ghost use Rattle.rules.specs.Sets.{fromSection};
 ghost use Rattle.rules.specs.Tree.{sectionText};
 ghost use Rattle.rules.specs.Nodes.{factNode, nodeWords};
-ghost use Rattle.parse_nodes.specs.Post.{Asks, AsksOpen};
+ghost use Rattle.parse_nodes.specs.Post.{stateAt, Asks, AsksOpen};
 ghost use Rattle.parse_nodes.specs.Names.{Spans};
 ghost use Rattle.parse_units.specs.Contents.{unset, firstOf, spelt, AsksItem, AsksString, AsksText, AsksQuoted, Texted, ItemMet, ItemsMet, UnitMet};
 
-const SECTION: u32 = 1;
+const QUOTE: u8 = b'"';
 
-const LICENSE: u32 = 2;
+const NO_SECTION: u32 = fact::PROGRAM_UNKNOWN + 1;
 
-const LBRACE: u32 = 25;
-
-const RBRACE: u32 = 26;
-
-const SEMICOLON: u32 = 32;
-
-const IDENTIFIER: u32 = 48;
-
-const STRING: u32 = 49;
-
-const QUOTE: u8 = 34;
-
-const UNKNOWN: u32 = 10;
-
-const NO_SECTION: u32 = 11;
-
-// Where the parser stands in a unit's contents, the kind that the first section gives (11 while there is none), and the row of the
+// Where the parser stands in a unit's contents, the kind that the first section gives (NO_SECTION while there is none), and the row of the
 // last licence's string.
 pub struct Contents {
     pub at: At,
@@ -75,9 +71,9 @@ fn first_kind(text: &[u8], rows: &[u32], row: usize, kind: u32) -> u32
     if kind != NO_SECTION {
         return kind;
     }
-    let at = row * 8;
-    let a = rows[at + 1] as usize;
-    let e = rows[at + 2] as usize;
+    let at = row * row::WORDS;
+    let a = rows[at + row::START] as usize;
+    let e = rows[at + row::END] as usize;
     kind_of_string(text, a, e)
 }
 
@@ -94,17 +90,18 @@ fn with_text(text: &[u8], rows: &[u32], nodes: &mut [u32], u: Contents, word: u3
         row: string + 1 + 1,
         node: n + 1,
         place: here.place,
-        tag: here.tag + 1,
+        variable: false,
+        things: here.things + 1,
     };
     if word == LICENSE {
-        parse_nodes::close(nodes, n, 24, string, name, 0);
+        parse_nodes::close(nodes, n, node_kind::LICENSE, string, name, 0);
         return Contents {
             at,
             kind: u.kind,
             licence: name,
         };
     }
-    parse_nodes::close(nodes, n, 23, string, name, 0);
+    parse_nodes::close(nodes, n, node_kind::SECTION, string, name, 0);
     Contents {
         at,
         kind: first_kind(text, rows, string, u.kind),
@@ -149,9 +146,9 @@ fn item(text: &[u8], rows: &[u32], count: usize, nodes: &mut [u32], u: Contents)
     if (k == SECTION) | (k == LICENSE) {
         return text_item(text, rows, count, nodes, u, k);
     }
-    match parse_stmt::stmt(rows, count, nodes, row, here.node, 64) {
+    match parse_stmt::stmt(rows, count, nodes, row, here.node, limit::MOST_OPEN) {
         Got::Done(t) => {
-            let at = parse_nodes::counted(t, here.place, here.tag + 1);
+            let at = parse_nodes::counted(t, here.place, here.things + 1);
             Went::Done(Contents {
                 at,
                 kind: u.kind,
@@ -178,12 +175,13 @@ fn items(
         row,
         node,
         place: row,
-        tag: 0,
+        variable: false,
+        things: 0,
     };
     let mut u = Contents {
         at: start,
         kind: NO_SECTION,
-        licence: parse_nodes::MISSING,
+        licence: node::MISSING,
     };
     loop {
         let here = u.at;
@@ -206,15 +204,15 @@ fn kind_or_unknown(kind: u32) -> u32
     ensures { λ r. ⌜ r ≡ cond (eqb kind unset) 10 kind ⌝ }
 {
     if kind == NO_SECTION {
-        return UNKNOWN;
+        return fact::PROGRAM_UNKNOWN;
     }
     kind
 }
 
 // The node of the unit whose word is at a row, over its contents, and the state behind it.
 fn unit_node(nodes: &mut [u32], row: usize, u: Contents) -> At
-    requires { ⌜ (row < 65537) × ((u .at .row ≤ 65537) × ((u .at .node ≤ 65537) × (u .at .tag ≤ 65537))) ⌝ }
-    ensures { λ r. ⌜ (r ≡ record { row = u .at .row + 1; node = u .at .node + 1; place = row; tag = 0 }) × (now (nodes .exit) ≡ sets (now (nodes .entry)) (8 * u .at .node) (nodeWords (factNode 25 row (row + 1) (u .at .tag) (cond (eqb (u .kind) unset) 10 (u .kind)) (u .licence) 0 0))) ⌝ }
+    requires { ⌜ (row < 65537) × ((u .at .row ≤ 65537) × ((u .at .node ≤ 65537) × (u .at .things ≤ 65537))) ⌝ }
+    ensures { λ r. ⌜ (r ≡ stateAt (u .at .row + 1) (u .at .node + 1) row) × (now (nodes .exit) ≡ sets (now (nodes .entry)) (8 * u .at .node) (nodeWords (factNode 25 row (row + 1) (u .at .things) (cond (eqb (u .kind) unset) 10 (u .kind)) (u .licence) 0 0))) ⌝ }
 {
     let here = u.at;
     let n = here.node;
@@ -222,10 +220,10 @@ fn unit_node(nodes: &mut [u32], row: usize, u: Contents) -> At
         nodes,
         n,
         Words {
-            kind: 25,
+            kind: node_kind::UNIT,
             place: row as u32,
             name: (row + 1) as u32,
-            children: here.tag as u32,
+            children: here.things as u32,
             fact0: kind_or_unknown(u.kind),
             fact1: u.licence,
             fact2: 0,
@@ -236,7 +234,8 @@ fn unit_node(nodes: &mut [u32], row: usize, u: Contents) -> At
         row: here.row + 1,
         node: n + 1,
         place: row,
-        tag: 0,
+        variable: false,
+        things: 0,
     }
 }
 

@@ -6,6 +6,7 @@ use Prim.Native.Nat.{ℕ, _-_, _≤_}
 use lib.ListN.{getD}
 use lib.Dec.{eqb, leb}
 use Rattle.rules.specs.declared.Cursor.{Cursor}
+use Rattle.rules.specs.Kinds.{Identifier, Number, Eof}
 use Rattle.rules.specs.Rows
 pub use Rattle.rules.specs.Rows.{rowNo}
 use Rattle.rules.specs.Rows.{rowPlace, lengthFits, rowFits, follows, linesFit, placeFits, isEof}
@@ -25,8 +26,8 @@ asRow r = record {
 
 -- each kind's entry says how long its spelling is: so long or longer for identifiers, strings and numbers, just so long for the others
 pub record LengthTable (ls : List ℕ) : Type 0 where
-  pub least : (k n : ℕ) → 48 ≤ k → k ≤ 50 → leb (getD ls k 0) n ≡ lengthFits k n
-  pub own : (k n : ℕ) → k ≤ 52 → (48 ≤ k → k ≤ 50 → ⊥) → eqb n (getD ls k 0) ≡ lengthFits k n
+  pub least : (k n : ℕ) → Identifier ≤ k → k ≤ Number → leb (getD ls k 0) n ≡ lengthFits k n
+  pub own : (k n : ℕ) → k ≤ Eof → (Identifier ≤ k → k ≤ Number → ⊥) → eqb n (getD ls k 0) ≡ lengthFits k n
 
 -- a place stands behind a row
 unfoldable pub behind : Rows.Row → Cursor → Bool

@@ -18,9 +18,9 @@ use Rattle.rules.specs.declared.Parsed.{Parsed}
 use Rattle.rules.specs.declared.Parsed.the-variants as parsed
 use Rattle.rules.specs.Text.{startPlace, textJudged}
 use Rattle.rules.specs.Rows.{Row, rowNo, rowsIn, rowPlace, wellFormed, spelling}
-use Rattle.rules.specs.Sets.{allows, setSize}
+use Rattle.rules.specs.Sets.{Unknown, ProbeReadKernelStr, allows, setSize}
 use Rattle.rules.specs.Tree.{Tok, tokOf}
-use Rattle.rules.specs.Nodes.{size, treeWords}
+use Rattle.rules.specs.Nodes.{wordsPerNode, size, treeWords}
 use Rattle.rules.specs.Parse.{Out, ok, no, parse}
 
 -- ---- a text and its table
@@ -51,10 +51,10 @@ spellingPart t ws tbl row =
 
 unfoldable pub memberAsked : ℕ → ℕ → Asked
 memberAsked kind method =
-    cond (leb kind 10 && leb method 15) (asked.Is (cond (allows kind method) 1 0)) (asked.Refused NotWellFormed)
+    cond (leb kind Unknown && leb method ProbeReadKernelStr) (asked.Is (cond (allows kind method) 1 0)) (asked.Refused NotWellFormed)
 
 unfoldable pub sizeAsked : ℕ → Asked
-sizeAsked kind = cond (leb kind 10) (asked.Is (setSize kind)) (asked.Refused NotWellFormed)
+sizeAsked kind = cond (leb kind Unknown) (asked.Is (setSize kind)) (asked.Refused NotWellFormed)
 
 -- ---- parse
 
@@ -67,7 +67,7 @@ placeOfRow ws r = rowPlace (rowNo ws r)
 
 -- nodes are eight words each; a remainder is no node
 unfoldable pub nodeRoom : List ℕ → ℕ
-nodeRoom new = length new / 8
+nodeRoom new = length new / wordsPerNode
 
 -- the reading of rows that stand in ws
 unfoldable pub outTold : List ℕ → Out → Parsed
@@ -76,7 +76,7 @@ outTold ws (no why r) = parsed.Refused (reason.Syntax why) (placeOfRow ws r)
 
 -- the nodes, and then what was there; a refusal leaves node memory untouched
 unfoldable pub outLeaves : Out → List ℕ → List ℕ
-outLeaves (ok t j) new = treeWords 0 t ++ drop (8 * size t) new
+outLeaves (ok t j) new = treeWords 0 t ++ drop (wordsPerNode * size t) new
 outLeaves (no why r) new = new
 
 unfoldable pub reading : List ℕ → List ℕ → Table → Out

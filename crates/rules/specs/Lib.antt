@@ -12,3 +12,4 @@ pub mod Nodes
 pub mod Parse
 pub mod Grammar
 pub mod Calls
+pub mod Names

@@ -13,7 +13,7 @@ use Rattle.rules.specs.declared.Judged.the-variants as verdict
 use Rattle.rules.specs.declared.Told.{Told}
 use Rattle.rules.specs.declared.Told.the-variants.{Rows, Refused}
 use Rattle.rules.specs.Text.{placeAt, startPlace, textJudged}
-use Rattle.rules.specs.Rows.{Row, rowAt, eofRow, wordsOf}
+use Rattle.rules.specs.Rows.{Row, rowAt, eofRow, wordsOf, wordsPerRow}
 use Rattle.rules.specs.Lex.{blank, comment, row, refused, piece}
 
 -- A reading: rows, and then the end, which Eof's row stands before, or a refusal with its place and the offset of its deciding byte.
@@ -52,7 +52,7 @@ scan t = read (placeAt t) 0 0 t
 
 -- Room is whole rows; a remainder is never written.
 unfoldable pub roomOf : List ℕ → ℕ
-roomOf ws = length ws / 8
+roomOf ws = length ws / wordsPerRow
 
 -- "4 standing where the row that finds no room is complete": the rows of a text of n bytes, into room for m
 unfoldable pub told : ℕ → ℕ → List Row → Ending → Told
@@ -61,7 +61,7 @@ told n m rows e =
 
 -- as many rows as there is room for, and then what was there
 unfoldable pub laid : List Row → List ℕ → List ℕ
-laid rows ws = wordsOf (take (roomOf ws) rows) ++ drop (8 * min (roomOf ws) (length rows)) ws
+laid rows ws = wordsOf (take (roomOf ws) rows) ++ drop (wordsPerRow * min (roomOf ws) (length rows)) ws
 
 -- Scan order: 1, 2, then reading order.
 unfoldable pub scanTold : List ℕ → ℕ → Told

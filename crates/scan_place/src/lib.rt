@@ -2,6 +2,7 @@
 use rules::Cursor;
 use rules::Judged;
 use rules::Outer;
+use rules::limit;
 ghost use mathlib.Core.Path.{_≡_};
 ghost use Prim.Native.Nat.{ℕ, _≤_, _<_};
 ghost use lib.ListN.{length, getD, take};
@@ -63,7 +64,7 @@ pub fn judge_text(text: &[u8]) -> Judged
     ensures { λ r. ⌜ r ≡ textJudged (now (text .entry)) ⌝ }
 {
     let start = Cursor::start();
-    if 65536 < text.len() {
+    if limit::MOST_BYTES < text.len() {
         return Judged::Refused(Outer::TextTooLong, start);
     }
     let valid = valid_bytes(text);

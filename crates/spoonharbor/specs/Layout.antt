@@ -5,6 +5,7 @@ use mathlib.Core.List.{List, [], _∷_}
 use Prim.Native.Nat.{ℕ, _+_, _*_}
 use lib.ListN.{getD}
 use lib.Dec.{eqb, leb}
+use Rattle.rules.specs.Rows.{atEnd, atStart, wordsPerRow}
 use Rattle.rules.specs.declared.Cursor.{Cursor}
 use Rattle.rules.specs.declared.Lexical.{Lexical}
 use Rattle.rules.specs.declared.Lexical.the-variants.{NoRowBegins, OpenComment, OpenString, BadEscape, NumberTooLarge}
@@ -100,4 +101,4 @@ tableOf ws = record { count = getD ws 6 0; length = lengthOf ws; ending = ending
 
 -- the spelling's start and end
 abbrev pub spellingWords : List ℕ → List ℕ → Table → ℕ → List ℕ
-spellingWords t ws tbl row = judgedWords (getD ws (row * 8 + 1) 0) (getD ws (row * 8 + 2) 0) (spellingJudged t ws tbl row)
+spellingWords t ws tbl row = judgedWords (getD ws (row * wordsPerRow + atStart) 0) (getD ws (row * wordsPerRow + atEnd) 0) (spellingJudged t ws tbl row)

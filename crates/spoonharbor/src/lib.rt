@@ -20,6 +20,7 @@ use rules::Restart;
 use rules::Syntax;
 use rules::Table;
 use rules::Told;
+use rules::row;
 ghost use mathlib.Core.Path.{_≡_};
 ghost use mathlib.Core.Bool.{cond};
 ghost use lib.ListN.{getD};
@@ -239,8 +240,16 @@ pub extern "C" fn spoonharbor_spelling(
 {
     match rows::spelling_judge(text, rows, table_of(table), row) {
         Judged::Fine => {
-            let at = (row as usize) * 8;
-            put(answer, 0, no_place(), rows[at + 1], rows[at + 2], 0, 0);
+            let at = (row as usize) * row::WORDS;
+            put(
+                answer,
+                0,
+                no_place(),
+                rows[at + row::START],
+                rows[at + row::END],
+                0,
+                0,
+            );
         }
         Judged::Refused(why, at) => {
             put(answer, outer_number(why), at, 0, 0, 0, 0);

@@ -1,7 +1,6 @@
 -- All that the theorems on edits know of `begin`, `step` and `finish`: a machine in a gap only begins, no row holds a newline, and no row
 -- starts where a gap goes on.
-use Prim.Native.Nat.{ℕ, _≤_}
-use native.Mathlib.Omega.{arith}
+use Prim.Native.Nat.{ℕ}
 use mathlib.Core.Bool.{Bool, true, false, cond, not, _&&_, _||_, true≢false}
 use mathlib.Core.List.{List, [], _∷_, _++_}
 use mathlib.Core.Path.{_≡_, refl, sym, _∙_}
@@ -13,7 +12,7 @@ use Rattle.rules.specs.Kinds.{Spelt, signs, sameBytes, kindIn}
 use Rattle.rules.specs.Lex.{isDigit, isLetter, isWord, isHexDigit, isEscape, largest, isLone}
 use Rattle.rules.specs.Edit.{opens, slashOrStar}
 use Rattle.laws.proofs.Tests.{both-true}
-use Rattle.theory_machine.specs.Machine.{St, gap, slash, line, block, star, minus, str, esc, two, name, zer, hex0, dec, hex, Spot, mark, opened, here, before, First, go, clear, over, bad, Move, fresh, on, back, Last, clean, ended, cut, spot, number, begin, step, finish}
+use Rattle.theory_machine.specs.Machine.{St, gap, slash, line, block, star, minus, str, esc, two, name, zer, hex0, dec, hex, First, go, clear, over, bad, Move, fresh, on, back, Last, clean, ended, cut, number, begin, step, finish}
 
 pub step-gap : (k b : ℕ) → step gap k b ≡ fresh
 unfolding step

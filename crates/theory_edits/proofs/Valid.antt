@@ -9,7 +9,7 @@ use lib.Seq.{take-append-le, length-take-le, drop-drop, drop-append-seam, drop-a
 use Rattle.rules.specs.Text.{validBytes, valid, placeAt, over}
 use Rattle.rules.specs.Edit.{restart}
 use Rattle.laws.proofs.Valid.{valid-some, is-bad, valid-join, valid-both, valid-behind, bad-stays, valid-left, valid-right, valid-take, valid-drop}
-use Rattle.theory_edits.specs.Change.{Change, oldText, newText, a, b, n, oldRows, starts, stops, Window}
+use Rattle.theory_edits.specs.Change.{Change, oldText, newText, a, n, oldRows, starts, stops, Window}
 use Rattle.theory_edits.proofs.Places.{place-window}
 use Rattle.theory_edits.proofs.Kept.{restart-le}
 use Rattle.theory_edits.proofs.Meeting.{restart-place}

@@ -13,3 +13,4 @@ pub mod GoesOn
 pub mod Place
 pub mod Tables
 pub mod Order
+pub mod Loops

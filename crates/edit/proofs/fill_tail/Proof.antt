@@ -6,7 +6,6 @@ use native.Mathlib.Omega.{arith}
 use borrow.Author.Needs.{needs}
 use Rattle.rules.specs.Rows.{Row}
 use Rattle.rules.specs.Scan.{laid}
-use Rattle.edit.specs.Job.{isShortSight}
 use Rattle.edit.proofs.Jobs.{ahead, over-tail, met-rows, met-ending, met-meets}
 use Rattle.edit.proofs.fill_tail.Statement.{statement}
 use Rattle.edit.proofs.fill_tail.Tie as tie

@@ -15,7 +15,7 @@ use Rattle.theory_grammar.proofs.Ends.{Ends}
 use Rattle.parse_nodes.specs.Names.{Names}
 use Rattle.parse_nodes.specs.declared.At.{At}
 use Rattle.parse_nodes.proofs.Turn.{Any, Came, refused, met-ok, met-no, same-len}
-use Rattle.parse_nodes.proofs.Steps.{Listing, list-start, list-ends, list-count, list-fails, list-again}
+use Rattle.parse_nodes.proofs.Steps.{Listing, list-start, list-ends, list-fails, list-again}
 use Rattle.parse_nodes.proofs.Seen.{seen}
 use Rattle.parse_nodes.proofs.Told.{names-told}
 use Rattle.parse.proofs.Whole.{word-in, top-came, top-up, stands-program}
@@ -55,8 +55,7 @@ kind-at-requires c κs = c .before .before .before .before .pre .lent
 ended-requires : tie.Need-ended-requires Inv-loop μ-loop
 ended-requires c κs =
     let w = some (c .before .before .before) in
-    let g = list-count Any _ Eof _ _ 0 0 _ (c .before .before .before .loop .s) (c .before .before .before .loop .nodes) w in
-    omega (arith, w .stands, w .few, w .counts, g, w .inside, own (c .before .before .before .before .before .before .before) .tells .long, c .before .before .before .before .before .before .before .pre .short)
+    omega (arith, w .stands, w .few, w .counts, w .inside, own (c .before .before .before .before .before .before .before) .tells .long, c .before .before .before .before .before .before .before .pre .short)
 
 same-length : tie.Need-same-length Inv-loop μ-loop
 same-length c = c .before .before .ended .kept .0 ∙ same-len _ _ _ _ _ _ (some (c .before .before .before .before .before .before) .stands)
@@ -69,7 +68,7 @@ returns c ts h =
     let e = list-ends Any ts Eof (Parse.top ts) _ 0 0 (a .nodes .now) s (c .before .before .before .before .before .before .loop .nodes) v (sym (seen ts (a .rows .now) (a .count) (h .tells) (s .row) (c .before .before .before .before .before .kind-at .result) (c .before .before .before .before .before .kind-at .ensures)) ∙ c .before .before .before .before .if1 .taken) in
     let r = ap (λ (x : At). x .row) (c .before .before .ended .ensures .0) in
     met-ok _ _ _ (program (v .tree)) _ _ (c .before .before .ended .result) (parse-is ts ∙ then-ok _ _ (v .tree) (s .row) e ∙ ap (ok (program (v .tree))) (sym r))
-    (stands-program (a .nodes .now) (c .before .before .before .before .before .before .loop .nodes) (c .before .before .ended .last .0) s (c .before .before .ended .result) (v .tree) (v .stands) (list-count Any ts Eof (Parse.top ts) _ 0 0 (a .nodes .now) s (c .before .before .before .before .before .before .loop .nodes) v) (c .before .before .ended .ensures .0) (c .before .before .ended .ensures .1))
+    (stands-program (a .nodes .now) (c .before .before .before .before .before .before .loop .nodes) (c .before .before .ended .last .0) s (c .before .before .ended .result) (v .tree) (v .stands) (c .before .before .ended .ensures .0) (c .before .before .ended .ensures .1))
 
 top-requires : tie.Need-top-requires Inv-loop μ-loop
 top-requires c κs =
@@ -85,7 +84,7 @@ enum-known-t c = search needs
 add-counted : tie.Need-add-counted Inv-loop μ-loop
 add-counted c =
     let w = some (c .before .before .before .before .before .before .before .before .before .before) in
-    omega (arith, w .inside, w .stands, w .tags, c .before .before .before .before .before .before .before .before .before .before .before .before .before .before .pre .short, own (c .before .before .before .before .before .before .before .before .before .before .before .before .before .before) .tells .long)
+    omega (arith, w .inside, w .stands, w .counts, c .before .before .before .before .before .before .before .before .before .before .before .before .before .before .pre .short, own (c .before .before .before .before .before .before .before .before .before .before .before .before .before .before) .tells .long)
 
 counted-requires : tie.Need-counted-requires Inv-loop μ-loop
 counted-requires c κs = search needs

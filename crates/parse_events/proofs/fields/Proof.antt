@@ -13,7 +13,7 @@ use Rattle.theory_grammar.proofs.Ends.{Ends}
 use Rattle.parse_nodes.specs.Post.{Tells}
 use Rattle.parse_nodes.proofs.Rows.{tokens, tells-some}
 use Rattle.parse_nodes.proofs.Turn.{Any, Came, refused, met-ok, met-no, same-len}
-use Rattle.parse_nodes.proofs.Steps.{Listing, list-start, list-ends, list-count, list-fails, list-again}
+use Rattle.parse_nodes.proofs.Steps.{Listing, list-start, list-ends, list-fails, list-again}
 use Rattle.parse_nodes.specs.declared.At.{At}
 use Rattle.parse_nodes.proofs.Seen.{seen}
 use Rattle.parse_events.proofs.Nodes.{field-came, field-up, stands-event}
@@ -62,7 +62,7 @@ cast-close : tie.Need-cast-close Inv-loop μ-loop
 cast-close c = omega (arith, c .before .before .before .before .before .before .pre .0, c .before .before .before .before .before .before .pre .1)
 
 close-requires : tie.Need-close-requires Inv-loop μ-loop
-close-requires c κs = let w = some (c .before .before .before) in omega (arith, w .stands, w .few, w .tags, w .inside, tells-some (c .before .before .before .before .before .before .args .rows .now) (c .before .before .before .before .before .before .args .count) .long, c .before .before .before .before .before .before .pre .0, c .before .before .before .before .before .before .pre .1)
+close-requires c κs = let w = some (c .before .before .before) in omega (arith, w .stands, w .few, w .counts, w .inside, tells-some (c .before .before .before .before .before .before .args .rows .now) (c .before .before .before .before .before .before .args .count) .long, c .before .before .before .before .before .before .pre .0, c .before .before .before .before .before .before .pre .1)
 
 add-t21 : tie.Need-add-t21 Inv-loop μ-loop
 add-t21 c = let w = some (c .before .before .before .before .before .before) in omega (arith, w .inside, c .before .before .before .before .before .before .before .before .before .pre .0, tells-some (c .before .before .before .before .before .before .before .before .before .args .rows .now) (c .before .before .before .before .before .before .before .before .before .args .count) .long)
@@ -79,7 +79,7 @@ returns c ts h w =
     let v = c .before .before .before .before .before .before .loop .inv ts h in
     let e = list-ends Any ts RBrace (Parse.eventField ts) _ (a .row + 1 + 1 + 1) (a .node) (a .nodes .now) (c .before .before .before .before .before .before .loop .s) (c .before .before .before .before .before .before .loop .nodes) v (sym (seen ts (a .rows .now) (a .count) h (c .before .before .before .before .before .before .loop .s .row) (c .before .before .before .before .before .kind-at .result) (c .before .before .before .before .before .kind-at .ensures)) ∙ c .before .before .before .before .if1 .taken) in
     met-ok _ _ _ (event w (v .tree)) _ _ _ (then-ok _ _ (v .tree) (c .before .before .before .before .before .before .loop .s .row) e)
-    (stands-event (a .row) (a .node) (a .nodes .now) (c .before .before .before .before .before .before .loop .nodes) (c .before .before .close .last .0) (c .before .before .before .before .before .before .loop .s) _ (v .tree) w (v .stands) (list-count Any ts RBrace (Parse.eventField ts) _ (a .row + 1 + 1 + 1) (a .node) (a .nodes .now) (c .before .before .before .before .before .before .loop .s) (c .before .before .before .before .before .before .loop .nodes) v) refl (c .before .before .close .ensures))
+    (stands-event (a .row) (a .node) (a .nodes .now) (c .before .before .before .before .before .before .loop .nodes) (c .before .before .close .last .0) (c .before .before .before .before .before .before .loop .s) _ (v .tree) w (v .stands) refl (c .before .before .close .ensures))
 
 field-requires : tie.Need-field-requires Inv-loop μ-loop
 field-requires c κs =
@@ -92,7 +92,7 @@ enum-known-t : tie.Need-enum-known-t Inv-loop μ-loop
 enum-known-t c = search needs
 
 add-counted : tie.Need-add-counted Inv-loop μ-loop
-add-counted c = let w = some (c .before .before .before .before .before .before .before .before .before .before) in omega (arith, w .inside, w .stands, w .tags, c .before .before .before .before .before .before .before .before .before .before .before .before .before .pre .0, tells-some (c .before .before .before .before .before .before .before .before .before .before .before .before .before .args .rows .now) (c .before .before .before .before .before .before .before .before .before .before .before .before .before .args .count) .long)
+add-counted c = let w = some (c .before .before .before .before .before .before .before .before .before .before) in omega (arith, w .inside, w .stands, w .counts, c .before .before .before .before .before .before .before .before .before .before .before .before .before .pre .0, tells-some (c .before .before .before .before .before .before .before .before .before .before .before .before .before .args .rows .now) (c .before .before .before .before .before .before .before .before .before .before .before .before .before .args .count) .long)
 
 counted-requires : tie.Need-counted-requires Inv-loop μ-loop
 counted-requires c κs = search needs

@@ -1,8 +1,5 @@
 -- `expr::call_end` meets its contract.
-use mathlib.Core.Path.{_≡_, refl}
-use mathlib.Core.Bool.{true, false}
-use lib.Dec.{eqb}
-use borrow.Author.Tests.{eq-eqb, ne-eqb}
+use mathlib.Core.Path.{refl}
 use borrow.Author.Needs.{needs}
 use Rattle.parse_expr.proofs.call_end.Statement.{statement}
 use Rattle.parse_expr.proofs.call_end.Tie as tie
@@ -27,16 +24,14 @@ same-length c = search needs
 
 returns : tie.Need-returns
 returns c =
-    let e : eqb (c .before .before .before .before .before .before .before .before .args .s .tag) 1 ≡ true = eq-eqb (c .before .before .before .before .before .before .before .before .args .s .tag) 1 (c .before .before .before .before .before .if1 .taken) in
-    rw e (refl, c .before .before .close .ensures)
+    rw (c .before .before .before .before .before .if1 .taken) (refl, c .before .before .close .ensures)
 
 add-t15 : tie.Need-add-t15
 add-t15 c = search needs
 
 returns-2 : tie.Need-returns-2
 returns-2 c =
-    let e : eqb (c .before .before .before .before .args .s .tag) 1 ≡ false = ne-eqb (c .before .before .before .before .args .s .tag) 1 (c .before .if1 .left) in
-    rw e refl
+    rw (c .before .if1 .left) refl
 
 pub call-end-spec : {M : Type 1} → statement M
 call-end-spec =

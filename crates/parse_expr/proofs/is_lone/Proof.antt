@@ -1,7 +1,6 @@
 -- `expr::is_lone` meets its contract.
-use mathlib.Core.Path.{_∙_}
 use borrow.Author.Needs.{needs}
-use Rattle.parse_expr.proofs.Lone.{lone-test}
+use Rattle.parse_expr.specs.Lone.{isLone}
 use Rattle.parse_expr.proofs.is_lone.Statement.{statement}
 use Rattle.parse_expr.proofs.is_lone.Tie as tie
 
@@ -14,8 +13,12 @@ add-kind-at c = search needs
 kind-at-requires-2 : tie.Need-kind-at-requires-2
 kind-at-requires-2 c κs = search needs
 
+is-mul-requires : tie.Need-is-mul-requires
+is-mul-requires c κs = search needs
+
 returns : tie.Need-returns
-returns c = lone-test (c .before .kind-at .result) (c .kind-at2 .result) ∙ rw (c .before .kind-at .ensures, c .kind-at2 .ensures)
+unfolding isLone
+returns c = rw (c .is-mul .ensures, ← c .before .before .kind-at .ensures, ← c .before .kind-at2 .ensures)
 
 pub is-lone-spec : {M : Type 1} → statement M
-is-lone-spec = tie.close (tie.spec kind-at-requires add-kind-at kind-at-requires-2 returns)
+is-lone-spec = tie.close (tie.spec kind-at-requires add-kind-at kind-at-requires-2 is-mul-requires returns)

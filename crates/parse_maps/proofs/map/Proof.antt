@@ -65,7 +65,7 @@ ended : (c : tie.After-f) (ts : List Tok) (h : Names ts (c .before .before .befo
 ended c ts h = opened (c .before .before .before) ts h ∙ then-ok _ _ (given c ts h .0 .tree) (c .f .given .0 .0 .row) (given c ts h .0 .is)
 
 lacked : (c : tie.After-lacks) (ts : List Tok) (h : Names ts (c .before .before .before .before .before .before .before .before .before .before .before .before .before .args .text .now) (c .before .before .before .before .before .before .before .before .before .before .before .before .before .args .rows .now) (c .before .before .before .before .before .before .before .before .before .before .before .before .before .args .count)) → c .lacks .result ≡ lackingOf (given (c .before .before .before) ts h .0 .tree)
-lacked c ts h = c .lacks .ensures ∙ ap (λ (x : Facts). lacking (x .kind) (x .key) (x .value) (x .limit)) (given (c .before .before .before) ts h .0 .same)
+lacked c ts h = c .lacks .ensures ∙ ap (λ (x : Facts). lacking (x .maptype) (x .key) (x .value) (x .limit)) (given (c .before .before .before) ts h .0 .same)
 
 add-name : tie.Need-add-name
 add-name c = search needs
@@ -124,7 +124,7 @@ map-node-requires c κs =
     let g = given (c .before .before .before .before .before) (calls.tokens (a .text .now) (rowsIn (a .count) (a .rows .now))) h in
     let f = c .before .before .before .before .before .f .given .0 .0 in
     let most : f .limit ≤ 4294967296 = subst (λ (x : Facts). x .limit ≤ 4294967296) (sym (g .0 .same)) (fields-limit (g .1 .is)) in
-    let least = lacks-none (f .kind) (f .key) (f .value) (f .limit) (sym (c .before .before .lacks .ensures) ∙ c .before .if3 .left) in
+    let least = lacks-none (f .maptype) (f .key) (f .value) (f .limit) (sym (c .before .before .lacks .ensures) ∙ c .before .if3 .left) in
     (omega (arith, p .few, p .inside, p .short), (omega (arith, p .inside, p .short), (least, most)))
 
 add-t27 : tie.Need-add-t27

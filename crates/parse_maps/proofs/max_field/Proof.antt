@@ -126,7 +126,7 @@ returns-5 c ts h =
     let g = summing (c .before .before .before .before .before .before .before .before) ts h in
     steps-to (a .f) _ (limit (g .tree)) (s .row + 1) _
     (fine (c .before .before .before) ts h ∙ want-met ts (a .rows .now) (a .count) h (s .row) (c .before .before .kind-at2 .result) (c .before .before .kind-at2 .ensures) Semicolon _ (c .before .if4 .left))
-    (over-limit (a .f) (s .row + 1) (g .tree) ∙ ap (λ (x : ℕ). record { row = s .row + 1; kind = a .f .kind; key = a .f .key; value = a .f .value; limit = x + 1 }) (g .bits))
+    (over-limit (a .f) (s .row + 1) (g .tree) ∙ ap (λ (x : ℕ). record { row = s .row + 1; maptype = a .f .maptype; key = a .f .key; value = a .f .value; limit = x + 1 }) (g .bits))
 
 returns-6 : tie.Need-returns-6
 returns-6 c ts h =

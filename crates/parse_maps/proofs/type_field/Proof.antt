@@ -164,7 +164,7 @@ returns-6 c ts h =
     let n = number (c .before .before .before) ts h in
     steps-to (a .f) _ (mapType w) (a .f .row + 1 + 1 + 1 + 1 + 1) _
     (known (c .before .before) ts h ∙ want-met ts (a .rows .now) (a .count) (h .tells) (a .f .row + 1 + 1 + 1 + 1) (c .before .kind-at4 .result) (c .before .kind-at4 .ensures) Semicolon _ (c .if5 .left))
-    (over-type (a .f) (a .f .row + 1 + 1 + 1 + 1 + 1) w (λ e. c .before .before .if4 .left (n ∙ e)) ∙ ap (λ (x : ℕ). record { row = a .f .row + 1 + 1 + 1 + 1 + 1; kind = x; key = a .f .key; value = a .f .value; limit = a .f .limit }) (sym n))
+    (over-type (a .f) (a .f .row + 1 + 1 + 1 + 1 + 1) w (λ e. c .before .before .if4 .left (n ∙ e)) ∙ ap (λ (x : ℕ). record { row = a .f .row + 1 + 1 + 1 + 1 + 1; maptype = x; key = a .f .key; value = a .f .value; limit = a .f .limit }) (sym n))
 
 pub type-field-spec : {M : Type 1} → statement M
 type-field-spec =

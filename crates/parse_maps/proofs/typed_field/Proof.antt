@@ -3,7 +3,7 @@ use mathlib.Core.Path.{_≡_, refl, sym, ap, _∙_}
 use mathlib.Core.List.{List}
 use Prim.Native.Nat.{ℕ, _+_}
 use native.Mathlib.Omega.{arith}
-use borrow.Author.Tests.{not-true, not-false, eqb-true, eqb-false}
+use borrow.Author.Tests.{not-true, not-false}
 use borrow.Author.Needs.{needs}
 use Rattle.rules.specs.Parse
 use Rattle.rules.specs.Kinds.{Semicolon, Colon, KeywordKey, KeywordValue}
@@ -96,13 +96,13 @@ add-next c = search needs
 returns-5 : tie.Need-returns-5
 returns-5 c ts h =
     let a = c .before .before .before .before .before .before .before .before .before .before .args in
-    steps-to (a .f) _ (typed KeywordKey (c .before .before .before .before .before .kind-at2 .result)) (a .f .row + 1 + 1 + 1 + 1) _ (whole (c .before) ts h ∙ ap (λ (x : ℕ). ok (typed x (c .before .before .before .before .before .kind-at2 .result)) (a .f .row + 1 + 1 + 1 + 1)) (eqb-true _ _ (c .if5 .taken)))
+    steps-to (a .f) _ (typed KeywordKey (c .before .before .before .before .before .kind-at2 .result)) (a .f .row + 1 + 1 + 1 + 1) _ (whole (c .before) ts h ∙ ap (λ (x : ℕ). ok (typed x (c .before .before .before .before .before .kind-at2 .result)) (a .f .row + 1 + 1 + 1 + 1)) (c .if5 .taken))
     (over-key (a .f) _ (c .before .before .before .before .before .kind-at2 .result) (type-low (c .before .before .before .before .before .kind-at2 .result) (not-false _ (c .before .before .before .if3 .left))))
 
 returns-6 : tie.Need-returns-6
 returns-6 c ts h =
     let a = c .before .before .before .before .before .before .before .before .before .before .args in
-    let v : a .kind ≡ KeywordValue = either-kind (λ x. (x ≡ KeywordKey → ⊥) → x ≡ KeywordValue) (a .kind) KeywordKey KeywordValue (c .before .before .before .before .before .before .before .before .before .before .pre .1) (λ z. absurd (z refl)) (λ z. refl) (eqb-false _ _ (c .if5 .left)) in
+    let v : a .kind ≡ KeywordValue = either-kind (λ x. (x ≡ KeywordKey → ⊥) → x ≡ KeywordValue) (a .kind) KeywordKey KeywordValue (c .before .before .before .before .before .before .before .before .before .before .pre .1) (λ z. absurd (z refl)) (λ z. refl) (c .if5 .left) in
     steps-to (a .f) _ (typed KeywordValue (c .before .before .before .before .before .kind-at2 .result)) (a .f .row + 1 + 1 + 1 + 1) _ (whole (c .before) ts h ∙ ap (λ (x : ℕ). ok (typed x (c .before .before .before .before .before .kind-at2 .result)) (a .f .row + 1 + 1 + 1 + 1)) v)
     (over-value (a .f) _ (c .before .before .before .before .before .kind-at2 .result) (type-low (c .before .before .before .before .before .kind-at2 .result) (not-false _ (c .before .before .before .if3 .left))))
 

@@ -62,7 +62,7 @@ same-length : tie.Need-same-length
 same-length c = search needs
 
 returns : tie.Need-returns
-returns c = λ ts tl i n e m₀ st z.
+returns c = λ ts tl i n e m₀ st.
     let j : ℕ = c .before .before .before .u .given .0 .0 .row in
     let f = end-is (c .before) ts tl in
     met-no _ i n (Wanted Semicolon (c .before .kind-at2 .result)) j m₀ (c .before .before .before .before .before .before .before .add .last .1 .1 .0)
@@ -84,7 +84,7 @@ same-length-2 : tie.Need-same-length-2
 same-length-2 c = search needs
 
 returns-2 : tie.Need-returns-2
-returns-2 c = λ ts tl i n e m₀ st z.
+returns-2 c = λ ts tl i n e m₀ st.
     let a = c .before .before .before .before .before .before .before .before .before .before .before .before .before .before .before .before .before .args in
     let x : At = c .before .before .before .before .before .before .before .before .u .given .0 .0 in
     let v = got (c .before .before .before .before .before .before .before .before) ts tl in
@@ -98,7 +98,7 @@ same-length-3 : tie.Need-same-length-3
 same-length-3 c = search needs
 
 returns-3 : tie.Need-returns-3
-returns-3 c = λ ts tl i n e m₀ st z.
+returns-3 c = λ ts tl i n e m₀ st.
     let a = c .before .before .before .before .before .before .before .before .before .before .args in
     met-no _ i n (c .before .why .given .0 .0) (c .before .why .given .0 .1 .0) m₀ (c .before .before .before .before .before .add .last .1 .1 .0)
     (assign-is ts (a .left) (Parse.body ts (a .left)) e (a .t .row) ∙ then-no _ _ (c .before .why .given .0 .0) (c .before .why .given .0 .1 .0)

@@ -17,7 +17,6 @@ use Rattle.parse_nodes.specs.Post.{Tells}
 use Rattle.parse_nodes.specs.declared.At.{At}
 use Rattle.parse_nodes.proofs.Rows.{tokens, tells-some, tells-kind, word-test}
 use Rattle.parse_nodes.proofs.Turn.{Came, met-ok, met-no}
-use Rattle.parse_expr.proofs.Trees.{add-single}
 use Rattle.parse_stmt.proofs.Trees.{expr-came, expr-refused, stands-plain}
 use Rattle.parse_stmt.proofs.effect.Statement.{statement}
 use Rattle.parse_stmt.proofs.effect.Tie as tie
@@ -78,7 +77,7 @@ returns c = λ ts tl.
     let a = c .before .before .before .before .before .before .before .before .before .before .before .before .before .before .before .before .args in
     let v = got (c .before .before .before .before .before .before .before .before) ts tl in
     let b : isAssign (kindAt ts (c .before .before .before .before .before .before .before .before .t .given .0 .0 .row)) ≡ true = sym (test-is (c .before .before .before .before .before) ts tl) ∙ c .before .before .before .before .if1 .taken in
-    rw (read (c .before .before .before .before .before .before .before .before) ts tl, b) (c .before .before .assigned .ensures ts tl (a .row) (a .node) (v .tree) (a .nodes .now) (v .stands) (add-single (v .known .is)))
+    rw (read (c .before .before .before .before .before .before .before .before) ts tl, b) (c .before .before .assigned .ensures ts tl (a .row) (a .node) (v .tree) (a .nodes .now) (v .stands))
 
 same-length-2 : tie.Need-same-length-2
 same-length-2 c = search needs

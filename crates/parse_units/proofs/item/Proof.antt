@@ -10,6 +10,7 @@ use Rattle.rules.specs.Grammar.{Stmt}
 use Rattle.theory_grammar.proofs.Cases.{item-stmt}
 use Rattle.theory_grammar.proofs.Sound.{stmt-sound}
 use Rattle.parse_nodes.specs.Names.{Names}
+use Rattle.parse_nodes.specs.Post.{listAt}
 use Rattle.parse_nodes.proofs.Turn.{came-reads, refused}
 use Rattle.parse_nodes.proofs.Seen.{seen}
 use Rattle.parse_units.proofs.Answers.{adds-ok, adds-no, with-stmt}
@@ -59,7 +60,7 @@ returns-2 c ts h =
     let t = c .before .before .before .t .given .0 .0 in
     let g = came-reads ts Stmt 64 (Parse.stmt ts 64 (Parse.body ts 64) (a .u .at .row)) (a .u .at .row) (a .u .at .node) (a .nodes .now) (c .before .before .before .before .before .before .before .stmt .last .1 .1 .0) (c .before .before .before .before .before .before .before .stmt .result) t (stmt-sound ts 64 (a .u .at .row)) (c .before .before .before .before .before .before .before .stmt .ensures ts (h .tells)) (c .before .before .before .t .given .1) in
     adds-ok (a .u) _ _ _ (g .tree) (t .row) _ (plainly (c .before .before .before .before .before .before .before .before .before) ts h ∙ g .is)
-    (with-stmt (a .u) (g .tree) (c .counted .result) (t .row) (g .known .is) (c .counted .ensures ∙ (λ k. record { row = t .row; node = g .stands .nodes k; place = a .u .at .place; tag = a .u .at .tag + 1 }))) (g .stands .mem)
+    (with-stmt (a .u) (g .tree) (c .counted .result) (t .row) (g .known .is) (c .counted .ensures ∙ (λ k. listAt (t .row) (g .stands .nodes k) (a .u .at .place) (a .u .at .things + 1)))) (g .stands .mem)
 
 same-length-3 : tie.Need-same-length-3
 same-length-3 c = search needs

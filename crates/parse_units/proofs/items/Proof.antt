@@ -12,10 +12,9 @@ use Rattle.rules.specs.Parse.{kindAt}
 use Rattle.rules.specs.Calls.{tokens}
 use Rattle.parse_nodes.specs.Names.{Names}
 use Rattle.parse_nodes.proofs.Turn.{same-len}
-use Rattle.parse_nodes.proofs.Steps.{list-count}
 use Rattle.parse_nodes.proofs.Seen.{seen}
 use Rattle.parse_nodes.proofs.Told.{names-told}
-use Rattle.parse_units.proofs.Answers.{Added, added, add-refused, Carries, Gathering, items-start, item-up, item-inside, items-again, items-end, items-fail}
+use Rattle.parse_units.proofs.Answers.{Added, added, add-refused, Gathering, items-start, item-up, item-inside, items-again, items-end, items-fail}
 use Rattle.parse_units.proofs.items.Statement.{statement}
 use Rattle.parse_units.proofs.items.Tie as tie
 
@@ -61,10 +60,9 @@ item-requires c κs =
     let p = c .before .before .before .before .before .before .before .before .pre in
     let w = some (c .before .before .before .before) in
     let l = own (c .before .before .before .before .before .before .before .before) .tells .long in
-    let g = list-count (Carries (a .row) (c .before .before .before .before .loop .u)) _ RBrace _ _ (a .row) (a .node) (a .nodes .now) (c .before .before .before .before .loop .u .at) (c .before .before .before .before .loop .nodes) w in
     record {
       at = record { lent = p .0 .lent; inside = omega (arith, w .inside); few = omega (arith, w .stands, w .few, p .0 .few); short = p .0 .short; nest = p .0 .nest };
-      tag = omega (arith, g, w .counts, w .stands .rows);
+      things = omega (arith, w .counts, w .stands);
       spans = p .1;
     }
 

@@ -70,7 +70,7 @@ with-text-requires c κs =
       text = p .text;
       inside = omega (arith, p .at .at .short);
       few = omega (arith, p .at .at);
-      tag = omega (arith, p .at .at, p .at .tag);
+      things = omega (arith, p .at .at, p .at .things);
     }
 
 same-length : tie.Need-same-length

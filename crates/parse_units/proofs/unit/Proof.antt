@@ -87,9 +87,9 @@ unit-node-requires c κs =
     let i = inside (c .before .before .before .before .before .before .before .before) in
     let f = held-ends _ _ _ _ _ _ v (omega (arith, h .tells .long)) in
     let nodes : u .at .node ≡ a .node + _ = ap (λ (x : Contents). x .at .node) (v .same) in
-    let tag = ap (λ (x : Contents). x .at .tag) (v .same) in
+    let things = ap (λ (x : Contents). x .at .things) (v .same) in
     let few = nodes-within-rows (v .list) in
-    omega (arith, f .0, nodes, tag, few, h .tells .long, p .short, p .few)
+    omega (arith, f .0, nodes, things, few, h .tells .long, p .short, p .few)
 
 enum-known-why : tie.Need-enum-known-why
 enum-known-why c = search needs

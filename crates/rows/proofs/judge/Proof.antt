@@ -1,10 +1,9 @@
 -- `judge` meets its contract, a law for each way out.
-use mathlib.Core.Bool.{true, false}
 use mathlib.Core.Path.{_≡_, sym, _∙_}
 use borrow.Author.Needs.{needs}
 use Rattle.rules.specs.declared.Judged.the-variants as verdict
 use Rattle.rules.specs.Text.{textJudged}
-use Rattle.rows.proofs.Judging.{judged-text, judged-size, judged-table}
+use Rattle.laws.proofs.Calls.{judged-text, judged-unformed, judged-size, judged-well}
 use Rattle.rows.proofs.judge.Statement.{statement}
 use Rattle.rows.proofs.judge.Tie as tie
 
@@ -22,7 +21,7 @@ returns : tie.Need-returns
 returns c =
     let j = c .before .before .before in
     let a = j .before .before .before .args in
-    sym (judged-text (a .text .now) (a .rows .now) (a .table) (c .before .why .given .0 .0) (c .before .why .given .0 .1 .0) (sym (j .judge-text .ensures) ∙ c .before .why .given .1))
+    sym (judged-text (a .text .now) (a .rows .now) (a .table) (sym (j .judge-text .ensures) ∙ c .before .why .given .1))
 
 enum-told : tie.Need-enum-told
 enum-told c = search needs
@@ -47,7 +46,7 @@ returns-3 c =
     let w = c .before in
     let s = w .before .before in
     let a = s .before .before .before .before .before .before .args in
-    sym (judged-table (a .text .now) (a .rows .now) (a .table) (text-well s) (w .before .if1 .left) true (sym (w .well-formed .ensures) ∙ c .if2 .taken))
+    sym (judged-well (a .text .now) (a .rows .now) (a .table) (text-well s) (sym (w .well-formed .ensures) ∙ c .if2 .taken) (w .before .if1 .left))
 
 start-requires-2 : tie.Need-start-requires-2
 start-requires-2 c κs = search needs
@@ -58,7 +57,7 @@ returns-4 c =
     let s = w .before .before in
     let a = s .before .before .before .before .before .before .args in
     rw (c .start2 .ensures)
-    (sym (judged-table (a .text .now) (a .rows .now) (a .table) (text-well s) (w .before .if1 .left) false (sym (w .well-formed .ensures) ∙ c .before .if2 .left)))
+    (sym (judged-unformed (a .text .now) (a .rows .now) (a .table) (text-well s) (sym (w .well-formed .ensures) ∙ c .before .if2 .left)))
 
 pub judge-spec : {M : Type 1} → statement M
 judge-spec =

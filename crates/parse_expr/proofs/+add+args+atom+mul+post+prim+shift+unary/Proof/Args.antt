@@ -1,7 +1,6 @@
 -- `args` of the circle: expressions with commas between them, behind a parenthesis.
 use Prim.Native.Nat.{ℕ, _+_, _-_, _<_}
 use mathlib.Core.Path.{_≡_, refl, sym, ap, _∙_}
-use mathlib.Core.Bool.{false}
 use mathlib.Core.List.{List}
 use native.Mathlib.Omega.{arith}
 use lib.Dec.{eqb}
@@ -9,7 +8,7 @@ use borrow.Author.Needs.{needs}
 use borrow.Author.Tests.{eq-eqb, ne-eqb}
 use Rattle.rules.specs.declared.Syntax.the-variants.{TooDeep}
 use Rattle.rules.specs.Kinds.{Comma}
-use Rattle.rules.specs.Tree.{Tok, Tree, one, more, isVariable, count}
+use Rattle.rules.specs.Tree.{Tok, one, more, count}
 use Rattle.rules.specs.Nodes.{width}
 use Rattle.rules.specs.Parse
 use Rattle.rules.specs.Parse.{ok, kindAt, whole}
@@ -20,7 +19,7 @@ use Rattle.theory_grammar.proofs.Sound.{Reads, add-sound, inner-sound}
 use Rattle.parse_nodes.specs.Post.{Tells}
 use Rattle.parse_nodes.specs.declared.At.{At}
 use Rattle.parse_nodes.proofs.Rows.{tokens, tells-some, tells-kind, word-here}
-use Rattle.parse_nodes.proofs.Turn.{same-len, Came, came-reads, refused, met-no, Turn, start, done, fails, again}
+use Rattle.parse_nodes.proofs.Turn.{same-len, Any, Came, came-reads, refused, met-no, Turn, start, done, fails, again}
 use Rattle.parse_expr.proofs.Trees.{stands-one, stands-more}
 use Rattle.parse_expr.proofs.add.Reads as add
 use Rattle.parse_expr.proofs.args.Reads as args
@@ -32,14 +31,10 @@ use Rattle.parse_expr.proofs.+add+args+atom+mul+post+prim+shift+unary.P
 abbrev pub cs : ℕ → lts.Claims
 cs t = (add-below t, add.Post, counted-reads.Asked, counted-reads.Learnt, kind-at-reads.Asked, kind-at-reads.Learnt)
 
--- what the loop has read is arguments
-abbrev Bare : Tree → Type 0
-Bare u = isVariable u ≡ false
-
 -- what the loop has read, and has to read, with the node memory m at the function's entry
 abbrev Loop : List Tok → ℕ → ℕ → ℕ → List ℕ → At → List ℕ → Type 0
 Loop ts o n d m s m′ =
-    Turn Bare ts (λ r. eqb (kindAt ts r) Comma) (Parse.argStep ts (Parse.inner ts d)) (Parse.args ts (Parse.inner ts d) o) (o + 1) n m s m′
+    Turn Any ts (λ r. eqb (kindAt ts r) Comma) (Parse.argStep ts (Parse.inner ts d)) (Parse.args ts (Parse.inner ts d) o) (o + 1) n m s m′
 
 abbrev pub Inv-loop : lts.InvT-loop
 Inv-loop rows count nodes₀ row node left s₀ nodes s =
@@ -51,17 +46,17 @@ abbrev pub μ-loop : lts.MeasureT-loop
 -- what the first call gave, and so what holds where the loop begins
 begin : (t : ℕ) (c : lts.After-counted (cs t) (args-at t) args.Post Inv-loop μ-loop) (ts : List Tok) → Tells ts (c .before .before .before .before .before .before .before .before .before .before .before .args .rows .now) (c .before .before .before .before .before .before .before .before .before .before .before .args .count)
     → Loop ts (c .before .before .before .before .before .before .before .before .before .before .before .args .row) (c .before .before .before .before .before .before .before .before .before .before .before .args .node) (c .before .before .before .before .before .before .before .before .before .before .before .args .left) (c .before .before .before .before .before .before .before .before .before .before .before .args .nodes .now) (c .counted .result) (c .before .before .before .before .before .before .add .last .1 .1 .0)
-unfolding count width isVariable
+unfolding count width
 begin t c ts tl =
     let a = c .before .before .before .before .before .before .before .before .before .before .before .args in
     let w = came-reads ts Add (a .left - 1) (Parse.add ts (Parse.inner ts (a .left - 1)) (a .row + 1)) (a .row + 1) (a .node) (a .nodes .now) (c .before .before .before .before .before .before .add .last .1 .1 .0) (c .before .before .before .before .before .before .add .result) (c .before .before .t .given .0 .0)
     (add-sound ts (a .left - 1) (Parse.inner ts (a .left - 1)) (inner-sound ts (a .left - 1)) (a .row + 1)) (c .before .before .before .before .before .before .add .ensures ts tl) (c .before .before .t .given .1) in
     let r : c .counted .result .row ≡ c .before .before .t .given .0 .0 .row = ap (λ (x : At). x .row) (c .counted .ensures) in
-    start Bare ts _ _ _ (a .row + 1) (a .node) (a .nodes .now) (c .counted .result) (c .before .before .before .before .before .before .add .last .1 .1 .0) (one (w .tree))
+    start Any ts _ _ _ (a .row + 1) (a .node) (a .nodes .now) (c .counted .result) (c .before .before .before .before .before .before .add .last .1 .1 .0) (one (w .tree))
     (args-is ts (Parse.inner ts (a .left)) (a .row)
     ∙ then-ok _ _ (w .tree) (c .counted .result .row) (inner-whole ts (a .row) (a .left) (c .before .before .before .before .before .before .before .before .if1 .left) ∙ w .is ∙ ap (λ (x : ℕ). ok (w .tree) x) (sym r)))
     (stands-one (a .row + 1) (a .node) (a .nodes .now) (c .before .before .before .before .before .before .add .last .1 .1 .0) (c .before .before .t .given .0 .0) (w .tree) (c .counted .result) (a .nodes .now) (w .stands) (c .counted .ensures))
-    (omega (arith, r, w .inside)) (is-wide (w .known .is)) refl
+    (omega (arith, r, w .inside)) (is-wide (w .known .is)) tt
 
 turn : (t : ℕ) (c : lts.At-loop (cs t) (args-at t) args.Post Inv-loop μ-loop) (ts : List Tok) → Tells ts (c .before .before .before .before .before .before .before .before .before .before .before .before .args .rows .now) (c .before .before .before .before .before .before .before .before .before .before .before .before .args .count)
     → Loop ts (c .before .before .before .before .before .before .before .before .before .before .before .before .args .row) (c .before .before .before .before .before .before .before .before .before .before .before .before .args .node) (c .before .before .before .before .before .before .before .before .before .before .before .before .args .left) (c .before .before .before .before .before .before .before .before .before .before .before .before .args .nodes .now) (c .loop .s) (c .loop .nodes)
@@ -135,7 +130,7 @@ same-length-2 t c = same-len _ _ _ _ _ _ (some t (c .before .before) .stands)
 pub returns-3 : (t : ℕ) → lts.Need-returns-3 (cs t) (args-at t) args.Post Inv-loop μ-loop
 returns-3 t c = λ ts tl.
     let a = c .before .before .before .before .before .before .before .before .before .before .before .before .before .before .args in
-    done Bare ts _ _ _ (a .row + 1) (a .node) (a .nodes .now) (c .before .before .loop .s) (c .before .before .loop .nodes) (turn t (c .before .before) ts tl)
+    done Any ts _ _ _ (a .row + 1) (a .node) (a .nodes .now) (c .before .before .loop .s) (c .before .before .loop .nodes) (turn t (c .before .before) ts tl)
     (ne-eqb (kindAt ts (c .before .before .loop .s .row)) Comma (λ e. c .if2 .taken (kind-is t (c .before) ts tl ∙ e)))
 
 pub add-add-2 : (t : ℕ) → lts.Need-add-add-2 (cs t) (args-at t) args.Post Inv-loop μ-loop
@@ -157,7 +152,7 @@ pub add-counted : (t : ℕ) → lts.Need-add-counted (cs t) (args-at t) args.Pos
 add-counted t c =
     let w = some t (c .before .before .before .before .before .before .before .before .before .before) in
     let l = tells-some (c .before .before .before .before .before .before .before .before .before .before .before .before .before .before .before .before .before .before .before .before .before .before .args .rows .now) (c .before .before .before .before .before .before .before .before .before .before .before .before .before .before .before .before .before .before .before .before .before .before .args .count) .long in
-    omega (arith, w .inside, w .tags, w .stands, c .before .before .before .before .before .before .before .before .before .before .before .before .before .before .before .before .before .before .before .before .before .before .pre .1)
+    omega (arith, w .inside, w .counts, w .stands, c .before .before .before .before .before .before .before .before .before .before .before .before .before .before .before .before .before .before .before .before .before .before .pre .1)
 
 pub counted-requires-2 : (t : ℕ) → lts.Need-counted-requires-2 (cs t) (args-at t) args.Post Inv-loop μ-loop
 counted-requires-2 t c κs = search needs
@@ -170,19 +165,19 @@ loop-less t c =
     omega (arith, v .stands .rows)
 
 pub loop-again : (t : ℕ) → lts.Need-loop-again (cs t) (args-at t) args.Post Inv-loop μ-loop
-unfolding count width isVariable
+unfolding count width
 loop-again t c = λ ts tl m h.
     let a = c .before .before .before .before .before .before .before .before .before .before .before .before .before .before .before .before .before .before .before .before .before .before .before .args in
     let w = c .before .before .before .before .before .before .before .before .before .before .before .loop .inv ts tl m h in
     let v = got t (c .before .before .before) ts tl in
     let r : c .counted2 .result .row ≡ c .before .before .before .t2 .given .0 .0 .row = ap (λ (x : At). x .row) (c .counted2 .ensures) in
-    again Bare ts (λ r. eqb (kindAt ts r) Comma) (Parse.argStep ts (Parse.inner ts (a .left))) (Parse.args ts (Parse.inner ts (a .left)) (a .row)) (a .row + 1) (a .node) m (c .before .before .before .before .before .before .before .before .before .before .before .loop .s) (c .before .before .before .before .before .before .before .before .before .before .before .loop .nodes) w
+    again Any ts (λ r. eqb (kindAt ts r) Comma) (Parse.argStep ts (Parse.inner ts (a .left))) (Parse.args ts (Parse.inner ts (a .left)) (a .row)) (a .row + 1) (a .node) m (c .before .before .before .before .before .before .before .before .before .before .before .loop .s) (c .before .before .before .before .before .before .before .before .before .before .before .loop .nodes) w
     (eq-eqb (kindAt ts (c .before .before .before .before .before .before .before .before .before .before .before .loop .s .row)) Comma (is-comma t (c .before .before .before .before .before .before .before .before .before) ts tl))
-    Bare (more (w .tree) (v .tree)) (c .counted2 .result) (c .before .before .before .before .before .before .before .add2 .last .1 .1 .0)
+    Any (more (w .tree) (v .tree)) (c .counted2 .result) (c .before .before .before .before .before .before .before .add2 .last .1 .1 .0)
     (arg-step ts (Parse.inner ts (a .left)) (w .tree) (c .before .before .before .before .before .before .before .before .before .before .before .loop .s .row) ∙ then-ok _ _ (v .tree) (c .before .before .before .t2 .given .0 .0 .row) (inner-whole ts (c .before .before .before .before .before .before .before .before .before .before .before .loop .s .row) (a .left) (c .before .before .before .before .before .before .before .before .before .before .before .before .before .before .before .before .before .before .before .before .if1 .left) ∙ v .is)
     ∙ ap (λ (x : ℕ). ok (more (w .tree) (v .tree)) x) (sym r))
-    (stands-more (a .row + 1) (a .node) m (c .before .before .before .before .before .before .before .before .before .before .before .loop .nodes) (c .before .before .before .before .before .before .before .before .before .before .before .loop .s) (w .tree) (c .before .before .before .t2 .given .0 .0) (c .before .before .before .before .before .before .before .add2 .last .1 .1 .0) (v .tree) (c .counted2 .result) m (w .stands) (w .known) (v .stands) (c .counted2 .ensures))
-    (omega (arith, r, v .stands .rows)) (omega (arith, r, v .inside)) (omega (arith, w .counts)) refl
+    (stands-more (a .row + 1) (a .node) m (c .before .before .before .before .before .before .before .before .before .before .before .loop .nodes) (c .before .before .before .before .before .before .before .before .before .before .before .loop .s) (w .tree) (c .before .before .before .t2 .given .0 .0) (c .before .before .before .before .before .before .before .add2 .last .1 .1 .0) (v .tree) (c .counted2 .result) m (w .stands) (v .stands) (c .counted2 .ensures))
+    (omega (arith, r, v .stands .rows)) (omega (arith, r, v .inside)) (omega (arith, w .counts)) tt
 
 pub enum-known-why-2 : (t : ℕ) → lts.Need-enum-known-why-2 (cs t) (args-at t) args.Post Inv-loop μ-loop
 enum-known-why-2 t c = search needs
@@ -194,7 +189,7 @@ pub returns-4 : (t : ℕ) → lts.Need-returns-4 (cs t) (args-at t) args.Post In
 returns-4 t c = λ ts tl.
     let a = c .before .before .before .before .before .before .before .before .before .before .before .before .before .before .before .before .before .before .before .before .before .args in
     let w = turn t (c .before .before .before .before .before .before .before .before .before) ts tl in
-    fails Bare ts (λ r. eqb (kindAt ts r) Comma) (Parse.argStep ts (Parse.inner ts (a .left))) (Parse.args ts (Parse.inner ts (a .left)) (a .row)) (a .row + 1) (a .node) (a .nodes .now) (c .before .before .before .before .before .before .before .before .before .loop .s) (c .before .before .before .before .before .before .before .before .before .loop .nodes) w
+    fails Any ts (λ r. eqb (kindAt ts r) Comma) (Parse.argStep ts (Parse.inner ts (a .left))) (Parse.args ts (Parse.inner ts (a .left)) (a .row)) (a .row + 1) (a .node) (a .nodes .now) (c .before .before .before .before .before .before .before .before .before .loop .s) (c .before .before .before .before .before .before .before .before .before .loop .nodes) w
     (eq-eqb (kindAt ts (c .before .before .before .before .before .before .before .before .before .loop .s .row)) Comma (is-comma t (c .before .before .before .before .before .before .before) ts tl))
     (c .before .why2 .given .0 .0) (c .before .why2 .given .0 .1 .0) (c .before .before .before .before .before .add2 .last .1 .1 .0)
     (arg-step ts (Parse.inner ts (a .left)) (w .tree) (c .before .before .before .before .before .before .before .before .before .loop .s .row) ∙ then-no _ _ (c .before .why2 .given .0 .0) (c .before .why2 .given .0 .1 .0) (inner-whole ts (c .before .before .before .before .before .before .before .before .before .loop .s .row) (a .left) (c .before .before .before .before .before .before .before .before .before .before .before .before .before .before .before .before .before .before .if1 .left)

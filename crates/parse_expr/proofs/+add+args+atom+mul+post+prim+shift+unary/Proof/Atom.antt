@@ -16,7 +16,7 @@ use Rattle.parse_nodes.specs.Post.{Tells}
 use Rattle.parse_nodes.specs.declared.At.{At}
 use Rattle.parse_nodes.proofs.Rows.{tokens, tells-some, tells-kind, word-here}
 use Rattle.parse_nodes.proofs.Turn.{Came, came-reads, refused, met-ok, met-no}
-use Rattle.parse_expr.proofs.Trees.{add-single, stands-number, stands-var, stands-group}
+use Rattle.parse_expr.proofs.Trees.{stands-number, stands-var, stands-group}
 use Rattle.parse_expr.proofs.add.Reads as add
 use Rattle.parse_expr.proofs.atom.Reads as atom
 use Rattle.parse_nodes.proofs.kind_at.Reads as kind-at-reads
@@ -142,10 +142,10 @@ returns-3 t c = λ ts tl.
     let a = c .before .before .before .before .before .before .before .before .before .before .before .before .before .before .before .args in
     let w = got t (c .before .before .before) ts tl in
     let u : At = c .before .before .before .t .given .0 .0 in
-    let s : At = record { row = u .row + 1; node = u .node; place = u .place; tag = u .tag } in
+    let s : At = record { row = u .row + 1; node = u .node; place = u .place; variable = u .variable; things = 0 } in
     met-ok (Parse.atom ts (Parse.inner ts (a .left)) (a .row)) (a .row) (a .node) (group (w .tree)) (a .nodes .now) (c .before .before .before .before .before .before .before .add .last .1 .1 .0) s
     (opened t (c .before .before .before) ts tl ∙ want-yes ts RParen (ok (group (w .tree))) (u .row) (sym (close-is t (c .before) ts tl) ∙ c .if4 .taken))
-    (stands-group (a .row) (a .node) (a .nodes .now) (c .before .before .before .before .before .before .before .add .last .1 .1 .0) u (w .tree) s (a .nodes .now) (w .stands) (add-single (w .known .is)) refl)
+    (stands-group (a .row) (a .node) (a .nodes .now) (c .before .before .before .before .before .before .before .add .last .1 .1 .0) u (w .tree) s (a .nodes .now) (w .stands) refl)
 
 pub same-length-3 : (t : ℕ) → lts.Need-same-length-3 (cs t) (atom-at t) atom.Post
 same-length-3 t c = search needs

@@ -1,27 +1,23 @@
 -- `post` of the circle: a field or a call behind what was read.
 use Prim.Native.Nat.{ℕ, _+_, _<_}
 use mathlib.Core.Path.{_≡_, refl, sym, ap, _∙_}
-use mathlib.Core.Bool.{false}
 use mathlib.Core.List.{List}
 use native.Mathlib.Omega.{arith}
 use lib.ListN.{length}
 use borrow.Author.Needs.{needs}
 use Rattle.rules.specs.declared.Syntax.the-variants.{Wanted}
 use Rattle.rules.specs.Kinds.{Identifier, LParen, RParen}
-use Rattle.rules.specs.Tree.{Tok, Tree, none, field, spellingOf, isVariable}
+use Rattle.rules.specs.Tree.{Tok, Tree, none, field, spellingOf}
 use Rattle.rules.specs.Parse
 use Rattle.rules.specs.Parse.{ok, no, tokAt, kindAt}
-use Rattle.rules.specs.Grammar.{Args}
 use Rattle.theory_grammar.proofs.Cases.{then-ok, then-no, want-yes, want-no, post-nameless, post-field, post-bare, post-args}
 use Rattle.theory_grammar.proofs.Laws.{here}
-use Rattle.theory_grammar.proofs.Runs.{all-ok}
-use Rattle.theory_grammar.proofs.Sound.{Under, args-sound, inner-sound}
 use Rattle.theory_grammar.proofs.Ends.{Ends, ends-args}
-use Rattle.parse_nodes.specs.Post.{Tells}
+use Rattle.parse_nodes.specs.Post.{Tells, stateAt}
 use Rattle.parse_nodes.specs.declared.At.{At}
 use Rattle.parse_nodes.proofs.Rows.{tokens, tells-some, tells-kind, word-here}
 use Rattle.parse_nodes.proofs.Turn.{Came, came-ends, refused, met-ok, met-no}
-use Rattle.parse_expr.proofs.Trees.{under-bare, stands-field, stands-bare, stands-call, met-called}
+use Rattle.parse_expr.proofs.Trees.{stands-field, stands-bare, stands-call, met-called}
 use Rattle.parse_expr.proofs.args.Reads as args
 use Rattle.parse_expr.proofs.post.Reads as post
 use Rattle.parse_expr.proofs.call_end.Reads as call-end-reads
@@ -62,7 +58,7 @@ paren-here t c = word-here (c .before .before .before .before .before .before .b
 open-here : (t : ℕ) (c : lts.Else2 (cs t) (post-at t) post.Post) (ts : List Tok) → Tells ts (c .before .before .before .before .before .before .before .args .rows .now) (c .before .before .before .before .before .before .before .args .count) → c .before .before .before .before .before .before .before .args .s .row + 1 + 1 < length ts
 open-here t c ts tl = here ts (c .before .before .before .before .before .before .before .args .s .row + 1 + 1) LParen (is-paren t c ts tl) refl
 
--- what the call for the arguments gave, and that it is a list
+-- what the call for the arguments gave
 got : (t : ℕ) (c : lts.After-a (cs t) (post-at t) post.Post) (ts : List Tok) → Tells ts (c .before .before .before .before .before .before .before .before .before .before .before .before .before .before .before .args .rows .now) (c .before .before .before .before .before .before .before .before .before .before .before .before .before .before .before .args .count)
     → Came (Ends ts (c .before .before .before .before .before .before .before .before .before .before .before .before .before .before .before .args .s .row + 1 + 1 + 1)) ts (Parse.args ts (Parse.inner ts (c .before .before .before .before .before .before .before .before .before .before .before .before .before .before .before .args .left)) (c .before .before .before .before .before .before .before .before .before .before .before .before .before .before .before .args .s .row + 1 + 1)) (c .before .before .before .before .before .before .before .before .before .before .before .before .before .before .before .args .s .row + 1 + 1 + 1) (c .before .before .before .before .before .before .before .before .before .before .before .before .before .before .before .args .s .node) (c .before .before .before .before .before .before .before .before .before .before .before .before .before .before .before .args .nodes .now) (c .a .given .0 .0) (c .before .before .before .before .args2 .last .1 .1 .0)
 got t c ts tl =
@@ -70,15 +66,6 @@ got t c ts tl =
     let o : ℕ = a .s .row + 1 + 1 in
     came-ends ts (Parse.args ts (Parse.inner ts (a .left)) o) (o + 1) (a .s .node) (a .nodes .now) (c .before .before .before .before .args2 .last .1 .1 .0) (c .before .before .before .before .args2 .result) (c .a .given .0 .0)
     (ends-args ts (a .left) o (open-here t (c .before .before .before .before .before .before .before .before) ts tl)) (c .before .before .before .before .args2 .ensures ts tl) (c .a .given .1)
-
-bare : (t : ℕ) (c : lts.After-a (cs t) (post-at t) post.Post) (ts : List Tok) (tl : Tells ts (c .before .before .before .before .before .before .before .before .before .before .before .before .before .before .before .args .rows .now) (c .before .before .before .before .before .before .before .before .before .before .before .before .before .before .before .args .count)) → isVariable (got t c ts tl .tree) ≡ false
-bare t c ts tl =
-    let a = c .before .before .before .before .before .before .before .before .before .before .before .before .before .before .before .args in
-    let o : ℕ = a .s .row + 1 + 1 in
-    let v = got t c ts tl in
-    under-bare ts (a .left) o (v .tree) (c .a .given .0 .0 .row)
-    (all-ok (Under ts Args (a .left) o) (Parse.args ts (Parse.inner ts (a .left)) o) (v .tree) (c .a .given .0 .0 .row)
-    (args-sound ts (a .left) (Parse.inner ts (a .left)) (inner-sound ts (a .left)) o (open-here t (c .before .before .before .before .before .before .before .before) ts tl)) (v .is))
 
 -- the parser's answer, up to the arguments and behind them
 asked : (t : ℕ) (c : lts.Else3 (cs t) (post-at t) post.Post) (ts : List Tok) → Tells ts (c .before .before .before .before .before .before .before .before .before .args .rows .now) (c .before .before .before .before .before .before .before .before .before .args .count) → (u : Tree)
@@ -100,7 +87,7 @@ pub kind-at-requires : (t : ℕ) → lts.Need-kind-at-requires (cs t) (post-at t
 kind-at-requires t c κs = c .before .before .before .pre .1 .lent
 
 pub returns : (t : ℕ) → lts.Need-returns (cs t) (post-at t) post.Post
-returns t c = λ ts tl i n u m₀ st z.
+returns t c = λ ts tl i n u m₀ st.
     let a = c .before .before .before .before .before .args in
     let e = kind-is t (c .before) ts tl in
     met-no (Parse.post ts (Parse.inner ts (a .left)) u (a .s .row)) i n (Wanted Identifier (c .before .kind-at .result)) (a .s .row + 1) m₀ (a .nodes .now)
@@ -119,7 +106,7 @@ pub same-length : (t : ℕ) → lts.Need-same-length (cs t) (post-at t) post.Pos
 same-length t c = search needs
 
 pub returns-2 : (t : ℕ) → lts.Need-returns-2 (cs t) (post-at t) post.Post
-returns-2 t c = λ ts tl i n u m₀ st z.
+returns-2 t c = λ ts tl i n u m₀ st.
     let a = c .before .before .before .before .before .before .before .before .before .before .before .args in
     let w : List ℕ = spellingOf (tokAt ts (a .s .row + 1)) in
     met-ok (Parse.post ts (Parse.inner ts (a .left)) u (a .s .row)) i n (field u w) m₀ (c .before .before .field-end .last .0) (c .before .before .field-end .result)
@@ -146,12 +133,12 @@ pub same-length-2 : (t : ℕ) → lts.Need-same-length-2 (cs t) (post-at t) post
 same-length-2 t c = search needs
 
 pub returns-3 : (t : ℕ) → lts.Need-returns-3 (cs t) (post-at t) post.Post
-returns-3 t c = λ ts tl i n u m₀ st z.
+returns-3 t c = λ ts tl i n u m₀ st.
     let a = c .before .before .before .before .before .before .before .before .before .before .before .before .before .args in
     let w : List ℕ = spellingOf (tokAt ts (a .s .row + 1)) in
-    let s : At = record { row = a .s .row + 1 + 1 + 1 + 1; node = a .s .node + 1; place = a .s .place; tag = 0 } in
+    let s : At = stateAt (a .s .row + 1 + 1 + 1 + 1) (a .s .node + 1) (a .s .place) in
     rw (post-bare ts (Parse.inner ts (a .left)) u (a .s .row) (is-name t (c .before .before .before .before .before .before .before .before) ts tl) (is-paren t (c .before .before .before .before .before .before) ts tl) (sym (first-is t (c .before .before .before .before .before) ts tl) ∙ c .before .before .before .before .if3 .taken))
-    (met-called ts i n u w none m₀ (a .nodes .now) (a .nodes .now) (c .before .before .call-end .last .0) (a .s) (a .s .node) 0 (a .s .row + 1 + 1 + 1 + 1) (c .before .before .call-end .result) st z
+    (met-called ts i n u w none m₀ (a .nodes .now) (a .nodes .now) (c .before .before .call-end .last .0) (a .s) (a .s .node) 0 (a .s .row + 1 + 1 + 1 + 1) (c .before .before .call-end .result) st
     (λ q. stands-bare i n m₀ (a .nodes .now) (a .s) u s (c .before .before .call-end .last .0) w st refl q) (c .before .before .call-end .ensures))
 
 pub args-requires : (t : ℕ) → lts.Need-args-requires (cs t) (post-at t) post.Post
@@ -167,7 +154,7 @@ pub same-length-3 : (t : ℕ) → lts.Need-same-length-3 (cs t) (post-at t) post
 same-length-3 t c = search needs
 
 pub returns-4 : (t : ℕ) → lts.Need-returns-4 (cs t) (post-at t) post.Post
-returns-4 t c = λ ts tl i n u m₀ st z.
+returns-4 t c = λ ts tl i n u m₀ st.
     let a = c .before .before .before .before .before .before .before .before .before .before .before .before .before .before .before .before .before .before .args in
     let j : ℕ = c .before .before .before .a .given .0 .0 .row in
     let e = close-is t (c .before) ts tl in
@@ -185,7 +172,7 @@ call-end-requires-2 t c κs =
     let w = got t (c .before .before .before .before) (tokens (c .before .before .before .before .before .before .before .before .before .before .before .before .before .before .before .before .before .before .before .args .rows .now) (c .before .before .before .before .before .before .before .before .before .before .before .before .before .before .before .before .before .before .before .args .count)) (tells-some (c .before .before .before .before .before .before .before .before .before .before .before .before .before .before .before .before .before .before .before .args .rows .now) (c .before .before .before .before .before .before .before .before .before .before .before .before .before .before .before .before .before .before .before .args .count)) in
     let l = tells-some (c .before .before .before .before .before .before .before .before .before .before .before .before .before .before .before .before .before .before .before .args .rows .now) (c .before .before .before .before .before .before .before .before .before .before .before .before .before .before .before .before .before .before .before .args .count) .long in
     let h = name-here t (c .before .before .before .before .before .before .before .before .before .before .before .before .before .before) in
-    omega (arith, w .stands, w .few, w .tags, w .inside, c .before .before .before .before .before .before .before .before .before .before .before .before .before .before .before .before .before .before .before .pre .1)
+    omega (arith, w .stands, w .few, w .counts, w .inside, c .before .before .before .before .before .before .before .before .before .before .before .before .before .before .before .before .before .before .before .pre .1)
 
 pub enum-known-why : (t : ℕ) → lts.Need-enum-known-why (cs t) (post-at t) post.Post
 enum-known-why t c = search needs
@@ -194,21 +181,21 @@ pub same-length-4 : (t : ℕ) → lts.Need-same-length-4 (cs t) (post-at t) post
 same-length-4 t c = search needs
 
 pub returns-5 : (t : ℕ) → lts.Need-returns-5 (cs t) (post-at t) post.Post
-returns-5 t c = λ ts tl i n u m₀ st z.
+returns-5 t c = λ ts tl i n u m₀ st.
     let a = c .before .before .before .before .before .before .before .before .before .before .before .before .before .before .before .before .before .before .before .before .before .before .args in
     let v = got t (c .before .before .before .before .before .before .before) ts tl in
     let w : List ℕ = spellingOf (tokAt ts (a .s .row + 1)) in
     let x : At = c .before .before .before .before .before .before .before .a .given .0 .0 in
-    let s : At = record { row = x .row + 1; node = x .node + 1; place = a .s .place; tag = 0 } in
+    let s : At = stateAt (x .row + 1) (x .node + 1) (a .s .place) in
     rw (read t (c .before .before .before .before .before .before .before) ts tl u ∙ want-yes ts RParen _ (x .row) (sym (close-is t (c .before .before .before .before .before) ts tl) ∙ c .before .before .before .before .if4 .left))
-    (met-called ts i n u w (v .tree) m₀ (a .nodes .now) (c .before .before .before .before .before .before .before .before .before .before .before .args2 .last .1 .1 .0) (c .before .before .call-end2 .last .0) (a .s) (x .node) (x .tag) (x .row + 1) (c .before .before .call-end2 .result) st z
-    (λ q. stands-call i n m₀ (a .nodes .now) (a .s) u x (c .before .before .before .before .before .before .before .before .before .before .before .args2 .last .1 .1 .0) (v .tree) s (c .before .before .call-end2 .last .0) w st (v .stands) (bare t (c .before .before .before .before .before .before .before) ts tl) refl q) (c .before .before .call-end2 .ensures))
+    (met-called ts i n u w (v .tree) m₀ (a .nodes .now) (c .before .before .before .before .before .before .before .before .before .before .before .args2 .last .1 .1 .0) (c .before .before .call-end2 .last .0) (a .s) (x .node) (x .things) (x .row + 1) (c .before .before .call-end2 .result) st
+    (λ q. stands-call i n m₀ (a .nodes .now) (a .s) u x (c .before .before .before .before .before .before .before .before .before .before .before .args2 .last .1 .1 .0) (v .tree) s (c .before .before .call-end2 .last .0) w st (v .stands) refl q) (c .before .before .call-end2 .ensures))
 
 pub same-length-5 : (t : ℕ) → lts.Need-same-length-5 (cs t) (post-at t) post.Post
 same-length-5 t c = search needs
 
 pub returns-6 : (t : ℕ) → lts.Need-returns-6 (cs t) (post-at t) post.Post
-returns-6 t c = λ ts tl i n u m₀ st z.
+returns-6 t c = λ ts tl i n u m₀ st.
     let a = c .before .before .before .before .before .before .before .before .before .before .before .before .before .before .before .before .args in
     met-no (Parse.post ts (Parse.inner ts (a .left)) u (a .s .row)) i n (c .before .why .given .0 .0) (c .before .why .given .0 .1 .0) m₀ (c .before .before .before .before .before .args2 .last .1 .1 .0)
     (asked t (c .before .before .before .before .before .before .before) ts tl u

@@ -19,7 +19,6 @@ use Rattle.parse_nodes.specs.Post.{Tells}
 use Rattle.parse_nodes.specs.declared.At.{At}
 use Rattle.parse_nodes.proofs.Rows.{tokens, tells-some, tells-kind, word-here}
 use Rattle.parse_nodes.proofs.Turn.{same-len, Came, came-reads, refused, met-no, Turn, start, done, fails, again}
-use Rattle.parse_expr.proofs.Trees.{basic-single}
 use Rattle.parse_expr.proofs.atom.Reads as atom
 use Rattle.parse_expr.proofs.post.Reads as post
 use Rattle.parse_expr.proofs.prim.Reads as prim
@@ -78,7 +77,7 @@ got t c ts tl m w =
     let a = c .before .before .before .before .before .before .before .before .before .before .before .before .before .before .before .before .before .before .args in
     came-reads ts Basic (a .left) (Parse.post ts (Parse.inner ts (a .left)) (w .tree) (c .before .before .before .before .before .before .before .before .loop .s .row)) (a .row) (a .node) m (c .before .before .before .before .post .last .1 .1 .0) (c .before .before .before .before .post .result) (c .t2 .given .0 .0)
     (post-sound ts (a .left) (Parse.inner ts (a .left)) (inner-sound ts (a .left)) (a .row) (w .tree) (c .before .before .before .before .before .before .before .before .loop .s .row) (w .known) (eq-eqb (kindAt ts (c .before .before .before .before .before .before .before .before .loop .s .row)) Dot (is-dot t (c .before .before .before .before .before .before) ts tl)))
-    (c .before .before .before .before .post .ensures ts tl (a .row) (a .node) (w .tree) m (w .stands) (basic-single (w .known .is))) (c .t2 .given .1)
+    (c .before .before .before .before .post .ensures ts tl (a .row) (a .node) (w .tree) m (w .stands)) (c .t2 .given .1)
 
 -- and that it went on
 up : (t : ℕ) (c : lts.After-t2 (cs t) (prim-at t) prim.Post Inv-loop μ-loop) (ts : List Tok) → Tells ts (c .before .before .before .before .before .before .before .before .before .before .before .before .before .before .before .before .before .before .args .rows .now) (c .before .before .before .before .before .before .before .before .before .before .before .before .before .before .before .before .before .before .args .count) → (m : List ℕ)
@@ -161,4 +160,4 @@ returns-3 t c = λ ts tl.
     fails _ ts (λ r. eqb (kindAt ts r) Dot) (Parse.post ts (Parse.inner ts (a .left))) (Parse.prim ts (Parse.inner ts (a .left)) (a .row)) (a .row) (a .node) (a .nodes .now) (c .before .before .before .before .before .before .before .before .before .loop .s) (c .before .before .before .before .before .before .before .before .before .loop .nodes) w
     (eq-eqb (kindAt ts (c .before .before .before .before .before .before .before .before .before .loop .s .row)) Dot (is-dot t (c .before .before .before .before .before .before .before) ts tl))
     (c .before .why2 .given .0 .0) (c .before .why2 .given .0 .1 .0) (c .before .before .before .before .before .post .last .1 .1 .0)
-    (refused _ (a .row) (a .node) (a .nodes .now) (c .before .before .before .before .before .post .last .1 .1 .0) (c .before .before .before .before .before .post .result) (c .before .why2 .given .0 .0) (c .before .why2 .given .0 .1 .0) (c .before .before .before .before .before .post .ensures ts tl (a .row) (a .node) (w .tree) (a .nodes .now) (w .stands) (basic-single (w .known .is))) (c .before .why2 .given .1))
+    (refused _ (a .row) (a .node) (a .nodes .now) (c .before .before .before .before .before .post .last .1 .1 .0) (c .before .before .before .before .before .post .result) (c .before .why2 .given .0 .0) (c .before .why2 .given .0 .1 .0) (c .before .before .before .before .before .post .ensures ts tl (a .row) (a .node) (w .tree) (a .nodes .now) (w .stands)) (c .before .why2 .given .1))

@@ -14,12 +14,12 @@ use Rattle.rules.specs.Grammar.{Stmt}
 use Rattle.theory_grammar.proofs.Laws.{is-wide}
 use Rattle.theory_grammar.proofs.Cases.{then-ok, then-no, body-none, body-some}
 use Rattle.theory_grammar.proofs.Sound.{Reads, stmt-sound}
-use Rattle.parse_nodes.specs.Post.{Tells}
+use Rattle.parse_nodes.specs.Post.{Tells, stateAt}
 use Rattle.parse_nodes.specs.declared.At.{At}
 use Rattle.parse_nodes.specs.declared.Got.the-variants.{Refused}
 use Rattle.parse_nodes.proofs.Rows.{tokens, tells-some, tells-kind}
 use Rattle.parse_nodes.proofs.Turn.{Any, same-len, Came, came-reads, refused}
-use Rattle.parse_nodes.proofs.Steps.{mem-over, Listing, list-start, list-ends, list-count, list-fails, list-again}
+use Rattle.parse_nodes.proofs.Steps.{mem-over, Listing, list-start, list-ends, list-fails, list-again}
 use Rattle.parse_stmt.proofs.Trees.{body-ok, body-no}
 use Rattle.parse_stmt.proofs.+body+branch+otherwise+stmt.Lts-body as lts
 use Rattle.parse_stmt.proofs.body.Reads as body
@@ -90,8 +90,7 @@ pub ended-requires : (t : ℕ) → lts.Need-ended-requires (cs t) (body-at t) bo
 ended-requires t c κs =
     let w = some t (c .before .before .before) in
     let l = tells-some (c .before .before .before .before .before .before .before .args .rows .now) (c .before .before .before .before .before .before .before .args .count) .long in
-    let h = list-count Any _ RBrace _ _ _ _ _ (c .before .before .before .loop .s) (c .before .before .before .loop .nodes) w in
-    omega (arith, h, w .few, w .counts, w .stands, w .inside, c .before .before .before .before .before .before .before .pre .1)
+    omega (arith, w .few, w .counts, w .stands, w .inside, c .before .before .before .before .before .before .before .pre .1)
 
 pub same-length : (t : ℕ) → lts.Need-same-length (cs t) (body-at t) body.Post Inv-loop μ-loop
 same-length t c = c .before .before .ended .kept .0 ∙ same-len _ _ _ _ _ _ (some t (c .before .before .before .before .before .before) .stands)
@@ -102,12 +101,11 @@ returns-2 t c = λ ts tl.
     let w = turn t (c .before .before .before .before .before .before) ts tl in
     let s : At = c .before .before .before .before .before .before .loop .s in
     let r = c .before .before .ended .ensures in
-    let g : s .tag ≡ count (w .tree) = list-count Any ts RBrace (Reading ts (a .left)) _ (a .row + 1) (a .node) (a .nodes .now) s (c .before .before .before .before .before .before .loop .nodes) w in
     let e = list-ends Any ts RBrace (Reading ts (a .left)) _ (a .row + 1) (a .node) (a .nodes .now) s (c .before .before .before .before .before .before .loop .nodes) w (sym (kind-is t (c .before .before .before .before .before) ts tl) ∙ c .before .before .before .before .if2 .taken) in
     body-ok (Parse.body ts (a .left) (a .row)) (a .kind) (a .row) (a .node) (w .tree) (s .row + 1) (a .nodes .now) (c .before .before .ended .last .0) (c .before .before .ended .result)
     (body-some ts (a .row) (a .left) (c .before .before .before .before .before .before .before .if1 .left) ∙ then-ok _ _ (w .tree) (s .row) e)
-    (r .0 ∙ ap (λ (x : ℕ). record { row = s .row + 1; node = x + 1; place = a .row; tag = 0 }) (w .stands .nodes))
-    (mem-over (a .nodes .now) (a .row + 1) (a .node) (w .tree) s (c .before .before .before .before .before .before .loop .nodes) (w .stands) (c .before .before .ended .last .0) (nodeWords (node (a .kind) (a .row) missing (count (w .tree)))) (rw (← g) (r .1)))
+    (r .0 ∙ ap (λ (x : ℕ). stateAt (s .row + 1) (x + 1) (a .row)) (w .stands .nodes))
+    (mem-over (a .nodes .now) (a .row + 1) (a .node) (w .tree) s (c .before .before .before .before .before .before .loop .nodes) (w .stands) (c .before .before .ended .last .0) (nodeWords (node (a .kind) (a .row) missing (count (w .tree)))) (rw (← w .stands .things) (r .1)))
 
 pub sub-stmt : (t : ℕ) → lts.Need-sub-stmt (cs t) (body-at t) body.Post Inv-loop μ-loop
 sub-stmt t c = search needs
@@ -125,7 +123,7 @@ pub add-counted : (t : ℕ) → lts.Need-add-counted (cs t) (body-at t) body.Pos
 add-counted t c =
     let w = some t (c .before .before .before .before .before .before .before .before .before .before) in
     let l = tells-some (c .before .before .before .before .before .before .before .before .before .before .before .before .before .before .args .rows .now) (c .before .before .before .before .before .before .before .before .before .before .before .before .before .before .args .count) .long in
-    omega (arith, w .inside, w .tags, w .stands, c .before .before .before .before .before .before .before .before .before .before .before .before .before .before .pre .1)
+    omega (arith, w .inside, w .counts, w .stands, c .before .before .before .before .before .before .before .before .before .before .before .before .before .before .pre .1)
 
 pub counted-requires : (t : ℕ) → lts.Need-counted-requires (cs t) (body-at t) body.Post Inv-loop μ-loop
 counted-requires t c κs = search needs
