@@ -2,12 +2,10 @@
 // leaves node memory as it was.
 use parse_nodes::At;
 use parse_nodes::Got;
-use rules::Column;
+use rows::shape;
 use rules::Cursor;
 use rules::Ending;
 use rules::Judged;
-use rules::Line;
-use rules::Offset;
 use rules::Outer;
 use rules::Parsed;
 use rules::Reason;
@@ -19,12 +17,11 @@ use rules::kind::MAP;
 use rules::kind::UNIT;
 use rules::node;
 use rules::node_kind;
-use rules::row;
 ghost use mathlib.Core.Path.{_≡_};
 ghost use Prim.Native.Nat.{_+_, _*_, _≤_};
 ghost use lib.ListN.{length};
 ghost use Rattle.rules.specs.Text.{startPlace};
-ghost use Rattle.rules.specs.Calls.{parseTold, parseLeaves, nodeRoom, placeOfRow};
+ghost use Rattle.rules.specs.Calls.{parseTold, parseLeaves, nodeRoom};
 ghost use Rattle.rules.specs.declared.Parsed.the-variants as parsed;
 ghost use Rattle.rules.specs.declared.Reason.the-variants as reason;
 ghost use Rattle.parse_nodes.specs.Post.{AsksOpen};
@@ -77,19 +74,6 @@ fn program(text: &[u8], rows: &[u32], count: usize, nodes: &mut [u32]) -> Got
     }
 }
 
-// The place of a row.
-fn place_of(rows: &[u32], row: usize) -> Cursor
-    requires { ⌜ row * 8 + 8 ≤ length (now rows) ⌝ }
-    ensures { λ r. ⌜ r ≡ placeOfRow (now (rows .entry)) row ⌝ }
-{
-    let at = row * row::WORDS;
-    Cursor {
-        offset: Offset(rows[at + row::START]),
-        line: Line(rows[at + row::LINE]),
-        column: Column(rows[at + row::COLUMN]),
-    }
-}
-
 // A refusal of the call itself.
 fn outer(why: Outer) -> Parsed
     ensures { λ r. ⌜ r ≡ parsed.Refused (reason.Outer why) startPlace ⌝ }
@@ -107,7 +91,7 @@ fn twice(text: &[u8], rows: &[u32], count: usize, nodes: &mut [u32]) -> Parsed
             program(text, rows, count, nodes);
             Parsed::Nodes(t.node as u32)
         }
-        Got::Refused(why, r) => Parsed::Refused(Reason::Syntax(why), place_of(rows, r)),
+        Got::Refused(why, r) => Parsed::Refused(Reason::Syntax(why), shape::row_place(shape::row_at(rows, r))),
     }
 }
 

@@ -2,13 +2,14 @@
 use mathlib.Core.Bool.{Bool, true, cond, not, _&&_}
 use mathlib.Core.Path.{_≡_}
 use mathlib.Core.List.{List}
-use Prim.Native.Nat.{ℕ, zero, suc, _-_, _*_, _≤_}
-use lib.ListN.{drop, getD}
+use Prim.Native.Nat.{ℕ, _-_, _≤_}
+use lib.ListN.{getD}
 use lib.Dec.{eqb, leb}
 use Rattle.rules.specs.declared.Cursor.{Cursor}
 use Rattle.rules.specs.Kinds.{Identifier, Number, Eof}
 use Rattle.rules.specs.Rows
-use Rattle.rules.specs.Rows.{wordsPerRow, rowIn, rowPlace, lengthFits, rowFits, follows, linesFit, placeFits, isEof}
+pub use Rattle.rules.specs.Rows.{rowNo}
+use Rattle.rules.specs.Rows.{rowPlace, lengthFits, rowFits, follows, linesFit, placeFits, isEof}
 use Rattle.rows.specs.declared.shape.Row.{Row}
 
 abbrev pub asRow : Row → Rows.Row
@@ -28,10 +29,6 @@ pub record LengthTable (ls : List ℕ) : Type 0 where
   pub least : (k n : ℕ) → Identifier ≤ k → k ≤ Number → leb (getD ls k 0) n ≡ lengthFits k n
   pub own : (k n : ℕ) → k ≤ Eof → (Identifier ≤ k → k ≤ Number → ⊥) → eqb n (getD ls k 0) ≡ lengthFits k n
 
--- row i of a list of words
-abbrev pub rowNo : List ℕ → ℕ → Rows.Row
-rowNo ws i = rowIn (drop (wordsPerRow * i) ws)
-
 -- a place stands behind a row
 unfoldable pub behind : Rows.Row → Cursor → Bool
 behind r p = leb (r .end) (p .offset .0) && linesFit (rowPlace r) p
@@ -43,11 +40,6 @@ joined ws i = cond (eqb i 0) true (follows (rowNo ws (i - 1)) (rowNo ws i))
 -- row i fits where it stands, and is not Eof
 unfoldable pub stands : List ℕ → ℕ → Bool
 stands ws i = (not (isEof (rowNo ws i)) && rowFits (rowNo ws i)) && joined ws i
-
--- a test that holds at each number below n
-unfoldable pub allBelow : (ℕ → Bool) → ℕ → Bool
-allBelow f zero = true
-allBelow f (suc n) = f n && allBelow f n
 
 -- row i fits where it stands, and is Eof at n
 unfoldable pub closes : List ℕ → ℕ → ℕ → Bool

@@ -14,7 +14,8 @@ ghost use Prim.Native.Nat.{_+_, _*_, _≤_};
 ghost use lib.ListN.{length};
 ghost use Rattle.rules.specs.Rows.{rowFits, follows, isEof, wellFormed};
 ghost use Rattle.rules.specs.Calls.{judged, spellingJudged, spellingPart};
-ghost use Rattle.rows.specs.Shape.{LengthTable, asRow, joined, stands, allBelow, closes, breaks};
+ghost use Rattle.laws.specs.Tests.{allBelow};
+ghost use Rattle.rows.specs.Shape.{LengthTable, asRow, joined, stands, closes, breaks};
 
 pub mod shape;
 
@@ -131,13 +132,11 @@ pub fn well_formed(rows: &[u32], table: Table) -> bool
 pub fn judge(text: &[u8], rows: &[u32], table: Table) -> Judged
     ensures { λ r. ⌜ r ≡ judged (now (text .entry)) (now (rows .entry)) table ⌝ }
 {
-    if 65536 < text.len() {
-        return Judged::Refused(Outer::TextTooLong, Cursor::start());
-    }
-    let n = scan_place::valid_bytes(text);
-    if n < text.len() {
-        let at = scan_place::pass(text, Cursor::start(), n);
-        return Judged::Refused(Outer::BadByte, at);
+    match scan_place::judge_text(text) {
+        Judged::Refused(why, at) => {
+            return Judged::Refused(why, at);
+        }
+        Judged::Fine => {}
     }
     let size = table.length as usize;
     if size != text.len() {

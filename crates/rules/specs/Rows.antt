@@ -64,6 +64,10 @@ rowIn ws = record {
   spare = getD ws atSpare 0;
 }
 
+-- row i of a list of words
+abbrev pub rowNo : List ℕ → ℕ → Row
+rowNo ws i = rowIn (drop (wordsPerRow * i) ws)
+
 -- the first n rows of a list of words, and the words of a list of rows
 unfoldable pub rowsIn : ℕ → List ℕ → List Row
 rowsIn zero ws = []

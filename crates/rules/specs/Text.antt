@@ -7,6 +7,9 @@ use Prim.Native.String.{String, [] as []ˢ, _∷_ as _∷ˢ_}
 use lib.ListN.{length, take}
 use lib.Dec.{eqb, leb, ltb}
 use Rattle.rules.specs.declared.Cursor.{Cursor}
+use Rattle.rules.specs.declared.Outer.the-variants.{TextTooLong, BadByte}
+use Rattle.rules.specs.declared.Judged.{Judged}
+use Rattle.rules.specs.declared.Judged.the-variants.{Fine, Refused}
 
 -- the byte of a character, and the bytes of a spelling
 abbrev pub byte : Char → ℕ
@@ -61,6 +64,11 @@ placeAt t k = place k (lineAt t k) (columnAt t k)
 
 abbrev pub startPlace : Cursor
 startPlace = place 0 1 1
+
+-- 1, then 2 at the first byte that no text may have there
+unfoldable pub textJudged : List ℕ → Judged
+textJudged t =
+    cond (ltb mostBytes (length t)) (Refused TextTooLong startPlace) (cond (not (valid t)) (Refused BadByte (placeAt t (validBytes t))) Fine)
 
 -- The cursor behind byte b, and behind a list of bytes.
 unfoldable pub moved : Cursor → ℕ → Cursor

@@ -9,8 +9,7 @@ use Rattle.rules.specs.declared.Ending.the-variants as ending
 use Rattle.rules.specs.Text
 use Rattle.rules.specs.Text.{bytes}
 use Rattle.rules.specs.Kinds
-use Rattle.rules.specs.Refusals
-use Rattle.rules.specs.Refusals.{lexicalNumber, syntaxNumber, syntaxTells}
+use Rattle.rules.specs.Refusals.{lexicalNumber, syntaxNumber, firstTold, secondTold}
 use Rattle.rules.specs.Rows
 use Rattle.rules.specs.Rows.{Row, rowWords, rowPlace, wordsOf}
 use Rattle.rules.specs.Lex
@@ -38,7 +37,7 @@ placeWords p more = p .offset .0 ∷ p .line .0 ∷ p .column .0 ∷ more
 pub refusalOf : List ℕ → Ending → Out → List ℕ
 refusalOf ws (ending.Refused why p) o = lexicalNumber why ∷ placeWords p []
 refusalOf ws ending.None (ok t j) = []
-refusalOf ws ending.None (no why r) = syntaxNumber why ∷ placeWords (placeOfRow ws r) (syntaxTells why)
+refusalOf ws ending.None (no why r) = syntaxNumber why ∷ placeWords (placeOfRow ws r) (firstTold why ∷ secondTold why ∷ [])
 
 pub treeOf : Ending → Out → List (List ℕ)
 treeOf (ending.Refused why p) o = []
@@ -157,7 +156,7 @@ cases =
           (50 ∷ 0 ∷ 1 ∷ 1 ∷ 1 ∷ 0 ∷ 0 ∷ 0 ∷ []) ∷
           (48 ∷ 1 ∷ 4 ∷ 1 ∷ 2 ∷ 0 ∷ 0 ∷ 0 ∷ []) ∷
           (52 ∷ 4 ∷ 4 ∷ 1 ∷ 5 ∷ 0 ∷ 0 ∷ 0 ∷ []) ∷ [];
-      refusal = 22 ∷ 0 ∷ 1 ∷ 1 ∷ [];
+      refusal = 22 ∷ 0 ∷ 1 ∷ 1 ∷ 0 ∷ 0 ∷ [];
       nodes = [];
     }
     -- [P] `/*/` 12 at 2
@@ -173,7 +172,7 @@ cases =
       rows =
           (50 ∷ 0 ∷ 19 ∷ 1 ∷ 1 ∷ 4294967295 ∷ 2147483647 ∷ 0 ∷ []) ∷
           (52 ∷ 19 ∷ 19 ∷ 1 ∷ 20 ∷ 0 ∷ 0 ∷ 0 ∷ []) ∷ [];
-      refusal = 22 ∷ 0 ∷ 1 ∷ 1 ∷ [];
+      refusal = 22 ∷ 0 ∷ 1 ∷ 1 ∷ 0 ∷ 0 ∷ [];
       nodes = [];
     }
     -- [P] with `-` before ..808 still 15
@@ -242,7 +241,7 @@ cases =
           (32 ∷ 46 ∷ 47 ∷ 1 ∷ 47 ∷ 0 ∷ 0 ∷ 0 ∷ []) ∷
           (26 ∷ 47 ∷ 48 ∷ 1 ∷ 48 ∷ 0 ∷ 0 ∷ 0 ∷ []) ∷
           (52 ∷ 48 ∷ 48 ∷ 1 ∷ 49 ∷ 0 ∷ 0 ∷ 0 ∷ []) ∷ [];
-      refusal = 27 ∷ 44 ∷ 1 ∷ 45 ∷ [];
+      refusal = 27 ∷ 44 ∷ 1 ∷ 45 ∷ 0 ∷ 0 ∷ [];
       nodes = [];
     }
     -- max: `1 << 63` 26, at the row after the expression
@@ -273,7 +272,7 @@ cases =
           (32 ∷ 46 ∷ 47 ∷ 1 ∷ 47 ∷ 0 ∷ 0 ∷ 0 ∷ []) ∷
           (26 ∷ 47 ∷ 48 ∷ 1 ∷ 48 ∷ 0 ∷ 0 ∷ 0 ∷ []) ∷
           (52 ∷ 48 ∷ 48 ∷ 1 ∷ 49 ∷ 0 ∷ 0 ∷ 0 ∷ []) ∷ [];
-      refusal = 26 ∷ 46 ∷ 1 ∷ 47 ∷ [];
+      refusal = 26 ∷ 46 ∷ 1 ∷ 47 ∷ 0 ∷ 0 ∷ [];
       nodes = [];
     }
     -- max: `1 << 64` 28, at the count
@@ -304,7 +303,7 @@ cases =
           (32 ∷ 46 ∷ 47 ∷ 1 ∷ 47 ∷ 0 ∷ 0 ∷ 0 ∷ []) ∷
           (26 ∷ 47 ∷ 48 ∷ 1 ∷ 48 ∷ 0 ∷ 0 ∷ 0 ∷ []) ∷
           (52 ∷ 48 ∷ 48 ∷ 1 ∷ 49 ∷ 0 ∷ 0 ∷ 0 ∷ []) ∷ [];
-      refusal = 28 ∷ 44 ∷ 1 ∷ 45 ∷ [];
+      refusal = 28 ∷ 44 ∷ 1 ∷ 45 ∷ 0 ∷ 0 ∷ [];
       nodes = [];
     }
     -- `(x).m()` is fine
@@ -349,7 +348,7 @@ cases =
           (32 ∷ 14 ∷ 15 ∷ 1 ∷ 15 ∷ 0 ∷ 0 ∷ 0 ∷ []) ∷
           (26 ∷ 15 ∷ 16 ∷ 1 ∷ 16 ∷ 0 ∷ 0 ∷ 0 ∷ []) ∷
           (52 ∷ 16 ∷ 16 ∷ 1 ∷ 17 ∷ 0 ∷ 0 ∷ 0 ∷ []) ∷ [];
-      refusal = 31 ∷ 11 ∷ 1 ∷ 12 ∷ [];
+      refusal = 31 ∷ 11 ∷ 1 ∷ 12 ∷ 0 ∷ 0 ∷ [];
       nodes = [];
     }
     -- the lister's text
@@ -376,5 +375,5 @@ cases =
     ∷ []
 
 pub right : map (λ (c : Case). answer (c .text)) cases ≡ cases
-unfolding placeWords refusalOf treeOf answer Text.front Text.validBytes Text.valid Text.isBlank Text.newlines Text.lineAt Text.columnAt Text.placeAt Text.moved Text.over Text.along Kinds.isMade Kinds.reserved Kinds.signs Kinds.sameBytes Kinds.kindIn Kinds.lengthIn Refusals.outerNumber Refusals.lexicalNumber Refusals.syntaxNumber Refusals.syntaxTells Refusals.reasonNumber Rows.rowWords Rows.rowIn Rows.rowsIn Rows.wordsOf Rows.bitsOf Rows.valueBits Rows.rowAt Rows.eofRow Rows.rowPlace Rows.every Rows.chained Rows.lengthFits Rows.spansFit Rows.valueFits Rows.placeFits Rows.linesFit Rows.rowFits Rows.follows Rows.lastRow Rows.endsBehind Rows.isEof Rows.eofLast Rows.endingFits Rows.rowsFit Rows.wellFormed Rows.spelling Lex.lineComment Lex.beforeClose Lex.blockComment Lex.isDigit Lex.isLetter Lex.isWord Lex.word Lex.isHexDigit Lex.digitValue Lex.spelt Lex.numberOf Lex.decimal Lex.hex Lex.number Lex.isEscape Lex.string Lex.maybeTwo Lex.single Lex.sign Lex.slashed Lex.dashed Lex.beginning Lex.piece Lex.decidedAt Lex.item Scan.readRows Scan.readEnding Scan.read Scan.scan Scan.roomOf Scan.told Scan.laid Scan.scanTold Scan.scanLeaves Sets.sections Sets.fits Sets.kindOfSection Sets.fromSection Sets.allowed Sets.member Sets.allows Sets.setSize Tree.kindOf Tree.spellingOf Tree.bitsIn Tree.tokOf Tree.yield Tree.isVariable Tree.count Tree.sectionsOf Tree.content Tree.sectionText Tree.kindOfFirst Tree.unitKind Tree.mapTypes Tree.mapTypeNumber Tree.shiftRight Tree.shiftBits Tree.maxBits Tree.typeOf Tree.typedBy Tree.limitOf Tree.lacking Nodes.width Nodes.placeOf Nodes.licenceRow Nodes.binaryNode Nodes.declNode Nodes.assignNode Nodes.textNode Nodes.nodesOf Nodes.size Nodes.nodeWords Nodes.wordsOfNodes Nodes.treeWords Parse.then Parse.many Parse.lead Parse.stmtLead Parse.fieldLead Parse.eventLead Parse.topLead Parse.wantBy Parse.want Parse.needBy Parse.need Parse.named Parse.quoted Parse.valued Parse.loop Parse.listStep Parse.listTo Parse.braced Parse.called Parse.atomBy Parse.atom Parse.argStep Parse.args Parse.callBy Parse.openBy Parse.post Parse.prim Parse.unaryBy Parse.unary Parse.binStep Parse.mul Parse.shift Parse.add Parse.inner Parse.expr Parse.elseBy Parse.assignBy Parse.bodies Parse.stmtBy Parse.stmt Parse.body Parse.itemBy Parse.item Parse.unitAt Parse.typeBy Parse.keyBy Parse.countBy Parse.chainStep Parse.chain Parse.limitBy Parse.mapFieldBy Parse.mapField Parse.mapEnd Parse.mapAt Parse.lengthBy Parse.lengthAt Parse.arrayBy Parse.eventTypeBy Parse.eventField Parse.eventAt Parse.topBy Parse.top Parse.parse Calls.judged Calls.spellingJudged Calls.spellingPart Calls.memberAsked Calls.sizeAsked Calls.tokens Calls.placeOfRow Calls.nodeRoom Calls.outTold Calls.outLeaves Calls.reading Calls.endingTold Calls.endingLeaves Calls.parseTold Calls.parseLeaves
+unfolding placeWords refusalOf treeOf answer Text.front Text.validBytes Text.valid Text.isBlank Text.newlines Text.lineAt Text.columnAt Text.placeAt Text.textJudged Text.moved Text.over Text.along Kinds.isMade Kinds.reserved Kinds.signs Kinds.sameBytes Kinds.kindIn Kinds.lengthIn Rows.rowWords Rows.rowIn Rows.rowsIn Rows.wordsOf Rows.bitsOf Rows.valueBits Rows.rowAt Rows.eofRow Rows.rowPlace Rows.every Rows.chained Rows.lengthFits Rows.spansFit Rows.valueFits Rows.placeFits Rows.linesFit Rows.rowFits Rows.follows Rows.lastRow Rows.endsBehind Rows.isEof Rows.eofLast Rows.endingFits Rows.rowsFit Rows.wellFormed Rows.spelling Lex.lineComment Lex.beforeClose Lex.blockComment Lex.isDigit Lex.isLetter Lex.isWord Lex.word Lex.isHexDigit Lex.digitValue Lex.spelt Lex.numberOf Lex.decimal Lex.hex Lex.number Lex.isEscape Lex.string Lex.maybeTwo Lex.single Lex.sign Lex.slashed Lex.dashed Lex.beginning Lex.piece Lex.decidedAt Lex.item Scan.readRows Scan.readEnding Scan.read Scan.scan Scan.roomOf Scan.told Scan.laid Scan.scanTold Scan.scanLeaves Sets.sections Sets.fits Sets.kindOfSection Sets.fromSection Sets.allowed Sets.member Sets.allows Sets.setSize Tree.kindOf Tree.spellingOf Tree.bitsIn Tree.tokOf Tree.yield Tree.isVariable Tree.count Tree.sectionsOf Tree.content Tree.sectionText Tree.kindOfFirst Tree.unitKind Tree.mapTypes Tree.mapTypeNumber Tree.shiftRight Tree.shiftBits Tree.maxBits Tree.typeOf Tree.typedBy Tree.limitOf Tree.lacking Nodes.width Nodes.placeOf Nodes.licenceRow Nodes.binaryNode Nodes.declNode Nodes.assignNode Nodes.textNode Nodes.nodesOf Nodes.size Nodes.nodeWords Nodes.wordsOfNodes Nodes.treeWords Parse.then Parse.many Parse.lead Parse.stmtLead Parse.fieldLead Parse.eventLead Parse.topLead Parse.wantBy Parse.want Parse.needBy Parse.need Parse.named Parse.quoted Parse.valued Parse.loop Parse.listStep Parse.listTo Parse.braced Parse.called Parse.atomBy Parse.atom Parse.argStep Parse.args Parse.callBy Parse.openBy Parse.post Parse.prim Parse.unaryBy Parse.unary Parse.binStep Parse.mul Parse.shift Parse.add Parse.inner Parse.expr Parse.elseBy Parse.assignBy Parse.bodies Parse.stmtBy Parse.stmt Parse.body Parse.itemBy Parse.item Parse.unitAt Parse.typeBy Parse.keyBy Parse.countBy Parse.chainStep Parse.chain Parse.limitBy Parse.mapFieldBy Parse.mapField Parse.mapEnd Parse.mapAt Parse.lengthBy Parse.lengthAt Parse.arrayBy Parse.eventTypeBy Parse.eventField Parse.eventAt Parse.topBy Parse.top Parse.parse Calls.judged Calls.spellingJudged Calls.spellingPart Calls.memberAsked Calls.sizeAsked Calls.tokens Calls.placeOfRow Calls.nodeRoom Calls.outTold Calls.outLeaves Calls.reading Calls.endingTold Calls.endingLeaves Calls.parseTold Calls.parseLeaves
 right = refl

@@ -93,5 +93,5 @@ cases =
     ∷ []
 
 pub right : map told cases ≡ map means cases
-unfolding newText told means Text.front Text.validBytes Text.valid Text.isBlank Text.newlines Text.lineAt Text.columnAt Text.placeAt Text.moved Text.over Text.along Kinds.isMade Kinds.reserved Kinds.signs Kinds.sameBytes Kinds.kindIn Kinds.lengthIn Rows.rowWords Rows.rowIn Rows.rowsIn Rows.wordsOf Rows.bitsOf Rows.valueBits Rows.rowAt Rows.eofRow Rows.rowPlace Rows.every Rows.chained Rows.lengthFits Rows.spansFit Rows.valueFits Rows.placeFits Rows.linesFit Rows.rowFits Rows.follows Rows.lastRow Rows.endsBehind Rows.isEof Rows.eofLast Rows.endingFits Rows.rowsFit Rows.wellFormed Rows.spelling Lex.lineComment Lex.beforeClose Lex.blockComment Lex.isDigit Lex.isLetter Lex.isWord Lex.word Lex.isHexDigit Lex.digitValue Lex.spelt Lex.numberOf Lex.decimal Lex.hex Lex.number Lex.isEscape Lex.string Lex.maybeTwo Lex.single Lex.sign Lex.slashed Lex.dashed Lex.beginning Lex.piece Lex.decidedAt Lex.item Scan.readRows Scan.readEnding Scan.read Scan.scan Scan.roomOf Scan.told Scan.laid Scan.scanTold Scan.scanLeaves Edit.kept Edit.endPlace Edit.lastEnd Edit.restart Edit.slashOrStar Edit.opens Edit.look Edit.isShort Edit.from Edit.some Edit.firstPlace Edit.carry Edit.carryRow Edit.carryEnding Edit.meets Edit.windowPlace Edit.seenRows Edit.seenEnding Edit.seen Edit.newRows Edit.newEnding Edit.newLength Edit.sensible Edit.windowShort Edit.editTold Edit.editLeaves Edit.restartTold
+unfolding newText told means Text.front Text.validBytes Text.valid Text.isBlank Text.newlines Text.lineAt Text.columnAt Text.placeAt Text.textJudged Text.moved Text.over Text.along Kinds.isMade Kinds.reserved Kinds.signs Kinds.sameBytes Kinds.kindIn Kinds.lengthIn Rows.rowWords Rows.rowIn Rows.rowsIn Rows.wordsOf Rows.bitsOf Rows.valueBits Rows.rowAt Rows.eofRow Rows.rowPlace Rows.every Rows.chained Rows.lengthFits Rows.spansFit Rows.valueFits Rows.placeFits Rows.linesFit Rows.rowFits Rows.follows Rows.lastRow Rows.endsBehind Rows.isEof Rows.eofLast Rows.endingFits Rows.rowsFit Rows.wellFormed Rows.spelling Lex.lineComment Lex.beforeClose Lex.blockComment Lex.isDigit Lex.isLetter Lex.isWord Lex.word Lex.isHexDigit Lex.digitValue Lex.spelt Lex.numberOf Lex.decimal Lex.hex Lex.number Lex.isEscape Lex.string Lex.maybeTwo Lex.single Lex.sign Lex.slashed Lex.dashed Lex.beginning Lex.piece Lex.decidedAt Lex.item Scan.readRows Scan.readEnding Scan.read Scan.scan Scan.roomOf Scan.told Scan.laid Scan.scanTold Scan.scanLeaves Edit.kept Edit.endPlace Edit.lastEnd Edit.restart Edit.slashOrStar Edit.opens Edit.look Edit.isShort Edit.from Edit.some Edit.firstPlace Edit.carry Edit.carryRow Edit.carryEnding Edit.meets Edit.windowPlace Edit.seenRows Edit.seenEnding Edit.seen Edit.newRows Edit.newEnding Edit.newLength Edit.sensible Edit.windowShort Edit.editTold Edit.editLeaves Edit.restartTold
 right = refl

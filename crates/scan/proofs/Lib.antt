@@ -1,5 +1,4 @@
 -- The laws that the proofs of this crate share, and the theorems on the scan.
-pub mod Lent
 pub mod Laid
 pub mod Blanks
 pub mod Writings

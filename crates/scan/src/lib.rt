@@ -1,6 +1,7 @@
 // The scan: the rows of a text, written into lent words as far as they go.
 use rules::Cursor;
 use rules::Ending;
+use rules::Judged;
 use rules::Lexical;
 use rules::Outer;
 use rules::Table;
@@ -8,8 +9,7 @@ use rules::Told;
 use rules::kind;
 use rules::limit;
 use rules::row;
-use scan_place::pass;
-use scan_place::valid_bytes;
+use scan_place::judge_text;
 use scan_reader::Read;
 use scan_reader::Spot;
 use scan_reader::Token;
@@ -187,18 +187,16 @@ fn told(length: usize, wrote: Wrote) -> Told
 pub fn scan(text: &[u8], rows: &mut [u32]) -> Told
     ensures { λ r. ⌜ (r ≡ scanTold (now (text .entry)) (roomOf (now (rows .entry)))) × (now (rows .exit) ≡ scanLeaves (now (text .entry)) (now (rows .entry))) ⌝ }
 {
-    let start = Cursor::start();
-    let length = text.len();
-    if 65536 < length {
-        return Told::Refused(Outer::TextTooLong, start, 0);
-    }
-    let valid = valid_bytes(text);
-    if valid != length {
-        return Told::Refused(Outer::BadByte, pass(text, start, valid), 0);
+    match judge_text(text) {
+        Judged::Refused(why, at) => {
+            return Told::Refused(why, at, 0);
+        }
+        Judged::Fine => {}
     }
     let from = Spot {
         at: 0,
-        cursor: start,
+        cursor: Cursor::start(),
     };
+    let length = text.len();
     told(length, write_rows(text, from, length + 1, true, rows))
 }

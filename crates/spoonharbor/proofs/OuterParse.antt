@@ -15,7 +15,6 @@ use Rattle.rules.specs.declared.Parsed.{Parsed}
 use Rattle.rules.specs.declared.Told.{Told}
 use Rattle.rules.specs.declared.Told.the-variants as told
 use Rattle.rules.specs.Text.{mostBytes, valid, startPlace}
-use Rattle.rules.specs.Refusals.{outerNumber}
 use Rattle.rules.specs.Scan.{roomOf, scanTold}
 use Rattle.rules.specs.Calls.{judged, nodeRoom, parseTold, parseLeaves}
 use Rattle.theory_edits.specs.Scanned as scanned
@@ -32,6 +31,8 @@ use Rattle.spoonharbor.proofs.spoonharbor_parse.Kinds as of-outer-parse
 use Rattle.spoonharbor.proofs.spoonharbor_parse.Reads.{Post as OuterParsePost}
 use Rattle.spoonharbor.proofs.spoonharbor_scan.Kinds as of-outer-scan
 use Rattle.spoonharbor.proofs.spoonharbor_scan.Reads.{Post as OuterScanPost}
+use Rattle.laws.proofs.Valid.{text-fine}
+use Rattle.laws.proofs.Calls.{judged-unformed}
 use Rattle.spoonharbor.specs.Layout.{toldWords, parsedWords, isEnding, tableOf}
 use Rattle.spoonharbor.specs.Alike.{outerTells, outerLeaves, OuterFresh}
 use Rattle.spoonharbor.specs.OuterParse.{OuterLent, OuterAnswer, outer-1, outer-2, outer-3, outer-ending, outer-5, outer-nodes, outer-syntax}
@@ -45,7 +46,6 @@ words-of e = ap (λ (x : Parsed). parsedWords x) e
 
 module _ (t lent new : List ℕ) (r : Parsed) (m : List ℕ) where
   in-words : (Readable t → length (rowsOf t) ≤ roomOf lent) → Answer t new r m → OuterAnswer t lent new (parsedWords r) m
-  unfolding outerNumber
   in-words l (too-long h a) = outer-1 h (record { told = words-of (a .told); left = a .left })
   in-words l (bad-byte h v a) = outer-2 h v (record { told = words-of (a .told); left = a .left })
   in-words l (ends-refused k why at e a) = outer-ending k (l k) why at e (record { told = words-of (a .told); left = a .left })
@@ -67,13 +67,13 @@ module _ (t lent ws table new : List ℕ) (g : OuterLent t lent ws table) where
   module _ (k : Readable t) where
     -- the scan's 4: its words tell no table
     no-room : roomOf lent < length (rowsOf t) → judged t ws (tableOf table) ≡ verdict.Refused NotWellFormed startPlace
-    unfolding judged isEnding outerNumber
+    unfolding isEnding
     no-room h =
         let f : isEnding (getD table 0 0) ≡ false = rw (g .told, scan-few-rows t (roomOf lent) k h) in
-        rw (le-ltb mostBytes (length t) (k .fits), k .good, no-table ws table f)
+        judged-unformed t ws (tableOf table) (text-fine t (k .fits) (k .good)) (no-table ws table f)
 
     few-rows : roomOf lent < length (rowsOf t) → Answers
-    unfolding parseTold parseLeaves outerNumber
+    unfolding parseTold parseLeaves
     few-rows h = outer-3 k h (record { told = rw (parseTold, no-room h); left = rw (parseLeaves, no-room h) })
 
     -- its rows

@@ -27,7 +27,7 @@ use Rattle.rules.specs.declared.Reason.the-variants as reason
 use Rattle.rules.specs.declared.Parsed.{Parsed}
 use Rattle.rules.specs.declared.Parsed.the-variants as parsed
 use Rattle.rules.specs.Text.{place, startPlace}
-use Rattle.rules.specs.Refusals.{outerNumber, lexicalNumber, syntaxNumber, syntaxTells}
+use Rattle.rules.specs.Refusals.{outerNumber, lexicalNumber, syntaxNumber, firstTold, secondTold}
 use Rattle.rules.specs.Calls.{spellingJudged}
 
 -- number, place, two words told, count, length
@@ -66,7 +66,7 @@ restartWords (restarts.At p) = words 0 p 0 0 0 0
 restartWords (restarts.Refused why) = outerWords why
 
 abbrev pub syntaxWords : Syntax → Cursor → List ℕ
-syntaxWords why p = words (syntaxNumber why) p (getD (syntaxTells why) 0 0) (getD (syntaxTells why) 1 0) 0 0
+syntaxWords why p = words (syntaxNumber why) p (firstTold why) (secondTold why) 0 0
 
 abbrev pub reasonWords : Reason → Cursor → List ℕ
 reasonWords (reason.Outer why) p = words (outerNumber why) p 0 0 0 0

@@ -3,13 +3,13 @@ use Prim.Native.Nat.{ℕ, _*_, _≤_, _<_}
 use mathlib.Core.Bool.{false}
 use mathlib.Core.List.{List, _++_}
 use mathlib.Core.Path.{_≡_}
-use lib.ListN.{length, drop, getD}
+use lib.ListN.{length, drop}
 use Rattle.rules.specs.declared.Cursor.{Cursor}
 use Rattle.rules.specs.declared.Lexical.{Lexical}
 use Rattle.rules.specs.declared.Ending.the-variants as ending
 use Rattle.rules.specs.declared.Syntax.{Syntax}
 use Rattle.rules.specs.Text.{mostBytes, validBytes, valid, placeAt, startPlace}
-use Rattle.rules.specs.Refusals.{lexicalNumber, syntaxNumber, syntaxTells}
+use Rattle.rules.specs.Refusals.{lexicalNumber, syntaxNumber, firstTold, secondTold}
 use Rattle.rules.specs.Rows.{Row, rowPlace}
 use Rattle.rules.specs.Scan.{readEnding, scan, roomOf, scanTold, scanLeaves}
 use Rattle.rules.specs.Tree.{Tree}
@@ -56,5 +56,5 @@ module _ (t lent new answer m : List ℕ) where
     -- 21 to 32, with the kinds wanted and found of 21 and the field of 29
     outer-syntax : ScansFully t → length (rowsOf t) ≤ roomOf lent → length (rowsOf t) ≤ nodeRoom new → ((p : Tree) → ProgramOf t p → ⊥)
         → (why : Syntax) (row : Row) → RefusedRow t why row
-        → OuterRefused new answer m (syntaxNumber why) (rowPlace row) (getD (syntaxTells why) 0 0) (getD (syntaxTells why) 1 0)
+        → OuterRefused new answer m (syntaxNumber why) (rowPlace row) (firstTold why) (secondTold why)
         → OuterAnswer

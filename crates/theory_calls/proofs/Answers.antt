@@ -9,7 +9,7 @@ use mathlib.Core.Logic.{_⊎_, inl, inr, _↔_}
 use mathlib.Core.Path.{_≡_, sym, _∙_}
 use lib.Dec.{ltb}
 use lib.ListN.{length}
-use borrow.Author.Tests.{le-leb, lt-leb, lt-ltb, le-ltb}
+use borrow.Author.Tests.{lt-ltb, le-ltb}
 use Rattle.rules.specs.declared.Cursor.{Cursor}
 use Rattle.rules.specs.declared.Lexical.{Lexical}
 use Rattle.rules.specs.declared.Ending.{Ending}
@@ -23,11 +23,13 @@ use Rattle.rules.specs.declared.Parsed.{Parsed}
 use Rattle.rules.specs.declared.Parsed.the-variants as parsed
 use Rattle.rules.specs.Text.{mostBytes, validBytes, valid, placeAt, startPlace}
 use Rattle.rules.specs.Rows.{Row, rowPlace}
-use Rattle.rules.specs.Scan.{readEnding, scan, told, scanTold}
+use Rattle.rules.specs.Scan.{readEnding, scan, scanTold}
 use Rattle.rules.specs.Tree.{Tree, yield}
 use Rattle.rules.specs.Nodes.{size}
 use Rattle.rules.specs.Parse.{Out, ok, no, parse}
 use Rattle.rules.specs.Calls.{nodeRoom}
+use Rattle.laws.proofs.Valid.{text-long, text-bad, text-fine}
+use Rattle.laws.proofs.Rows.{scan-told-refused, scan-told, told-all, told-full}
 use Rattle.theory_edits.specs.Scanned.{tableOf}
 use Rattle.theory_grammar.proofs.Complete.{program-complete}
 use Rattle.theory_calls.specs.Demand2.{rowsOf, tokensOf, Readable, ScansFully, ProgramOf, RefusedRow, Written, Refused, Answer, too-long, bad-byte, ends-refused, few-nodes, accepted, no-program}
@@ -125,17 +127,13 @@ module _ (t new : List ℕ) where
 
 module _ (t : List ℕ) (room : ℕ) where
   pub scan-too-long : mostBytes < length t → scanTold t room ≡ of-scan.Refused TextTooLong startPlace 0
-  unfolding scanTold
-  scan-too-long h = rw (lt-ltb mostBytes (length t) h)
+  scan-too-long h = scan-told-refused t (text-long t h) room
 
   pub scan-bad-byte : length t ≤ mostBytes → valid t ≡ false → scanTold t room ≡ of-scan.Refused BadByte (placeAt t (validBytes t)) 0
-  unfolding scanTold
-  scan-bad-byte h v = rw (le-ltb mostBytes (length t) h, v)
+  scan-bad-byte h v = scan-told-refused t (text-bad t h v) room
 
   pub scan-rows : Readable t → length (rowsOf t) ≤ room → scanTold t room ≡ of-scan.Rows (tableOf t)
-  unfolding scanTold told
-  scan-rows k h = rw (le-ltb mostBytes (length t) (k .fits), k .good, le-leb (length (rowsOf t)) room h)
+  scan-rows k h = scan-told t (text-fine t (k .fits) (k .good)) room ∙ told-all (length t) room (rowsOf t) (readEnding (scan t)) h
 
   pub scan-few-rows : Readable t → room < length (rowsOf t) → scanTold t room ≡ of-scan.Refused NoRowRoom startPlace room
-  unfolding scanTold told
-  scan-few-rows k h = rw (le-ltb mostBytes (length t) (k .fits), k .good, lt-leb (length (rowsOf t)) room h)
+  scan-few-rows k h = scan-told t (text-fine t (k .fits) (k .good)) room ∙ told-full (length t) room (rowsOf t) (readEnding (scan t)) h

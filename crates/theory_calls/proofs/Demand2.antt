@@ -7,7 +7,7 @@ use mathlib.Core.Path.{_≡_, refl, sym, ap, _∙_, subst}
 use lib.Dec.{ltb}
 use lib.ListN.{length, drop, length-map}
 use lib.Seq.{drop-drop}
-use borrow.Author.Tests.{lt-ltb, le-ltb, ltb-true, ltb-false, eq-eqb}
+use borrow.Author.Tests.{lt-ltb, le-ltb, ltb-true, ltb-false}
 use Rattle.rules.specs.declared.Cursor.{Cursor}
 use Rattle.rules.specs.declared.Lexical.{Lexical}
 use Rattle.rules.specs.declared.Ending.{Ending}
@@ -29,6 +29,8 @@ use Rattle.rules.specs.Scan.{readEnding, scan}
 use Rattle.rules.specs.Tree.{Tree, tokOf}
 use Rattle.rules.specs.Parse.{Out, ok, no, parse}
 use Rattle.rules.specs.Calls.{judged, tokens, placeOfRow, nodeRoom, outTold, outLeaves, reading, endingTold, endingLeaves, parseTold, parseLeaves}
+use Rattle.laws.proofs.Valid.{text-long, text-bad, text-fine}
+use Rattle.laws.proofs.Calls.{judged-text, judged-well}
 use Rattle.theory_edits.specs.Scanned.{Scanned}
 use Rattle.theory_edits.proofs.WellFormed.{scanned-rows, scanned-well-formed}
 use Rattle.theory_grammar.specs.Tokens.{Whole}
@@ -41,7 +43,6 @@ use Rattle.theory_calls.specs.Demand2.{rowsOf, tokensOf, Readable, Scans
 -- ---- numbers
 
 pub syntax-number : (why : Syntax) → (21 ≤ syntaxNumber why) × (syntaxNumber why ≤ 32)
-unfolding syntaxNumber
 syntax-number (Wanted wanted found) = (omega arith, omega arith)
 syntax-number NotTopLevel = (omega arith, omega arith)
 syntax-number NotMapField = (omega arith, omega arith)
@@ -93,18 +94,15 @@ module _ (t ws : List ℕ) (table : Table) (new : List ℕ) where
   text-refused why at e = record { told = rw (parseTold, e); left = rw (parseLeaves, e) }
 
   long : mostBytes < length t → Refused new tells leaves (reason.Outer TextTooLong) startPlace
-  unfolding judged
-  long h = text-refused TextTooLong startPlace (rw (lt-ltb mostBytes (length t) h))
+  long h = text-refused TextTooLong startPlace (judged-text t ws table (text-long t h))
 
   bad : length t ≤ mostBytes → valid t ≡ false → Refused new tells leaves (reason.Outer BadByte) (placeAt t (validBytes t))
-  unfolding judged
-  bad h v = text-refused BadByte (placeAt t (validBytes t)) (rw (le-ltb mostBytes (length t) h, v))
+  bad h v = text-refused BadByte (placeAt t (validBytes t)) (judged-text t ws table (text-bad t h v))
 
   -- a scanned table: not 3, and then its refused ending
   module _ (k : Readable t) (s : Scanned t ws table) where
     fine : judged t ws table ≡ verdict.Fine
-    unfolding judged
-    fine = rw (le-ltb mostBytes (length t) (k .fits), k .good, scanned-well-formed s, s .told, eq-eqb (length t) (length t) refl)
+    fine = judged-well t ws table (text-fine t (k .fits) (k .good)) (scanned-well-formed s) (ap (λ (x : Table). x .length) (s .told))
 
     stopped : (why : Lexical) (at : Cursor) → readEnding (scan t) ≡ ending.Refused why at → Refused new tells leaves (reason.Lexical why) at
     unfolding parseTold parseLeaves endingTold endingLeaves

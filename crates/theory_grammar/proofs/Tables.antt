@@ -1,6 +1,6 @@
 -- The tokens of a table: what their kinds are, that they are given as such, and that a well-formed table with no refused ending has one
 -- Eof, its last row. So the parse call accepts exactly the programs of the grammar, and refuses at the first row with which none goes on.
-use mathlib.Core.Path.{_≡_, refl, sym, ap, _∙_, subst}
+use mathlib.Core.Path.{_≡_, refl, sym, _∙_, subst}
 use mathlib.Core.Bool.{Bool, true, false, not, cond, _&&_, true≢false, and-eq-true-iff}
 use mathlib.Core.List.{List, [], _∷_, map}
 use mathlib.Core.Logic.{_↔_}
@@ -8,7 +8,7 @@ use Prim.Native.Nat.{ℕ, zero, suc, _*_, _<_}
 use native.Mathlib.Nat.{le-of-suc-le-suc}
 use native.Mathlib.Omega.{arith}
 use lib.Dec.{eqb, leb}
-use lib.ListN.{length, drop, length-map}
+use lib.ListN.{length, length-map}
 use borrow.Author.Tests.{eqb-true, eqb-false, not-true}
 use Rattle.rules.specs.declared.Ending.the-variants.{None}
 use Rattle.rules.specs.declared.Syntax.{Syntax}
@@ -20,6 +20,7 @@ use Rattle.rules.specs.Tree.{Tok, sign, name, string, value, kindOf, tokOf, Tre
 use Rattle.rules.specs.Parse.{ok, no, tokAt, kindAt}
 use Rattle.rules.specs.Calls.{tokens, reading}
 use Rattle.rules.specs.Grammar.{Program, Is}
+use Rattle.laws.proofs.Rows.{rows-length}
 use Rattle.theory_grammar.specs.Lost.{First}
 use Rattle.theory_grammar.specs.Tokens.{isProper, Proper, Whole}
 use Rattle.theory_grammar.proofs.Same.{accepts-exactly}
@@ -94,11 +95,6 @@ module _ (t : List ℕ) where
   tokens-whole n (r ∷ q ∷ rs) e =
       let h : (not (isEof r) ≡ true) × (eofLast n (q ∷ rs) ≡ true) = and-eq-true-iff (not (isEof r)) (eofLast n (q ∷ rs)) .0 e in
       whole-cons r (q ∷ rs) (not-true (isEof r) (h .0)) (tokens-whole n (q ∷ rs) (h .1))
-
-pub rows-length : (n : ℕ) (ws : List ℕ) → length (rowsIn n ws) ≡ n
-unfolding rowsIn
-rows-length zero ws = refl
-rows-length (suc n) ws = ap suc (rows-length n (drop 8 ws))
 
 pub tokens-length : (t : List ℕ) (n : ℕ) (ws : List ℕ) → length (tokens t (rowsIn n ws)) ≡ n
 unfolding tokens
