@@ -1,3 +1,4 @@
--- The words of the outer face, and tables that they do not tell apart.
+-- The words of the outer face, tables that they do not tell apart, and the version.
 pub mod Layout
 pub mod Alike
+pub mod Version
