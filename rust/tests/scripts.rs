@@ -155,7 +155,7 @@ fn a_missing_toolchain_is_told() {
         (
             &no_rt,
             &["./check", "probe"],
-            "archive: the Rattle toolchain is missing: ",
+            "check: the Rattle toolchain is missing: ",
         ),
         (
             &nothing,
@@ -165,7 +165,7 @@ fn a_missing_toolchain_is_told() {
         (
             &nothing,
             &["./install", "--prefix", "there"],
-            "archive: the Rattle toolchain is missing: ",
+            "install: the Rattle toolchain is missing: ",
         ),
     ];
     for (folder, arguments, complaint) in calls {
