@@ -30,6 +30,7 @@ ghost use Rattle.rules.specs.Edit.{editTold, editLeaves, restartTold};
 ghost use Rattle.rules.specs.Sets.{fromSection};
 ghost use Rattle.rules.specs.Calls.{memberAsked, sizeAsked, parseTold, parseLeaves, nodeRoom};
 ghost use Rattle.spoonharbor.specs.Layout.{words, nowhere, syntaxWords, toldWords, outerWords, askedWords, restartWords, parsedWords, isEnding, lexicalOf, lengthOf, tableOf, spellingWords};
+ghost use Rattle.spoonharbor.specs.Version.{version};
 
 // ---- numbers
 
@@ -206,6 +207,14 @@ fn table_of(told: &[u32; 8]) -> Table
 }
 
 // ---- the calls
+
+// The library's version: major, minor and patch in a byte each.
+#[no_mangle]
+pub extern "C" fn spoonharbor_version() -> u32
+    ensures { λ r. ⌜ r ≡ version ⌝ }
+{
+    0x00_02_00
+}
 
 // The rows of a text into lent words, and the table or the refusal into the answer.
 #[no_mangle]
