@@ -1,4 +1,4 @@
-// The lister of document 01: reads a text on standard input and writes its rows, then its nodes or its refusal.
+// The lister: reads a text on standard input and writes its rows, then its nodes or its refusal.
 use libc::STDIN_FILENO;
 
 // Lists the text on standard input.

@@ -161,7 +161,7 @@ fn refused_at(ours: [u32; 7], number: u32, place: Cursor) -> bool {
     ours[3] == place.column.0
 }
 
-// A parse that the sample has no answer for: it is the table's refused ending, or document 01 alone says 27 or 32.
+// A parse that the sample has no answer for: it is the table's refused ending, or the language alone says 27 or 32.
 fn uncompared_agrees(table: Table, ours: [u32; 7]) -> bool {
     let ending = table.ending;
     match ending {

@@ -1,5 +1,5 @@
 -- "Both sides of each edge": the worked cases as one table under one theorem, which the checker computes from the rules.
--- [P]: a case that document 01 wants proved.
+-- [P]: a case that LANGUAGE.md 12 lists as proved.
 use mathlib.Core.Path.{_≡_, refl}
 use mathlib.Core.List.{List, [], _∷_, map}
 use Prim.Native.Nat.{ℕ}

@@ -1,4 +1,4 @@
--- Edits: 01's own case, and for each easy misreading of "The edit" the smallest case that shows it. One table under one theorem.
+-- Edits: the worked case of LANGUAGE.md 12, and for each easy misreading of "The edit" the smallest case that shows it. One table under one theorem.
 use mathlib.Core.Path.{_≡_, refl}
 use mathlib.Core.Bool.{Bool, true, false, cond}
 use mathlib.Core.List.{List, [], _∷_, _++_, map}
