@@ -80,7 +80,8 @@ pub record OpensCall (ts : List Tok) (s : ℕ) : Type 0 where
   pub opens : kindAt ts (dot + 1 + 1) ≡ LParen
   pub here : s ≡ dot + 1 + 1
 
--- Row s is where a refusal at row r is lost: the row that `lost` gives, or for 31 the parenthesis of such a call around the one that is told.
+-- Row s is where a refusal at row r is lost: the row that `lost` gives, or for 31 an earlier parenthesis that opens such a call (in its arguments
+-- stands the one that is told).
 pub data LostAt (ts : List Tok) (why : Syntax) (r s : ℕ) : Type 0 where
   own : s ≡ lost ts why r → LostAt ts why r s
   around : why ≡ CallOnOther → s < lost ts why r → OpensCall ts s → LostAt ts why r s
@@ -110,7 +111,8 @@ nesting why = cond (isMisfit why) 65 64
 -- more than the parser goes, since an `if` that is nested 65 deep is refused with 32 only at its brace. That none begins with the row
 -- too holds of programs of any nesting, and all the more of those within the checks.
 --
--- For 31 the row may be the parenthesis of a call around the one that is told: in `1.f(2.g())` the inner call is told, and the outer one is lost.
+-- For 31 the row may be the parenthesis of a call around the one that is told: in `1.f(2.g())` the inner call is told, and the table is lost at
+-- the outer parenthesis.
 pub record First (ts : List Tok) (why : Syntax) (r : ℕ) : Type 0 where
   -- the row that the refusal is about
   pub row : ℕ
