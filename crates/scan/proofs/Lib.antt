@@ -1,4 +1,4 @@
--- The laws that the proofs of this crate share, and the theorems on the scan.
+-- The laws that the proofs of this crate share, and how tight the scan's contract is.
 pub mod Lent
 pub mod Laid
 pub mod Blanks

@@ -1,0 +1,2 @@
+-- What is said of each call's contract.
+pub mod Tight
