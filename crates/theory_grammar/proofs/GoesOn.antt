@@ -870,7 +870,6 @@ module _ (ts : List Tok) (proper : Proper ts) where
   -- a check is told in a map or an event: it is not 31
   checked : (D : ℕ → Type 0) (N : Nt) (i r : ℕ) (why : Syntax) (s : ℕ) → isCheck why ≡ true → isMisfit why ≡ false → eqb (syntaxNumber why) 31 ≡ false
       → s ≡ lost ts why r → Open true false ts N 64 i s → Halt fields D ts N 64 i why r
-  unfolding syntaxNumber
   checked D N i r why s b m x e o = record {
     row = s;
     at = own e;
@@ -888,7 +887,7 @@ module _ (ts : List Tok) (proper : Proper ts) where
 
   count-by : (D : ℕ → Type 0) (b : Bool) (i : ℕ) (c : Tree) (k v : ℕ) → Reads ts Chain 64 i c k → isShift (kindAt ts k) ≡ true
       → Stuck (Halt fields D ts Chain 64 i) (Parse.countBy ts b c k v (k + 1 + 1))
-  unfolding Parse.countBy isCheck isMisfit lost syntaxNumber
+  unfolding Parse.countBy isCheck isMisfit lost
   count-by D true i c k v r s = tt
   count-by D false i c k v r s = checked D Chain i (k + 1) ShiftCount (k + 1) refl refl refl refl (next-shift true false i c k r s)
 
@@ -915,7 +914,7 @@ module _ (ts : List Tok) (proper : Proper ts) where
   -- behind the name at row j
   type-by : (D : ℕ → Type 0) (b : Bool) (i : ℕ) (w : List ℕ) (j : ℕ) → Run ts i (sign KeywordType ∷ sign Colon ∷ sign Dot ∷ []) j → Run ts j (name w ∷ []) (j + 1)
       → eqb (mapTypeNumber w) 0 ≡ b → Stuck (Halt fields D ts MapField 64 i) (Parse.typeBy ts b w (j + 1))
-  unfolding Parse.typeBy yield isCheck isMisfit lost syntaxNumber
+  unfolding Parse.typeBy yield isCheck isMisfit lost
   type-by D true i w j x y b =
       checked D MapField i (j + 1) MapTypeUnknown j refl refl refl (omega arith) (opened (mapType hash) i-hash (name hash ∷ sign Semicolon ∷ []) refl x)
   type-by D false i w j x y b =
@@ -943,7 +942,7 @@ module _ (ts : List Tok) (proper : Proper ts) where
 
   limit-by : (D : ℕ → Type 0) (a b : Bool) (i : ℕ) (c : Tree) (k : ℕ) → Is true Chain 64 c → ChainEnd ts c k → Run ts i (sign KeywordMax ∷ sign Colon ∷ yield c) k
       → Stuck (Halt fields D ts MapField 64 i) (Parse.limitBy ts a b c k)
-  unfolding Parse.limitBy isCheck isMisfit lost syntaxNumber
+  unfolding Parse.limitBy isCheck isMisfit lost
   limit-by D true b i c k h e r = checked D MapField i k MaxNegative k refl refl refl refl (limited true false i c k h r)
   limit-by D false true i c k h e r = checked D MapField i (k - 1) OutOfRange k refl refl refl (sym e) (limited true false i c k h r)
   limit-by D false false i c k h e r = last-halt fields D MapField 64 i Semicolon (limit c) k (limited false true i c k h r)
@@ -992,7 +991,7 @@ module _ (ts : List Tok) (proper : Proper ts) where
   -- behind the brace at row j
   map-end : (D : ℕ → Type 0) (f i : ℕ) (w : List ℕ) (l : Tree) (j : ℕ) → Is true MapFields 64 l → Run ts i (sign KeywordMap ∷ name w ∷ sign LBrace ∷ yield l) j
       → Stuck (Halt top D ts Decl 64 i) (Parse.mapEnd ts f w l (j + 1))
-  unfolding Parse.mapEnd isCheck isMisfit lost syntaxNumber
+  unfolding Parse.mapEnd isCheck isMisfit lost
   map-end D zero i w l j h r = tt
   map-end D (suc f) i w l j h r =
       loosely (checked D Decl i (j + 1) (MapLacks (suc f)) j refl refl refl (omega arith) (opened (mapDecl w (filled l)) (i-filled h) closing (map-spells w l) r))
@@ -1019,7 +1018,7 @@ module _ (ts : List Tok) (proper : Proper ts) where
     length-lost = rw bracket
 
     length-by : (b : Bool) → kindAt ts k ≡ Number → Stuck (Halt fields D ts EventField 64 i) (Parse.lengthBy ts b f (bitsIn (tokAt ts k)) k (k + 1))
-    unfolding Parse.lengthBy isCheck isMisfit syntaxNumber
+    unfolding Parse.lengthBy isCheck isMisfit
     length-by true e =
         let v : ℕ = bitsIn (tokAt ts k) in
         want-halt fields D EventField 64 i RBracket _ (k + 1)
