@@ -60,6 +60,7 @@ impl ProgramKind {
     ];
 
     /// The kind with this number.
+    #[inline]
     pub fn from_number(number: u32) -> Option<ProgramKind> {
         ProgramKind::ALL.get(number as usize).copied()
     }

@@ -83,8 +83,8 @@ pub enum NodeKind {
         max: u32,
     },
     Program,
-    /// A kind, of this number, or facts that this version has no name for. The library of this version makes none.
-    Other(u32),
+    /// A kind, or facts, that this version has no name for. The library of this version makes none.
+    Other,
 }
 
 /// A node. Place and name are row numbers. A later version may tell more of it.
@@ -106,6 +106,7 @@ pub struct Tree {
 }
 
 impl Operator {
+    #[inline]
     fn from_node_number(number: u32) -> Option<Operator> {
         Some(match number {
             4 => Operator::Add,
@@ -146,6 +147,7 @@ impl Operator {
 }
 
 impl Type {
+    #[inline]
     fn from_number(number: u32) -> Option<Type> {
         Some(match number {
             1 => Type::U32,
@@ -168,6 +170,7 @@ impl Type {
 }
 
 impl MapType {
+    #[inline]
     fn from_number(number: u32) -> Option<MapType> {
         Some(match number {
             1 => MapType::Hash,
@@ -192,6 +195,7 @@ impl MapType {
 }
 
 impl FieldType {
+    #[inline]
     fn from_facts([shape, element, length, _]: [u32; 4]) -> Option<FieldType> {
         Some(match shape {
             1 => FieldType::Plain(Type::from_number(element)?),
@@ -207,6 +211,7 @@ fn row_or_none(word: u32) -> Option<usize> {
 }
 
 impl NodeKind {
+    #[inline]
     fn from_words(number: u32, facts: [u32; 4]) -> Option<NodeKind> {
         let [a, b, c, d] = facts;
         Some(match number {
@@ -245,7 +250,7 @@ impl NodeKind {
         })
     }
 
-    /// The kind's number, 1 to 29.
+    /// The kind's number, 1 to 29; 4294967295 for [`NodeKind::Other`].
     pub fn number(self) -> u32 {
         match self {
             NodeKind::Variable => 1,
@@ -271,16 +276,17 @@ impl NodeKind {
             NodeKind::Event => 27,
             NodeKind::Map { .. } => 28,
             NodeKind::Program => 29,
-            NodeKind::Other(number) => number,
+            NodeKind::Other => u32::MAX,
         }
     }
 }
 
 impl Node {
+    #[inline]
     fn from_words(words: &[u32; NODE_WORDS]) -> Node {
         let [kind, place, name, children, a, b, c, d] = *words;
         Node {
-            kind: NodeKind::from_words(kind, [a, b, c, d]).unwrap_or(NodeKind::Other(kind)),
+            kind: NodeKind::from_words(kind, [a, b, c, d]).unwrap_or(NodeKind::Other),
             place: place as usize,
             name: row_or_none(name),
             children: children as usize,
@@ -295,13 +301,9 @@ impl Tree {
         let nodes: Vec<Node> = words.as_chunks().0.iter().map(Node::from_words).collect();
         let mut begins: Vec<usize> = Vec::with_capacity(nodes.len());
         for (index, node) in nodes.iter().enumerate() {
-            let mut begin = index;
-            for _ in 0..node.children {
-                let Some(last) = begin.checked_sub(1) else {
-                    break;
-                };
-                begin = begins[last];
-            }
+            let begin_of = |end: usize| begins.get(end.wrapping_sub(1)).copied();
+            let count = node.children.min(index);
+            let begin = (0..count).fold(index, |end, _| begin_of(end).unwrap_or(0));
             begins.push(begin);
         }
         Tree { nodes, begins }
@@ -328,12 +330,12 @@ impl Tree {
         let count = self.nodes.get(index).map_or(0, |node| node.children);
         let mut children = Vec::with_capacity(count.min(index));
         let mut end = index;
-        while let Some(last) = end.checked_sub(1) {
-            if children.len() == count {
+        for _ in 0..count {
+            let Some(&begin) = self.begins.get(end.wrapping_sub(1)) else {
                 break;
-            }
-            children.push(last);
-            end = self.begins[last];
+            };
+            children.push(end - 1);
+            end = begin;
         }
         children.reverse();
         children
@@ -395,9 +397,9 @@ mod tests {
             kinds,
             [
                 NodeKind::Call,
-                NodeKind::Other(30),
-                NodeKind::Other(28),
-                NodeKind::Other(0)
+                NodeKind::Other,
+                NodeKind::Other,
+                NodeKind::Other
             ]
         );
         assert_eq!(tree.children(0), []);

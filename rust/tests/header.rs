@@ -348,15 +348,15 @@ fn words_stand_where_the_crate_has_them() {
     assert_eq!(enumerated("sh_answer_word", "SH_"), words);
 
     let at = enumerated("sh_row_word", "SH_ROW_");
-    let (rows, _) = scanned(" \n -1");
+    let (rows, _) = scanned(" \n  -2");
     let word = |name: &str| rows[at[name] as usize];
-    let row = Document::open(" \n -1").unwrap().row(0).unwrap();
+    let row = Document::open(" \n  -2").unwrap().row(0).unwrap();
     assert_eq!(word("KIND"), row.kind.number());
-    assert_eq!((word("START"), word("END")), (3, 5));
-    assert_eq!((word("LINE"), word("COLUMN")), (2, 2));
+    assert_eq!((word("START"), word("END")), (4, 6));
+    assert_eq!((word("LINE"), word("COLUMN")), (2, 3));
     assert_eq!(
         (word("VALUE_LOW"), word("VALUE_HIGH")),
-        (u32::MAX, u32::MAX)
+        (u32::MAX - 1, u32::MAX)
     );
     assert_eq!(at["WORDS"] as usize, lent::ROW_WORDS);
 

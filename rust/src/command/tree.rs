@@ -107,7 +107,7 @@ impl<'a> Spelt<'a> {
                 )
             }
             NodeKind::Program => "program".to_string(),
-            other => format!("node of kind {}", other.number()),
+            _ => "another node".to_string(),
         }
     }
 }
