@@ -26,10 +26,6 @@ spaced-append (m ∷ ms) ns = rw (spaced-append ms ns, append-assoc)
 pub spaced-more : (ns : List ℕ) (i : ℕ) → i < length ns → spaced (take (i + 1) ns) ≡ spaced (take i ns) ++ spaced (getD ns i 0 ∷ [])
 spaced-more ns i h = rw (add-one, take-suc ns i 0 h) (spaced-append (take i ns) (getD ns i 0 ∷ []))
 
-pub spaced-four : (a b c d : ℕ) → spaced (a ∷ []) ++ spaced (b ∷ []) ++ spaced (c ∷ []) ++ spaced (d ∷ []) ≡ spaced (a ∷ b ∷ c ∷ d ∷ [])
-spaced-four a b c d =
-    rw (← spaced-append (a ∷ []) (b ∷ []), ← spaced-append (a ∷ b ∷ []) (c ∷ []), ← spaced-append (a ∷ b ∷ c ∷ []) (d ∷ []))
-
 -- the first five words
 pub front-five : (ws : List ℕ) → 5 ≤ length ws → take 5 ws ≡ getD ws 0 0 ∷ getD ws 1 0 ∷ getD ws 2 0 ∷ getD ws 3 0 ∷ getD ws 4 0 ∷ []
 front-five [] h = absurd (omega arith)

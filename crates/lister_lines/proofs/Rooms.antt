@@ -80,7 +80,9 @@ module _ (t ws : List ℕ) (tbl : Table) (m : List ℕ) (n : ℕ) where
   unfolding endingTold endingLeaves
   ending-few ending.None e l = by (ltb (nodeRoom m) (tbl .count)) e l
     where
-      by : (b : Bool) → cond b (parsed.Refused (reason.Outer NoNodeRoom) startPlace) (outTold ws (reading t ws tbl)) ≡ parsed.Nodes n → length (cond b m (outLeaves (reading t ws tbl) m)) ≡ length m → n * 8 ≤ length m
+      by : (b : Bool) → cond b (parsed.Refused (reason.Outer NoNodeRoom) startPlace) (outTold ws (reading t ws tbl)) ≡ parsed.Nodes n
+          → length (cond b m (outLeaves (reading t ws tbl) m)) ≡ length m
+          → n * 8 ≤ length m
       by true e l = let z : _≡_ {A = ℕ} 0 1 = cc in absurd (omega arith)
       by false e l = out-few ws (reading t ws tbl) m n e l
   ending-few (ending.Refused why p) e l = let z : _≡_ {A = ℕ} 0 1 = cc in absurd (omega arith)

@@ -17,7 +17,8 @@ pub record Shows (old bs out : List ℕ) (at : ℕ) : Type 0 where
 pub record Adds (bs out : List ℕ) (at : ℕ) (out′ : List ℕ) (at′ : ℕ) : Type 0 where
   pub more : (old done : List ℕ) → Shows old done out at → Shows old (done ++ bs) out′ at′
 
--- No rows take more bytes with their heading, and no nodes, nor does a refusal.
+-- ---- how many bytes there may be: of the rows with their heading, of the nodes with theirs, of a refusal, and of a whole listing
+
 abbrev pub mostOfRows : ℕ
 mostOfRows = 163000
 
@@ -28,4 +29,4 @@ abbrev pub mostOfRefusal : ℕ
 mostOfRefusal = 60
 
 abbrev pub mostListing : ℕ
-mostListing = 350000
+mostListing = mostOfRows + mostOfNodes

@@ -37,17 +37,15 @@ fn heading(out: &mut [u8], at: usize, name: &[u8], count: u32) -> usize
     put(out, counted, b'\n')
 }
 
-// A refusal: its number and its place.
+// A refusal: its number, offset, line and column.
 fn refusal_line(out: &mut [u8], at: usize, number: u32, place: Cursor) -> usize
     ensures { λ r. ⌜ Adds (refusalLine number place) (now (out .entry)) at (now (out .exit)) r ⌝ }
-    ensures { λ r. ⌜ length (refusalLine number place) ≤ mostOfRefusal ⌝ }
+    ensures { λ _. ⌜ length (refusalLine number place) ≤ mostOfRefusal ⌝ }
 {
     let named = bytes(out, at, b"refused");
-    let numbered = word(out, named, number);
-    let offset = word(out, numbered, place.offset.0);
-    let line = word(out, offset, place.line.0);
-    let column = word(out, line, place.column.0);
-    put(out, column, b'\n')
+    let told = [number, place.offset.0, place.line.0, place.column.0];
+    let placed = words(out, named, &told);
+    put(out, placed, b'\n')
 }
 
 // A row: its number, kind, start, end, line, column and value.
@@ -107,45 +105,45 @@ fn list_rows(out: &mut [u8], at: usize, rows: &[u32], count: u32) -> usize
     requires { ⌜ count * 8 ≤ length (now rows) ⌝ }
     requires { ⌜ count ≤ mostLines ⌝ }
     ensures { λ r. ⌜ Adds (listedRows count (now (rows .entry))) (now (out .entry)) at (now (out .exit)) r ⌝ }
-    ensures { λ r. ⌜ length (listedRows count (now (rows .entry))) ≤ mostOfRows ⌝ }
+    ensures { λ _. ⌜ length (listedRows count (now (rows .entry))) ≤ mostOfRows ⌝ }
 {
     let headed = heading(out, at, b"rows", count);
     row_lines(out, headed, rows, count as usize)
 }
 
 // The nodes, headed.
-fn headed_nodes(out: &mut [u8], at: usize, nodes: &[u32], count: u32) -> usize
+fn list_nodes(out: &mut [u8], at: usize, nodes: &[u32], count: u32) -> usize
     requires { ⌜ count * 8 ≤ length (now nodes) ⌝ }
     requires { ⌜ count ≤ mostLines ⌝ }
     ensures { λ r. ⌜ Adds (listedNodes count (now (nodes .entry))) (now (out .entry)) at (now (out .exit)) r ⌝ }
-    ensures { λ r. ⌜ length (listedNodes count (now (nodes .entry))) ≤ mostOfNodes ⌝ }
+    ensures { λ _. ⌜ length (listedNodes count (now (nodes .entry))) ≤ mostOfNodes ⌝ }
 {
     let headed = heading(out, at, b"nodes", count);
     node_lines(out, headed, nodes, count as usize)
 }
 
 // The nodes, headed, or why there are none.
-fn list_nodes(out: &mut [u8], at: usize, text: &[u8], rows: &[u32], table: Table) -> usize
+fn list_tree(out: &mut [u8], at: usize, text: &[u8], rows: &[u32], table: Table) -> usize
     ensures { λ r. ⌜ Adds (listedTree (now (text .entry)) (now (rows .entry)) table) (now (out .entry)) at (now (out .exit)) r ⌝ }
-    ensures { λ r. ⌜ length (listedTree (now (text .entry)) (now (rows .entry)) table) ≤ mostOfNodes ⌝ }
+    ensures { λ _. ⌜ length (listedTree (now (text .entry)) (now (rows .entry)) table) ≤ mostOfNodes ⌝ }
 {
     let mut nodes = [0u32; 16000];
     match parse::parse(text, rows, table, &mut nodes) {
-        Parsed::Nodes(count) => headed_nodes(out, at, &nodes, count),
+        Parsed::Nodes(count) => list_nodes(out, at, &nodes, count),
         Parsed::Refused(why, place) => refusal_line(out, at, reason_number(why), place),
     }
 }
 
 // What is listed of a text that is short enough.
-fn list_short(out: &mut [u8], text: &[u8]) -> usize
+fn list_text(out: &mut [u8], text: &[u8]) -> usize
     ensures { λ r. ⌜ Adds (listedText (now (text .entry))) (now (out .entry)) 0 (now (out .exit)) r ⌝ }
-    ensures { λ r. ⌜ length (listedText (now (text .entry))) ≤ mostListing ⌝ }
+    ensures { λ _. ⌜ length (listedText (now (text .entry))) ≤ mostListing ⌝ }
 {
     let mut rows = [0u32; 16000];
     match scan::scan(text, &mut rows) {
         Told::Rows(table) => {
             let listed = list_rows(out, 0, &rows, table.count);
-            list_nodes(out, listed, text, &rows, table)
+            list_tree(out, listed, text, &rows, table)
         }
         Told::Refused(why, place, count) => {
             let listed = list_rows(out, 0, &rows, count);
@@ -154,7 +152,8 @@ fn list_short(out: &mut [u8], text: &[u8]) -> usize
     }
 }
 
-// The listing of a text. One of at most 16,384 bytes is read into 2,000 rows and 2,000 nodes; of a longer one only the refusal is listed.
+// The listing of a text, at the start of `out`: how many bytes it has. A text of at most 16,384 bytes is read into 2,000 rows and 2,000 nodes; of a
+// longer one only the refusal is listed.
 pub fn listing(text: &[u8], out: &mut [u8; MOST_LISTING]) -> usize
     ensures { λ r. ⌜ Counts r (now (out .exit)) ⌝ }
     ensures { λ r. ⌜ r ≡ length (listed (now (text .entry))) ⌝ }
@@ -163,5 +162,5 @@ pub fn listing(text: &[u8], out: &mut [u8; MOST_LISTING]) -> usize
     if MOST_TEXT < text.len() {
         return refusal_line(out, 0, 1, Cursor::start());
     }
-    list_short(out, text)
+    list_text(out, text)
 }

@@ -1,5 +1,5 @@
-// Bytes, numbers and words, each written at `at` and behind whatever was written before, as far as `out` goes. Each function hands back where
-// what it wrote ends.
+// Bytes, numbers and words, written at `at` behind whatever was written before, as far as `out` goes. Each function hands back where what it
+// wrote ends.
 ghost use mathlib.Core.List.{[], _∷_, _++_};
 ghost use Prim.Native.Nat.{_+_, _*_, _^_};
 ghost use Rattle.lister_lines.specs.Adds.{Adds};
@@ -38,6 +38,14 @@ pub fn number(out: &mut [u8], at: usize, n: u64) -> usize
     bytes(out, at, &digits[..k])
 }
 
+// A blank, then a word in decimal.
+pub fn word(out: &mut [u8], at: usize, n: u32) -> usize
+    ensures { λ r. ⌜ Adds (spaced (n ∷ [])) (now (out .entry)) at (now (out .exit)) r ⌝ }
+{
+    let behind = put(out, at, b' ');
+    number(out, behind, n as u64)
+}
+
 // Each word in decimal, behind a blank.
 pub fn words(out: &mut [u8], at: usize, list: &[u32]) -> usize
     ensures { λ r. ⌜ Adds (spaced (now (list .entry))) (now (out .entry)) at (now (out .exit)) r ⌝ }
@@ -49,14 +57,6 @@ pub fn words(out: &mut [u8], at: usize, list: &[u32]) -> usize
         i += 1;
     }
     at
-}
-
-// A blank, then a word in decimal.
-pub fn word(out: &mut [u8], at: usize, n: u32) -> usize
-    ensures { λ r. ⌜ Adds (spaced (n ∷ [])) (now (out .entry)) at (now (out .exit)) r ⌝ }
-{
-    let behind = put(out, at, b' ');
-    number(out, behind, n as u64)
 }
 
 // A blank, then a value given by its two's complement words.

@@ -19,7 +19,11 @@ same-length c = search needs
 
 returns : tie.Need-returns
 unfolding heading
-returns c = adds-then (adds-then (c .before .before .before .before .before .before .before .before .before .before .bytes .ensures) (c .before .before .before .before .before .before .word .ensures)) (c .before .before .put .ensures)
+returns c =
+    let ended = c .before .before in
+    let counted = ended .before .before .before .before in
+    let named = counted .before .before .before .before in
+    adds-then (adds-then (named .bytes .ensures) (counted .word .ensures)) (ended .put .ensures)
 
 pub heading-spec : {M : Type 1} → statement M
 heading-spec = tie.close (tie.spec bytes-requires word-requires put-requires same-length returns)

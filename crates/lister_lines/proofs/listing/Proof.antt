@@ -23,13 +23,13 @@ returns c =
     let e = ap (λ (p : Cursor). refusalLine 1 p) (c .before .start .ensures) ∙ sym (listed-long (s .args .text .now) (c .before .before .before .if1 .taken)) in
     adds-all (adds-same e (y .0)) (omega (arith, ap length e, y .1, s .good))
 
-list-short-requires : tie.Need-list-short-requires
-list-short-requires c κs = search needs
+list-text-requires : tie.Need-list-text-requires
+list-text-requires c κs = search needs
 
 returns-2 : tie.Need-returns-2
 returns-2 c =
     let s = c .before .before .before .before in
-    let y = c .list-short .ensures in
+    let y = c .list-text .ensures in
     let e = sym (listed-short (s .args .text .now) (c .before .before .if1 .left)) in
     adds-all (adds-same e (y .0)) (omega (arith, ap length e, y .1, s .good))
 
@@ -40,5 +40,5 @@ listing-spec =
     start-requires
     refusal-line-requires
     returns
-    list-short-requires
+    list-text-requires
     returns-2)

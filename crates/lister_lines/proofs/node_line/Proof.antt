@@ -19,7 +19,11 @@ same-length c = search needs
 
 returns : tie.Need-returns
 unfolding nodeLine
-returns c = adds-then (adds-then (c .before .before .before .before .before .before .before .before .before .before .number .ensures) (c .before .before .before .before .before .before .words .ensures)) (c .before .before .put .ensures)
+returns c =
+    let ended = c .before .before in
+    let told = ended .before .before .before .before in
+    let numbered = told .before .before .before .before in
+    adds-then (adds-then (numbered .number .ensures) (told .words .ensures)) (ended .put .ensures)
 
 pub node-line-spec : {M : Type 1} → statement M
 node-line-spec =

@@ -14,7 +14,9 @@ number-requires : tie.Need-number-requires
 number-requires c κs = search needs
 
 slice-aggregate-words : tie.Need-slice-aggregate-words
-slice-aggregate-words c = sym (length-take-le 5 (c .before .before .before .before .before .before .before .before .args .row .now) (omega (arith, c .before .before .before .before .before .before .before .before .pre)))
+slice-aggregate-words c =
+    let s = c .before .before .before .before .before .before .before .before in
+    sym (length-take-le 5 (s .args .row .now) (omega (arith, s .pre)))
 
 words-requires : tie.Need-words-requires
 words-requires c κs = search needs
@@ -37,10 +39,13 @@ same-length c = search needs
 returns : tie.Need-returns
 unfolding rowLine rowIn valueBits
 returns c =
-    let s = c .before .before .before .before .before .before .before .before .before .before .before .before .before .before .before .before .before .before .before .before .before in
-    let five = adds-same (ap spaced (front-five (s .args .row .now) (omega (arith, s .pre)))) (c .before .before .before .before .before .before .before .before .before .before .before .before .words .ensures) in
-    let front = adds-then (c .before .before .before .before .before .before .before .before .before .before .before .before .before .before .before .before .before .number .ensures) five in
-    adds-then (adds-then front (c .before .before .before .before .before .before .value .ensures)) (c .before .before .put .ensures)
+    let ended = c .before .before in
+    let valued = ended .before .before .before .before in
+    let placed = valued .before .before .before .before .before .before in
+    let numbered = placed .before .before .before .before .before in
+    let s = numbered .before .before .before .before in
+    let five = adds-same (ap spaced (front-five (s .args .row .now) (omega (arith, s .pre)))) (placed .words .ensures) in
+    adds-then (adds-then (adds-then (numbered .number .ensures) five) (valued .value .ensures)) (ended .put .ensures)
 
 pub row-line-spec : {M : Type 1} → statement M
 row-line-spec =

@@ -26,7 +26,11 @@ same-length : tie.Need-same-length
 same-length c = search needs
 
 returns : tie.Need-returns
-returns c = adds-then (c .before .before .before .before .before .before .before .put .ensures) (adds-same (sym (signed-low _ (c .before .before .before .before .if1 .taken))) (c .before .before .number .ensures))
+returns c =
+    let numbered = c .before .before in
+    let low = numbered .before .before in
+    let blank = low .before .before .before in
+    adds-then (blank .put .ensures) (adds-same (sym (signed-low _ (low .if1 .taken))) (numbered .number .ensures))
 
 put-requires-2 : tie.Need-put-requires-2
 put-requires-2 c κs = search needs
@@ -42,11 +46,15 @@ same-length-2 c = search needs
 
 returns-2 : tie.Need-returns-2
 returns-2 c =
-    let s = c .before .before .before .before .before .before .before .before .before .before .before .before .before .before .before in
-    let w = c .before .before .before .wrapping-sub-u64 in
-    let high = c .before .before .before .before .before .before .before .before .before .if1 .left in
-    let e = negated (w .result) _ (omega (arith, w .ok)) high (omega (arith, s .fits .low, s .fits .high)) (w .ensures) in
-    adds-then (c .before .before .before .before .before .before .before .before .before .before .before .before .put .ensures) (adds-same (ap (λ (n : ℕ). bytes "-" ++ decimal n) e ∙ sym (signed-high _ high)) (adds-then (c .before .before .before .before .before .before .before .put2 .ensures) (c .before .before .number2 .ensures)))
+    let numbered = c .before .before in
+    let w = numbered .before .wrapping-sub-u64 in
+    let sign = numbered .before .before .before .before .before in
+    let high = sign .before .before in
+    let blank = high .before .before .before in
+    let s = blank .before .before .before in
+    let e = negated (w .result) _ (omega (arith, w .ok)) (high .if1 .left) (omega (arith, s .fits .low, s .fits .high)) (w .ensures) in
+    let f = ap (λ (n : ℕ). bytes "-" ++ decimal n) e ∙ sym (signed-high _ (high .if1 .left)) in
+    adds-then (blank .put .ensures) (adds-same f (adds-then (sign .put2 .ensures) (numbered .number2 .ensures)))
 
 pub value-spec : {M : Type 1} → statement M
 value-spec =

@@ -1,4 +1,4 @@
--- `list_short` writes the rows of a scan, and then its refusal or what a parse tells.
+-- `list_text` writes the rows of a scan, and then its refusal or what a parse tells.
 use Prim.Native.Nat.{ℕ, _≤_}
 use mathlib.Core.Path.{_≡_, sym, ap, _∙_}
 use mathlib.Core.List.{_++_}
@@ -8,8 +8,8 @@ use borrow.Author.Needs.{needs}
 use Rattle.lister_lines.specs.Lines.{room, refusalLine, listedRows}
 use Rattle.lister_lines.proofs.Adding.{adds-then, adds-same}
 use Rattle.lister_lines.proofs.Rooms.{room-length, text-rows, text-refused}
-use Rattle.lister_lines.proofs.list_short.Statement.{statement}
-use Rattle.lister_lines.proofs.list_short.Tie as tie
+use Rattle.lister_lines.proofs.list_text.Statement.{statement}
+use Rattle.lister_lines.proofs.list_text.Tie as tie
 
 slice-aggregate-scan : tie.Need-slice-aggregate-scan
 slice-aggregate-scan c = search needs
@@ -31,11 +31,11 @@ list-rows-requires c κs =
     let e = text-rows _ (p .result) (p .last .1 .0) (p .ensures .0) (p .ensures .1) (tbl .0 .0) (tbl .1) in
     (omega (arith, e .1, p .kept .1 .0, room-length), e .1)
 
-slice-aggregate-list-nodes : tie.Need-slice-aggregate-list-nodes
-slice-aggregate-list-nodes c = search needs
+slice-aggregate-list-tree : tie.Need-slice-aggregate-list-tree
+slice-aggregate-list-tree c = search needs
 
-list-nodes-requires : tie.Need-list-nodes-requires
-list-nodes-requires c κs = search needs
+list-tree-requires : tie.Need-list-tree-requires
+list-tree-requires c κs = search needs
 
 enum-known-why : tie.Need-enum-known-why
 enum-known-why c = search needs
@@ -67,7 +67,7 @@ returns c =
     let tbl = c .before .before .before .before .before .before .before .before .before .before .before .table .given in
     let e = text-rows _ (p .result) (p .last .1 .0) (p .ensures .0) (p .ensures .1) (tbl .0 .0) (tbl .1) in
     let x = c .before .before .before .before .before .before .before .list-rows .ensures in
-    let y = c .before .before .list-nodes .ensures in
+    let y = c .before .before .list-tree .ensures in
     (adds-same (sym (e .0)) (adds-then (x .0) (y .0)), omega (arith, simp length-append at (ap length (e .0)), x .1, y .1))
 
 same-length-2 : tie.Need-same-length-2
@@ -84,8 +84,8 @@ returns-2 c =
     let f = ap (λ (k : ℕ). listedRows (w .0 .1 .1 .0) (p .last .1 .0) ++ refusalLine k (w .0 .1 .0)) (c .before .before .before .outer-number .ensures) ∙ sym (e .0) in
     (adds-same f (adds-then (x .0) (y .0)), omega (arith, simp length-append at (ap length f), x .1, y .1))
 
-pub list-short-spec : {M : Type 1} → statement M
-list-short-spec =
+pub list-text-spec : {M : Type 1} → statement M
+list-text-spec =
     tie.close
     (tie.spec
     slice-aggregate-scan
@@ -93,8 +93,8 @@ list-short-spec =
     enum-known-table
     slice-aggregate-list-rows
     list-rows-requires
-    slice-aggregate-list-nodes
-    list-nodes-requires
+    slice-aggregate-list-tree
+    list-tree-requires
     enum-known-why
     slice-aggregate-list-rows-2
     list-rows-requires-2
