@@ -1,6 +1,6 @@
-/* Scans a text, edits it, parses it, and prints what comes of each.
+/* Scans a text, edits it, parses it, and prints what comes of each. Every call is here; C++ takes the file too. Installed:
  *
- *     cc -I include include/example.c target/staticlib/libspoonharbor.a -o example && ./example
+ *     cc include/example.c $(pkg-config --cflags --libs spoonharbor) -o example && ./example
  */
 #include <inttypes.h>
 #include <stdio.h>
@@ -8,50 +8,69 @@
 
 #include "spoonharbor.h"
 
-/* Room for the rows of a text of this many bytes: each row but Eof has a byte. */
-enum { MOST_BYTES = 64, ROWS = MOST_BYTES + 1 };
+/* Few bytes for the first window, so that it is seen to grow; 256 is a good number for an editor. */
+enum { FIRST_WINDOW = 1, WINDOW_GROWTH = 4 };
+
+/* Words for the rows and nodes of any text. */
+enum { ROW_ROOM = SH_ROW_ROOM(SH_LONGEST_TEXT), NODE_ROOM = SH_NODE_ROOM(SH_LONGEST_TEXT + 1) };
 
 /* A text with its rows, and what stands beside them. */
 struct document {
-    uint8_t text[MOST_BYTES];
+    uint8_t text[SH_LONGEST_TEXT];
     size_t length;
-    uint32_t rows[ROWS * SH_ROW_WORDS];
+    uint32_t rows[ROW_ROOM];
     uint32_t table[SH_WORDS];
 };
 
-static void open_text(struct document *document, const char *text) {
-    document->length = strlen(text);
-    memcpy(document->text, text, document->length);
-    spoonharbor_scan(document->text, document->length, document->rows, ROWS * SH_ROW_WORDS, document->table);
+/* The open document, and the one that the next edit writes. */
+static struct document documents[2];
+static struct document *opened = &documents[0], *spare = &documents[1];
+
+static void open_text(const char *text) {
+    opened->length = strlen(text);
+    memcpy(opened->text, text, opened->length);
+    spoonharbor_scan(opened->text, opened->length, opened->rows, ROW_ROOM, opened->table);
 }
 
-/* Bytes a to b become `with`. The window starts at the restart place and grows until it suffices. Gives back the refusal number. */
-static uint32_t replace(struct document *document, uint32_t a, uint32_t b, const char *with) {
-    static struct document new; /* the new text and its rows, apart from the old ones */
+/* The new text of a document in which bytes a to b became `with`. */
+static void write_changed(uint32_t a, uint32_t b, const char *with, uint32_t n) {
+    memcpy(spare->text, opened->text, a);
+    memcpy(spare->text + a, with, n);
+    memcpy(spare->text + a + n, opened->text + b, opened->length - b);
+    spare->length = opened->length - (b - a) + n;
+}
+
+/* Bytes a to b become `with`. The window starts at the restart place; as long as it is short it shows four times as much behind the new
+ * bytes, up to the text's end, where it is never short. Gives back the refusal number; below 11 the document is as it was. */
+static uint32_t replace(uint32_t a, uint32_t b, const char *with) {
     uint32_t n = (uint32_t)strlen(with);
     uint32_t restart[SH_WORDS];
-    spoonharbor_restart(document->rows, ROWS * SH_ROW_WORDS, document->table, a, restart);
+    spoonharbor_restart(opened->rows, ROW_ROOM, opened->table, a, restart);
     if (restart[SH_NUMBER] != 0) return restart[SH_NUMBER];
-    if (a > b || b > document->length) return 6;
-    if (document->length - (b - a) + n > MOST_BYTES) return 1;
-
-    memcpy(new.text, document->text, a);
-    memcpy(new.text + a, with, n);
-    memcpy(new.text + a + n, document->text + b, document->length - b);
-    new.length = document->length - (b - a) + n;
+    if (a > b || b > opened->length) return SH_REFUSED_EDIT_NOT_SENSIBLE;
+    if (opened->length - (b - a) + n > SH_LONGEST_TEXT) return SH_REFUSED_TEXT_TOO_LONG;
+    write_changed(a, b, with, n);
 
     uint32_t start = restart[SH_OFFSET];
-    for (size_t window = a + n - start;; window++) {
-        spoonharbor_edit(document->rows, ROWS * SH_ROW_WORDS, document->table, a, b, n, start, new.text + start, window, new.rows,
-                         ROWS * SH_ROW_WORDS, new.table);
-        if (new.table[SH_NUMBER] != 7) {
-            printf("edit: %zu window bytes from %" PRIu32 " suffice\n", window, start);
-            break;
-        }
+    size_t window, behind = FIRST_WINDOW;
+    int calls = 0;
+    do {
+        size_t end = a + n + behind < spare->length ? a + n + behind : spare->length;
+        window = end - start;
+        spoonharbor_edit(opened->rows, ROW_ROOM, opened->table, a, b, n, start, spare->text + start, window, spare->rows, ROW_ROOM,
+                         spare->table);
+        behind *= WINDOW_GROWTH;
+        calls++;
+    } while (spare->table[SH_NUMBER] == SH_REFUSED_WINDOW_SHORT);
+    printf("edit: %zu window bytes from %" PRIu32 " suffice, calls %d\n", window, start, calls);
+
+    uint32_t number = spare->table[SH_NUMBER];
+    if (number == 0 || number >= SH_REFUSED_NO_ROW_BEGINS) {
+        struct document *old = opened;
+        opened = spare;
+        spare = old;
     }
-    if (new.table[SH_NUMBER] != 0 && new.table[SH_NUMBER] < 11) return new.table[SH_NUMBER];
-    *document = new;
-    return new.table[SH_NUMBER];
+    return number;
 }
 
 /* A refusal's line, if the answer is one. */
@@ -62,23 +81,23 @@ static void print_refusal(const uint32_t answer[SH_WORDS]) {
     }
 }
 
-static void print_rows(const struct document *document) {
-    printf("rows %" PRIu32 "\n", document->table[SH_COUNT]);
-    for (uint32_t row = 0; row < document->table[SH_COUNT]; row++) {
-        const uint32_t *words = document->rows + row * SH_ROW_WORDS;
+static void print_rows(void) {
+    uint32_t count = opened->table[SH_COUNT];
+    printf("rows %" PRIu32 ", well formed %" PRIu32 "\n", count, spoonharbor_well_formed(opened->rows, ROW_ROOM, opened->table));
+    for (uint32_t row = 0; row < count; row++) {
+        const uint32_t *words = opened->rows + row * SH_ROW_WORDS;
         uint32_t part[SH_WORDS];
-        spoonharbor_spelling(document->text, document->length, document->rows, ROWS * SH_ROW_WORDS, document->table, row, part);
-        printf("%" PRIu32 " kind %" PRIu32 " at %" PRIu32 ":%" PRIu32 " %.*s\n", row, words[0], words[3], words[4],
-               (int)(part[SH_SECOND] - part[SH_FIRST]), (const char *)document->text + part[SH_FIRST]);
+        spoonharbor_spelling(opened->text, opened->length, opened->rows, ROW_ROOM, opened->table, row, part);
+        printf("%" PRIu32 " kind %" PRIu32 " at %" PRIu32 ":%" PRIu32 " %.*s\n", row, words[SH_ROW_KIND], words[SH_ROW_LINE],
+               words[SH_ROW_COLUMN], (int)(part[SH_SECOND] - part[SH_FIRST]), (const char *)opened->text + part[SH_FIRST]);
     }
-    print_refusal(document->table);
+    print_refusal(opened->table);
 }
 
-static void print_nodes(const struct document *document) {
-    static uint32_t nodes[ROWS * SH_NODE_WORDS];
+static void print_nodes(void) {
+    static uint32_t nodes[NODE_ROOM];
     uint32_t answer[SH_WORDS];
-    spoonharbor_parse(document->text, document->length, document->rows, ROWS * SH_ROW_WORDS, document->table, nodes,
-                      ROWS * SH_NODE_WORDS, answer);
+    spoonharbor_parse(opened->text, opened->length, opened->rows, ROW_ROOM, opened->table, nodes, NODE_ROOM, answer);
     print_refusal(answer);
     printf("nodes %" PRIu32 "\n", answer[SH_COUNT]);
     for (uint32_t node = 0; node < answer[SH_COUNT]; node++) {
@@ -89,20 +108,43 @@ static void print_nodes(const struct document *document) {
     }
 }
 
+/* A section's kind, and what that allows. */
+static void print_methods(const char *section) {
+    uint32_t kind = spoonharbor_section_kind((const uint8_t *)section, strlen(section));
+    uint32_t size[SH_WORDS], allowed[SH_WORDS];
+    spoonharbor_set_size(kind, size);
+    spoonharbor_allows(kind, SH_METHOD_LOAD_U64, allowed);
+    printf("%s: kind %" PRIu32 ", %" PRIu32 " methods, load_u64 %" PRIu32 "\n", section, kind, size[SH_FIRST], allowed[SH_FIRST]);
+}
+
+/* A long text, in which a comment is opened: the window has to reach the text's end. */
+static void open_comment(void) {
+    static char text[60001];
+    memset(text, ';', 60000);
+    open_text(text);
+    printf("open a comment in 60000 bytes: %" PRIu32 "\n", replace(0, 0, "/*"));
+    print_rows();
+}
+
 int main(void) {
-    static struct document document;
-    open_text(&document, "unit u{\n x+=-1;\n}\n");
-    print_rows(&document);
-    print_nodes(&document);
+    if (spoonharbor_version() != SPOONHARBOR_VERSION) {
+        fprintf(stderr, "the archive is another version's than the header\n");
+        return 2;
+    }
+    open_text("unit u{\n x+=-1;\n}\n");
+    print_rows();
+    print_nodes();
 
-    printf("replace 13 to 14 by 12: %" PRIu32 "\n", replace(&document, 13, 14, "12"));
-    print_rows(&document);
-    print_nodes(&document);
+    printf("replace 13 to 14 by 12: %" PRIu32 "\n", replace(13, 14, "12"));
+    print_rows();
+    print_nodes();
 
-    printf("replace 14 to 15 by a quote: %" PRIu32 "\n", replace(&document, 14, 15, "\""));
-    print_rows(&document);
-    print_nodes(&document);
+    printf("replace 14 to 15 by a quote: %" PRIu32 "\n", replace(14, 15, "\""));
+    print_rows();
+    print_nodes();
 
-    printf("replace 99 to 99: %" PRIu32 "\n", replace(&document, 99, 99, "x"));
+    printf("replace 99 to 99: %" PRIu32 "\n", replace(99, 99, "x"));
+    open_comment();
+    print_methods("kprobe/encoder_read");
     return 0;
 }

@@ -1,11 +1,24 @@
-/* Spoonharbor's calls for C and Rust. Link with target/staticlib/libspoonharbor.a (`rt staticlib spoonharbor`), which is for x86-64; for
- * another processor `rust/archive` writes target/staticlib/PROCESSOR/libspoonharbor.a. `example.c` shows the calls.
+/* Spoonharbor's calls for C, C++ and Rust: scan, parse and edit Solnix probes.
  *
- * Every call answers for every argument, reads and writes only what it is lent, and keeps nothing. Parts of memory that are lent for
- * writing must overlap neither each other nor what is lent for reading. A length of 0 is fine (with any pointer that is not null).
+ * `./install --prefix DIR` installs this header, the archive and a pkg-config file; a program then is built by
+ *
+ *     cc program.c $(pkg-config --cflags --libs spoonharbor)
+ *
+ * Without installing, link with what `rust/archive` writes: target/staticlib/libspoonharbor.a on x86-64, on another processor
+ * target/staticlib/PROCESSOR/libspoonharbor.a. The archive needs no other library. `example.c` shows every call.
+ *
+ * Every call answers for every argument, reads and writes only what it is lent, and keeps nothing, so calls on different memory may run at
+ * the same time. Parts of memory that are lent for writing must overlap neither each other nor what is lent for reading. A length of 0 is
+ * fine (with any pointer that is not null). Lengths of rows and nodes are lent in words, not in rows or bytes.
  *
  * An answer is eight words, always all written. A table (what stands beside rows) is lent in the words in which a scan or an edit told
  * it, so keep them as they are.
+ *
+ * Room. A text of n bytes has at most n + 1 rows, since every row but the text's end has a byte: SH_ROW_ROOM(n) words hold them. A tree has
+ * at most as many nodes as the text has rows: SH_NODE_ROOM(rows) words suffice, and a parse asks for them.
+ *
+ * Stack. No call allocates. As measured, a parse takes up to 62 KB of stack where 64 constructs are open, and every other call under 2 KB;
+ * 128 KiB are enough for any (docs/SPEED.md has the figures).
  */
 #ifndef SPOONHARBOR_H
 #define SPOONHARBOR_H
@@ -13,59 +26,249 @@
 #include <stddef.h>
 #include <stdint.h>
 
+#ifdef __cplusplus
+extern "C" {
+#endif
+
+/* This header's version, a byte for each part. `spoonharbor_version()` tells the archive's: hold them together once at the start. */
+#define SPOONHARBOR_VERSION_MAJOR 0
+#define SPOONHARBOR_VERSION_MINOR 2
+#define SPOONHARBOR_VERSION_PATCH 0
+#define SPOONHARBOR_VERSION (SPOONHARBOR_VERSION_MAJOR * 65536u + SPOONHARBOR_VERSION_MINOR * 256u + SPOONHARBOR_VERSION_PATCH)
+
+/* The most bytes that a text may have. */
+enum { SH_LONGEST_TEXT = 65536 };
+
 /* The words of an answer. */
-enum {
+enum sh_answer_word {
     SH_NUMBER = 0, /* refusal number, 0 if none */
     SH_OFFSET = 1, /* the refusal's place: offset, line and column; 0 1 1 where the place is 0; beside number 0 the restart place, else all 0 */
     SH_LINE = 2,
     SH_COLUMN = 3,
-    SH_FIRST = 4,  /* 21: the kind that was wanted; 29: the field, 1 type, 2 key, 3 value, 4 max; spelling: start; sets: the number */
-    SH_SECOND = 5, /* 21: the kind that was found; spelling: end */
+    SH_FIRST = 4,  /* SH_REFUSED_WANTED: the kind that was wanted; SH_REFUSED_MAP_LACKS: the field; spelling: start; sets: the number */
+    SH_SECOND = 5, /* SH_REFUSED_WANTED: the kind that was found; spelling: end */
     SH_COUNT = 6,  /* rows or nodes written */
     SH_LENGTH = 7, /* scan, edit: the text's length; 0 where refused below 11 */
     SH_WORDS = 8
 };
 
-/* The words of a row: kind, start, end, line, column, value low, value high (64-bit two's complement, zero unless the kind is a
- * number), zero. Offsets count from 0, lines and columns from 1; the end is the offset behind the last byte.
- *
- * Row kinds.
- *  0 unit  1 section  2 license  3 return  4 reg  5 imm  6 map  7 type  8 key  9 value  10 max  11 if  12 else  13 guard  14 heap  15 event
- * 21 u32  22 u64  23 i32  24 i64   25 {  26 }  27 (  28 )  29 :  30 .  31 ,  32 ;  33 [  34 ]   35 =  36 +=  37 -=  38 *=  39 /=  40 %=
- * 41 +  42 -  43 *  44 /  45 %  46 >>  47 <<   48 identifier  49 string  50 number  51 bytes  52 the text's end
- */
-enum { SH_ROW_WORDS = 8 };
+/* The words of a row. Offsets count from 0, lines and columns from 1; the end is the offset behind the last byte. The value is 64-bit
+ * two's complement, zero unless the kind is a number. The eighth word is zero. */
+enum sh_row_word {
+    SH_ROW_KIND = 0,
+    SH_ROW_START = 1,
+    SH_ROW_END = 2,
+    SH_ROW_LINE = 3,
+    SH_ROW_COLUMN = 4,
+    SH_ROW_VALUE_LOW = 5,
+    SH_ROW_VALUE_HIGH = 6,
+    SH_ROW_WORDS = 8
+};
 
-/* The words of a node: kind, place row, name row, children, four facts. A row that is missing is 4294967295. Children precede their
- * parent, in text order. Facts that a kind does not have are 0.
- *
- * Node kinds, their children in brackets, and their facts.
- *  1 variable   2 number: value low, value high   3 dereference [inner]   4 to 10 + - * / % << >> [left, right]
- * 11 call [receiver, arguments]   12 field [of what]   13 expression statement [expression]   14 =, 15 += [left, right]
- * 16 reg, 17 imm, 18 heap [value]   19 return [value]   20 if guard [variable, then, else if present]   21 then, 22 else [statements]
- * 23 section   24 license   25 unit [statements, sections, licences]: program kind, the last licence's string row
- * 26 event field: 1 plain, 2 bytes, 3 array; element type, 0 for bytes; length, 0 if plain   27 event [fields]
- * 28 map: map type; key type and value type, 0 if absent; max   29 program [maps, events, units]
- * Names are rows of 1, 11, 12, 16 to 18 and 23 to 28, and missing for the others.
- *
- * Types: 1 u32  2 u64  3 i32  4 i64. Map types: 1 hash  2 array  3 ringbuf  4 lru_hash  5 prog_array.
- * Program kinds: 0 xdp  1 tc  2 socket  3 cgroup  4 kprobe  5 tracepoint  6 raw tracepoint  7 fentry  8 fexit  9 lsm  10 unknown.
- * Context methods: 0 load_u8  1 load_u16  2 load_u32  3 load_u64  4 load_i8  5 load_i16  6 load_i32  7 load_i64  8 load_bytes
- *  9 get_pid_tgid  10 get_uid_gid  11 get_current_comm  12 get_current_task  13 get_ktime_ns  14 probe_read_user_str  15 probe_read_kernel_str.
- */
-enum { SH_NODE_WORDS = 8 };
+/* How many words hold the rows of a text of so many bytes, whatever it says. */
+#define SH_ROW_ROOM(bytes) (((size_t)(bytes) + 1) * SH_ROW_WORDS)
 
-/* Refusal numbers.
- *  1 text over 65,536 bytes          2 a byte of 128 or more           3 table, row or set number not well formed
- *  4 more rows than lent room        5 node room below row count       6 edit not sensible        7 window short
- * 11 byte begins no row, lone < or >, no hex digit   12 open comment   13 open string   14 bad escape   15 digits over 2^63 - 1
- * 21 another kind wanted   22 not a top-level word   23 not a map field   24 map type unknown   25 not a type   26 max negative
- * 27 max or length out of range   28 shift count outside 0 to 63   29 map lacks a field   30 event type   31 call on anything but a
- * variable   32 the 65th open construct
- */
+/* Row kinds. 16 to 20 are never made. */
+enum sh_row_kind {
+    SH_ROW_KIND_UNIT = 0,
+    SH_ROW_KIND_SECTION = 1,
+    SH_ROW_KIND_LICENSE = 2,
+    SH_ROW_KIND_RETURN = 3,
+    SH_ROW_KIND_REG = 4,
+    SH_ROW_KIND_IMM = 5,
+    SH_ROW_KIND_MAP = 6,
+    SH_ROW_KIND_TYPE = 7,
+    SH_ROW_KIND_KEY = 8,
+    SH_ROW_KIND_VALUE = 9,
+    SH_ROW_KIND_MAX = 10,
+    SH_ROW_KIND_IF = 11,
+    SH_ROW_KIND_ELSE = 12,
+    SH_ROW_KIND_GUARD = 13,
+    SH_ROW_KIND_HEAP = 14,
+    SH_ROW_KIND_EVENT = 15,
+    SH_ROW_KIND_TYPE_U32 = 21,
+    SH_ROW_KIND_TYPE_U64 = 22,
+    SH_ROW_KIND_TYPE_I32 = 23,
+    SH_ROW_KIND_TYPE_I64 = 24,
+    SH_ROW_KIND_LBRACE = 25,         /* { */
+    SH_ROW_KIND_RBRACE = 26,         /* } */
+    SH_ROW_KIND_LPAREN = 27,         /* ( */
+    SH_ROW_KIND_RPAREN = 28,         /* ) */
+    SH_ROW_KIND_COLON = 29,          /* : */
+    SH_ROW_KIND_DOT = 30,            /* . */
+    SH_ROW_KIND_COMMA = 31,          /* , */
+    SH_ROW_KIND_SEMICOLON = 32,      /* ; */
+    SH_ROW_KIND_LBRACKET = 33,       /* [ */
+    SH_ROW_KIND_RBRACKET = 34,       /* ] */
+    SH_ROW_KIND_EQUALS = 35,         /* = */
+    SH_ROW_KIND_PLUS_EQUALS = 36,    /* += */
+    SH_ROW_KIND_MINUS_EQUALS = 37,   /* -= */
+    SH_ROW_KIND_STAR_EQUALS = 38,    /* *= */
+    SH_ROW_KIND_SLASH_EQUALS = 39,   /* a slash and = */
+    SH_ROW_KIND_PERCENT_EQUALS = 40, /* %= */
+    SH_ROW_KIND_PLUS = 41,           /* + */
+    SH_ROW_KIND_MINUS = 42,          /* - */
+    SH_ROW_KIND_STAR = 43,           /* * */
+    SH_ROW_KIND_SLASH = 44,          /* a slash */
+    SH_ROW_KIND_PERCENT = 45,        /* % */
+    SH_ROW_KIND_SHR = 46,            /* >> */
+    SH_ROW_KIND_SHL = 47,            /* << */
+    SH_ROW_KIND_IDENTIFIER = 48,
+    SH_ROW_KIND_STRING_LITERAL = 49,
+    SH_ROW_KIND_NUMBER = 50,
+    SH_ROW_KIND_BYTES = 51,
+    SH_ROW_KIND_EOF = 52 /* the text's end */
+};
+
+/* The words of a node. Place and name are row numbers; a row that is missing is SH_MISSING. Children precede their parent, in text order,
+ * and the program is last. Facts that a kind does not have are 0. */
+enum sh_node_word {
+    SH_NODE_KIND = 0,
+    SH_NODE_PLACE = 1,
+    SH_NODE_NAME = 2,
+    SH_NODE_CHILDREN = 3, /* how many */
+    SH_NODE_FACTS = 4,    /* the first of four */
+    SH_NODE_WORDS = 8
+};
+
+#define SH_MISSING UINT32_C(4294967295)
+
+/* How many words hold the nodes of a table of so many rows, whatever they are. */
+#define SH_NODE_ROOM(rows) ((size_t)(rows) * SH_NODE_WORDS)
+
+/* Node kinds, their children in brackets, and their facts. Names are rows of variables, calls, fields, reg, imm, heap, sections, licences,
+ * units, event fields, events and maps, and missing for the others. */
+enum sh_node_kind {
+    SH_NODE_KIND_VARIABLE = 1,
+    SH_NODE_KIND_NUMBER = 2,      /* value low, value high */
+    SH_NODE_KIND_DEREFERENCE = 3, /* [inner] */
+    SH_NODE_KIND_ADD = 4,         /* [left, right], as are the next six */
+    SH_NODE_KIND_SUB = 5,
+    SH_NODE_KIND_MUL = 6,
+    SH_NODE_KIND_DIV = 7,
+    SH_NODE_KIND_MOD = 8,
+    SH_NODE_KIND_SHL = 9,
+    SH_NODE_KIND_SHR = 10,
+    SH_NODE_KIND_CALL = 11,        /* [receiver, arguments] */
+    SH_NODE_KIND_FIELD = 12,       /* [of what] */
+    SH_NODE_KIND_EXPRESSION = 13,  /* [expression]: an expression that is a statement */
+    SH_NODE_KIND_ASSIGN = 14,      /* [left, right] */
+    SH_NODE_KIND_ADD_ASSIGN = 15,  /* [left, right] */
+    SH_NODE_KIND_REG = 16,         /* [value] */
+    SH_NODE_KIND_IMM = 17,         /* [value] */
+    SH_NODE_KIND_HEAP = 18,        /* [value] */
+    SH_NODE_KIND_RETURN = 19,      /* [value] */
+    SH_NODE_KIND_IF = 20,          /* [variable, then, else if present] */
+    SH_NODE_KIND_THEN = 21,        /* [statements] */
+    SH_NODE_KIND_ELSE = 22,        /* [statements] */
+    SH_NODE_KIND_SECTION = 23,
+    SH_NODE_KIND_LICENSE = 24,
+    SH_NODE_KIND_UNIT = 25,        /* [statements, sections, licences]: program kind; the last licence's string row, or SH_MISSING */
+    SH_NODE_KIND_EVENT_FIELD = 26, /* shape; element type, 0 for bytes; length, 0 if plain */
+    SH_NODE_KIND_EVENT = 27,       /* [fields] */
+    SH_NODE_KIND_MAP = 28,         /* map type; key type and value type, 0 if absent; max */
+    SH_NODE_KIND_PROGRAM = 29      /* [maps, events, units] */
+};
+
+/* Types of keys, values and elements. */
+enum sh_type {
+    SH_TYPE_U32 = 1,
+    SH_TYPE_U64 = 2,
+    SH_TYPE_I32 = 3,
+    SH_TYPE_I64 = 4
+};
+
+enum sh_map_type {
+    SH_MAP_TYPE_HASH = 1,
+    SH_MAP_TYPE_ARRAY = 2,
+    SH_MAP_TYPE_RINGBUF = 3,
+    SH_MAP_TYPE_LRU_HASH = 4,
+    SH_MAP_TYPE_PROG_ARRAY = 5
+};
+
+/* The shape of an event's field. */
+enum sh_shape {
+    SH_SHAPE_PLAIN = 1,
+    SH_SHAPE_BYTES = 2,
+    SH_SHAPE_ARRAY = 3
+};
+
+/* What a unit is, by its first section. */
+enum sh_program_kind {
+    SH_PROGRAM_KIND_XDP = 0,
+    SH_PROGRAM_KIND_TC = 1,
+    SH_PROGRAM_KIND_SOCKET = 2,
+    SH_PROGRAM_KIND_CGROUP = 3,
+    SH_PROGRAM_KIND_KPROBE = 4,
+    SH_PROGRAM_KIND_TRACEPOINT = 5,
+    SH_PROGRAM_KIND_RAW_TRACEPOINT = 6,
+    SH_PROGRAM_KIND_FENTRY = 7,
+    SH_PROGRAM_KIND_FEXIT = 8,
+    SH_PROGRAM_KIND_LSM = 9,
+    SH_PROGRAM_KIND_UNKNOWN = 10
+};
+
+/* Context methods. */
+enum sh_method {
+    SH_METHOD_LOAD_U8 = 0,
+    SH_METHOD_LOAD_U16 = 1,
+    SH_METHOD_LOAD_U32 = 2,
+    SH_METHOD_LOAD_U64 = 3,
+    SH_METHOD_LOAD_I8 = 4,
+    SH_METHOD_LOAD_I16 = 5,
+    SH_METHOD_LOAD_I32 = 6,
+    SH_METHOD_LOAD_I64 = 7,
+    SH_METHOD_LOAD_BYTES = 8,
+    SH_METHOD_GET_PID_TGID = 9,
+    SH_METHOD_GET_UID_GID = 10,
+    SH_METHOD_GET_CURRENT_COMM = 11,
+    SH_METHOD_GET_CURRENT_TASK = 12,
+    SH_METHOD_GET_KTIME_NS = 13,
+    SH_METHOD_PROBE_READ_USER_STR = 14,
+    SH_METHOD_PROBE_READ_KERNEL_STR = 15
+};
+
+/* Refusal numbers: 1 to 7 of the call, 11 to 15 of the scan, 21 to 32 of the parse. A later version may have more. */
+enum sh_refusal {
+    SH_REFUSED_TEXT_TOO_LONG = 1,     /* over SH_LONGEST_TEXT bytes */
+    SH_REFUSED_BAD_BYTE = 2,          /* a byte of 128 or more */
+    SH_REFUSED_NOT_WELL_FORMED = 3,   /* table, row or set number */
+    SH_REFUSED_NO_ROW_ROOM = 4,       /* more rows than lent room */
+    SH_REFUSED_NO_NODE_ROOM = 5,      /* node room below row count */
+    SH_REFUSED_EDIT_NOT_SENSIBLE = 6,
+    SH_REFUSED_WINDOW_SHORT = 7,
+    SH_REFUSED_NO_ROW_BEGINS = 11,    /* a byte that begins no row, a lone < or >, no hex digit */
+    SH_REFUSED_OPEN_COMMENT = 12,
+    SH_REFUSED_OPEN_STRING = 13,
+    SH_REFUSED_BAD_ESCAPE = 14,
+    SH_REFUSED_NUMBER_TOO_LARGE = 15, /* digits over 2^63 - 1 */
+    SH_REFUSED_WANTED = 21,           /* another kind was wanted: both are told */
+    SH_REFUSED_NOT_TOP_LEVEL = 22,    /* not a top-level word */
+    SH_REFUSED_NOT_MAP_FIELD = 23,
+    SH_REFUSED_MAP_TYPE_UNKNOWN = 24,
+    SH_REFUSED_NOT_TYPE = 25,
+    SH_REFUSED_MAX_NEGATIVE = 26,
+    SH_REFUSED_OUT_OF_RANGE = 27,     /* max or length */
+    SH_REFUSED_SHIFT_COUNT = 28,      /* outside 0 to 63 */
+    SH_REFUSED_MAP_LACKS = 29,        /* a field, which is told */
+    SH_REFUSED_NOT_EVENT_TYPE = 30,
+    SH_REFUSED_CALL_ON_OTHER = 31,    /* a call on anything but a variable */
+    SH_REFUSED_TOO_DEEP = 32          /* the 65th open construct */
+};
+
+/* The field that a map lacks. */
+enum sh_map_field {
+    SH_MAP_FIELD_TYPE = 1,
+    SH_MAP_FIELD_KEY = 2,
+    SH_MAP_FIELD_VALUE = 3,
+    SH_MAP_FIELD_MAX = 4
+};
+
+/* The archive's version: SPOONHARBOR_VERSION of the header that it belongs to. */
+uint32_t spoonharbor_version(void);
 
 /* Scan a text into rows. Number 0 or 11 to 15: a table of SH_COUNT rows, which ends so. 4: as many rows as there is room for are
- * written. 1, 2: the rows are untouched. */
+ * written; SH_ROW_ROOM(text_length) words are always enough. 1, 2: the rows are untouched. */
 void spoonharbor_scan(const uint8_t *text, size_t text_length, uint32_t *rows, size_t row_words, uint32_t answer[SH_WORDS]);
 
 /* 1 if a table is well formed, else 0. */
@@ -75,14 +278,18 @@ uint32_t spoonharbor_well_formed(const uint32_t *rows, size_t row_words, const u
 void spoonharbor_spelling(const uint8_t *text, size_t text_length, const uint32_t *rows, size_t row_words, const uint32_t table[SH_WORDS],
                           uint32_t row, uint32_t answer[SH_WORDS]);
 
-/* Parse a table into nodes: SH_COUNT of them, or a refusal that leaves node memory untouched. Room for as many nodes as rows suffices.
+/* Parse a table into nodes: SH_COUNT of them, or a refusal that leaves node memory untouched. SH_NODE_ROOM of the row count suffices.
  * Refusals, the first of them in this order: 1, 2, 3, the table's own 11 to 15, 5, then 21 to 32 in reading order. */
 void spoonharbor_parse(const uint8_t *text, size_t text_length, const uint32_t *rows, size_t row_words, const uint32_t table[SH_WORDS],
                        uint32_t *nodes, size_t node_words, uint32_t answer[SH_WORDS]);
 
 /* Old bytes a to b (b not included) became n new ones. The window is a part of the new text that starts at the restart place (offset
  * `start`). The new table is that of a fresh scan of the new text, or 7: show a longer window. Refusals in this order: 3, 6, 1, 2, 7,
- * which leave the new rows untouched, then 4 or 11 to 15 as a scan gives them. */
+ * which leave the new rows untouched, then 4 or 11 to 15 as a scan gives them.
+ *
+ * How long a window: it must show all new bytes, and some way behind them (256 bytes mostly suffice). As long as the answer is 7, show
+ * four times as much behind the new bytes, up to the text's end: a window to the text's end is never 7. Each call costs a pass over the
+ * table, so growing byte by byte is slow: in 60 KB of text up to half a minute, where growing fourfold takes five calls and 2 ms. */
 void spoonharbor_edit(const uint32_t *old_rows, size_t old_words, const uint32_t table[SH_WORDS], uint32_t a, uint32_t b, uint32_t n,
                       uint32_t start, const uint8_t *window, size_t window_length, uint32_t *new_rows, size_t new_words,
                       uint32_t answer[SH_WORDS]);
@@ -98,5 +305,9 @@ void spoonharbor_set_size(uint32_t kind, uint32_t answer[SH_WORDS]);
 
 /* The program kind of a section's text, 0 to 10. */
 uint32_t spoonharbor_section_kind(const uint8_t *text, size_t text_length);
+
+#ifdef __cplusplus
+}
+#endif
 
 #endif

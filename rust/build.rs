@@ -1,86 +1,135 @@
-//! Links the proved library, `libspoonharbor.a`; builds it if it is not there.
+//! Links the proved library, `libspoonharbor.a`, of this crate's own version.
 //!
 //! The archive stands in the folder that the environment variable `SPOONHARBOR_ARCHIVE` names. Without the variable it is
-//! `../target/staticlib` on x86-64, where `rt staticlib spoonharbor` in the repository root writes it, and
-//! `../target/staticlib/PROCESSOR` on another processor, where `./archive` does.
+//! `../target/staticlib` on x86-64 and `../target/staticlib/PROCESSOR` on another processor, where `./archive` proves and
+//! writes it if it is missing or older than the crates. An archive of another version is refused.
 
 use std::env;
+use std::fs;
 use std::path::{Path, PathBuf};
 use std::process::{self, Command};
 
 const FOLDER_VARIABLE: &str = "SPOONHARBOR_ARCHIVE";
 const ARCHIVE: &str = "libspoonharbor.a";
 
+/// A program that prints the version of the archive that it is linked with.
+const ASKING: &str = "\
+extern \"C\" { fn spoonharbor_version() -> u32; }
+fn main() { println!(\"{}\", unsafe { spoonharbor_version() }); }
+";
+
 fn main() {
     println!("cargo:rerun-if-env-changed={FOLDER_VARIABLE}");
     println!("cargo:rerun-if-changed=build.rs");
-    let root = repository();
-    let processor = env::var("CARGO_CFG_TARGET_ARCH").expect("cargo says the target's processor");
     let folder = match env::var_os(FOLDER_VARIABLE) {
         Some(folder) => PathBuf::from(folder),
-        None => default_folder(&root, &processor),
+        None => built_folder(),
     };
     let archive = folder.join(ARCHIVE);
     if !archive.is_file() {
-        if env::var_os(FOLDER_VARIABLE).is_some() {
-            stop(&format!(
-                "{FOLDER_VARIABLE} is set, and {} is not there",
-                archive.display()
-            ));
-        }
-        build(&root, &processor, &archive);
+        stop(&format!("{} is not there", archive.display()));
     }
     println!("cargo:rerun-if-changed={}", archive.display());
+    check_version(&folder);
     println!(
         "cargo:rustc-env=SPOONHARBOR_ARCHIVE_FILE={}",
         archive.display()
     );
     println!("cargo:rustc-link-search=native={}", folder.display());
-    println!("cargo:rustc-link-lib=static=console");
+    println!("cargo:rustc-link-lib=static=spoonharbor");
 }
 
-/// The folder above this crate's.
-fn repository() -> PathBuf {
-    let here = env::var_os("CARGO_MANIFEST_DIR").expect("cargo says where the crate is");
-    Path::new(&here)
-        .parent()
-        .expect("the crate stands in the repository")
-        .to_path_buf()
+/// What cargo says of itself, the crate or the target.
+fn told(name: &str) -> String {
+    match env::var(name) {
+        Ok(value) => value,
+        Err(error) => stop(&format!("{name}: {error}")),
+    }
 }
 
-fn default_folder(root: &Path, processor: &str) -> PathBuf {
+/// The folder in which `./archive` writes the archive for the target's processor; it is as new as the crates then.
+fn built_folder() -> PathBuf {
+    let here = PathBuf::from(told("CARGO_MANIFEST_DIR"));
+    let root = here.parent().unwrap_or(&here).to_path_buf();
+    let processor = told("CARGO_CFG_TARGET_ARCH");
+    for part in ["crates", "crates.txt", "rust/archive"] {
+        println!("cargo:rerun-if-changed={}", root.join(part).display());
+    }
+    let mut command = Command::new("sh");
+    command
+        .arg("rust/archive")
+        .arg(&processor)
+        .current_dir(&root);
+    if let Err(complaint) = succeeded(&mut command) {
+        stop(&complaint);
+    }
     let folder = root.join("target").join("staticlib");
-    match processor {
+    match processor.as_str() {
         "x86_64" => folder,
         _ => folder.join(processor),
     }
 }
 
-/// Runs the one command that proves the library and writes the archive.
-fn build(root: &Path, processor: &str, archive: &Path) {
-    let mut command = match processor {
-        "x86_64" => {
-            let mut command = Command::new("rt");
-            command.args(["staticlib", "console"]);
-            command
-        }
-        _ => {
-            let mut command = Command::new("sh");
-            command.arg("rust/archive");
-            command
-        }
-    };
-    let output = command.current_dir(root).output();
-    match output {
-        Err(error) => stop(&format!("{command:?} cannot be run: {error}")),
-        Ok(output) if !output.status.success() || !archive.is_file() => stop(&format!(
-            "{command:?} in {} did not write {}\n{}{}",
-            root.display(),
-            archive.display(),
-            String::from_utf8_lossy(&output.stdout),
-            String::from_utf8_lossy(&output.stderr)
+/// Stops if the archive is of another version than this crate. Where the target's programs do not run here, it is not asked.
+fn check_version(folder: &Path) {
+    if told("HOST") != told("TARGET") {
+        return;
+    }
+    let wanted = ["MAJOR", "MINOR", "PATCH"]
+        .map(|part| told(&format!("CARGO_PKG_VERSION_{part}")))
+        .join(".");
+    match archive_version(folder) {
+        Ok(found) if found == wanted => {}
+        Ok(found) => stop(&format!(
+            "{} is version {found}, and this crate needs {wanted}",
+            folder.join(ARCHIVE).display()
         )),
-        Ok(_) => {}
+        Err(complaint) if complaint.contains("spoonharbor_version") => stop(&format!(
+            "{} tells no version, and this crate needs {wanted}",
+            folder.join(ARCHIVE).display()
+        )),
+        Err(complaint) => println!(
+            "cargo:warning=the archive's version could not be asked: {}",
+            complaint.lines().next().unwrap_or_default()
+        ),
+    }
+}
+
+/// The version that the archive tells, as `major.minor.patch`.
+fn archive_version(folder: &Path) -> Result<String, String> {
+    let room = PathBuf::from(told("OUT_DIR"));
+    let source = room.join("version.rs");
+    let program = room.join("version");
+    fs::write(&source, ASKING).map_err(|error| error.to_string())?;
+    let mut compile = Command::new(told("RUSTC"));
+    compile.args(["--edition=2021", "-l", "static=spoonharbor", "-L"]);
+    compile.arg(format!("native={}", folder.display()));
+    compile.arg("-o").arg(&program).arg(&source);
+    if let Some(linker) = env::var_os("RUSTC_LINKER") {
+        compile
+            .arg("-C")
+            .arg(format!("linker={}", Path::new(&linker).display()));
+    }
+    succeeded(&mut compile)?;
+    let answer = succeeded(&mut Command::new(&program))?;
+    match answer.trim().parse::<u32>() {
+        Ok(number) => Ok([number >> 16, number >> 8 & 255, number & 255]
+            .map(|part| part.to_string())
+            .join(".")),
+        Err(error) => Err(error.to_string()),
+    }
+}
+
+/// What a command says if it succeeds, and what it says if not.
+fn succeeded(command: &mut Command) -> Result<String, String> {
+    let output = match command.output() {
+        Ok(output) => output,
+        Err(error) => return Err(format!("{command:?} cannot be run: {error}")),
+    };
+    let out = String::from_utf8_lossy(&output.stdout);
+    match output.status.success() {
+        true => Ok(out.into_owned()),
+        false => Err(format!("{out}{}", String::from_utf8_lossy(&output.stderr))),
     }
 }
 

@@ -1,4 +1,4 @@
-//! The original's answer about one text, in document 01's terms.
+//! The original's answer about one text, in LANGUAGE.md's terms.
 //!
 //! What is compared, and what is not:
 //!
@@ -10,7 +10,7 @@
 //! - The parse: its refusal with number, place and what is told (21: wanted and
 //!   found kind, 29: the field), or its nodes. `parse` says how the places of
 //!   the panics 28, 29 (type) and 31 are found, `nodes` which words are known.
-//! - Not compared: texts that document 01 answers with 1 or 2, and parse
+//! - Not compared: texts that LANGUAGE.md answers with 1 or 2, and parse
 //!   outcomes of texts that it refuses with 27 or 32 (`differences`).
 
 use crate::deep::on_deep_stack;
@@ -29,7 +29,7 @@ pub struct Place {
     pub column: u32,
 }
 
-/// A row of document 01; the value is zero unless the kind is Number.
+/// A row of LANGUAGE.md; the value is zero unless the kind is Number.
 #[derive(Debug, Clone, Copy, PartialEq, Eq)]
 pub struct Row {
     pub kind: u32,
@@ -64,7 +64,7 @@ pub struct Refusal {
 pub enum Parsed {
     /// The scan was refused; there is nothing to parse.
     NotScanned,
-    /// Document 01 refuses with this number, 27 or 32, where the original reads on.
+    /// LANGUAGE.md refuses with this number, 27 or 32, where the original reads on.
     NotComparable {
         number: u32,
     },
@@ -75,7 +75,7 @@ pub enum Parsed {
 /// The answer about a text.
 #[derive(Debug, Clone, PartialEq, Eq)]
 pub enum Answer {
-    /// Document 01 refuses the text with this number, 1 or 2, before any row;
+    /// LANGUAGE.md refuses the text with this number, 1 or 2, before any row;
     /// the original is not asked.
     NotCompared { number: u32 },
     Compared {

@@ -1,4 +1,4 @@
-//! The two refusals of document 01 that the original's parser does not know.
+//! The two refusals of LANGUAGE.md that the original's parser does not know.
 //!
 //! 27: the original casts `max` and event lengths to 32 bits silently.
 //! 32: the original has no limit on nesting.
@@ -10,7 +10,7 @@
 
 use crate::parser::{Token, TokenKind};
 
-/// A refusal of document 01 that the original does not give, and its row.
+/// A refusal of LANGUAGE.md that the original does not give, and its row.
 #[derive(Debug, Clone, Copy, PartialEq, Eq)]
 pub struct Difference {
     pub number: u32,
@@ -20,7 +20,7 @@ pub struct Difference {
 /// The constructs that may be open at once.
 const NESTING_LIMIT: usize = 64;
 
-/// The first row at which document 01 refuses with 27 or 32.
+/// The first row at which LANGUAGE.md refuses with 27 or 32.
 pub fn first_named_difference(tokens: &[Token]) -> Option<Difference> {
     let too_large = number_too_large(tokens).map(|row| Difference { number: 27, row });
     let too_deep = opening_too_deep(tokens).map(|row| Difference { number: 32, row });

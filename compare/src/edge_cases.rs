@@ -1,4 +1,4 @@
-//! Texts whose answers document 01 and READINGS state, with these answers.
+//! Texts whose answers LANGUAGE.md and DECISIONS.md state, with these answers.
 //!
 //! The expectations are those papers' words, not output of the original. The
 //! edit is no part of the original: its example is here as the edited text only.
@@ -21,9 +21,9 @@ pub enum Expected {
     Accepted,
     /// The parse is accepted, and these are the declarations' nodes.
     Nodes(Vec<[Word; 8]>),
-    /// Document 01 answers 1 or 2, and the original is not asked.
+    /// LANGUAGE.md answers 1 or 2, and the original is not asked.
     NotCompared(u32),
-    /// Document 01 answers 27 or 32, which the original does not know.
+    /// LANGUAGE.md answers 27 or 32, which the original does not know.
     NotComparable(u32),
 }
 
@@ -144,10 +144,10 @@ fn unscanned(number: u32, offset: u32) -> Expected {
     Ending(vec![], [number, offset, 1, offset + 1])
 }
 
-/// The text of document 01's lister example.
+/// The text of LANGUAGE.md's lister example.
 pub const LISTER_TEXT: &[u8] = b"unit u{\n x+=-1;\n}\n";
 
-/// What document 01's lister prints for it.
+/// What LANGUAGE.md's lister prints for it.
 pub const LISTER_LINES: [&str; 16] = [
     "rows 9",
     "0 0 0 4 1 1 0",
@@ -167,12 +167,12 @@ pub const LISTER_LINES: [&str; 16] = [
     "4 29 8 4294967295 1 0 0 0 0",
 ];
 
-/// The method sets of READINGS 54, by program kind.
+/// The method sets of LANGUAGE.md 10.2, by program kind.
 pub const METHOD_SETS: [u16; 11] = [
     0x00FF, 0x000F, 0x0007, 0x000C, 0xC608, 0xFFFF, 0xC008, 0x0008, 0x0008, 0x0008, 0x0000,
 ];
 
-/// Section texts of READINGS 53 and of the original's table, with their program kinds.
+/// Section texts of LANGUAGE.md 10.1 and of the original's table, with their program kinds.
 pub const SECTION_KINDS: [(&str, u32); 22] = [
     ("xdp", 0),
     ("xdp2", 10),
@@ -211,9 +211,9 @@ pub fn edge_cases() -> Vec<EdgeCase> {
     cases
 }
 
-/// Document 01, "Both sides of each edge".
+/// LANGUAGE.md, "Both sides of each edge".
 fn document_edges() -> Vec<EdgeCase> {
-    let from = "document 01, edges";
+    let from = "LANGUAGE, edges";
     let m = MISSING;
     vec![
         case(from, "", Rows(vec![[52, 0, 0, 1, 1, 0]])),
@@ -280,7 +280,7 @@ fn document_edges() -> Vec<EdgeCase> {
         ),
         case(from, unit("a.b.c();"), refused(31, 11)),
         case(
-            "document 01, edges: the edited text",
+            "LANGUAGE, edges: the edited text",
             "unit u{\n x+=-12;\n}\n",
             Rows(vec![
                 [0, 0, 4, 1, 1, 0],
@@ -297,28 +297,52 @@ fn document_edges() -> Vec<EdgeCase> {
     ]
 }
 
-/// READINGS 1 to 10.
+/// Points of DECISIONS.
 fn scan_readings() -> Vec<EdgeCase> {
     vec![
-        case("READINGS 1", "unit", unwanted(4, 48, 52)),
-        case("READINGS 2", "\"\\\n\"", unscanned(14, 1)),
-        case("READINGS 2", "\"a\\", unscanned(13, 3)),
-        case("document 01, 13", "\"a\n\"", unscanned(13, 2)),
         case(
-            "READINGS 3",
+            "DECISIONS, line and column of Eof",
+            "unit",
+            unwanted(4, 48, 52),
+        ),
+        case(
+            "DECISIONS, a backslash before a newline",
+            "\"\\\n\"",
+            unscanned(14, 1),
+        ),
+        case(
+            "DECISIONS, a backslash before a newline",
+            "\"a\\",
+            unscanned(13, 3),
+        ),
+        case("LANGUAGE, 13", "\"a\n\"", unscanned(13, 2)),
+        case(
+            "DECISIONS, other bytes in strings",
             "\"\t\0\r\x7f\"",
             Rows(vec![[49, 0, 6, 1, 1, 0], [52, 6, 6, 1, 7, 0]]),
         ),
-        case("READINGS 4", "\r\n\x0b@", Ending(vec![], [11, 3, 2, 2])),
-        case("READINGS 5", "*/*", Ending(vec![43], [12, 3, 1, 4])),
         case(
-            "READINGS 5",
+            "DECISIONS, what ends a line",
+            "\r\n\x0b@",
+            Ending(vec![], [11, 3, 2, 2]),
+        ),
+        case(
+            "DECISIONS, a sign next to a comment",
+            "*/*",
+            Ending(vec![43], [12, 3, 1, 4]),
+        ),
+        case(
+            "DECISIONS, a sign next to a comment",
             "*//x",
             Rows(vec![[43, 0, 1, 1, 1, 0], [52, 4, 4, 1, 5, 0]]),
         ),
-        case("READINGS 5", "a<=b", Ending(vec![48], [11, 1, 1, 2])),
         case(
-            "READINGS 6",
+            "DECISIONS, a sign next to a comment",
+            "a<=b",
+            Ending(vec![48], [11, 1, 1, 2]),
+        ),
+        case(
+            "DECISIONS, where numbers end",
             "12ab",
             Rows(vec![
                 [50, 0, 2, 1, 1, 12],
@@ -327,7 +351,7 @@ fn scan_readings() -> Vec<EdgeCase> {
             ]),
         ),
         case(
-            "READINGS 6",
+            "DECISIONS, where numbers end",
             "0x1G",
             Rows(vec![
                 [50, 0, 3, 1, 1, 1],
@@ -336,7 +360,7 @@ fn scan_readings() -> Vec<EdgeCase> {
             ]),
         ),
         case(
-            "READINGS 6",
+            "DECISIONS, where numbers end",
             "00x1",
             Rows(vec![
                 [50, 0, 2, 1, 1, 0],
@@ -344,14 +368,14 @@ fn scan_readings() -> Vec<EdgeCase> {
                 [52, 4, 4, 1, 5, 0],
             ]),
         ),
-        case("READINGS 6", "-0x", unscanned(11, 3)),
+        case("DECISIONS, where numbers end", "-0x", unscanned(11, 3)),
         case(
-            "READINGS 6",
+            "DECISIONS, where numbers end",
             "-0",
             Rows(vec![[50, 0, 2, 1, 1, 0], [52, 2, 2, 1, 3, 0]]),
         ),
         case(
-            "READINGS 6",
+            "DECISIONS, where numbers end",
             "--1",
             Rows(vec![
                 [42, 0, 1, 1, 1, 0],
@@ -360,19 +384,23 @@ fn scan_readings() -> Vec<EdgeCase> {
             ]),
         ),
         case(
-            "READINGS 7",
+            "DECISIONS, the largest number",
             format!("{}1", "0".repeat(30)),
             Rows(vec![[50, 0, 31, 1, 1, 1], [52, 31, 31, 1, 32, 0]]),
         ),
-        case("READINGS 7", "-0x8000000000000000", unscanned(15, 0)),
-        case("READINGS 9", " ".repeat(65_537), NotCompared(1)),
-        case("READINGS 10", [0x80], NotCompared(2)),
+        case(
+            "DECISIONS, the largest number",
+            "-0x8000000000000000",
+            unscanned(15, 0),
+        ),
+        case("DECISIONS, 1", " ".repeat(65_537), NotCompared(1)),
+        case("DECISIONS, 2", [0x80], NotCompared(2)),
     ]
 }
 
-/// READINGS 19 and 20: what 21 tells.
+/// Points of DECISIONS: what 21 tells.
 fn wanted_readings() -> Vec<EdgeCase> {
-    let from = "READINGS 19";
+    let from = "DECISIONS, 21's wanted kind";
     vec![
         case(from, unit("a-=1;"), unwanted(8, 32, 37)),
         case(from, unit("a=b=c;"), unwanted(10, 32, 35)),
@@ -404,69 +432,109 @@ fn wanted_readings() -> Vec<EdgeCase> {
         case(from, "map m{key u32;", unwanted(10, 29, 21)),
         case(from, "map m{type:hash;", unwanted(11, 30, 48)),
         case(from, "map m{max:a;", unwanted(10, 50, 48)),
-        case("READINGS 20", "map m{", refused(23, 6)),
-        case("READINGS 20", "unit u{", unwanted(7, 48, 52)),
-        case("READINGS 20", "event e{", unwanted(8, 48, 52)),
-        case("READINGS 20", "unit u{if guard(a){", unwanted(19, 48, 52)),
+        case("DECISIONS, what is not closed", "map m{", refused(23, 6)),
+        case(
+            "DECISIONS, what is not closed",
+            "unit u{",
+            unwanted(7, 48, 52),
+        ),
+        case(
+            "DECISIONS, what is not closed",
+            "event e{",
+            unwanted(8, 48, 52),
+        ),
+        case(
+            "DECISIONS, what is not closed",
+            "unit u{if guard(a){",
+            unwanted(19, 48, 52),
+        ),
     ]
 }
 
-/// READINGS 21 to 23, 25 and 26: maps.
+/// Points of DECISIONS: maps.
 fn map_readings() -> Vec<EdgeCase> {
     vec![
-        case("READINGS 21", "map m{type:.q}", refused(24, 13)),
-        case("READINGS 21", "map m{type:.q", refused(24, 13)),
-        case("READINGS 21", "map m{type:.key;}", unwanted(12, 48, 8)),
-        case("READINGS 22", "map m{key:}", refused(25, 11)),
-        case("READINGS 22", "map m{key:", refused(25, 10)),
-        case("READINGS 22", "map m{key:bytes;}", refused(25, 15)),
-        case("READINGS 23", ringbuf("-1<<64"), refused(28, 28)),
-        case("READINGS 23", "map m{max:1<<64 q", refused(28, 13)),
-        case("READINGS 23", "map m{max:-1}", refused(26, 12)),
-        case("READINGS 23", "map m{max:4294967296}", NotComparable(27)),
+        case("DECISIONS, 24", "map m{type:.q}", refused(24, 13)),
+        case("DECISIONS, 24", "map m{type:.q", refused(24, 13)),
+        case("DECISIONS, 24", "map m{type:.key;}", unwanted(12, 48, 8)),
+        case("DECISIONS, 25", "map m{key:}", refused(25, 11)),
+        case("DECISIONS, 25", "map m{key:", refused(25, 10)),
+        case("DECISIONS, 25", "map m{key:bytes;}", refused(25, 15)),
+        case("DECISIONS, 26, 27, 28", ringbuf("-1<<64"), refused(28, 28)),
         case(
-            "READINGS 23",
+            "DECISIONS, 26, 27, 28",
+            "map m{max:1<<64 q",
+            refused(28, 13),
+        ),
+        case("DECISIONS, 26, 27, 28", "map m{max:-1}", refused(26, 12)),
+        case(
+            "DECISIONS, 26, 27, 28",
+            "map m{max:4294967296}",
+            NotComparable(27),
+        ),
+        case(
+            "DECISIONS, 26, 27, 28",
             ringbuf("1<<40>>40"),
             nodes(&[&[28, 1, 1, 0, 3, 0, 0, 1]]),
         ),
         case(
-            "READINGS 23",
+            "DECISIONS, 26, 27, 28",
             ringbuf("1<<63<<1"),
             nodes(&[&[28, 1, 1, 0, 3, 0, 0, 0]]),
         ),
-        case("READINGS 23", ringbuf("1<<63>>63"), refused(26, 33)),
-        case("READINGS 23", ringbuf("4294967296>>0"), NotComparable(27)),
-        case("READINGS 25", "map m{max:-1;max:1;}", refused(26, 12)),
-        case("READINGS 26", "map m{}", lacking(1, 7)),
         case(
-            "READINGS 26",
+            "DECISIONS, 26, 27, 28",
+            ringbuf("1<<63>>63"),
+            refused(26, 33),
+        ),
+        case(
+            "DECISIONS, 26, 27, 28",
+            ringbuf("4294967296>>0"),
+            NotComparable(27),
+        ),
+        case(
+            "DECISIONS, a field that a later one replaces",
+            "map m{max:-1;max:1;}",
+            refused(26, 12),
+        ),
+        case("DECISIONS, 29", "map m{}", lacking(1, 7)),
+        case(
+            "DECISIONS, 29",
             "map m{type:.hash;}\nunit u{}",
             Refused([29, 19, 2, 1, 2, 0]),
         ),
-        case("READINGS 26", "map m{type:.hash;key:u32;}", lacking(3, 26)),
         case(
-            "READINGS 26",
+            "DECISIONS, 29",
+            "map m{type:.hash;key:u32;}",
+            lacking(3, 26),
+        ),
+        case(
+            "DECISIONS, 29",
             "map m{type:.hash;key:u32;value:u32;}",
             lacking(4, 36),
         ),
-        case("READINGS 26", "map m{type:.ringbuf;}", lacking(4, 21)),
+        case("DECISIONS, 29", "map m{type:.ringbuf;}", lacking(4, 21)),
         case(
-            "READINGS 26",
+            "DECISIONS, 29",
             "map m{type:.ringbuf;key:u64;value:i64;max:1;}",
             nodes(&[&[28, 1, 1, 0, 3, 2, 4, 1]]),
         ),
     ]
 }
 
-/// READINGS 24 and 27: events.
+/// Points of DECISIONS: events.
 fn event_readings() -> Vec<EdgeCase> {
     vec![
-        case("READINGS 24", "event e{a:u32[-1;", NotComparable(27)),
-        case("READINGS 27", "event e{a:", refused(30, 10)),
-        case("READINGS 27", "event e{a:q;}", refused(30, 10)),
-        case("READINGS 27", "event e{a:bytes;}", unwanted(15, 33, 32)),
         case(
-            "document 01, event fields",
+            "DECISIONS, 27 for lengths",
+            "event e{a:u32[-1;",
+            NotComparable(27),
+        ),
+        case("DECISIONS, 30", "event e{a:", refused(30, 10)),
+        case("DECISIONS, 30", "event e{a:q;}", refused(30, 10)),
+        case("DECISIONS, 30", "event e{a:bytes;}", unwanted(15, 33, 32)),
+        case(
+            "LANGUAGE, event fields",
             "event e{a:i32;b:bytes[9];c:u64[7];}",
             nodes(&[
                 &[26, 3, 3, 0, 1, 3, 0],
@@ -478,9 +546,9 @@ fn event_readings() -> Vec<EdgeCase> {
     ]
 }
 
-/// READINGS 28: calls.
+/// Points of DECISIONS: calls.
 fn call_readings() -> Vec<EdgeCase> {
-    let from = "READINGS 28";
+    let from = "DECISIONS, 31";
     vec![
         case(from, unit("a.b.c(;"), unwanted(13, 48, 32)),
         case(from, unit("a.b.c(1,);"), unwanted(15, 48, 28)),
@@ -495,7 +563,7 @@ fn call_readings() -> Vec<EdgeCase> {
     ]
 }
 
-/// READINGS 29 and 30: nesting.
+/// Points of DECISIONS: nesting.
 fn nesting_readings() -> Vec<EdgeCase> {
     let full = repeated(&[Group], 64);
     let bodies = repeated(&[Then], 64);
@@ -503,50 +571,66 @@ fn nesting_readings() -> Vec<EdgeCase> {
     let behind_bodies = 7 + 64 * 12;
     let stars = repeated(&[Star], 62);
     vec![
-        case("READINGS 29", nested(&full, "z.w()"), Accepted),
-        case("READINGS 29", nested(&full, "z.w(1)"), NotComparable(32)),
-        case("READINGS 29", opened(&full) + "(", NotComparable(32)),
-        case("READINGS 29", opened(&full) + "*", NotComparable(32)),
-        case("READINGS 29", nested(&full, "a.b.c(1)"), NotComparable(32)),
-        case("READINGS 29", nested(&full, "a.b.c()"), refused(31, 75)),
-        case("READINGS 30", nested(&bodies, ""), Accepted),
+        case("DECISIONS, 32", nested(&full, "z.w()"), Accepted),
+        case("DECISIONS, 32", nested(&full, "z.w(1)"), NotComparable(32)),
+        case("DECISIONS, 32", opened(&full) + "(", NotComparable(32)),
+        case("DECISIONS, 32", opened(&full) + "*", NotComparable(32)),
         case(
-            "READINGS 30",
+            "DECISIONS, 32",
+            nested(&full, "a.b.c(1)"),
+            NotComparable(32),
+        ),
+        case("DECISIONS, 32", nested(&full, "a.b.c()"), refused(31, 75)),
+        case(
+            "DECISIONS, what nesting counts",
+            nested(&bodies, ""),
+            Accepted,
+        ),
+        case(
+            "DECISIONS, what nesting counts",
             nested(&bodies, "if guard(a){}"),
             NotComparable(32),
         ),
         case(
-            "READINGS 30",
+            "DECISIONS, what nesting counts",
             nested(&bodies, "if guard(1"),
             unwanted(behind_bodies + 9, 48, 50),
         ),
-        case("READINGS 30", nested(&stars, "*a.f(x)"), Accepted),
-        case("READINGS 30", nested(&stars, "**a.f(x)"), NotComparable(32)),
+        case(
+            "DECISIONS, what nesting counts",
+            nested(&stars, "*a.f(x)"),
+            Accepted,
+        ),
+        case(
+            "DECISIONS, what nesting counts",
+            nested(&stars, "**a.f(x)"),
+            NotComparable(32),
+        ),
     ]
 }
 
-/// READINGS 32 to 38: nodes.
+/// Points of DECISIONS: nodes.
 fn node_readings() -> Vec<EdgeCase> {
     let m = MISSING;
     let unit_of_one: &[u32] = &[25, 0, 1, 1, 10, m];
     vec![
         case(
-            "READINGS 32",
+            "DECISIONS, places of statements",
             unit("return (x);"),
             nodes(&[&[1, 5, 5], &[19, 4, m, 1], unit_of_one]),
         ),
         case(
-            "READINGS 32",
+            "DECISIONS, places of statements",
             unit("return *x;"),
             nodes(&[&[1, 5, 5], &[3, 5, m, 1], &[19, 4, m, 1], unit_of_one]),
         ),
         case(
-            "READINGS 32",
+            "DECISIONS, places of statements",
             unit("(x);"),
             nodes(&[&[1, 4, 4], &[13, 4, m, 1], unit_of_one]),
         ),
         case(
-            "READINGS 32",
+            "DECISIONS, places of statements",
             unit("*x=1;"),
             nodes(&[
                 &[1, 4, 4],
@@ -557,7 +641,7 @@ fn node_readings() -> Vec<EdgeCase> {
             ]),
         ),
         case(
-            "READINGS 32",
+            "DECISIONS, places of statements",
             unit("a.b=1;"),
             nodes(&[
                 &[1, 3, 3],
@@ -568,7 +652,7 @@ fn node_readings() -> Vec<EdgeCase> {
             ]),
         ),
         case(
-            "READINGS 33",
+            "DECISIONS, groups",
             unit("(a+b)*c;"),
             nodes(&[
                 &[1, 4, 4],
@@ -581,7 +665,7 @@ fn node_readings() -> Vec<EdgeCase> {
             ]),
         ),
         case(
-            "READINGS 34",
+            "DECISIONS, names and places",
             unit("reg a=b;imm c=0;heap d=e;"),
             nodes(&[
                 &[1, 6, 6],
@@ -594,7 +678,7 @@ fn node_readings() -> Vec<EdgeCase> {
             ]),
         ),
         case(
-            "document 01, if",
+            "LANGUAGE, if",
             unit("if guard(a){b;}else{}"),
             Nodes(vec![
                 known(&[1, 6, 6]),
@@ -625,24 +709,32 @@ fn node_readings() -> Vec<EdgeCase> {
             ]),
         ),
         case(
-            "READINGS 36",
+            "DECISIONS, a first section that is no known one",
             unit("a;section \"q\";section \"xdp\";"),
             nodes(&[&[1, 3, 3], &[13, 3, m, 1], &[25, 0, 1, 3, 10, m]]),
         ),
         case(
-            "READINGS 37",
+            "DECISIONS, a section's text",
             unit(r#"section "xdp\"";"#),
             nodes(&[unit_of_one]),
         ),
         case(
-            "READINGS 37",
+            "DECISIONS, a section's text",
             unit(r#"section "tc\"";"#),
             nodes(&[&[25, 0, 1, 1, 1, m]]),
         ),
-        case("READINGS 38", unit("1=2;"), Accepted),
-        case("READINGS 38", unit("a*=2;"), unwanted(8, 32, 38)),
         case(
-            "document 01, licence",
+            "DECISIONS, signs that no statement takes",
+            unit("1=2;"),
+            Accepted,
+        ),
+        case(
+            "DECISIONS, signs that no statement takes",
+            unit("a*=2;"),
+            unwanted(8, 32, 38),
+        ),
+        case(
+            "LANGUAGE, licence",
             unit("license \"MIT\";section \"xdp\";license \"GPL\";"),
             Nodes(vec![[
                 Some(25),

@@ -51,7 +51,7 @@ pub fn fixed_texts() -> Vec<Vec<u8>> {
     texts
 }
 
-/// The edge cases without those that document 01 answers with 1 or 2.
+/// The edge cases without those that LANGUAGE.md answers with 1 or 2.
 fn compared_edge_cases() -> impl Iterator<Item = Vec<u8>> {
     edge_cases()
         .into_iter()

@@ -59,7 +59,7 @@ pub const KINDS: [TokenKind; 53] = [
     Eof,
 ];
 
-/// The number of a kind in document 01.
+/// The number of a kind in LANGUAGE.md.
 pub fn number_of(kind: TokenKind) -> u32 {
     kind as u32
 }

@@ -1,10 +1,10 @@
 //! The original Rust (docs/src, built unchanged) asked about a text, with its
-//! answer given in the terms of document 01.
+//! answer given in the terms of LANGUAGE.md.
 //!
 //! `answer` is the way in; `generate` makes texts to ask about; `edge_cases`
-//! has the texts whose answers document 01 and READINGS state; `sample` and
+//! has the texts whose answers LANGUAGE.md and DECISIONS.md state; `sample` and
 //! `edits` write answers down for programs that cannot run Rust. `model` is
-//! document 01 written down a second time, for what the original does not say.
+//! LANGUAGE.md written down a second time, for what the original does not say.
 
 #[allow(clippy::all)]
 pub mod original;
@@ -13,6 +13,8 @@ pub use original::{ast, ir, lexer, parser};
 
 pub mod agree;
 pub mod answer;
+#[cfg(feature = "library")]
+pub mod bench;
 pub mod deep;
 pub mod differences;
 pub mod edge_cases;

@@ -1,4 +1,4 @@
-//! The original's method sets and program kinds, by document 01's numbers.
+//! The original's method sets and program kinds, by LANGUAGE.md's numbers.
 
 use crate::ast::ProgramKind::{self, *};
 use crate::ir::ctx::CtxMethod;

@@ -1,4 +1,4 @@
-//! The original's tree as nodes of document 01, children before their parent.
+//! The original's tree as nodes of LANGUAGE.md, children before their parent.
 //!
 //! Words that the original's tree does not say are `None`:
 //!
@@ -31,7 +31,7 @@ pub const MISSING: u32 = u32::MAX;
 /// A node word, or nothing where the original's tree does not say it.
 pub type Word = Option<u32>;
 
-/// A node of document 01.
+/// A node of LANGUAGE.md.
 #[derive(Debug, Clone, Copy, PartialEq, Eq)]
 pub struct Node {
     pub kind: u32,

@@ -1,4 +1,4 @@
-//! Answers as text: document 01's lister form, and a short form on one line.
+//! Answers as text: LANGUAGE.md's lister form, and a short form on one line.
 
 use crate::answer::{Answer, Parsed, Refusal, Row};
 use crate::nodes::{Node, Tree, Word};
@@ -85,7 +85,7 @@ pub fn word_or_mark(word: Word) -> String {
 /// The answer on one line: the kinds of few rows or the count of many, then the outcome.
 pub fn one_line(answer: &Answer) -> String {
     match answer {
-        Answer::NotCompared { number } => format!("not compared, document 01 says {number}"),
+        Answer::NotCompared { number } => format!("not compared, LANGUAGE.md says {number}"),
         Answer::Compared {
             rows,
             ending,
@@ -112,7 +112,7 @@ fn parsed_told(parsed: &Parsed) -> String {
     match parsed {
         Parsed::NotScanned => "not scanned".to_string(),
         Parsed::NotComparable { number } => {
-            format!("not comparable, document 01 says {number}")
+            format!("not comparable, LANGUAGE.md says {number}")
         }
         Parsed::Refused(refusal) => refusal_told(refusal),
         Parsed::Accepted(tree) => format!("accepted with {} nodes", all_nodes(tree).count()),

@@ -20,7 +20,7 @@ fn the_c_example_prints_what_it_should() {
         .arg(&include)
         .arg(include.join("example.c"))
         .arg(spoonharbor::ARCHIVE_FILE)
-        .args(["-lm", "-o"])
+        .arg("-o")
         .arg(&program)
         .output()
         .expect("a C compiler `cc`");

@@ -1,4 +1,4 @@
-//! The lister's example of document 01, word for word.
+//! The lister's example of LANGUAGE.md, word for word.
 
 use compare::answer::answer;
 use compare::edge_cases::{LISTER_LINES, LISTER_TEXT};

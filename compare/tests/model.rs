@@ -1,4 +1,4 @@
-//! The model of document 01 against the original, and the model's edit against its scan.
+//! The model of LANGUAGE.md against the original, and the model's edit against its scan.
 
 use compare::agree::agree;
 use compare::answer::{answer, Answer, Parsed};

@@ -15,7 +15,7 @@ fn the_deepest_nesting_takes_little_stack() {
         .arg(here.join("../include"))
         .arg(here.join("stack/stack.c"))
         .arg(spoonharbor::ARCHIVE_FILE)
-        .args(["-lm", "-o"])
+        .arg("-o")
         .arg(&program)
         .output()
         .expect("a C compiler `cc`");

@@ -1,4 +1,4 @@
-//! What document 01 says of every table and every tree holds for the original's
+//! What LANGUAGE.md says of every table and every tree holds for the original's
 //! answers about generated texts.
 
 use compare::answer::{answer, Answer, Parsed, Place, Row};

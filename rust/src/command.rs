@@ -2,22 +2,19 @@
 
 mod check;
 mod message;
+mod output;
 mod rows;
 mod source;
 mod tree;
+mod verb;
 
+use output::Output;
 use source::{Source, Trouble};
-use spoonharbor::{Document, Refusal};
-use std::ffi::OsString;
-use std::io::{self, BufWriter, Write};
+use spoonharbor::{lent, Document, Refusal, VERSION};
+use std::ffi::{OsStr, OsString};
+use std::io::{self, Write};
 use std::process::ExitCode;
-
-const USAGE: &str = "\
-usage: spoonharbor check FILE..    say of each file whether it is a program, and if not, where and why
-       spoonharbor rows FILE       print its rows
-       spoonharbor tree FILE       print its tree
-FILE is a path, or - for standard input. Exit status: 0 all is well, 1 a text is refused, 2 trouble.
-";
+use verb::{Verb, USAGE};
 
 /// How it went; the worst of several files is that of all.
 #[derive(Debug, Clone, Copy, PartialEq, Eq, PartialOrd, Ord)]
@@ -37,17 +34,24 @@ impl From<Outcome> for ExitCode {
     }
 }
 
+/// What the arguments ask for.
+enum Asked {
+    Help(&'static str),
+    Version,
+    Run(Verb, Vec<OsString>),
+    /// Nothing that there is, and what to say of it.
+    Misused(String),
+}
+
 /// Runs the command and gives back its exit status.
 pub fn run(arguments: &[OsString]) -> ExitCode {
-    let mut out = BufWriter::new(io::stdout().lock());
-    let written = dispatch(arguments, &mut out).and_then(|outcome| {
+    let mut out = Output::new(io::stdout().lock());
+    let written = answered(asked(arguments), &mut out).and_then(|outcome| {
         out.flush()?;
         Ok(outcome)
     });
     match written {
         Ok(outcome) => outcome.into(),
-        // Whoever reads has seen enough.
-        Err(error) if error.kind() == io::ErrorKind::BrokenPipe => Outcome::Fine.into(),
         Err(error) => {
             complain(&format!("standard output: {error}"));
             Outcome::Trouble.into()
@@ -55,40 +59,101 @@ pub fn run(arguments: &[OsString]) -> ExitCode {
     }
 }
 
-fn dispatch(arguments: &[OsString], out: &mut impl Write) -> io::Result<Outcome> {
-    let Some((verb, files)) = arguments.split_first() else {
-        return Ok(misused("a verb is missing"));
+/// Reads the arguments: a verb, its options, and its files.
+fn asked(arguments: &[OsString]) -> Asked {
+    let Some((first, rest)) = arguments.split_first() else {
+        return Asked::Misused("a verb is missing".to_string());
     };
-    match (verb.to_str(), files) {
+    match (first.to_str(), Verb::named(first)) {
+        (_, Some(verb)) => asked_of(verb, rest),
         (Some("help" | "--help" | "-h"), _) => {
-            out.write_all(USAGE.as_bytes())?;
-            Ok(Outcome::Fine)
+            let verb = rest.first().and_then(|verb| Verb::named(verb));
+            Asked::Help(verb.map_or(USAGE, Verb::usage))
         }
-        (Some("check"), []) => Ok(misused("check: a file is missing")),
-        (Some("check"), files) => {
-            let mut worst = Outcome::Fine;
-            for file in files {
-                worst = worst.max(check::check(file, out)?);
-            }
-            Ok(worst)
-        }
-        (Some("rows"), [file]) => shown(file, out, rows::print),
-        (Some("tree"), [file]) => shown(file, out, tree::print),
-        (Some(verb @ ("rows" | "tree")), _) => Ok(misused(&format!("{verb}: one file is wanted"))),
-        _ => Ok(misused(&format!("unknown verb {}", verb.to_string_lossy()))),
+        (Some("version" | "--version" | "-V"), _) => Asked::Version,
+        _ if is_option(first) => Asked::Misused(unknown_option(first)),
+        _ => Asked::Misused(format!("unknown verb {}", first.to_string_lossy())),
     }
 }
 
-/// Opens a file and prints it in some way. The refusal that ends the reading follows what there is to print.
+/// Reads a verb's arguments. What stands behind `--` is a file, whatever it begins with.
+fn asked_of(verb: Verb, arguments: &[OsString]) -> Asked {
+    let mut files = Vec::new();
+    let mut rest = arguments.iter();
+    while let Some(argument) = rest.next() {
+        match argument.to_str() {
+            Some("--") => files.extend(rest.by_ref().cloned()),
+            Some("--help" | "-h") => return Asked::Help(verb.usage()),
+            Some("--version" | "-V") => return Asked::Version,
+            _ if is_option(argument) => return Asked::Misused(unknown_option(argument)),
+            _ => files.push(argument.clone()),
+        }
+    }
+    match verb.lacks(files.len()) {
+        Some(lack) => Asked::Misused(format!("{}: {lack}", verb.name())),
+        None => Asked::Run(verb, files),
+    }
+}
+
+/// Whether an argument is an option; `-` is a file.
+fn is_option(argument: &OsStr) -> bool {
+    argument.len() > 1 && argument.as_encoded_bytes().starts_with(b"-")
+}
+
+fn unknown_option(option: &OsStr) -> String {
+    let option = option.to_string_lossy();
+    format!("unknown option {option}; a file whose name begins with - stands behind --")
+}
+
+/// Does what is asked.
+fn answered(asked: Asked, out: &mut impl Write) -> io::Result<Outcome> {
+    match asked {
+        Asked::Help(usage) => {
+            out.write_all(usage.as_bytes())?;
+            Ok(Outcome::Fine)
+        }
+        Asked::Version => {
+            writeln!(out, "spoonharbor {}", env!("CARGO_PKG_VERSION"))?;
+            Ok(Outcome::Fine)
+        }
+        Asked::Misused(complaint) => {
+            complain(&complaint);
+            complain_with(USAGE);
+            Ok(Outcome::Trouble)
+        }
+        Asked::Run(..) if lent::version() != VERSION => {
+            complain("this command was built with the library of another version");
+            Ok(Outcome::Trouble)
+        }
+        Asked::Run(verb, files) => {
+            let mut worst = Outcome::Fine;
+            for file in files {
+                worst = worst.max(done(verb, &file, out)?);
+            }
+            Ok(worst)
+        }
+    }
+}
+
+/// Does a verb with one file.
+fn done(verb: Verb, file: &OsStr, out: &mut impl Write) -> io::Result<Outcome> {
+    let source = match Source::read(file) {
+        Ok(source) => source,
+        Err(trouble) => return troubled(&trouble, out),
+    };
+    match verb {
+        Verb::Check => check::check(&source, out),
+        Verb::Rows => shown(&source, out, rows::print),
+        Verb::Tree => shown(&source, out, tree::print),
+    }
+}
+
+/// Prints a text in some way. The refusal that ends the reading follows what there is to print.
 fn shown<W: Write>(
-    file: &OsString,
+    source: &Source,
     out: &mut W,
     print: impl Fn(&Document, &mut W) -> io::Result<Result<(), Refusal>>,
 ) -> io::Result<Outcome> {
-    let source = match Source::read(file) {
-        Ok(source) => source,
-        Err(trouble) => return Ok(troubled(&trouble)),
-    };
     let printed = match Document::open(source.bytes.clone()) {
         Ok(document) => print(&document, out)?,
         Err(refusal) => Err(refusal),
@@ -96,21 +161,17 @@ fn shown<W: Write>(
     match printed {
         Ok(()) => Ok(Outcome::Fine),
         Err(refusal) => {
-            message::refused(&source, &refusal, out)?;
+            message::refused(source, &refusal, out)?;
             Ok(Outcome::Refused)
         }
     }
 }
 
-fn troubled(trouble: &Trouble) -> Outcome {
+/// Complains of a file behind all that was printed so far, so that what is said of several files stays in order.
+fn troubled(trouble: &Trouble, out: &mut impl Write) -> io::Result<Outcome> {
+    out.flush()?;
     complain(&trouble.to_string());
-    Outcome::Trouble
-}
-
-fn misused(message: &str) -> Outcome {
-    complain(message);
-    complain_with(USAGE);
-    Outcome::Trouble
+    Ok(Outcome::Trouble)
 }
 
 fn complain(message: &str) {

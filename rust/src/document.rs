@@ -36,8 +36,10 @@ impl Document {
         let mut rows = vec![0; room_for(text.len().min(LONGEST_TEXT))];
         let table = lent::scan(&text, &mut rows);
         taken(&table)?;
+        // The library has taken the text, which is ASCII then.
+        let text = String::from_utf8(text).map_err(|_| at_start(Reason::BadByte))?;
         Ok(Document {
-            text: ascii(text),
+            text,
             rows,
             spare: Vec::new(),
             table,
@@ -68,10 +70,11 @@ impl Document {
     pub fn spelling(&self, row: usize) -> Result<&str, Refusal> {
         let row = u32::try_from(row).map_err(|_| at_start(Reason::NotWellFormed))?;
         let answer = lent::spelling(self.text.as_bytes(), self.row_words(), &self.table, row);
-        match Refusal::from_words(&answer) {
-            Some(refusal) => Err(refusal),
-            None => Ok(&self.text[answer[lent::FIRST] as usize..answer[lent::SECOND] as usize]),
+        if let Some(refusal) = Refusal::from_words(&answer) {
+            return Err(refusal);
         }
+        let part = answer[lent::FIRST] as usize..answer[lent::SECOND] as usize;
+        self.text.get(part).ok_or(at_start(Reason::NotWellFormed))
     }
 
     /// The program's tree, or the first refusal: that of the rows (11 to 15), or one of 21 to 32.
@@ -106,12 +109,11 @@ impl Document {
         if self.spare.len() < words {
             self.spare.resize(words, 0);
         }
-        let old_words = self.count() * ROW_WORDS;
         let start = restart[lent::OFFSET];
         let window = Window::new(&self.text, start as usize, range.clone(), new_bytes);
         let table = edited(
             Old {
-                rows: &self.rows[..old_words],
+                rows: written(&self.rows, &self.table),
                 table: &self.table,
             },
             change,
@@ -119,7 +121,12 @@ impl Document {
             window,
             &mut self.spare,
         )?;
-        self.text.replace_range(range, str_of(new_bytes));
+        // The library has seen the new bytes in a window, and they are ASCII then, as the text is.
+        let new_text = std::str::from_utf8(new_bytes).map_err(|_| at_start(Reason::BadByte))?;
+        if self.text.get(range.clone()).is_none() {
+            return Err(at_start(Reason::EditNotSensible));
+        }
+        self.text.replace_range(range, new_text);
         self.table = table;
         std::mem::swap(&mut self.rows, &mut self.spare);
         Ok(())
@@ -145,7 +152,7 @@ impl Document {
     }
 
     fn row_words(&self) -> &[u32] {
-        &self.rows[..self.count() * ROW_WORDS]
+        written(&self.rows, &self.table)
     }
 }
 
@@ -175,7 +182,8 @@ struct Old<'a> {
     table: &'a Words,
 }
 
-/// The table behind an edit, whose rows then are in `new`; longer windows are shown until one suffices.
+/// The table behind an edit, whose rows then are in `new`; longer windows are shown until one suffices, as one to the text's
+/// end does.
 fn edited(
     old: Old,
     change: Change,
@@ -186,9 +194,7 @@ fn edited(
     loop {
         let answer = lent::edit(old.rows, old.table, change, start, &window.bytes, new);
         match taken(&answer) {
-            Err(refusal) if refusal.reason == Reason::WindowShort => {
-                assert!(window.grow(), "a window to the text's end is never short");
-            }
+            Err(refusal) if refusal.reason == Reason::WindowShort && window.grow() => {}
             Err(refusal) => return Err(refusal),
             Ok(()) => return Ok(answer),
         }
@@ -209,8 +215,8 @@ impl<'a> Window<'a> {
     fn new(old: &'a str, start: usize, range: Range<usize>, new_bytes: &[u8]) -> Window<'a> {
         let old = old.as_bytes();
         let mut window = Window {
-            bytes: [&old[start..range.start], new_bytes].concat(),
-            rest: &old[range.end..],
+            bytes: [old.get(start..range.start).unwrap_or_default(), new_bytes].concat(),
+            rest: old.get(range.end..).unwrap_or_default(),
             shown: 0,
         };
         window.show(FIRST_WINDOW);
@@ -233,6 +239,12 @@ impl<'a> Window<'a> {
     }
 }
 
+/// The words of the rows that a table has.
+fn written<'a>(rows: &'a [u32], table: &Words) -> &'a [u32] {
+    let count = table[lent::COUNT] as usize * ROW_WORDS;
+    rows.get(..count).unwrap_or(rows)
+}
+
 /// How many words the rows of a text of so many bytes need: every row but Eof has a byte.
 fn room_for(length: usize) -> usize {
     (length + 1) * ROW_WORDS
@@ -251,14 +263,4 @@ fn at_start(reason: Reason) -> Refusal {
         reason,
         place: Place::START,
     }
-}
-
-/// A text that the library has taken, which is ASCII.
-fn ascii(text: Vec<u8>) -> String {
-    String::from_utf8(text).expect("the library takes ASCII alone")
-}
-
-/// New bytes that the library has seen in a window, which are ASCII.
-fn str_of(bytes: &[u8]) -> &str {
-    std::str::from_utf8(bytes).expect("the library takes ASCII alone")
 }

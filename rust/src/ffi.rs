@@ -3,6 +3,8 @@
 use crate::lent::Words;
 
 extern "C" {
+    pub fn spoonharbor_version() -> u32;
+
     pub fn spoonharbor_scan(
         text: *const u8,
         text_length: usize,

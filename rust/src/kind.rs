@@ -2,9 +2,10 @@
 
 use std::fmt;
 
-/// A row's kind. Numbers 16 to 20 are never made and have no case here.
+/// A row's kind. Numbers 16 to 20 are never made and have no case here. A later version may have more kinds.
 #[derive(Debug, Clone, Copy, PartialEq, Eq, Hash)]
 #[repr(u32)]
+#[non_exhaustive]
 pub enum Kind {
     KeywordUnit = 0,
     KeywordSection = 1,
@@ -54,6 +55,8 @@ pub enum Kind {
     Number = 50,
     KeywordBytes = 51,
     Eof = 52,
+    /// A kind that this version has no name for. The library of this version makes none.
+    Other = u32::MAX,
 }
 
 use Kind::*;
@@ -113,25 +116,33 @@ const KINDS: [(Kind, Option<&str>); 48] = [
 impl Kind {
     /// The kind with this number, if one is made with it.
     pub fn from_number(number: u32) -> Option<Kind> {
-        let index = match number {
-            0..=15 => number,
-            21..=52 => number - 5,
-            _ => return None,
-        };
-        Some(KINDS[index as usize].0)
+        entry(number).map(|entry| entry.0)
     }
 
-    /// The kind's number, 0 to 52.
+    /// The kind with this number, or [`Kind::Other`].
+    pub(crate) fn read(number: u32) -> Kind {
+        Kind::from_number(number).unwrap_or(Kind::Other)
+    }
+
+    /// The kind's number, 0 to 52; 4294967295 for [`Kind::Other`].
     pub fn number(self) -> u32 {
         self as u32
     }
 
     /// How every row of this kind is spelt; nothing for identifiers, strings, numbers and the end.
     pub fn spelling(self) -> Option<&'static str> {
-        let number = self.number();
-        let index = if number <= 15 { number } else { number - 5 };
-        KINDS[index as usize].1
+        entry(self.number()).and_then(|entry| entry.1)
     }
+}
+
+/// The kind with this number and its spelling: no kind has the numbers 16 to 20.
+fn entry(number: u32) -> Option<&'static (Kind, Option<&'static str>)> {
+    let index = match number {
+        0..=15 => number,
+        21.. => number - 5,
+        _ => return None,
+    };
+    KINDS.get(index as usize)
 }
 
 /// The kind as a person names it: `';'`, `'unit'`, `number`.
@@ -142,7 +153,8 @@ impl fmt::Display for Kind {
             (Identifier, None) => out.write_str("identifier"),
             (StringLiteral, None) => out.write_str("string"),
             (Number, None) => out.write_str("number"),
-            (_, None) => out.write_str("end of file"),
+            (Eof, None) => out.write_str("end of file"),
+            (_, None) => out.write_str("another kind"),
         }
     }
 }
@@ -165,6 +177,9 @@ mod tests {
         assert_eq!(Kind::from_number(20), None);
         assert_eq!(Kind::from_number(53), None);
         assert_eq!(Kind::from_number(u32::MAX), None);
+        assert_eq!(Kind::read(16), Kind::Other);
+        assert_eq!(Kind::Other.spelling(), None);
+        assert_eq!(Kind::from_number(Kind::Other.number()), None);
     }
 
     #[test]

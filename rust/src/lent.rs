@@ -40,6 +40,13 @@ pub const MISSING: u32 = u32::MAX;
 // inside what it is lent for every content of it, so there is nothing else to ask for. The words of an answer are a
 // `[u32; 8]`, as the header wants.
 
+/// The version of the library that is linked: major, minor and patch in a byte each. It is [`crate::VERSION`] wherever the
+/// build could ask the archive.
+pub fn version() -> u32 {
+    // SAFETY: nothing is lent.
+    unsafe { ffi::spoonharbor_version() }
+}
+
 /// Scans a text into rows. Number 0 or 11 to 15: a table of so many rows, which ends so. 4: as many rows as there is room
 /// for are written. 1, 2: the rows are untouched.
 pub fn scan(text: &[u8], rows: &mut [u32]) -> Words {

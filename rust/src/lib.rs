@@ -32,6 +32,20 @@ pub use row::{Row, Rows};
 pub use sets::{allows, section_kind, set_size, Method, ProgramKind};
 pub use tree::{FieldType, MapType, Node, NodeKind, Operator, Tree, Type};
 
+/// This crate's version as one number: major, minor and patch in a byte each. The build refuses an archive of another version,
+/// unless it is for another machine, whose programs do not run there; [`lent::version`] then tells.
+pub const VERSION: u32 = version_part(env!("CARGO_PKG_VERSION_MAJOR")) << 16
+    | version_part(env!("CARGO_PKG_VERSION_MINOR")) << 8
+    | version_part(env!("CARGO_PKG_VERSION_PATCH"));
+
+/// A number of at most 255 in decimal; it is read when the crate is compiled.
+const fn version_part(text: &str) -> u32 {
+    match u8::from_str_radix(text, 10) {
+        Ok(part) => part as u32,
+        Err(_) => panic!("each part of the version fits a byte"),
+    }
+}
+
 /// The most bytes that a text may have.
 pub const LONGEST_TEXT: usize = 65_536;
 

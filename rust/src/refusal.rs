@@ -22,8 +22,9 @@ pub enum MapField {
     Max,
 }
 
-/// Why a text is refused.
+/// Why a text is refused. A later version may have more reasons.
 #[derive(Debug, Clone, Copy, PartialEq, Eq, Hash)]
+#[non_exhaustive]
 pub enum Reason {
     /// 1: over 65,536 bytes.
     TextTooLong,
@@ -50,6 +51,7 @@ pub enum Reason {
     /// 15: digits over 2^63 - 1.
     NumberTooLarge,
     /// 21: another kind was wanted.
+    #[non_exhaustive]
     Wanted { wanted: Kind, found: Kind },
     /// 22: none of `map`, `event` and `unit`.
     NotTopLevel,
@@ -73,10 +75,13 @@ pub enum Reason {
     CallOnOther,
     /// 32: the 65th open construct.
     TooDeep,
+    /// A number that this version has no name for. The library of this version gives none.
+    Other(u32),
 }
 
-/// A refusal and where it stands.
+/// A refusal and where it stands. A later version may tell more of it.
 #[derive(Debug, Clone, Copy, PartialEq, Eq, Hash)]
+#[non_exhaustive]
 pub struct Refusal {
     pub reason: Reason,
     pub place: Place,
@@ -132,11 +137,13 @@ impl Reason {
             Reason::NotEventType => 30,
             Reason::CallOnOther => 31,
             Reason::TooDeep => 32,
+            Reason::Other(number) => number,
         }
     }
 
-    fn from_words(words: &Words) -> Option<Reason> {
-        Some(match words[lent::NUMBER] {
+    /// The reason of an answer whose number is not 0.
+    fn from_words(words: &Words) -> Reason {
+        match words[lent::NUMBER] {
             1 => Reason::TextTooLong,
             2 => Reason::BadByte,
             3 => Reason::NotWellFormed,
@@ -150,8 +157,8 @@ impl Reason {
             14 => Reason::BadEscape,
             15 => Reason::NumberTooLarge,
             21 => Reason::Wanted {
-                wanted: Kind::from_number(words[lent::FIRST])?,
-                found: Kind::from_number(words[lent::SECOND])?,
+                wanted: Kind::read(words[lent::FIRST]),
+                found: Kind::read(words[lent::SECOND]),
             },
             22 => Reason::NotTopLevel,
             23 => Reason::NotMapField,
@@ -160,26 +167,21 @@ impl Reason {
             26 => Reason::MaxNegative,
             27 => Reason::OutOfRange,
             28 => Reason::ShiftCount,
-            29 => Reason::MapLacks(MapField::from_number(words[lent::FIRST])?),
+            29 => MapField::from_number(words[lent::FIRST])
+                .map_or(Reason::Other(29), Reason::MapLacks),
             30 => Reason::NotEventType,
             31 => Reason::CallOnOther,
             32 => Reason::TooDeep,
-            _ => return None,
-        })
+            number => Reason::Other(number),
+        }
     }
 }
 
 impl Refusal {
-    /// The refusal that an answer tells, or nothing if its number is 0.
+    /// The refusal that an answer tells, whatever its words are; nothing if its number is 0.
     pub fn from_words(words: &Words) -> Option<Refusal> {
-        if words[lent::NUMBER] == 0 {
-            return None;
-        }
-        let reason = Reason::from_words(words).unwrap_or_else(|| {
-            panic!("the library is another than this crate was written for: it answers {words:?}")
-        });
-        Some(Refusal {
-            reason,
+        (words[lent::NUMBER] != 0).then(|| Refusal {
+            reason: Reason::from_words(words),
             place: Place::from_words(words),
         })
     }
@@ -247,6 +249,7 @@ impl fmt::Display for Reason {
             }
             Reason::CallOnOther => out.write_str("only a variable has methods"),
             Reason::TooDeep => out.write_str("nested too deeply: at most 64 may be open"),
+            Reason::Other(number) => write!(out, "refused with {number}"),
         }
     }
 }
@@ -294,8 +297,24 @@ mod tests {
     }
 
     #[test]
-    #[should_panic(expected = "another than this crate was written for")]
-    fn an_unknown_number_is_no_answer() {
-        Refusal::from_words(&[8, 0, 1, 1, 0, 0, 0, 0]);
+    fn whatever_the_words_are_there_is_a_refusal() {
+        for number in (1..100).chain([u32::MAX]) {
+            for told in [0, 1, 4, 5, 16, 52, 53, u32::MAX] {
+                let words = [number, u32::MAX, 0, u32::MAX, told, told, told, told];
+                let refusal = Refusal::from_words(&words).unwrap();
+                assert_eq!(refusal.number(), number);
+                assert!(!refusal.to_string().is_empty());
+            }
+        }
+        let unknown = Refusal::from_words(&[8, 0, 1, 1, 0, 0, 0, 0]).unwrap();
+        assert_eq!(unknown.reason, Reason::Other(8));
+        assert_eq!(unknown.to_string(), "1:1: refused with 8");
+        let lacking = Refusal::from_words(&[29, 0, 1, 1, 5, 0, 0, 0]).unwrap();
+        assert_eq!(lacking.reason, Reason::Other(29));
+        let wanted = Refusal::from_words(&[21, 0, 1, 1, 16, 53, 0, 0]).unwrap();
+        assert_eq!(
+            wanted.to_string(),
+            "1:1: expected another kind, found another kind"
+        );
     }
 }

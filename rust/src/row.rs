@@ -5,10 +5,11 @@ use crate::lent::ROW_WORDS;
 use crate::refusal::Place;
 use std::iter::FusedIterator;
 use std::ops::Range;
-use std::slice::ChunksExact;
+use std::slice;
 
-/// A row: what stands where. The value is 0 unless the kind is Number.
+/// A row: what stands where. The value is 0 unless the kind is Number. A later version may tell more of it.
 #[derive(Debug, Clone, Copy, PartialEq, Eq, Hash)]
+#[non_exhaustive]
 pub struct Row {
     pub kind: Kind,
     pub start: usize,
@@ -19,12 +20,10 @@ pub struct Row {
 }
 
 impl Row {
-    pub(crate) fn from_words(words: &[u32]) -> Row {
-        let [kind, start, end, line, column, low, high, _] = *words else {
-            unreachable!("a row has {ROW_WORDS} words")
-        };
+    fn from_words(words: &[u32; ROW_WORDS]) -> Row {
+        let [kind, start, end, line, column, low, high, _] = *words;
         Row {
-            kind: Kind::from_number(kind).expect("a table of the library has made kinds alone"),
+            kind: Kind::read(kind),
             start: start as usize,
             end: end as usize,
             line: line as usize,
@@ -51,13 +50,13 @@ impl Row {
 /// The rows of a document, in order.
 #[derive(Debug, Clone)]
 pub struct Rows<'a> {
-    words: ChunksExact<'a, u32>,
+    words: slice::Iter<'a, [u32; ROW_WORDS]>,
 }
 
 impl<'a> Rows<'a> {
     pub(crate) fn new(words: &'a [u32]) -> Rows<'a> {
         Rows {
-            words: words.chunks_exact(ROW_WORDS),
+            words: words.as_chunks().0.iter(),
         }
     }
 }

@@ -2,9 +2,10 @@
 
 use crate::lent;
 
-/// What a unit is, by its first section.
+/// What a unit is, by its first section. A later version may have more kinds.
 #[derive(Debug, Clone, Copy, PartialEq, Eq, Hash)]
 #[repr(u32)]
+#[non_exhaustive]
 pub enum ProgramKind {
     Xdp = 0,
     Tc = 1,
@@ -19,9 +20,10 @@ pub enum ProgramKind {
     Unknown = 10,
 }
 
-/// A context method.
+/// A context method. A later version may have more of them.
 #[derive(Debug, Clone, Copy, PartialEq, Eq, Hash)]
 #[repr(u32)]
+#[non_exhaustive]
 pub enum Method {
     LoadU8 = 0,
     LoadU16 = 1,
@@ -43,7 +45,7 @@ pub enum Method {
 
 impl ProgramKind {
     /// Every kind, at the index that is its number.
-    pub const ALL: [ProgramKind; 11] = [
+    pub const ALL: &'static [ProgramKind] = &[
         ProgramKind::Xdp,
         ProgramKind::Tc,
         ProgramKind::Socket,
@@ -58,6 +60,7 @@ impl ProgramKind {
     ];
 
     /// The kind with this number.
+    #[inline]
     pub fn from_number(number: u32) -> Option<ProgramKind> {
         ProgramKind::ALL.get(number as usize).copied()
     }
@@ -82,7 +85,7 @@ impl ProgramKind {
 
 impl Method {
     /// Every method, at the index that is its number.
-    pub const ALL: [Method; 16] = [
+    pub const ALL: &'static [Method] = &[
         Method::LoadU8,
         Method::LoadU16,
         Method::LoadU32,
@@ -104,7 +107,7 @@ impl Method {
 
 /// The program kind that a section's text gives.
 pub fn section_kind(section: &[u8]) -> ProgramKind {
-    ProgramKind::from_number(lent::section_kind(section)).expect("the library has eleven kinds")
+    ProgramKind::from_number(lent::section_kind(section)).unwrap_or(ProgramKind::Unknown)
 }
 
 /// Whether a program kind allows a context method.

@@ -42,8 +42,9 @@ pub enum FieldType {
     Array(Type, u32),
 }
 
-/// What a node is, with its facts.
+/// What a node is, with its facts. A later version may have more kinds.
 #[derive(Debug, Clone, Copy, PartialEq, Eq, Hash)]
+#[non_exhaustive]
 pub enum NodeKind {
     Variable,
     Number(i64),
@@ -67,12 +68,14 @@ pub enum NodeKind {
     Section,
     License,
     /// The licence is the row of the last licence's string.
+    #[non_exhaustive]
     Unit {
         kind: ProgramKind,
         license: Option<usize>,
     },
     EventField(FieldType),
     Event,
+    #[non_exhaustive]
     Map {
         map_type: MapType,
         key: Option<Type>,
@@ -80,10 +83,13 @@ pub enum NodeKind {
         max: u32,
     },
     Program,
+    /// A kind, or facts, that this version has no name for. The library of this version makes none.
+    Other,
 }
 
-/// A node. Place and name are row numbers.
+/// A node. Place and name are row numbers. A later version may tell more of it.
 #[derive(Debug, Clone, Copy, PartialEq, Eq, Hash)]
+#[non_exhaustive]
 pub struct Node {
     pub kind: NodeKind,
     pub place: usize,
@@ -100,7 +106,8 @@ pub struct Tree {
 }
 
 impl Operator {
-    fn from_node_kind(number: u32) -> Option<Operator> {
+    #[inline]
+    fn from_node_number(number: u32) -> Option<Operator> {
         Some(match number {
             4 => Operator::Add,
             5 => Operator::Sub,
@@ -111,6 +118,18 @@ impl Operator {
             10 => Operator::Shr,
             _ => return None,
         })
+    }
+
+    fn node_number(self) -> u32 {
+        match self {
+            Operator::Add => 4,
+            Operator::Sub => 5,
+            Operator::Mul => 6,
+            Operator::Div => 7,
+            Operator::Mod => 8,
+            Operator::Shl => 9,
+            Operator::Shr => 10,
+        }
     }
 
     /// The operator's sign.
@@ -128,6 +147,7 @@ impl Operator {
 }
 
 impl Type {
+    #[inline]
     fn from_number(number: u32) -> Option<Type> {
         Some(match number {
             1 => Type::U32,
@@ -150,6 +170,7 @@ impl Type {
 }
 
 impl MapType {
+    #[inline]
     fn from_number(number: u32) -> Option<MapType> {
         Some(match number {
             1 => MapType::Hash,
@@ -174,6 +195,7 @@ impl MapType {
 }
 
 impl FieldType {
+    #[inline]
     fn from_facts([shape, element, length, _]: [u32; 4]) -> Option<FieldType> {
         Some(match shape {
             1 => FieldType::Plain(Type::from_number(element)?),
@@ -189,13 +211,14 @@ fn row_or_none(word: u32) -> Option<usize> {
 }
 
 impl NodeKind {
+    #[inline]
     fn from_words(number: u32, facts: [u32; 4]) -> Option<NodeKind> {
         let [a, b, c, d] = facts;
         Some(match number {
             1 => NodeKind::Variable,
             2 => NodeKind::Number((u64::from(b) << 32 | u64::from(a)) as i64),
             3 => NodeKind::Dereference,
-            4..=10 => NodeKind::Binary(Operator::from_node_kind(number)?),
+            4..=10 => NodeKind::Binary(Operator::from_node_number(number)?),
             11 => NodeKind::Call,
             12 => NodeKind::Field,
             13 => NodeKind::Expression,
@@ -226,16 +249,44 @@ impl NodeKind {
             _ => return None,
         })
     }
+
+    /// The kind's number, 1 to 29; 4294967295 for [`NodeKind::Other`].
+    pub fn number(self) -> u32 {
+        match self {
+            NodeKind::Variable => 1,
+            NodeKind::Number(_) => 2,
+            NodeKind::Dereference => 3,
+            NodeKind::Binary(operator) => operator.node_number(),
+            NodeKind::Call => 11,
+            NodeKind::Field => 12,
+            NodeKind::Expression => 13,
+            NodeKind::Assign => 14,
+            NodeKind::AddAssign => 15,
+            NodeKind::Reg => 16,
+            NodeKind::Imm => 17,
+            NodeKind::Heap => 18,
+            NodeKind::Return => 19,
+            NodeKind::If => 20,
+            NodeKind::Then => 21,
+            NodeKind::Else => 22,
+            NodeKind::Section => 23,
+            NodeKind::License => 24,
+            NodeKind::Unit { .. } => 25,
+            NodeKind::EventField(_) => 26,
+            NodeKind::Event => 27,
+            NodeKind::Map { .. } => 28,
+            NodeKind::Program => 29,
+            NodeKind::Other => u32::MAX,
+        }
+    }
 }
 
 impl Node {
-    fn from_words(words: &[u32]) -> Node {
-        let [kind, place, name, children, a, b, c, d] = *words else {
-            unreachable!("a node has {NODE_WORDS} words")
-        };
+    #[inline]
+    fn from_words(words: &[u32; NODE_WORDS]) -> Node {
+        let [kind, place, name, children, a, b, c, d] = *words;
         Node {
-            kind: NodeKind::from_words(kind, [a, b, c, d])
-                .expect("a tree of the library has its kinds and facts alone"),
+            kind: NodeKind::from_words(kind, [a, b, c, d]).unwrap_or(NodeKind::Other),
             place: place as usize,
             name: row_or_none(name),
             children: children as usize,
@@ -244,21 +295,21 @@ impl Node {
 }
 
 impl Tree {
-    /// The tree of nodes that the library wrote: whole nodes, the program last.
+    /// The tree of nodes that the library wrote: whole nodes, the program last. Of words that are no tree a node has the
+    /// children that are there.
     pub(crate) fn from_words(words: &[u32]) -> Tree {
-        let nodes: Vec<Node> = words
-            .chunks_exact(NODE_WORDS)
-            .map(Node::from_words)
-            .collect();
+        let nodes: Vec<Node> = words.as_chunks().0.iter().map(Node::from_words).collect();
         let mut begins: Vec<usize> = Vec::with_capacity(nodes.len());
         for (index, node) in nodes.iter().enumerate() {
-            let begin = (0..node.children).fold(index, |end, _| begins[end - 1]);
+            let begin_of = |end: usize| begins.get(end.wrapping_sub(1)).copied();
+            let count = node.children.min(index);
+            let begin = (0..count).fold(index, |end, _| begin_of(end).unwrap_or(0));
             begins.push(begin);
         }
         Tree { nodes, begins }
     }
 
-    /// How many nodes there are; never 0.
+    /// How many nodes there are; a program has at least one.
     #[allow(clippy::len_without_is_empty)]
     pub fn len(&self) -> usize {
         self.nodes.len()
@@ -271,17 +322,20 @@ impl Tree {
 
     /// The program's index, which is the last.
     pub fn root(&self) -> usize {
-        self.nodes.len() - 1
+        self.nodes.len().saturating_sub(1)
     }
 
     /// The indices of a node's children, in text order; none for an index that no node has.
     pub fn children(&self, index: usize) -> Vec<usize> {
         let count = self.nodes.get(index).map_or(0, |node| node.children);
-        let mut children = Vec::with_capacity(count);
+        let mut children = Vec::with_capacity(count.min(index));
         let mut end = index;
         for _ in 0..count {
+            let Some(&begin) = self.begins.get(end.wrapping_sub(1)) else {
+                break;
+            };
             children.push(end - 1);
-            end = self.begins[end - 1];
+            end = begin;
         }
         children.reverse();
         children
@@ -311,6 +365,8 @@ mod tests {
         assert_eq!(tree.children(0), []);
         assert_eq!(tree.children(99), []);
         assert_eq!(tree.nodes()[1].kind, NodeKind::Number(-1));
+        let numbers: Vec<u32> = tree.nodes().iter().map(|node| node.kind.number()).collect();
+        assert_eq!(numbers, [1, 2, 15, 25, 29]);
         assert_eq!(
             tree.nodes()[3].kind,
             NodeKind::Unit {
@@ -318,5 +374,38 @@ mod tests {
                 license: None
             }
         );
+    }
+
+    #[test]
+    fn words_that_are_no_tree_are_read() {
+        let m = MISSING;
+        let nothing = Tree::from_words(&[]);
+        assert_eq!((nothing.len(), nothing.root()), (0, 0));
+        assert_eq!(nothing.children(0), []);
+        let words: Vec<u32> = [
+            [11, m, m, m, 0, 0, 0, 0],
+            [30, 0, 0, 1, 0, 0, 0, 0],
+            [28, 0, 0, 2, 6, 0, 0, 0],
+            [0, 0, 0, m, m, m, m, m],
+        ]
+        .concat();
+        let tree = Tree::from_words(&words[..31]);
+        assert_eq!(tree.len(), 3);
+        let tree = Tree::from_words(&words);
+        let kinds: Vec<NodeKind> = tree.nodes().iter().map(|node| node.kind).collect();
+        assert_eq!(
+            kinds,
+            [
+                NodeKind::Call,
+                NodeKind::Other,
+                NodeKind::Other,
+                NodeKind::Other
+            ]
+        );
+        assert_eq!(tree.children(0), []);
+        assert_eq!(tree.children(1), [0]);
+        assert_eq!(tree.children(2), [1]);
+        assert_eq!(tree.children(3), [2]);
+        assert_eq!(tree.children(usize::MAX), []);
     }
 }

@@ -32,6 +32,7 @@ fn numbers(row: Row) -> [i64; 6] {
         line,
         column,
         value,
+        ..
     } = row;
     let number = |word: usize| word as i64;
     [

@@ -1,60 +1,10 @@
 //! The command, run as a person runs it: what it prints and its exit status.
 
-use std::fs;
-use std::io::Write;
-use std::path::PathBuf;
-use std::process::{Command, Stdio};
+mod shared;
 
-/// What a run printed, what it complained of, and its exit status.
-struct Ran {
-    out: String,
-    complaints: String,
-    status: i32,
-}
-
-/// A folder of this test alone, gone when it is over.
-struct Folder(PathBuf);
-
-impl Folder {
-    fn new(name: &str) -> Folder {
-        let path = std::env::temp_dir().join(format!("spoonharbor-{}-{name}", std::process::id()));
-        fs::create_dir_all(&path).unwrap();
-        Folder(path)
-    }
-
-    fn file(&self, name: &str, bytes: impl AsRef<[u8]>) {
-        fs::write(self.0.join(name), bytes).unwrap();
-    }
-
-    fn run(&self, arguments: &[&str]) -> Ran {
-        self.run_with_input(arguments, b"")
-    }
-
-    fn run_with_input(&self, arguments: &[&str], input: &[u8]) -> Ran {
-        let mut child = Command::new(env!("CARGO_BIN_EXE_spoonharbor"))
-            .args(arguments)
-            .current_dir(&self.0)
-            .stdin(Stdio::piped())
-            .stdout(Stdio::piped())
-            .stderr(Stdio::piped())
-            .spawn()
-            .unwrap();
-        // A run that does not read its input may have closed it.
-        let _ = child.stdin.take().unwrap().write_all(input);
-        let output = child.wait_with_output().unwrap();
-        Ran {
-            out: String::from_utf8(output.stdout).unwrap(),
-            complaints: String::from_utf8(output.stderr).unwrap(),
-            status: output.status.code().expect("never ended by a signal"),
-        }
-    }
-}
-
-impl Drop for Folder {
-    fn drop(&mut self) {
-        let _ = fs::remove_dir_all(&self.0);
-    }
-}
+use shared::Folder;
+use std::fs::{self, File};
+use std::process::Stdio;
 
 const PROBE: &str = "map m{type:.hash;key:u32;value:u64;max:8;}\nunit u{\n x+=-1;\n}\n";
 
@@ -335,31 +285,127 @@ fn a_wrong_call_is_trouble() {
     assert_eq!(ran.status, 0);
 }
 
-/// Output that nobody reads to its end, and output that cannot be written.
 #[test]
-fn output_may_end_early() {
-    let folder = Folder::new("early");
-    folder.file("t", vec![b';'; 60_000]);
-    let mut child = Command::new(env!("CARGO_BIN_EXE_spoonharbor"))
-        .args(["rows", "t"])
-        .current_dir(&folder.0)
-        .stdout(Stdio::piped())
-        .stderr(Stdio::piped())
-        .spawn()
+fn the_version_is_the_crates() {
+    let folder = Folder::new("version");
+    let version = format!("spoonharbor {}\n", env!("CARGO_PKG_VERSION"));
+    for arguments in [["--version"].as_slice(), &["-V"], &["check", "--version"]] {
+        let ran = folder.run(arguments);
+        assert_eq!(
+            (ran.out, ran.complaints.as_str(), ran.status),
+            (version.clone(), "", 0)
+        );
+    }
+}
+
+#[test]
+fn each_verb_has_help() {
+    let folder = Folder::new("help");
+    for verb in ["check", "rows", "tree"] {
+        let asked = folder.run(&[verb, "--help"]);
+        assert!(asked
+            .out
+            .starts_with(&format!("usage: spoonharbor {verb} [--] FILE")));
+        assert_eq!((asked.complaints.as_str(), asked.status), ("", 0));
+        for arguments in [[verb, "-h"], ["help", verb], ["--help", verb]] {
+            assert_eq!(folder.run(&arguments).out, asked.out);
+        }
+        let ran = folder.run(&[verb, "missing", "--help"]);
+        assert_eq!((ran.out, ran.status), (asked.out, 0));
+    }
+    assert_eq!(folder.run(&["help"]).out, folder.run(&["--help"]).out);
+}
+
+#[test]
+fn two_dashes_end_the_options() {
+    let folder = Folder::new("dashes");
+    for name in ["--help", "-", "--", "-x"] {
+        folder.file(name, PROBE);
+    }
+    let ran = folder.run(&["check", "--", "--help", "-x", "--"]);
+    let told = "ok, 1 map, 0 events, 1 unit";
+    assert_eq!(ran.out, format!("--help: {told}\n-x: {told}\n--: {told}\n"));
+    assert_eq!((ran.complaints.as_str(), ran.status), ("", 0));
+    let ran = folder.run_with_input(&["check", "--", "-"], b"");
+    assert_eq!(ran.out, "standard input: ok, an empty file\n");
+    assert_eq!(folder.run(&["rows", "--", "-x"]).status, 0);
+    for arguments in [["check", "-x"].as_slice(), &["rows", "--x", "t"], &["--x"]] {
+        let ran = folder.run(arguments);
+        assert!(ran.complaints.starts_with("spoonharbor: unknown option -"));
+        assert_eq!((ran.out.as_str(), ran.status), ("", 2));
+    }
+    assert_eq!(folder.run(&["check", "--"]).status, 2);
+}
+
+/// Results and complaints, written to one place, stand in the order of the files.
+#[test]
+fn what_is_said_stays_in_order() {
+    let folder = Folder::new("order");
+    folder.file("good", PROBE);
+    folder.file("bad", "unit");
+    let both = File::create(folder.0.join("both")).unwrap();
+    let status = folder
+        .spoonharbor(&["check", "good", "missing", "bad", "gone", "good"])
+        .stdout(both.try_clone().unwrap())
+        .stderr(both)
+        .status()
         .unwrap();
-    drop(child.stdout.take());
-    let output = child.wait_with_output().unwrap();
-    assert_eq!(output.stderr, b"");
-    assert_eq!(output.status.code(), Some(0));
-    let full = fs::File::options().write(true).open("/dev/full").unwrap();
-    let output = Command::new(env!("CARGO_BIN_EXE_spoonharbor"))
-        .args(["check", "t"])
-        .current_dir(&folder.0)
-        .stdout(full)
-        .stderr(Stdio::piped())
-        .spawn()
-        .unwrap()
-        .wait_with_output()
+    assert_eq!(status.code(), Some(2));
+    let said = fs::read_to_string(folder.0.join("both")).unwrap();
+    let begins: Vec<&str> = said
+        .lines()
+        .map(|line| line.split(": ").next().unwrap())
+        .collect();
+    let wanted = [
+        "good",
+        "spoonharbor",
+        "bad:1:5",
+        "    unit",
+        "        ^",
+        "spoonharbor",
+        "good",
+    ];
+    assert_eq!(begins, wanted, "{said}");
+}
+
+/// Output that nobody reads to its end does not change the exit status.
+#[test]
+fn a_reader_may_go() {
+    let folder = Folder::new("reader");
+    folder.file("good", vec![b'\n'; 60_000]);
+    folder.file("rows", vec![b';'; 60_000]);
+    folder.file("bad", format!("{}@", ";".repeat(60_000)));
+    let calls: [(&[&str], i32); 7] = [
+        (&["rows", "rows"], 0),
+        (&["rows", "bad"], 1),
+        (&["check", "good"], 0),
+        (&["check", "bad", "good"], 1),
+        (&["check", "good", "missing"], 2),
+        (&["tree", "bad"], 1),
+        (&["--help"], 0),
+    ];
+    for (arguments, status) in calls {
+        let mut child = folder
+            .spoonharbor(arguments)
+            .stdout(Stdio::piped())
+            .stderr(Stdio::piped())
+            .spawn()
+            .unwrap();
+        drop(child.stdout.take());
+        let output = child.wait_with_output().unwrap();
+        assert_eq!(output.status.code(), Some(status), "{arguments:?}");
+        assert_eq!(output.stderr.is_empty(), status != 2, "{arguments:?}");
+    }
+}
+
+#[test]
+fn output_that_cannot_be_written_is_trouble() {
+    let folder = Folder::new("full");
+    folder.file("t", PROBE);
+    let output = folder
+        .spoonharbor(&["check", "t"])
+        .stdout(File::options().write(true).open("/dev/full").unwrap())
+        .output()
         .unwrap();
     assert_eq!(output.status.code(), Some(2));
     assert!(output.stderr.starts_with(b"spoonharbor: standard output: "));

@@ -112,15 +112,18 @@ fn a_tree_is_read() {
     let [map, event, unit] = tree.children(root)[..] else {
         panic!("three declarations")
     };
-    assert_eq!(
-        tree.nodes()[map].kind,
-        NodeKind::Map {
-            map_type: MapType::LruHash,
-            key: Some(Type::U32),
-            value: Some(Type::I64),
-            max: 16
-        }
-    );
+    let NodeKind::Map {
+        map_type,
+        key,
+        value,
+        max,
+        ..
+    } = tree.nodes()[map].kind
+    else {
+        panic!("a map")
+    };
+    assert_eq!((map_type, max), (MapType::LruHash, 16));
+    assert_eq!((key, value), (Some(Type::U32), Some(Type::I64)));
     let fields: Vec<NodeKind> = tree
         .children(event)
         .into_iter()
@@ -136,7 +139,7 @@ fn a_tree_is_read() {
     );
     let name = tree.nodes()[unit].name.unwrap();
     assert_eq!(document.spelling(name), Ok("u"));
-    let NodeKind::Unit { kind, license } = tree.nodes()[unit].kind else {
+    let NodeKind::Unit { kind, license, .. } = tree.nodes()[unit].kind else {
         panic!("a unit")
     };
     assert_eq!(kind, ProgramKind::Xdp);
@@ -260,10 +263,10 @@ fn sets_and_sections() {
     assert_eq!(section_kind(b"kprobe"), ProgramKind::Unknown);
     assert_eq!(section_kind(b""), ProgramKind::Unknown);
     assert_eq!(section_kind(&[0xff; 100]), ProgramKind::Unknown);
-    for (number, kind) in ProgramKind::ALL.into_iter().enumerate() {
+    for (number, kind) in ProgramKind::ALL.iter().copied().enumerate() {
         let mask = compare::edge_cases::METHOD_SETS[number];
         assert_eq!(set_size(kind), mask.count_ones());
-        for (bit, method) in Method::ALL.into_iter().enumerate() {
+        for (bit, method) in Method::ALL.iter().copied().enumerate() {
             assert_eq!(allows(kind, method), mask >> bit & 1 == 1);
         }
     }

@@ -1,66 +1,60 @@
-//! Times of the proved library beside the original's, on the same probes: `bench [RUNS]`.
+//! Times of the proved library beside the original's, on the same texts: `bench [ROUNDS] [alone]`.
 //!
-//! Each time is the median of RUNS runs; before it, everything is run once so that memory is touched and code is warm. The same
-//! driver times both sides, and both get their memory before the time begins, except what they take themselves: the
-//! original's tokens and trees are taken and given back inside its own time, as its interface has it.
+//! Each time is the median of ROUNDS rounds, in each of which every side runs once (`alone`: each side runs all its rounds by
+//! itself). The same driver times all sides, and all get their memory before the time begins, except what they take themselves: the
+//! original's tokens and trees are taken and given back inside its own time, as its interface has it. A scanner made by re2c is a side
+//! where re2c is there, and the library before a change where `SPOONHARBOR_BEFORE` named its archive when this was built.
 
+#[cfg(before)]
+use compare::bench::other::{edit_before, parse_before, scan_before, well_formed_before};
+use compare::bench::rounds::{report, timed, Rounds, Side};
+use compare::bench::texts::{dense_text, middle_of_a_name};
 use compare::deep::on_deep_stack;
 use compare::generate::probe::probe_text;
 use compare::lexer::Lexer;
 use compare::parser::{parse_program, Parser, Token};
 use spoonharbor::lent::{self, Change, Words};
+use spoonharbor::Document;
 use std::hint::black_box;
-use std::time::{Duration, Instant};
 
 const SEED: u64 = 7;
 const PROBE: usize = 60_000;
 const WINDOW: usize = 256;
-const LENGTHS: [usize; 4] = [1 << 10, 8 << 10, PROBE, 64 << 10];
+const KEYSTROKES: usize = 1_000;
 
 fn main() {
-    let runs = std::env::args()
-        .nth(1)
-        .and_then(|word| word.parse().ok())
-        .unwrap_or(501);
-    on_deep_stack(|| {
-        println!("median of {runs} runs");
-        scans(runs);
-        parses(runs);
-        edits(runs);
+    let words: Vec<String> = std::env::args().skip(1).collect();
+    let rounds = Rounds {
+        count: words
+            .iter()
+            .find_map(|word| word.parse().ok())
+            .unwrap_or(301),
+        interleaved: !words.iter().any(|word| word == "alone"),
+    };
+    on_deep_stack(move || {
+        let order = if rounds.interleaved {
+            "interleaved"
+        } else {
+            "each side alone"
+        };
+        println!("medians of {} rounds, {order}", rounds.count);
+        for length in [1 << 10, 8 << 10, PROBE, 64 << 10] {
+            scans("probes", &probe_text(length, SEED), rounds);
+        }
+        scans("dense text", &dense_text(PROBE, SEED), rounds);
+        for length in [1 << 10, 8 << 10, PROBE, 64 << 10] {
+            parses(&probe_text(length, SEED), rounds);
+        }
+        typed(&probe_text(PROBE, SEED), rounds);
+        replaced("the probes", &probe_text(PROBE, SEED), rounds);
+        replaced("65,536 newlines", &vec![b'\n'; 64 << 10], rounds);
+        keystrokes(&probe_text(PROBE, SEED), rounds);
+        spellings(&probe_text(PROBE, SEED), rounds);
     });
-}
-
-/// The median time of so many runs of `work`, behind some that are not counted.
-fn median(runs: usize, mut work: impl FnMut()) -> Duration {
-    for _ in 0..runs.min(20) {
-        work();
-    }
-    let mut times: Vec<Duration> = (0..runs)
-        .map(|_| {
-            let began = Instant::now();
-            work();
-            began.elapsed()
-        })
-        .collect();
-    times.sort();
-    times[times.len() / 2]
-}
-
-/// A line of the report: microseconds, nanoseconds for each byte, and how many times as fast as the original.
-fn line(what: &str, time: Duration, bytes: usize, original: Option<Duration>) {
-    let micros = time.as_nanos() as f64 / 1000.0;
-    let each = time.as_nanos() as f64 / bytes as f64;
-    let ratio = original.map_or(String::new(), |original| {
-        format!(
-            "{:>7.1} times the original's speed",
-            original.as_secs_f64() / time.as_secs_f64()
-        )
-    });
-    println!("{what:<46} {micros:>10.2} us {each:>8.3} ns/byte {ratio}");
 }
 
 fn text_of(bytes: &[u8]) -> &str {
-    std::str::from_utf8(bytes).expect("a probe is ASCII")
+    std::str::from_utf8(bytes).expect("a probe is UTF-8")
 }
 
 /// Touched memory for the rows of a text.
@@ -72,87 +66,116 @@ fn row_memory(text: &[u8]) -> Vec<u32> {
 fn scanned(text: &[u8]) -> (Vec<u32>, Words) {
     let mut rows = row_memory(text);
     let table = lent::scan(text, &mut rows);
-    assert_eq!(table[lent::NUMBER], 0, "a probe scans");
+    assert_eq!(table[lent::NUMBER], 0, "the text scans");
     rows.truncate(table[lent::COUNT] as usize * 8);
     (rows, table)
 }
 
 fn tokens_of(text: &[u8]) -> Vec<Token> {
-    Lexer::new(text_of(text)).tokenize().expect("a probe scans")
+    Lexer::new(text_of(text))
+        .tokenize()
+        .expect("the text scans")
 }
 
-fn scans(runs: usize) {
-    println!("\nscan");
-    for length in LENGTHS {
-        let text = probe_text(length, SEED);
-        let mut rows = row_memory(&text);
-        let original = median(runs, || {
-            black_box(Lexer::new(text_of(black_box(&text))).tokenize().is_ok());
-        });
-        let library = median(runs, || {
-            black_box(lent::scan(black_box(&text), &mut rows));
-        });
-        let count = tokens_of(&text).len();
-        line(
-            &format!("original, {length} bytes, {count} rows"),
-            original,
-            length,
-            None,
-        );
-        line(
-            &format!("library, {length} bytes"),
-            library,
-            length,
-            Some(original),
-        );
-    }
+/// The original's reading of a text, as a side.
+fn original(text: &[u8]) -> Side<'_> {
+    Side::new("the Rust", || {
+        black_box(Lexer::new(text_of(black_box(text))).tokenize().is_ok());
+    })
 }
 
-fn parses(runs: usize) {
-    println!("\nparse");
-    for length in LENGTHS {
-        let text = probe_text(length, SEED);
-        let tokens = tokens_of(&text);
-        let (rows, table) = scanned(&text);
-        let mut nodes = vec![1; rows.len()];
-        let mut parsers: Vec<Parser> = Vec::new();
-        // The tokens are ready: each run has a copy of its own that was made before its time began.
-        let original = {
-            let mut times: Vec<Duration> = (0..runs + 20)
-                .map(|_| {
-                    parsers.clear();
-                    parsers.push(Parser::new(tokens.clone()).expect("tokens end with Eof"));
-                    let began = Instant::now();
-                    black_box(parse_program(&mut parsers[0]).is_ok());
-                    began.elapsed()
-                })
-                .skip(20)
-                .collect();
-            times.sort();
-            times[times.len() / 2]
-        };
-        let library = median(runs, || {
-            black_box(lent::parse(black_box(&text), &rows, &table, &mut nodes));
-        });
-        let answer = lent::parse(&text, &rows, &table, &mut nodes);
-        assert_eq!(answer[lent::NUMBER], 0, "a probe parses");
-        let count = answer[lent::COUNT];
-        line(&format!("original, {length} bytes"), original, length, None);
-        line(
-            &format!("library, {length} bytes, {count} nodes"),
-            library,
-            length,
-            Some(original),
-        );
+/// A fresh scan by the library, as a side.
+fn fresh<'a>(name: &str, text: &'a [u8]) -> Side<'a> {
+    let mut rows = row_memory(text);
+    Side::new(name, move || {
+        black_box(lent::scan(black_box(text), &mut rows));
+    })
+}
+
+fn scans(what: &str, text: &[u8], rounds: Rounds) {
+    let (rows, _table) = scanned(text);
+    #[allow(unused_mut)]
+    let mut sides = vec![original(text), fresh("library", text)];
+    #[cfg(before)]
+    {
+        let mut rows = row_memory(text);
+        sides.push(Side::new("before", move || {
+            black_box(scan_before(black_box(text), &mut rows));
+        }));
     }
+    #[cfg(re2c)]
+    {
+        let padded = [text, &[0]].concat();
+        let mut own = row_memory(text);
+        let told = compare::bench::other::re2c(&padded, &mut own);
+        assert_eq!(
+            (&own[..rows.len()], told),
+            (&rows[..], _table),
+            "re2c writes the same rows"
+        );
+        sides.push(Side::new("re2c", move || {
+            black_box(compare::bench::other::re2c(black_box(&padded), &mut own));
+        }));
+    }
+    let heading = format!(
+        "scan, {} bytes of {what}, {} rows",
+        text.len(),
+        rows.len() / 8
+    );
+    report(
+        &heading,
+        "byte",
+        text.len(),
+        sides,
+        &["the Rust", "re2c", "before"],
+        rounds,
+    );
+}
+
+fn parses(text: &[u8], rounds: Rounds) {
+    let tokens = tokens_of(text);
+    let (rows, table) = scanned(text);
+    let mut nodes = vec![1; rows.len()];
+    let answer = lent::parse(text, &rows, &table, &mut nodes);
+    assert_eq!(answer[lent::NUMBER], 0, "a probe parses");
+    #[cfg(before)]
+    let mut own = vec![1; rows.len()];
+    #[allow(unused_mut)]
+    let mut sides = vec![
+        // Each run has a copy of the tokens of its own that was made before its time began.
+        Side::timed("the Rust", || {
+            let mut parser = Parser::new(tokens.clone()).expect("tokens end with Eof");
+            timed(|| {
+                black_box(parse_program(&mut parser).is_ok());
+            })
+        }),
+        Side::new("library", || {
+            black_box(lent::parse(black_box(text), &rows, &table, &mut nodes));
+        }),
+    ];
+    #[cfg(before)]
+    sides.push(Side::new("before", || {
+        black_box(parse_before(black_box(text), &rows, &table, &mut own));
+    }));
+    let heading = format!(
+        "parse, {} bytes of probes, {} nodes",
+        text.len(),
+        answer[lent::COUNT]
+    );
+    report(
+        &heading,
+        "byte",
+        text.len(),
+        sides,
+        &["the Rust", "before"],
+        rounds,
+    );
 }
 
 /// One byte typed in the middle of a probe, and what its parts cost.
-fn edits(runs: usize) {
-    println!("\none byte typed in the middle of {PROBE} bytes, window of {WINDOW}");
-    let old = probe_text(PROBE, SEED);
-    let (rows, table) = scanned(&old);
-    let at = middle_of_a_name(&old);
+fn typed(old: &[u8], rounds: Rounds) {
+    let (rows, table) = scanned(old);
+    let at = middle_of_a_name(old);
     let new = [&old[..at], b"x", &old[at..]].concat();
     let change = Change {
         a: at as u32,
@@ -163,78 +186,176 @@ fn edits(runs: usize) {
     let window = &new[start as usize..start as usize + WINDOW];
     let mut memory = row_memory(&new);
     let answer = lent::edit(&rows, &table, change, start, window, &mut memory);
-    let (fresh_rows, fresh) = scanned(&new);
-    assert_eq!(answer, fresh, "the edit is a fresh scan");
-    assert_eq!(memory[..fresh_rows.len()], fresh_rows);
+    let (fresh_rows, told) = scanned(&new);
+    assert_eq!(
+        (answer, &memory[..fresh_rows.len()]),
+        (told, &fresh_rows[..]),
+        "the edit is a fresh scan"
+    );
+    let mut other = row_memory(&new);
+    let mut copied = row_memory(&new);
+    #[cfg(before)]
+    let mut own = row_memory(&new);
+    #[allow(unused_mut)]
+    let mut sides = vec![
+        original(&new),
+        fresh("library, fresh scan", &new),
+        Side::new("library, restart place and edit", || {
+            let start = lent::restart(black_box(&rows), &table, change.a)[lent::OFFSET];
+            black_box(lent::edit(
+                &rows,
+                &table,
+                change,
+                start,
+                black_box(window),
+                &mut memory,
+            ));
+        }),
+        Side::new("library, edit", || {
+            black_box(lent::edit(
+                black_box(&rows),
+                &table,
+                change,
+                start,
+                black_box(window),
+                &mut other,
+            ));
+        }),
+        Side::new("  of it the table test", || {
+            black_box(lent::well_formed(black_box(&rows), &table));
+        }),
+        Side::new("a copy of the rows (memcpy)", || {
+            copied[..rows.len()].copy_from_slice(black_box(&rows));
+            black_box(&mut copied);
+        }),
+    ];
+    #[cfg(before)]
+    {
+        sides.push(Side::new("before, edit", || {
+            black_box(edit_before(
+                black_box(&rows),
+                &table,
+                change,
+                start,
+                black_box(window),
+                &mut own,
+            ));
+        }));
+        sides.push(Side::new("before, table test", || {
+            black_box(well_formed_before(black_box(&rows), &table));
+        }));
+    }
+    let heading = format!(
+        "one byte typed in the middle of {} bytes, window of {WINDOW}",
+        old.len()
+    );
+    report(&heading, "byte", new.len(), sides, &["the Rust"], rounds);
+}
 
-    let bytes = new.len();
-    let original = median(runs, || {
-        black_box(Lexer::new(text_of(black_box(&new))).tokenize().is_ok());
-    });
-    let with_parse = median(runs.min(101), || {
-        let tokens = tokens_of(black_box(&new));
-        let mut parser = Parser::new(tokens).expect("tokens end with Eof");
-        black_box(parse_program(&mut parser).is_ok());
-    });
-    let library_scan = median(runs, || {
-        black_box(lent::scan(black_box(&new), &mut memory));
-    });
-    let edit = median(runs, || {
-        black_box(lent::edit(
-            &rows,
+/// A whole text replaced by itself.
+fn replaced(what: &str, text: &[u8], rounds: Rounds) {
+    let (rows, table) = scanned(text);
+    let length = text.len() as u32;
+    let change = Change {
+        a: 0,
+        b: length,
+        n: length,
+    };
+    let mut memory = row_memory(text);
+    let answer = lent::edit(&rows, &table, change, 0, text, &mut memory);
+    assert_eq!(
+        (answer, &memory[..rows.len()]),
+        (table, &rows[..]),
+        "the edit is a fresh scan"
+    );
+    #[cfg(before)]
+    let mut own = row_memory(text);
+    #[allow(unused_mut)]
+    let mut sides = vec![
+        original(text),
+        fresh("own scan", text),
+        Side::new("library, edit", || {
+            black_box(lent::edit(
+                black_box(&rows),
+                &table,
+                change,
+                0,
+                black_box(text),
+                &mut memory,
+            ));
+        }),
+    ];
+    #[cfg(before)]
+    sides.push(Side::new("before, edit", || {
+        black_box(edit_before(
+            black_box(&rows),
             &table,
             change,
-            start,
-            black_box(window),
-            &mut memory,
+            0,
+            black_box(text),
+            &mut own,
         ));
-    });
-    let restart = median(runs, || {
-        black_box(lent::restart(&rows, &table, black_box(change.a)));
-    });
-    let test = median(runs, || {
-        black_box(lent::well_formed(black_box(&rows), &table));
-    });
-    let copy = median(runs, || {
-        memory[..rows.len()].copy_from_slice(black_box(&rows));
-        black_box(&mut memory);
-    });
-    line("original, reading the whole text", original, bytes, None);
-    line("original, reading and parsing it", with_parse, bytes, None);
-    line("library, fresh scan", library_scan, bytes, Some(original));
-    line("library, edit", edit, bytes, Some(original));
-    line("  of which: the table test alone", test, bytes, None);
-    line("  a copy of the rows alone (memcpy)", copy, bytes, None);
-    line(
-        "library, restart place (a table test in it)",
-        restart,
-        bytes,
-        None,
-    );
-    line(
-        "library, restart place and edit",
-        restart + edit,
-        bytes,
-        Some(original),
+    }));
+    report(
+        &format!("{what} replaced by themselves"),
+        "byte",
+        text.len(),
+        sides,
+        &["the Rust", "own scan"],
+        rounds,
     );
 }
 
-/// An offset near the middle with letters on both sides.
-fn middle_of_a_name(text: &[u8]) -> usize {
-    (text.len() / 2..text.len())
-        .find(|&at| {
-            text[at - 1].is_ascii_lowercase() && text[at].is_ascii_lowercase() && is_code(text, at)
+/// A thousand bytes typed one after the other into a document.
+fn keystrokes(text: &[u8], rounds: Rounds) {
+    let at = middle_of_a_name(text);
+    let opened = Document::open(text).expect("a probe is taken");
+    let sides = vec![Side::timed("library, Document::replace", || {
+        let mut document = opened.clone();
+        timed(|| {
+            for k in 0..KEYSTROKES {
+                document
+                    .replace(at + k..at + k, b"x")
+                    .expect("a byte is typed");
+            }
         })
-        .expect("a probe has names in its second half")
+    })];
+    let few = Rounds {
+        count: rounds.count.min(11),
+        ..rounds
+    };
+    report(
+        &format!(
+            "{KEYSTROKES} keystrokes in a document of {} bytes",
+            text.len()
+        ),
+        "keystroke",
+        KEYSTROKES,
+        sides,
+        &[],
+        few,
+    );
 }
 
-/// Whether the line of an offset has no comment.
-fn is_code(text: &[u8], at: usize) -> bool {
-    let begin = text[..at]
-        .iter()
-        .rposition(|&byte| byte == b'\n')
-        .map_or(0, |newline| newline + 1);
-    !text[begin..at]
-        .windows(2)
-        .any(|pair| pair == b"//" || pair == b"/*")
+/// The spelling of each row of a document.
+fn spellings(text: &[u8], rounds: Rounds) {
+    let document = Document::open(text).expect("a probe is taken");
+    let count = document.rows().count();
+    let sides = vec![Side::new("library, Document::spelling", || {
+        for row in 0..count {
+            black_box(document.spelling(row).expect("the row is there"));
+        }
+    })];
+    let few = Rounds {
+        count: rounds.count.min(5),
+        ..rounds
+    };
+    report(
+        &format!("spellings of all {count} rows of a document"),
+        "row",
+        count,
+        sides,
+        &[],
+        few,
+    );
 }

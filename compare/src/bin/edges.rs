@@ -1,4 +1,4 @@
-//! Prints document 01's edges and lister example, the examples of READINGS and
+//! Prints LANGUAGE.md's edges and lister example, the examples of DECISIONS.md and
 //! texts of limit length with the original's answers. The exit status is 1 if any
 //! answer is not the expected one.
 
@@ -31,7 +31,7 @@ fn main() -> ExitCode {
 /// Each of these prints its part and gives back the number of mismatches.
 fn print_lister_example() -> usize {
     let lines = lister_lines(&answer(LISTER_TEXT));
-    println!("document 01, the lister's example");
+    println!("LANGUAGE, the lister's example");
     for line in &lines {
         println!("    {line}");
     }
@@ -67,7 +67,7 @@ fn print_sections() -> usize {
         .into_iter()
         .map(|(section, expected)| {
             let kind = kind_of_section(section);
-            println!("READINGS 53: section `{section}` has kind {kind}");
+            println!("DECISIONS, from_section: section `{section}` has kind {kind}");
             verdict(kind == expected)
         })
         .sum()
@@ -79,7 +79,10 @@ fn print_method_sets() -> usize {
         .zip(METHOD_SETS)
         .map(|(kind, expected)| {
             let mask = mask_of(kind);
-            println!("READINGS 54: kind {} has methods {mask:04X}", kind as u32);
+            println!(
+                "DECISIONS, membership: kind {} has methods {mask:04X}",
+                kind as u32
+            );
             verdict(mask == expected)
         })
         .sum()

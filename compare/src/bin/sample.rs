@@ -56,7 +56,7 @@ fn print_counts(answers: &[Answer]) {
 
 fn outcome(answer: &Answer) -> String {
     match answer {
-        Answer::NotCompared { number } => format!("not compared, document 01 says {number}"),
+        Answer::NotCompared { number } => format!("not compared, LANGUAGE.md says {number}"),
         Answer::Compared {
             ending: Some(refusal),
             ..
@@ -64,7 +64,7 @@ fn outcome(answer: &Answer) -> String {
         Answer::Compared { parsed, .. } => match parsed {
             Parsed::NotScanned => "not scanned".to_string(),
             Parsed::NotComparable { number } => {
-                format!("parse not comparable, document 01 says {number}")
+                format!("parse not comparable, LANGUAGE.md says {number}")
             }
             Parsed::Refused(refusal) => format!("parse refused {}", refusal.number),
             Parsed::Accepted(_) => "accepted".to_string(),

@@ -1,6 +1,6 @@
 //! What is expected of an edit: its restart place, and the answer of each call.
 //!
-//! Rows and lexical refusals are the original's, of the new text; so are the rows before a 4. The restart place is document 01's
+//! Rows and lexical refusals are the original's, of the new text; so are the rows before a 4. The restart place is LANGUAGE.md's
 //! rule over the original's rows of the old text. Where a call is refused with 1, 2, 3, 6 or 7, the model says so. Where the
 //! model and the original both answer, they must agree.
 
@@ -25,7 +25,7 @@ pub struct Asked {
     fresh: Option<Told>,
 }
 
-/// What the original reads in a text; nothing where document 01 answers 1 or 2.
+/// What the original reads in a text; nothing where LANGUAGE.md answers 1 or 2.
 pub fn original(text: &[u8]) -> Option<Told> {
     match answer(text) {
         Answer::NotCompared { .. } => None,

@@ -10,9 +10,9 @@ Edits and what is expected of the calls for them. compare/README.md says how thi
 writes it, always the same.
 
 Rows and lexical refusals (11 to 15), and the rows that stand before a 4: the unchanged Rust's reading of the new text.
-Restart places: the rule of document 01, over the unchanged Rust's rows of the old text.
-That a call is refused with 1, 2, 3, 4, 6 or 7: compare/src/model, document 01 written down a second time.
-Edits of kind 0: numbers and restart places besides by hand, from document 01 and READINGS (compare/src/edits/worked.rs).
+Restart places: the rule of LANGUAGE.md, over the unchanged Rust's rows of the old text.
+That a call is refused with 1, 2, 3, 4, 6 or 7: compare/src/model, LANGUAGE.md written down a second time.
+Edits of kind 0: numbers and restart places besides by hand, from LANGUAGE.md and DECISIONS.md (compare/src/edits/worked.rs).
 ";
 
 /// The whole file.

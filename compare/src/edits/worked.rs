@@ -1,4 +1,4 @@
-//! The edits whose answers document 01 and READINGS state.
+//! The edits whose answers LANGUAGE.md and DECISIONS.md state.
 
 use super::expected::Asked;
 use super::{Call, Edit, Kind};
@@ -39,7 +39,7 @@ pub const WORKED: [Worked; 14] = [
     Worked {
         restart: 12,
         ..reading(
-            "01, four bytes suffice and three are short",
+            "LANGUAGE, four bytes suffice and three are short",
             LISTER_TEXT,
             (13, 14),
             b"12",
@@ -49,7 +49,7 @@ pub const WORKED: [Worked; 14] = [
     Worked {
         restart: 1,
         ..reading(
-            "01, a row that ends exactly at a is not kept",
+            "LANGUAGE, a row that ends exactly at a is not kept",
             b"a b",
             (3, 3),
             b"c",
@@ -59,7 +59,7 @@ pub const WORKED: [Worked; 14] = [
     Worked {
         restart: 1,
         ..reading(
-            "01, no old row is met inside a new comment",
+            "LANGUAGE, no old row is met inside a new comment",
             b"a b",
             (2, 2),
             b"/*",
@@ -67,49 +67,49 @@ pub const WORKED: [Worked; 14] = [
         )
     },
     reading(
-        "READINGS, a `/` last in the window may be a meeting",
+        "DECISIONS, a `/` last in the window may be a meeting",
         b"/\"",
         (0, 0),
         b"",
         &[(1, 13)],
     ),
     reading(
-        "READINGS, no meeting lies before a + n",
+        "DECISIONS, no meeting lies before a + n",
         b"/",
         (0, 1),
         b"*",
         &[(1, 0)],
     ),
     reading(
-        "READINGS, no meeting lies at the window's end",
+        "DECISIONS, no meeting lies at the window's end",
         b"/",
         (0, 0),
         b"",
         &[(0, 7)],
     ),
     reading(
-        "READINGS, a lone `<` at the window's end",
+        "DECISIONS, a lone `<` at the window's end",
         b"/",
         (0, 0),
         b"<",
         &[(1, 7), (2, 11)],
     ),
     reading(
-        "READINGS, `0x` at the window's end",
+        "DECISIONS, `0x` at the window's end",
         b"/",
         (0, 0),
         b"0x",
         &[(2, 7), (3, 11)],
     ),
     reading(
-        "READINGS, 15 at the digit too many",
+        "DECISIONS, 15 at the digit too many",
         b"9\\8a",
         (1, 1),
         b"99999999999999999999",
         &[(21, 7), (22, 15)],
     ),
     reading(
-        "READINGS, columns move on one line",
+        "DECISIONS, columns move on one line",
         b"/\n",
         (0, 0),
         b"*",
@@ -118,7 +118,7 @@ pub const WORKED: [Worked; 14] = [
     Worked {
         restart: 1,
         ..reading(
-            "READINGS, the restart column",
+            "DECISIONS, the restart column",
             b"/\"",
             (2, 2),
             b"",
@@ -127,13 +127,19 @@ pub const WORKED: [Worked; 14] = [
     },
     Worked {
         room: 0,
-        ..reading("READINGS, 7 before 4", b"", (0, 0), b"/", &[(0, 7), (1, 4)])
+        ..reading(
+            "DECISIONS, 7 before 4",
+            b"",
+            (0, 0),
+            b"/",
+            &[(0, 7), (1, 4)],
+        )
     },
     Worked {
         room: 1,
         restart: 3,
         ..reading(
-            "READINGS, room below the kept rows",
+            "DECISIONS, room below the kept rows",
             b"a b c",
             (5, 5),
             b"d",
@@ -141,7 +147,7 @@ pub const WORKED: [Worked; 14] = [
         )
     },
     reading(
-        "READINGS, 2 before 7",
+        "DECISIONS, 2 before 7",
         b"a",
         (0, 0),
         "\u{e9}b".as_bytes(),

@@ -1,5 +1,5 @@
-//! Texts of 65,535, 65,536 and 65,537 bytes. The last are not compared: document
-//! 01 answers 1.
+//! Texts of 65,535, 65,536 and 65,537 bytes. The last are not compared:
+//! LANGUAGE.md answers 1.
 
 use crate::answer::LONGEST_TEXT;
 

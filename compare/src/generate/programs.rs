@@ -1,4 +1,4 @@
-//! Programs made by document 01's grammar. Nearly all are accepted: a call on
+//! Programs made by LANGUAGE.md's grammar. Nearly all are accepted: a call on
 //! something other than a variable, a missing map field and a `max` out of range
 //! are made now and then.
 

@@ -86,7 +86,7 @@ fn hold_against_original(text: &[u8], model: &Told, counts: &mut Counts) -> Resu
     let asked = || format!("scan, as the original, {}", shown(text));
     let original = match answer(text) {
         Answer::NotCompared { number } => {
-            counts.add("texts that the original takes and document 01 refuses");
+            counts.add("texts that the original takes and LANGUAGE.md refuses");
             return same(table[0], number, asked);
         }
         Answer::Compared { rows, ending, .. } => Told {

@@ -6,21 +6,21 @@ use mathlib.Core.List.{List, _++_}
 use Prim.Native.Nat.{ℕ, suc, _+_, _*_, _≤_, _<_}
 use native.Mathlib.Omega.{arith}
 use lib.ListN.{length, take}
-use lib.Dec.{eqb, leb, ltb}
-use borrow.Author.Tests.{lt-ltb, le-ltb, leb-true, eqb-true, eq-eqb, ne-eqb}
+use lib.Dec.{eqb, leb}
+use borrow.Author.Tests.{lt-ltb, le-ltb, leb-true, eqb-true}
 use Rattle.rules.specs.declared.Cursor.{Cursor}
 use Rattle.rules.specs.declared.Outer.the-variants.{TextTooLong, BadByte, NotWellFormed, EditNotSensible, WindowShort}
 use Rattle.rules.specs.declared.Table.{Table}
 use Rattle.rules.specs.declared.Told.{Told}
 use Rattle.rules.specs.declared.Told.the-variants.{Refused}
-use Rattle.rules.specs.Text.{mostBytes, startPlace, validBytes, valid, over}
+use Rattle.rules.specs.Text.{mostBytes, startPlace, validBytes, over}
 use Rattle.rules.specs.Rows.{Row, rowsIn, wellFormed}
 use Rattle.rules.specs.Scan.{told, laid}
 use Rattle.rules.specs.Edit.{Seen, sees, over′, met, short, isShort, kept, lastEnd, restart, newLength, sensible, ends, windowShort, newRows, newEnding, editTold, editLeaves}
-use Rattle.rows.proofs.Lists.{both-true}
+use Rattle.laws.proofs.Tests.{both-true}
 use Rattle.rows.specs.Shape.{rowNo}
 use Rattle.rows.proofs.Inside.{fine}
-use Rattle.scan_place.proofs.Places.{front-le}
+use Rattle.laws.proofs.Valid.{is-valid, is-bad}
 use Rattle.edit_carry.specs.Moves.{Ended}
 use Rattle.edit_carry.proofs.Kept.{kept-inside, kept-rows}
 use Rattle.edit_sight.specs.Sight.{sightOf}
@@ -30,7 +30,7 @@ use Rattle.edit.proofs.Facts.{ended}
 use Rattle.edit.proofs.Jobs.{sight-same}
 
 short-same : (olds : List Row) (least b : ℕ) (w : List ℕ) (p : Cursor) (x : Seen) → isShort x ≡ isShortSight (sightOf olds least b w p x)
-unfolding isShort isShortSight sightOf
+unfolding isShort sightOf
 short-same olds least b w p (sees r s) = short-same olds least b w p s
 short-same olds least b w p (over′ e) = refl
 short-same olds least b w p (met m) = refl
@@ -138,11 +138,8 @@ module _ (ws : List ℕ) (t : Table) (a b n start : ℕ) (w : List ℕ) where
 
       module _ (h : newLength (t .length) a b n ≤ mostBytes) where
         pub edit-2 : (m : ℕ) (new : List ℕ) → validBytes w < length w → Edited m new (Refused BadByte (over (restart olds a) (take (validBytes w) w)) 0) new
-        unfolding editTold editLeaves sensible sensibleAt valid
-        edit-2 m new l = rw (f, rw p at s, le-ltb mostBytes (newLength (t .length) a b n) h, ne-eqb (validBytes w) (length w) (λ e. lt-ne l e)) (refl, refl)
-          where
-            lt-ne : {x y : ℕ} → x < y → x ≡ y → ⊥
-            lt-ne l e = omega arith
+        unfolding editTold editLeaves sensible sensibleAt
+        edit-2 m new l = rw (f, rw p at s, le-ltb mostBytes (newLength (t .length) a b n) h, is-bad w l) (refl, refl)
 
         module _ (k : ℕ) (q : k ≡ length (kept a olds)) (c : Cursor) (g : c ≡ restart olds a) where
           abbrev pub jobOf : Job
@@ -163,7 +160,5 @@ module _ (ws : List ℕ) (t : Table) (a b n start : ℕ) (w : List ℕ) where
 
           pub edit-rest : (m : ℕ) (new : List ℕ) → length w ≤ validBytes w → (x : Told) (ys : List ℕ) →
               (x ≡ rereadTold ws jobOf w m) × (ys ≡ rereadLeaves ws jobOf w new) → Edited m new x ys
-          unfolding editTold editLeaves sensible sensibleAt valid rereadTold rereadLeaves validBytes
-          edit-rest m new l x ys z =
-              let e : validBytes w ≡ length w = omega (arith, front-le (λ b. ltb b 128) w) in
-              rw (f, rw p at s, le-ltb mostBytes (newLength (t .length) a b n) h, eq-eqb (validBytes w) (length w) e) z
+          unfolding editTold editLeaves sensible sensibleAt rereadTold rereadLeaves
+          edit-rest m new l x ys z = rw (f, rw p at s, le-ltb mostBytes (newLength (t .length) a b n) h, is-valid w l) z

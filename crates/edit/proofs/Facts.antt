@@ -1,52 +1,26 @@
--- What a well-formed table gives the edit: starts rise, rows are few, and what is moved from one of its rows on fits.
--- ---- a kind that is made has bytes
+-- What a well-formed table gives the edit: starts rise, and what is moved from one of its rows on fits.
 use mathlib.Core.Path.{_≡_, refl, sym}
-use mathlib.Core.Bool.{Bool, true, false, not, _&&_, _||_}
+use mathlib.Core.Bool.{true, not, _&&_, _||_}
 use mathlib.Core.List.{List}
 use Prim.Native.Nat.{ℕ, zero, suc, _+_, _-_, _^_, _≤_, _<_}
 use native.Mathlib.Nat.{le-refl, add-zero}
-use native.Mathlib.Decide.{decLe, ℕ-discrete}
+use native.Mathlib.Decide.{ℕ-discrete}
 use native.Mathlib.Omega.{arith}
 use lib.ListN.{length}
 use lib.Dec.{eqb, leb}
-use borrow.Author.Tests.{eqb-true, eq-eqb, ne-eqb, leb-true}
+use borrow.Author.Tests.{eqb-true, eq-eqb, leb-true}
 use Rattle.rules.specs.declared.Cursor.{Cursor}
 use Rattle.rules.specs.declared.Ending.{Ending}
 use Rattle.rules.specs.declared.Ending.the-variants.{None, Refused}
 use Rattle.rules.specs.declared.Table.{Table}
-use Rattle.rules.specs.Text.{mostBytes, Roomy, within}
-use Rattle.rules.specs.Kinds.{Eof, isMade, signs, reserved, lengthIn}
-use Rattle.rules.specs.Rows.{Row, rowPlace, lengthFits, linesFit, follows, placeFits}
-use Rattle.rows.specs.Shape.{rowNo, behind, allBelow}
-use Rattle.rows.proofs.Lists.{both-true, below}
+use Rattle.rules.specs.Text.{mostBytes, Roomy}
+use Rattle.rules.specs.Rows.{rowPlace, linesFit, follows, placeFits}
+use Rattle.rows.specs.Shape.{rowNo, behind}
+use Rattle.laws.proofs.Tests.{both-true}
 use Rattle.rows.proofs.Inside
-use Rattle.rows.proofs.Inside.{Fine, Sound, Ends, Broken, clean, broken, row-sound, in-order, middle-plain}
+use Rattle.rows.proofs.Inside.{Fine, Ends, Broken, clean, broken, row-sound, in-order}
 use Rattle.edit_carry.specs.Moves.{MovesPlace, MovesRow, MovesEnding, none, refused, Ended}
 use Rattle.edit_sight.specs.Sight.{Rising}
-
-hasBytes : ℕ → Bool
-hasBytes k = not ((isMade k && not (eqb k Eof)) && lengthFits k 0)
-
-all-bytes : allBelow hasBytes 53 ≡ true
-unfolding allBelow hasBytes isMade lengthFits signs reserved lengthIn
-all-bytes = refl
-
-long-row : (r : Row) → Sound r → (r .kind ≡ Eof → ⊥) → r .start < r .end
-unfolding hasBytes isMade
-long-row r s e = pick (decLe (r .end) (r .start))
-  where
-    made : r .kind ≤ 52
-    made = leb-true (r .kind) 52 (both-true (leb (r .kind) 52) (not (within 16 20 (r .kind))) (s .made) .0)
-
-    empty : r .end ≤ r .start → lengthFits (r .kind) 0 ≡ true
-    empty h = let z : r .end - r .start ≡ 0 = omega arith in rw z at (s .long)
-
-    never : (isMade (r .kind) && not (eqb (r .kind) Eof)) ≡ true → lengthFits (r .kind) 0 ≡ true → not ((isMade (r .kind) && not (eqb (r .kind) Eof)) && lengthFits (r .kind) 0) ≡ true → ⊥
-    never f g h = let z : _≡_ {A = Bool} false true = rw (f, g) at h in let y : _≡_ {A = ℕ} 0 1 = cc in omega arith
-
-    pick : Dec (r .end ≤ r .start) → r .start < r .end
-    pick (yes h) = absurd (never (rw (s .made, ne-eqb (r .kind) Eof e)) (empty h) (below hasBytes 53 all-bytes (r .kind) (omega (arith, made))))
-    pick (no h) = omega arith
 
 -- ---- lines
 
@@ -93,19 +67,6 @@ module _ {ws : List ℕ} {t : Table} (f : Fine ws t) where
   ended i h =
       let s = row-sound f i h in
       record { ordered = s .ordered; room = omega (arith, s .ordered, s .column-high, Inside.within f i h, f .short) }
-
-  -- each row but the last has a byte
-  start-least : (i : ℕ) → i < t .count → i ≤ rowNo ws i .start
-  start-least zero h = omega arith
-  start-least (suc i) h =
-      omega (arith, start-least i (omega arith), long-row (rowNo ws i) (row-sound f i (omega arith)) (middle-plain f i h), rw add-zero at (in-order f i 0 (rw add-zero h)))
-
-  pub few : t .count ≤ t .length + 1
-  few = pick (t .count) refl
-    where
-      pick : (n : ℕ) → t .count ≡ n → n ≤ t .length + 1
-      pick zero e = omega arith
-      pick (suc n) e = omega (arith, start-least n (omega arith), row-sound f n (omega arith) .ordered, Inside.within f n (omega arith))
 
   lines-on : (i k : ℕ) → i + k < t .count → Lines (rowPlace (rowNo ws i)) (rowPlace (rowNo ws (i + k)))
   unfolding follows

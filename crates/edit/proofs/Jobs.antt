@@ -13,15 +13,13 @@ use Rattle.rules.specs.Text.{mostBytes, startPlace, over, Roomy}
 use Rattle.rules.specs.Rows.{Row, rowIn, rowsIn, rowPlace, wordsOf}
 use Rattle.rules.specs.Scan.{roomOf, laid}
 use Rattle.rules.specs.Edit.{Seen, look, kept, endPlace, lastEnd, restart, from, firstPlace, carryRow, carryEnding, meets, windowPlace, seen, seenRows}
-use Rattle.scan_place.proofs.Places.{over-offset, roomy-less, roomy-over}
+use Rattle.laws.proofs.Places.{over-offset, roomy-less, roomy-over}
 use Rattle.scan_reader.specs.declared.Spot.{Spot}
 use Rattle.scan_reader.specs.Read.{onward, Ahead}
 use Rattle.rows.specs.Shape.{rowNo}
-use Rattle.rows.proofs.Lists.{rowsIn-length, rowsIn-at}
+use Rattle.laws.proofs.Rows.{rows-length, rows-at, take-rows, laid-all}
 use Rattle.rows.proofs.Inside
-use Rattle.rows.proofs.Inside.{Fine, fine, row-sound}
-use Rattle.edit_carry.proofs.Words.{take-rows}
-use Rattle.edit_carry.proofs.Laid.{laid-all}
+use Rattle.rows.proofs.Inside.{Fine, fine, row-sound, few-rows}
 use Rattle.edit_carry.proofs.Kept.{keptCount, kept-inside, kept-rows, kept-below, behind-rows}
 use Rattle.edit_sight.specs.declared.Sight.the-variants.{Met, Over}
 use Rattle.edit_sight.specs.Sight.{Sightable, meetsAt, placeIn, startOf, sightOf, seenFrom}
@@ -30,7 +28,7 @@ use Rattle.scan.specs.Writing.{written, spotFrom, rowsOf, stopOf, wroteOf, leav
 use Rattle.edit.specs.declared.Job.{Job}
 use Rattle.edit.specs.Job.{Ready, oldRows, jobSeen, jobRows, jobEnding, jobSight, tailTold, tailOf, rowsBefore, rowsBehind, endingBehind, Meets}
 use Rattle.edit.proofs.Joins.{Joins, Reaches, join}
-use Rattle.edit.proofs.Facts.{rising, few, moves-row, moves-ending}
+use Rattle.edit.proofs.Facts.{rising, moves-row, moves-ending}
 use Rattle.edit.proofs.Tails.{tail-over}
 use Rattle.edit.proofs.Seens.{Mets, Lies, lies, Meeting, meeting, over-reaches, MetBy, met-by, over-by, seen-few}
 
@@ -160,7 +158,7 @@ module _ {ws : List ℕ} {j : Job} {w : List ℕ} (r : Ready ws j w) where
           s row (sight-same ∙ e)
 
       row-there : row < j .table .count
-      row-there = rw (rowsIn-length (j .table .count) ws) at (there .there)
+      row-there = rw (rows-length (j .table .count) ws) at (there .there)
 
       at-spot : s .at ≡ there .at
       unfolding onward
@@ -176,7 +174,7 @@ module _ {ws : List ℕ} {j : Job} {w : List ℕ} (r : Ready ws j w) where
       unfolding firstPlace
       place-old =
           ap firstPlace (there .olds-there ∙ drop-cons (oldRows ws j) row (rowIn []) (there .there))
-          ∙ ap rowPlace (rowsIn-at (j .table .count) ws (rowIn []) row row-there)
+          ∙ ap rowPlace (rows-at (j .table .count) ws (rowIn []) row row-there)
 
       place-new : windowPlace (oldRows ws j) (j .table .ending) (j .a) (j .b) (j .n) w (j .begin .offset .0 + there .at) ≡ s .cursor
       unfolding windowPlace onward
@@ -231,4 +229,4 @@ module _ {ws : List ℕ} {j : Job} {w : List ℕ} (r : Ready ws j w) where
     few-all =
         let q = seen-few (oldRows ws j) (j .table .ending) (j .a) (j .b) (j .n) w (placeIn (j .begin) w) (meetsAt (oldRows ws j) (j .a + j .n) (j .b)) whole 0 (j .begin .offset .0) w in
         let z = subst (λ (x : Seen). length (seenRows (oldRows ws j) (j .table .ending) (j .a) (j .b) (j .n) w x) ≤ length w + 1 + length (oldRows ws j)) (sym (seen-same whole)) q in
-        omega (arith, z, rowsIn-length (j .table .count) ws, few sound, sound .short, few-kept, short-window)
+        omega (arith, z, rows-length (j .table .count) ws, few-rows sound, sound .short, few-kept, short-window)

@@ -1,7 +1,8 @@
--- What the proofs of this crate use, from joined lists up to the whole call.
+-- What the proofs of this crate use, from joined lists up to the whole call; and how tight the calls' contracts are.
 pub mod Joins
 pub mod Facts
 pub mod Tails
 pub mod Seens
 pub mod Jobs
 pub mod Calls
+pub mod Tight

@@ -6,7 +6,7 @@ use mathlib.Core.List.{List, [], _∷_, _++_, map}
 use Prim.Native.Nat.{ℕ, zero, suc, pred, _+_, _-_, _≤_, _<_}
 use native.Mathlib.Nat.{le-refl}
 use native.Mathlib.Omega.{arith}
-use lib.ListN.{length, drop}
+use lib.ListN.{length, drop, length-map}
 use lib.Dec.{eqb, leb}
 use Rattle.rules.specs.declared.Cursor.{Cursor}
 use Rattle.rules.specs.declared.Ending.{Ending}
@@ -14,10 +14,9 @@ use Rattle.rules.specs.declared.Ending.the-variants as ending
 use Rattle.rules.specs.Rows.{Row, eofRow}
 use Rattle.rules.specs.Lex.{Item, item, known, blank, comment, row, refused, end, unknown}
 use Rattle.rules.specs.Edit.{Seen, sees, over′, met, short, look, opens, from, some, firstPlace, carryRow, carryEnding, oldOffset, windowPlace, seenRows, seenEnding}
-use Rattle.rows.proofs.Lists.{both-true}
+use Rattle.laws.proofs.Tests.{both-true}
 use Rattle.scan_reader.specs.declared.Spot.{Spot}
 use Rattle.scan_reader.specs.Read.{onward}
-use Rattle.edit_carry.proofs.Carried.{map-length}
 use Rattle.edit_sight.specs.declared.Sight.the-variants.{Met, Over}
 use Rattle.edit_sight.specs.Sight.{meetsAt, startOf, sightOf}
 use Rattle.scan.specs.declared.Stop.the-variants as stops
@@ -213,5 +212,5 @@ module _ (olds : List Row) (e : Ending) (a b n : ℕ) (w : List ℕ) (pos : ℕ 
           length (seenRows olds e a b n w (look pos meet whole 0 k (c ∷ s))) ≤ suc (length s) + 1 + length olds
       pick true f r =
           rw (look-meets pos meet whole c s k f)
-          (omega (arith, map-length (carryRow (firstPlace (from (oldOffset olds e a b n w k) olds)) (windowPlace olds e a b n w k)) (from (oldOffset olds e a b n w k) olds), from-few (oldOffset olds e a b n w k) olds))
+          (omega (arith, length-map (from (oldOffset olds e a b n w k) olds) (carryRow (firstPlace (from (oldOffset olds e a b n w k) olds)) (windowPlace olds e a b n w k)), from-few (oldOffset olds e a b n w k) olds))
       pick false f r = rw (look-next pos meet whole c s k (item whole (c ∷ s)) f refl) (by (item whole (c ∷ s)) r)

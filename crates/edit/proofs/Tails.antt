@@ -6,7 +6,7 @@ use mathlib.Core.List.{List, [], _∷_, _++_, map}
 use Prim.Native.Nat.{ℕ, zero, suc, _+_, _-_, _*_, _/_, _^_, _≤_, _<_}
 use native.Mathlib.Decide.{decLe}
 use native.Mathlib.Omega.{arith}
-use lib.ListN.{length, take, drop, length-append, length-drop}
+use lib.ListN.{length, take, drop, length-append, length-drop, length-map}
 use lib.Dec.{leb}
 use lib.Seq.{take-at, drop-at}
 use borrow.Rule.Slice.PartMut.{putMid}
@@ -24,10 +24,8 @@ use Rattle.rules.specs.Rows.{Row, rowsIn, rowPlace, wordsOf}
 use Rattle.rules.specs.Scan.{roomOf, laid, told}
 use Rattle.rules.specs.Edit.{carryRow}
 use Rattle.rows.specs.Shape.{rowNo}
-use Rattle.edit_carry.proofs.Words.{words-length, take-rows, drop-rows}
-use Rattle.edit_carry.proofs.Carried.{map-length, lent-tail, back-tail}
-use Rattle.edit_carry.proofs.Laid.{told-full, room-behind, laid-behind, laid-front, laid-part, laid-all}
-use Rattle.rows.proofs.Lists.{rowsIn-length}
+use Rattle.laws.proofs.Lists.{lent-tail, back-tail}
+use Rattle.laws.proofs.Rows.{rows-length, words-length, take-rows, drop-rows, told-full, room-behind, laid-append, laid-front, laid-part, laid-all}
 use Rattle.scan_reader.specs.declared.Spot.{Spot}
 use Rattle.scan.specs.declared.Stop.{Stop}
 use Rattle.scan.specs.declared.Stop.the-variants as stops
@@ -89,7 +87,7 @@ module _ (m : ℕ) (ys : List Row) (s : Spot) (w : Wrote) (e : w ≡ wrote m ys 
   by p = cond p (record { count = length ys; stop = stops.At s }) (record { count = m; stop = stops.Full })
 
   pub at-count : isAt (w .stop) ≡ true → (length ys ≤ m) × (w .count ≡ length ys)
-  unfolding wrote isAt by
+  unfolding wrote by
   at-count = rw e (pick (leb (length ys) m) refl)
     where
       pick : (p : Bool) → leb (length ys) m ≡ p → isAt (by p .stop) ≡ true →
@@ -98,7 +96,7 @@ module _ (m : ℕ) (ys : List Row) (s : Spot) (w : Wrote) (e : w ≡ wrote m ys 
       pick false f h = absurd (let z : _≡_ {A = ℕ} 0 1 = cc in omega arith)
 
   pub at-full : isAt (w .stop) ≡ false → m < length ys
-  unfolding wrote isAt by
+  unfolding wrote by
   at-full = rw e (pick (leb (length ys) m) refl)
     where
       pick : (p : Bool) → leb (length ys) m ≡ p → isAt (by p .stop) ≡ false → m < length ys
@@ -150,7 +148,7 @@ map-take f (suc n) (x ∷ xs) = ap (_∷_ (f x)) (map-take f n xs)
 -- rows that are changed by f, as far as there is room
 module _ (f : Row → Row) (xs ws : List ℕ) (left : ℕ) where
   many : length (map f (rowsIn left xs)) ≡ left
-  many = map-length f (rowsIn left xs) ∙ rowsIn-length left xs
+  many = length-map (rowsIn left xs) f ∙ rows-length left xs
 
   pub laid-left : left ≤ roomOf ws → wordsOf (map f (rowsIn left xs)) ++ drop (8 * left) ws ≡ laid (map f (rowsIn left xs)) ws
   laid-left h = sym (laid-all (map f (rowsIn left xs)) ws (rw many h) ∙ rw many)
@@ -197,7 +195,7 @@ module _ (ws : List ℕ) (t : Table) (row : ℕ) (p : Cursor) (xs : List ℕ) wh
 
   pub count-behind : length (rowsBehind ws t row p) ≡ t .count - row
   unfolding left
-  count-behind = ap length rows-behind ∙ map-length f (rowsIn left (drop (8 * row) ws)) ∙ rowsIn-length left (drop (8 * row) ws)
+  count-behind = ap length rows-behind ∙ length-map (rowsIn left (drop (8 * row) ws)) f ∙ rows-length left (drop (8 * row) ws)
 
   -- so many words are written, of all or of those for which there is room
   abbrev Carried : ℕ → List ℕ → Type 0
@@ -229,7 +227,7 @@ module _ (ys zs : List Row) (e : Ending) (ws xs : List ℕ) (count : ℕ) (left 
   -- it was lent, and came back with them
   back-all : (ps : List ℕ) → ps ≡ laid zs part → putMid (count * 8) (length xs - count * 8) xs ps ≡ laid (ys ++ zs) ws
   back-all ps q =
-      back-behind ys ws xs count left h n ps ∙ ap (λ (z : List ℕ). wordsOf ys ++ z) (q ∙ ap (laid zs) (lent-behind ys ws xs count left h n)) ∙ sym (laid-behind ys zs ws h)
+      back-behind ys ws xs count left h n ps ∙ ap (λ (z : List ℕ). wordsOf ys ++ z) (q ∙ ap (laid zs) (lent-behind ys ws xs count left h n)) ∙ sym (laid-append ys zs ws h)
 
   part-told : (r : Tail) → r ≡ tailTold (roomOf part) zs e → r ≡ tailTold (roomOf (drop (8 * length ys) ws)) zs e
   part-told r q = q ∙ ap (λ (z : List ℕ). tailTold (roomOf z) zs e) (lent-behind ys ws xs count left h n)

@@ -66,14 +66,14 @@ unfoldable pub jobSight : List ℕ → Job → List ℕ → Bool → Sight
 jobSight ws j w whole =
     sightOf (oldRows ws j) (j .a + j .n) (j .b) w (j .begin) (seenFrom (oldRows ws j) (j .a + j .n) (j .b) w (j .begin) whole)
 
-unfoldable pub isShortSight : Sight → Bool
+abbrev pub isShortSight : Sight → Bool
 isShortSight (sights.Met s r) = false
 isShortSight sights.Over = false
 isShortSight sights.Short = true
 
 -- ---- what is written behind the kept rows
 
-unfoldable pub isAt : Stop → Bool
+abbrev pub isAt : Stop → Bool
 isAt (stops.At s) = true
 isAt stops.End = false
 isAt (stops.Refused why p) = false

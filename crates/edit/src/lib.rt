@@ -4,9 +4,8 @@ use edit_carry::carry_rows;
 use edit_carry::copy_rows;
 use edit_carry::kept_rows;
 use edit_carry::place_behind;
-use scan_place::pass;
-use scan_place::valid_bytes;
-use scan_reader::Spot;
+use edit_sight::Sight;
+use edit_sight::see;
 use rows::shape::row_at;
 use rows::shape::row_place;
 use rows::shape::wide;
@@ -17,10 +16,13 @@ use rules::Outer;
 use rules::Restart;
 use rules::Table;
 use rules::Told;
+use rules::limit;
+use rules::row;
 use scan::Stop;
 use scan::write_rows;
-use edit_sight::Sight;
-use edit_sight::see;
+use scan_place::pass;
+use scan_place::valid_bytes;
+use scan_reader::Spot;
 ghost use mathlib.Core.Path.{_≡_};
 ghost use mathlib.Core.List.{_++_};
 ghost use Prim.Native.Nat.{_+_, _*_, _≤_};
@@ -138,7 +140,7 @@ fn follow(old: &[u32], table: Table, row: usize, p: Cursor, tail: &mut [u32]) ->
 {
     let o = row_place(row_at(old, row));
     let left = table.count as usize - row;
-    let room = tail.len() / 8;
+    let room = tail.len() / row::WORDS;
     if room < left {
         carry_rows(old, row, room, o, p, tail);
         return Tail::Full;
@@ -181,7 +183,7 @@ fn fill_met(
         return Tail::Full;
     }
     let count = wrote.count;
-    let base = count * 8;
+    let base = count * row::WORDS;
     let table = job.table;
     let p = spot.cursor;
     behind(count, follow(old, table, row, p, &mut tail[base..]))
@@ -238,13 +240,13 @@ fn fill(
     ensures { λ r. ⌜ (r ≡ told size (roomOf (now (new .entry))) (kept (job .a) (oldRows (now (old .entry)) job) ++ jobRows (now (old .entry)) job (now (window .entry)) whole) (jobEnding (now (old .entry)) job (now (window .entry)) whole)) × (now (new .exit) ≡ laid (kept (job .a) (oldRows (now (old .entry)) job) ++ jobRows (now (old .entry)) job (now (window .entry)) whole) (now (new .entry))) ⌝ }
 {
     let kept = job.kept;
-    let room = new.len() / 8;
+    let room = new.len() / row::WORDS;
     if room < kept {
         copy_rows(old, room, new);
         return tell(kept, Tail::Full, size, room);
     }
     copy_rows(old, kept, new);
-    let base = kept * 8;
+    let base = kept * row::WORDS;
     let tail = fill_tail(old, job, window, whole, seen, &mut new[base..]);
     tell(kept, tail, size, room)
 }
@@ -301,7 +303,7 @@ pub fn edit(
     if !sensible(length, a, b, n, begin.offset.0, start, window.len()) {
         return refused(Outer::EditNotSensible);
     }
-    if 65536 < new_length(length, a, b, n) {
+    if limit::MOST_BYTES_U64 < new_length(length, a, b, n) {
         return refused(Outer::TextTooLong);
     }
     let valid = valid_bytes(window);

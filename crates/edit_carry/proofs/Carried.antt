@@ -1,13 +1,11 @@
 -- Moved places, endings and rows, and the loop that writes moved rows.
--- ---- a part of lent words
--- a part from a on that is lent, `&mut xs[a..]`, and the whole after it came back as ys
 use mathlib.Core.Path.{_≡_, refl, sym, ap, _∙_}
 use mathlib.Core.List.{List, [], _∷_, _++_, map, append-assoc, append-nil}
-use Prim.Native.Nat.{ℕ, suc, _+_, _-_, _*_, _≤_}
+use Prim.Native.Nat.{ℕ, _+_, _-_, _*_, _≤_}
 use native.Mathlib.Numerals.{add-one}
 use native.Mathlib.Omega.{arith}
-use lib.ListN.{length, take, drop, length-append, length-drop, drop-of-length-le}
-use lib.Seq.{drop-drop, take-all, take-at, drop-at}
+use lib.ListN.{length, take, drop, length-append, length-drop, length-map}
+use lib.Seq.{drop-drop, take-at, drop-at}
 use borrow.Author.Tests.{eq-eqb, ne-eqb}
 use borrow.Rule.Slice.PartMut.{putMid}
 use Rattle.rules.specs.declared.Cursor.{Cursor}
@@ -17,16 +15,9 @@ use Rattle.rules.specs.Text.{place}
 use Rattle.rules.specs.Rows.{Row, rowsIn, rowWords, wordsOf}
 use Rattle.rules.specs.Edit.{carry}
 use Rattle.rows.specs.Shape.{rowNo}
-use Rattle.rows.proofs.Lists.{rowsIn-length}
+use Rattle.laws.proofs.Lists.{map-append, lent-tail, back-tail}
+use Rattle.laws.proofs.Rows.{rows-length, rows-snoc, words-length, words-append}
 use Rattle.edit_carry.specs.Moves.{MovesPlace, MovesEnding, refused}
-use Rattle.edit_carry.proofs.Words.{rows-snoc, words-append, words-length}
-
-module _ (xs : List ℕ) (a : ℕ) (h : a ≤ length xs) where
-  pub lent-tail : take (length xs - a) (drop a xs) ≡ drop a xs
-  lent-tail = take-all (length xs - a) (drop a xs) (omega (arith, length-drop a xs))
-
-  pub back-tail : (ys : List ℕ) → putMid a (length xs - a) xs ys ≡ take a xs ++ ys
-  back-tail ys = rw (drop-drop, drop-of-length-le xs {i = a + (length xs - a)} (omega arith), append-nil)
 
 -- ---- a moved place
 
@@ -46,21 +37,13 @@ refused-moves (refused m) = m
 
 -- ---- the loop over rows
 
-pub map-append : (f : Row → Row) (xs ys : List Row) → map f (xs ++ ys) ≡ map f xs ++ map f ys
-map-append f [] ys = refl
-map-append f (x ∷ xs) ys = ap (_∷_ (f x)) (map-append f xs ys)
-
-pub map-length : (f : Row → Row) (xs : List Row) → length (map f xs) ≡ length xs
-map-length f [] = refl
-map-length f (x ∷ xs) = ap suc (map-length f xs)
-
 -- the first rows of ws, each changed by f, stand before what was there
 unfoldable pub carried : (Row → Row) → List ℕ → ℕ → List ℕ → List ℕ
 carried f ws i new = wordsOf (map f (rowsIn i ws)) ++ drop (8 * i) new
 
 module _ (f : Row → Row) (ws new : List ℕ) (i : ℕ) where
   carried-words : length (wordsOf (map f (rowsIn i ws))) ≡ 8 * i
-  carried-words = words-length (map f (rowsIn i ws)) ∙ ap (λ (k : ℕ). 8 * k) (map-length f (rowsIn i ws) ∙ rowsIn-length i ws)
+  carried-words = words-length (map f (rowsIn i ws)) ∙ ap (λ (k : ℕ). 8 * k) (length-map (rowsIn i ws) f ∙ rows-length i ws)
 
   pub carried-length : 8 * i ≤ length new → length (carried f ws i new) ≡ length new
   unfolding carried
@@ -82,10 +65,6 @@ module _ (f : Row → Row) (ws new : List ℕ) (i : ℕ) where
 pub carried-none : (f : Row → Row) (ws new : List ℕ) → carried f ws 0 new ≡ new
 unfolding carried rowsIn wordsOf
 carried-none f ws new = refl
-
--- row i of the words from row a on
-pub row-from : (ws : List ℕ) (a i : ℕ) → rowNo (drop (8 * a) ws) i ≡ rowNo ws (a + i)
-row-from ws a i = let e : 8 * a + 8 * i ≡ 8 * (a + i) = omega arith in rw (drop-drop, e)
 
 -- a turn: the tail from row i on was lent, and came back as ys with a row's words in front
 module _ (f : Row → Row) (ws new : List ℕ) (i : ℕ) where

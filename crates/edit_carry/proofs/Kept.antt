@@ -14,8 +14,7 @@ use Rattle.rules.specs.declared.Cursor.{Cursor}
 use Rattle.rules.specs.Rows.{Row, rowIn, rowsIn}
 use Rattle.rules.specs.Edit.{kept, endPlace, lastEnd}
 use Rattle.rows.specs.Shape.{rowNo}
-use Rattle.rows.proofs.Lists.{rowsIn-length, rowsIn-at}
-use Rattle.edit_carry.proofs.Words.{rest, rest-cons, rest-none, take-rows}
+use Rattle.laws.proofs.Rows.{rows-length, rows-at, take-rows, rest, rest-cons, rest-none}
 
 module _ (a : ℕ) (ws : List ℕ) (count i : ℕ) where
   pub kept-more : i < count → rowNo ws i .end < a → length (kept a (rest ws count i)) ≡ suc (length (kept a (rest ws count (i + 1))))
@@ -67,7 +66,7 @@ module _ (a : ℕ) (ws : List ℕ) (count : ℕ) where
   keptCount = length (kept a (rowsIn count ws))
 
   pub kept-inside : keptCount ≤ count
-  kept-inside = rw (rowsIn-length count ws) at (kept-few a (rowsIn count ws))
+  kept-inside = rw (rows-length count ws) at (kept-few a (rowsIn count ws))
 
   pub kept-rows : kept a (rowsIn count ws) ≡ rowsIn keptCount ws
   kept-rows = kept-front a (rowsIn count ws) ∙ take-rows count ws keptCount kept-inside
@@ -75,7 +74,7 @@ module _ (a : ℕ) (ws : List ℕ) (count : ℕ) where
   pub kept-below : (i : ℕ) → i < keptCount → rowNo ws i .end < a
   kept-below i h =
       let l : i < count = omega (arith, kept-inside) in
-      rw (rowsIn-at count ws (rowIn []) i l) at (kept-ends a (rowsIn count ws) (rowIn []) i h)
+      rw (rows-at count ws (rowIn []) i l) at (kept-ends a (rowsIn count ws) (rowIn []) i h)
 
 -- ---- the place behind them
 

@@ -1,5 +1,3 @@
--- What the proofs of this crate use: rows' words, the kept rows, rows laid into memory, rows moved.
-pub mod Words
+-- What the proofs of this crate use: the kept rows, and rows moved.
 pub mod Kept
-pub mod Laid
 pub mod Carried

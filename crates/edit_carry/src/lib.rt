@@ -5,6 +5,7 @@ use rules::Cursor;
 use rules::Ending;
 use rules::Line;
 use rules::Offset;
+use rules::row;
 ghost use mathlib.Core.Path.{_≡_};
 ghost use mathlib.Core.List.{_++_, map};
 ghost use Prim.Native.Nat.{ℕ, suc, _+_, _-_, _*_, _≤_, _<_};
@@ -22,7 +23,7 @@ pub fn kept_rows(old: &[u32], count: usize, a: u32) -> usize
 {
     let mut i = 0;
     while i < count {
-        if a <= old[i * 8 + 2] {
+        if a <= old[i * row::WORDS + row::END] {
             return i;
         }
         i += 1;
@@ -51,7 +52,7 @@ pub fn copy_rows(old: &[u32], n: usize, new: &mut [u32])
     requires { ⌜ (n * 8 ≤ length (now old)) × (n * 8 ≤ length (now new)) ⌝ }
     ensures { λ _. ⌜ now (new .exit) ≡ wordsOf (rowsIn n (now (old .entry))) ++ drop (8 * n) (now (new .entry)) ⌝ }
 {
-    let words = n * 8;
+    let words = n * row::WORDS;
     let mut i = 0;
     while i < words {
         new[i] = old[i];
@@ -126,14 +127,14 @@ fn put_row(words: &mut [u32], r: Row)
     requires { ⌜ 8 ≤ length (now words) ⌝ }
     ensures { λ _. ⌜ now (words .exit) ≡ rowWords (asRow r) ++ drop 8 (now (words .entry)) ⌝ }
 {
-    words[0] = r.kind;
-    words[1] = r.start;
-    words[2] = r.end;
-    words[3] = r.line;
-    words[4] = r.column;
-    words[5] = r.low;
-    words[6] = r.high;
-    words[7] = r.spare;
+    words[row::KIND] = r.kind;
+    words[row::START] = r.start;
+    words[row::END] = r.end;
+    words[row::LINE] = r.line;
+    words[row::COLUMN] = r.column;
+    words[row::LOW] = r.low;
+    words[row::HIGH] = r.high;
+    words[row::SPARE] = r.spare;
 }
 
 // The n rows from row `from` on, moved, into the first words.
@@ -144,7 +145,7 @@ pub fn carry_rows(old: &[u32], from: usize, n: usize, o: Cursor, p: Cursor, new:
     let mut i = 0;
     while i < n {
         let r = carry_row(rows::shape::row_at(old, from + i), o, p);
-        let base = i * 8;
+        let base = i * row::WORDS;
         put_row(&mut new[base..], r);
         i += 1;
     }

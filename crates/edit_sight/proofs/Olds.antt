@@ -1,9 +1,8 @@
 -- The old rows from a start on, by a pointer that only moves forward.
--- the start of row i
 use mathlib.Core.Path.{_≡_, refl, sym, ap, _∙_}
 use mathlib.Core.Bool.{Bool, true, false, _&&_}
 use mathlib.Core.List.{List, [], _∷_}
-use Prim.Native.Nat.{ℕ, zero, suc, _+_, _-_, _*_, _≤_, _<_}
+use Prim.Native.Nat.{ℕ, zero, suc, _+_, _-_, _≤_, _<_}
 use native.Mathlib.Nat.{le-of-suc-le-suc}
 use native.Mathlib.Decide.{decLe, ℕ-discrete}
 use native.Mathlib.Omega.{arith}
@@ -14,12 +13,8 @@ use borrow.Author.Tests.{eq-eqb, ne-eqb, ltb-true, ltb-false, eqb-true, eqb-fals
 use Rattle.rules.specs.Rows.{Row, rowIn, rowsIn}
 use Rattle.rules.specs.Edit.{from, some, opens}
 use Rattle.rows.specs.Shape.{rowNo}
-use Rattle.rows.proofs.Lists.{rowsIn-length, rowsIn-at}
+use Rattle.laws.proofs.Rows.{rows-length, rows-at}
 use Rattle.edit_sight.specs.Sight.{Rising, Passed, Sought, meetsAt, Finds}
-
-pub row-start : (ws : List ℕ) (i : ℕ) → getD ws (i * 8 + 1) 0 ≡ rowNo ws i .start
-unfolding rowIn
-row-start ws i = let e : i * 8 + 1 ≡ 8 * i + 1 = omega arith in rw e (sym (getD-drop (8 * i) ws 1 0))
 
 -- one row more starts below x
 pub below-step : (ws : List ℕ) (row x i : ℕ) → ((j : ℕ) → row ≤ j → j < i → rowNo ws j .start < x) → rowNo ws i .start < x →
@@ -63,11 +58,11 @@ module _ (ws : List ℕ) (count : ℕ) (m r : ℕ) (high : r ≤ count) (below :
 
   at : (i : ℕ) → i < count → getD rows i noRow ≡ rowNo ws i
   unfolding rows
-  at i h = rowsIn-at count ws noRow i h
+  at i h = rows-at count ws noRow i h
 
   many : length rows ≡ count
   unfolding rows
-  many = rowsIn-length count ws
+  many = rows-length count ws
 
   not-before : (i : ℕ) → i < r → getD rows i noRow .start ≡ m → ⊥
   not-before i h e = omega (arith, below i h, ap (λ (x : Row). x .start) (at i (omega arith)))
@@ -161,7 +156,7 @@ module _ (ws : List ℕ) (count least b row k : ℕ) (passed : Passed ws least b
             low = s .low;
             high = s .high;
             passed = passed-on;
-            tells = rw (o, q, le-leb least k l, some-drop (rowsIn count ws) r (rw (rowsIn-length count ws) h));
+            tells = rw (o, q, le-leb least k l, some-drop (rowsIn count ws) r (rw (rows-length count ws) h));
             there = λ z. q;
           }
 

@@ -14,21 +14,18 @@ use Rattle.rules.specs.declared.Ending.the-variants as ending
 use Rattle.rules.specs.Rows.{rowsIn, eofRow}
 use Rattle.rules.specs.Lex.{row, Item, item}
 use Rattle.rules.specs.Edit.{Seen, sees, over′, met, short, look, opens}
-use Rattle.scan_place.proofs.Places.{over-take, over-offset, roomy-over}
+use Rattle.laws.proofs.Places.{over-offset, roomy-over}
 use Rattle.theory_machine.proofs.Spans.{Spans, blank-spans, comment-spans, row-spans, refused-spans, end-spans, unknown-spans}
 use Rattle.scan_reader.specs.declared.Spot.{Spot}
 use Rattle.scan_reader.specs.Read.{onward, Ahead, pieceRead, readOf}
-use Rattle.rows.proofs.Lists.{rowsIn-length}
+use Rattle.scan_reader.proofs.Moves.{onward-more}
+use Rattle.laws.proofs.Rows.{rows-length}
 use Rattle.edit_sight.specs.declared.Found.{Found}
 use Rattle.edit_sight.specs.declared.Sight.{Sight}
 use Rattle.edit_sight.specs.declared.Sight.the-variants.{Met, Over, Short}
 use Rattle.edit_sight.specs.declared.Next.the-variants as nexts
 use Rattle.edit_sight.specs.Sight.{Passed, Sightable, Finds, meetsAt, placeIn, startOf, nextOf, sightOf, seenFrom}
 use Rattle.edit_sight.proofs.Looks.{lookBy, look-met, look-by, look-end, index-spans}
-
-pub onward-more : (t : List ℕ) (s : Spot) (m n : ℕ) → onward t (onward t s m) n ≡ onward t s (m + n)
-unfolding onward
-onward-more t s m n = rw (over-take (s .cursor) m n (drop (s .at) t), drop-drop, add-assoc)
 
 module _ (ws : List ℕ) (count least b : ℕ) (w : List ℕ) (p : Cursor) (whole : Bool) where
   -- what is seen from index i on
@@ -92,7 +89,7 @@ module _ (ws : List ℕ) (count least b : ℕ) (w : List ℕ) (p : Cursor) (whol
           let q = rw at-offset at (f .there e) in
           let m : k + i - k ≡ i = omega arith in
           let n : length (rowsIn count ws) - length (drop (r .row) (rowsIn count ws)) ≡ r .row =
-          omega (arith, length-drop (r .row) (rowsIn count ws), rowsIn-length count ws, f .high) in
+          omega (arith, length-drop (r .row) (rowsIn count ws), rows-length count ws, f .high) in
           sym (sym (g .same) ∙ ap told (look-met (placeIn p w) (meetsAt (rowsIn count ws) least b) whole w k i l (sym tells ∙ e)) ∙ rw (q, n, m, g .spot))
 
       -- it does not: the pass goes on from the piece there

@@ -1,9 +1,10 @@
 // The pass over an edit's window that writes nothing: it finds where the new scan meets the old rows, that it is over without a
 // meeting, or that the window is short.
-use scan_reader::Read;
-use scan_reader::Spot;
 use rows::shape::wide;
 use rules::Cursor;
+use rules::row;
+use scan_reader::Read;
+use scan_reader::Spot;
 ghost use mathlib.Core.Path.{_≡_};
 ghost use mathlib.Core.Bool.{_&&_};
 ghost use Prim.Native.Nat.{_+_, _*_, _≤_, _<_};
@@ -61,15 +62,15 @@ fn gap_opens(window: &[u8], at: usize) -> bool
     ensures { λ r. ⌜ r ≡ opens (drop at (now (window .entry))) ⌝ }
 {
     let b = window[at];
-    if b == 47 {
+    if b == b'/' {
         let behind = at + 1;
         if behind < window.len() {
             let c = window[behind];
-            return (c == 47) | (c == 42);
+            return (c == b'/') | (c == b'*');
         }
         return false;
     }
-    ((9 <= b) & (b <= 13)) | (b == 32)
+    ((b'\t' <= b) & (b <= b'\r')) | (b == b' ')
 }
 
 // The first row from `row` on that starts at an offset or behind it.
@@ -79,7 +80,7 @@ fn seek(old: &[u32], count: usize, row: usize, target: u64) -> usize
 {
     let mut i = row;
     while i < count {
-        if target <= wide(old[i * 8 + 1]) {
+        if target <= wide(old[i * row::WORDS + row::START]) {
             return i;
         }
         i += 1;
@@ -93,7 +94,7 @@ fn starts(old: &[u32], count: usize, i: usize, target: u64) -> bool
     ensures { λ r. ⌜ r ≡ (ltb i count && eqb (rowNo (now (old .entry)) i .start) target) ⌝ }
 {
     if i < count {
-        return wide(old[i * 8 + 1]) == target;
+        return wide(old[i * row::WORDS + row::START]) == target;
     }
     false
 }

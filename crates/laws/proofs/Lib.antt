@@ -1,3 +1,12 @@
--- What holds of tests at each number below a bound, and of spellings that are compared.
-pub mod Tables
-pub mod Spellings
+-- Laws that several crates use, each file over those above it: tests, lists, the bytes of a text that meet a test, places in a text, which
+-- bytes a text may hold, rows in words, what a call over a table is told, spellings compared,
+-- and by what a contract is shown to be tight.
+pub mod Tests
+pub mod Lists
+pub mod Fronts
+pub mod Places
+pub mod Valid
+pub mod Rows
+pub mod Calls
+pub mod Spelled
+pub mod Tight

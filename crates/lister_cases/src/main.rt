@@ -1,10 +1,13 @@
 // Lists several texts, one after the other, each under a line that says what it is.
 use libc::STDOUT_FILENO;
+use lister_lines::MOST_LISTING;
 
 // A case's name, and what the lister writes of its text.
 fn case(name: &[u8], text: &[u8]) {
     io::write_all(STDOUT_FILENO, name);
-    lister_lines::list(text);
+    let mut out = [0u8; MOST_LISTING];
+    let r = lister_lines::listing(text, &mut out);
+    io::write_all(STDOUT_FILENO, &out[..r]);
 }
 
 // Texts that are refused, and an empty one.

@@ -10,7 +10,8 @@ use lib.Dec.{eqb, ltb}
 use lib.Count.{ones, onesIn, ones-step}
 use borrow.Author.Tests.{eqb-true, ltb-true}
 use Rattle.rules.specs.Sets.{allowed, member, allows, setSize}
-use Rattle.laws.proofs.Tables.{both-true, allBelow, below}
+use Rattle.laws.specs.Tests.{allBelow}
+use Rattle.laws.proofs.Tests.{both-true, below}
 
 abbrev pub masks : List ℕ
 masks =

@@ -11,8 +11,9 @@ use lib.Dec.{eqb}
 use borrow.Author.Tests.{eqb-true}
 use Rattle.rules.specs.Kinds.{sameBytes}
 use Rattle.rules.specs.Sets.{sections, fits, kindOfSection, fromSection}
-use Rattle.laws.proofs.Tables.{both-true, allBelow, below}
-use Rattle.laws.proofs.Spellings.{same-eq, differs}
+use Rattle.laws.specs.Tests.{allBelow}
+use Rattle.laws.proofs.Tests.{both-true, below}
+use Rattle.laws.proofs.Spelled.{same-eq, differs}
 use Rattle.methods.specs.Entries.{noSection, sectionAt, Entry}
 
 -- ---- tables, and the test that they say what the definition says

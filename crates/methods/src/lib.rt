@@ -1,6 +1,7 @@
 // Sections and sets: the program kind of a section's text, and the methods that each kind allows.
 use rules::Asked;
 use rules::Outer;
+use rules::fact;
 ghost use mathlib.Core.Path.{_≡_};
 ghost use Rattle.rules.specs.Sets.{fits, fromSection};
 ghost use Rattle.rules.specs.Calls.{memberAsked, sizeAsked};
@@ -41,7 +42,21 @@ const WHOLE: [bool; 13] = [
     false,
 ];
 
-const KINDS: [u32; 13] = [0, 1, 1, 1, 2, 3, 4, 4, 5, 6, 7, 8, 9];
+const KINDS: [u32; 13] = [
+    fact::PROGRAM_XDP,
+    fact::PROGRAM_TC,
+    fact::PROGRAM_TC,
+    fact::PROGRAM_TC,
+    fact::PROGRAM_SOCKET,
+    fact::PROGRAM_CGROUP,
+    fact::PROGRAM_KPROBE,
+    fact::PROGRAM_KPROBE,
+    fact::PROGRAM_TRACEPOINT,
+    fact::PROGRAM_RAW_TRACEPOINT,
+    fact::PROGRAM_FENTRY,
+    fact::PROGRAM_FEXIT,
+    fact::PROGRAM_LSM,
+];
 
 // The methods that each kind allows: a bit for each method.
 const MASKS: [u16; 11] = [
@@ -59,7 +74,7 @@ const MASKS: [u16; 11] = [
 ];
 
 // The last of the kinds and of the methods.
-const LAST_KIND: u32 = 10;
+const LAST_KIND: u32 = fact::PROGRAM_UNKNOWN;
 
 const LAST_METHOD: u32 = 15;
 
@@ -100,7 +115,7 @@ pub fn section_kind(text: &[u8]) -> u32
         }
         k += 1;
     }
-    10
+    fact::PROGRAM_UNKNOWN
 }
 
 // Whether a kind allows a method: 1 or 0.

@@ -5,7 +5,7 @@ use Prim.Native.Nat.{ℕ, suc, _*_, _≤_, _<_}
 use lib.ListN.{length, getD}
 use Rattle.rules.specs.declared.Parsed.{Parsed}
 use Rattle.rules.specs.Kinds.{Eof}
-use Rattle.rules.specs.Rows.{rowsIn}
+use Rattle.rules.specs.Rows.{rowsIn, wordsPerRow}
 use Rattle.rules.specs.Tree.{Tok}
 use Rattle.rules.specs.Parse
 use Rattle.rules.specs.Parse.{Out}
@@ -32,7 +32,7 @@ pub record AsksTable (t ws : List ℕ) (n : ℕ) : Type 0 where
 pub record AsksWhole (t ws : List ℕ) (n : ℕ) (m : List ℕ) : Type 0 where
   pub table : AsksTable t ws n
   pub some : 0 < n
-  pub closed : (i : ℕ) → suc i ≡ n → getD ws (i * 8) 0 ≡ Eof
+  pub closed : (i : ℕ) → suc i ≡ n → getD ws (i * wordsPerRow) 0 ≡ Eof
   pub room : n ≤ nodeRoom m
 
 -- what the reading of n rows that stand in ws tells and leaves

@@ -2,35 +2,31 @@
 // leaves node memory as it was.
 use parse_nodes::At;
 use parse_nodes::Got;
-use rules::Column;
+use rows::shape;
 use rules::Cursor;
 use rules::Ending;
 use rules::Judged;
-use rules::Line;
-use rules::Offset;
 use rules::Outer;
 use rules::Parsed;
 use rules::Reason;
 use rules::Syntax;
 use rules::Table;
+use rules::kind::EOF;
+use rules::kind::EVENT;
+use rules::kind::MAP;
+use rules::kind::UNIT;
+use rules::node;
+use rules::node_kind;
 ghost use mathlib.Core.Path.{_≡_};
 ghost use Prim.Native.Nat.{_+_, _*_, _≤_};
 ghost use lib.ListN.{length};
 ghost use Rattle.rules.specs.Text.{startPlace};
-ghost use Rattle.rules.specs.Calls.{parseTold, parseLeaves, nodeRoom, placeOfRow};
+ghost use Rattle.rules.specs.Calls.{parseTold, parseLeaves, nodeRoom};
 ghost use Rattle.rules.specs.declared.Parsed.the-variants as parsed;
 ghost use Rattle.rules.specs.declared.Reason.the-variants as reason;
 ghost use Rattle.parse_nodes.specs.Post.{AsksOpen};
 ghost use Rattle.parse_nodes.specs.Names.{Spans};
 ghost use Rattle.parse.specs.Program.{TopMet, ProgramMet, AsksTable, AsksWhole, readingOf, Final};
-
-const UNIT: u32 = 0;
-
-const MAP: u32 = 6;
-
-const EVENT: u32 = 15;
-
-const EOF: u32 = 52;
 
 // A map, an event or a unit at the row.
 fn top(text: &[u8], rows: &[u32], count: usize, nodes: &mut [u32], row: usize, node: usize) -> Got
@@ -65,7 +61,7 @@ fn program(text: &[u8], rows: &[u32], count: usize, nodes: &mut [u32]) -> Got
     loop {
         let at = s.row;
         if parse_nodes::kind_at(rows, count, at) == EOF {
-            return Got::Done(parse_nodes::ended(nodes, s, 29, at, s.things));
+            return Got::Done(parse_nodes::ended(nodes, s, node_kind::PROGRAM, at, s.things));
         }
         match top(text, rows, count, nodes, at, s.node) {
             Got::Done(t) => {
@@ -75,19 +71,6 @@ fn program(text: &[u8], rows: &[u32], count: usize, nodes: &mut [u32]) -> Got
                 return Got::Refused(why, r);
             }
         }
-    }
-}
-
-// The place of a row.
-fn place_of(rows: &[u32], row: usize) -> Cursor
-    requires { ⌜ row * 8 + 8 ≤ length (now rows) ⌝ }
-    ensures { λ r. ⌜ r ≡ placeOfRow (now (rows .entry)) row ⌝ }
-{
-    let at = row * 8;
-    Cursor {
-        offset: Offset(rows[at + 1]),
-        line: Line(rows[at + 3]),
-        column: Column(rows[at + 4]),
     }
 }
 
@@ -108,7 +91,7 @@ fn twice(text: &[u8], rows: &[u32], count: usize, nodes: &mut [u32]) -> Parsed
             program(text, rows, count, nodes);
             Parsed::Nodes(t.node as u32)
         }
-        Got::Refused(why, r) => Parsed::Refused(Reason::Syntax(why), place_of(rows, r)),
+        Got::Refused(why, r) => Parsed::Refused(Reason::Syntax(why), shape::row_place(shape::row_at(rows, r))),
     }
 }
 
@@ -130,7 +113,7 @@ pub fn parse(text: &[u8], rows: &[u32], table: Table, nodes: &mut [u32]) -> Pars
         Ending::None => {}
     }
     let count = table.count as usize;
-    if nodes.len() / 8 < count {
+    if nodes.len() / node::WORDS < count {
         return outer(Outer::NoNodeRoom);
     }
     twice(text, rows, count, nodes)

@@ -6,6 +6,7 @@ use Prim.Native.Nat.{ℕ, _+_}
 use lib.Dec.{eqb}
 use Rattle.rules.specs.Kinds.{RBrace, LBracket}
 use Rattle.rules.specs.Tree.{Tok, Tree, plainField, bytesField, arrayField, event, typeNumber}
+use Rattle.rules.specs.Nodes.{FormPlain, FormBytes, FormArray}
 use Rattle.rules.specs.Parse
 use Rattle.rules.specs.Parse.{Out, ok, no, then, kindAt, isType}
 use Rattle.parse_nodes.specs.Post.{kindWord, Tells, Asks, Met}
@@ -15,9 +16,9 @@ use Rattle.parse_events.specs.declared.Shaped.the-variants.{Done, Refuse
 
 -- The form, the element's type and the length of a field.
 pub data Shows : Tree → (form element length : ℕ) → Type 0 where
-  plain : (w : List ℕ) (k : ℕ) → Shows (plainField w k) 1 (typeNumber k) 0
-  bytes : (w : List ℕ) (v : ℕ) → Shows (bytesField w v) 2 0 v
-  array : (w : List ℕ) (k v : ℕ) → Shows (arrayField w k v) 3 (typeNumber k) v
+  plain : (w : List ℕ) (k : ℕ) → Shows (plainField w k) FormPlain (typeNumber k) 0
+  bytes : (w : List ℕ) (v : ℕ) → Shows (bytesField w v) FormBytes 0 v
+  array : (w : List ℕ) (k v : ℕ) → Shows (arrayField w k v) FormArray (typeNumber k) v
 
 -- What was found is what the parser finds.
 abbrev pub Found : Out → Shaped → Type 0

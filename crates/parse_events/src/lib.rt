@@ -3,32 +3,25 @@ use parse_nodes::At;
 use parse_nodes::Got;
 use parse_nodes::Words;
 use rules::Syntax;
+use rules::fact;
+use rules::kind;
+use rules::kind::BYTES;
+use rules::kind::COLON;
+use rules::kind::IDENTIFIER;
+use rules::kind::LBRACE;
+use rules::kind::LBRACKET;
+use rules::kind::NUMBER;
+use rules::kind::RBRACE;
+use rules::kind::RBRACKET;
+use rules::kind::SEMICOLON;
+use rules::kind::TYPE_I64;
+use rules::kind::TYPE_U32;
+use rules::node_kind;
+use rules::row;
 ghost use Prim.Native.Nat.{_+_, _<_};
 ghost use Rattle.rules.specs.Parse.{eventField, eventAt};
 ghost use Rattle.parse_nodes.specs.Post.{Answers, Asks, AsksOpen};
 ghost use Rattle.parse_events.specs.Shapes.{LengthFound, TypeFound, ShapeFound, AsksType, FieldsMet};
-
-const TYPE_U32: u32 = 21;
-
-const TYPE_I64: u32 = 24;
-
-const LBRACE: u32 = 25;
-
-const RBRACE: u32 = 26;
-
-const COLON: u32 = 29;
-
-const SEMICOLON: u32 = 32;
-
-const LBRACKET: u32 = 33;
-
-const RBRACKET: u32 = 34;
-
-const IDENTIFIER: u32 = 48;
-
-const NUMBER: u32 = 50;
-
-const BYTES: u32 = 51;
 
 // A field's facts and the row behind it.
 pub struct Shape {
@@ -53,11 +46,11 @@ fn length_at(rows: &[u32], count: usize, row: usize, form: u32, element: u32) ->
     if k1 != NUMBER {
         return Shaped::Refused(Syntax::Wanted(NUMBER, k1), row);
     }
-    let at = row * 8;
-    if rows[at + 6] != 0 {
+    let at = row * row::WORDS;
+    if rows[at + row::HIGH] != 0 {
         return Shaped::Refused(Syntax::OutOfRange, row);
     }
-    let length = rows[at + 5];
+    let length = rows[at + row::LOW];
     let close = row + 1;
     let k2 = parse_nodes::kind_at(rows, count, close);
     if k2 != RBRACKET {
@@ -84,15 +77,21 @@ fn typed_at(rows: &[u32], count: usize, row: usize, kind: u32) -> Shaped
     let next = row + 1;
     let k = parse_nodes::kind_at(rows, count, next);
     if k == LBRACKET {
-        return length_at(rows, count, next + 1, 3, kind - 20);
+        return length_at(
+            rows,
+            count,
+            next + 1,
+            fact::FORM_ARRAY,
+            kind - kind::LAST_UNMADE,
+        );
     }
     if k != SEMICOLON {
         return Shaped::Refused(Syntax::Wanted(SEMICOLON, k), next);
     }
     Shaped::Done(Shape {
         row: next + 1,
-        form: 1,
-        element: kind - 20,
+        form: fact::FORM_PLAIN,
+        element: kind - kind::LAST_UNMADE,
         length: 0,
     })
 }
@@ -109,7 +108,7 @@ fn shape_at(rows: &[u32], count: usize, row: usize) -> Shaped
         if found != LBRACKET {
             return Shaped::Refused(Syntax::Wanted(LBRACKET, found), open);
         }
-        return length_at(rows, count, open + 1, 2, 0);
+        return length_at(rows, count, open + 1, fact::FORM_BYTES, 0);
     }
     if (TYPE_U32 <= k) & (k <= TYPE_I64) {
         return typed_at(rows, count, row, k);
@@ -138,7 +137,7 @@ fn field(rows: &[u32], count: usize, nodes: &mut [u32], row: usize, node: usize)
                 nodes,
                 node,
                 Words {
-                    kind: 26,
+                    kind: node_kind::EVENT_FIELD,
                     place: name,
                     name,
                     children: 0,
@@ -178,7 +177,7 @@ fn fields(rows: &[u32], count: usize, nodes: &mut [u32], row: usize, node: usize
         let at = s.row;
         if parse_nodes::kind_at(rows, count, at) == RBRACE {
             let n = s.node;
-            parse_nodes::close(nodes, n, 27, name, name as u32, s.things);
+            parse_nodes::close(nodes, n, node_kind::EVENT, name, name as u32, s.things);
             return Got::Done(At {
                 row: at + 1,
                 node: n + 1,

@@ -4,6 +4,23 @@
 use parse_nodes::At;
 use parse_nodes::Got;
 use rules::Syntax;
+use rules::kind::COMMA;
+use rules::kind::DOT;
+use rules::kind::IDENTIFIER;
+use rules::kind::LPAREN;
+use rules::kind::MINUS;
+use rules::kind::NUMBER;
+use rules::kind::PERCENT;
+use rules::kind::PLUS;
+use rules::kind::RPAREN;
+use rules::kind::SHL;
+use rules::kind::SHR;
+use rules::kind::SLASH;
+use rules::kind::STAR;
+use rules::node_kind;
+use rules::row::HIGH;
+use rules::row::LOW;
+use rules::row::WORDS;
 ghost use mathlib.Core.Path.{_≡_};
 ghost use Prim.Native.Nat.{_+_, _*_, _≤_, _<_};
 ghost use lib.ListN.{length};
@@ -13,32 +30,6 @@ ghost use Rattle.rules.specs.Parse.{isAdd, isShift, isMul, inner, atom, prim, u
 ghost use Rattle.parse_nodes.specs.Post.{kindWord, stateAt, Answers, Onward, Asks, AsksAt, AsksOpen};
 ghost use Rattle.parse_expr.specs.Calls.{CallEnd};
 ghost use Rattle.parse_expr.specs.Lone.{isLone, Leaf};
-
-const LPAREN: u32 = 27;
-
-const RPAREN: u32 = 28;
-
-const DOT: u32 = 30;
-
-const COMMA: u32 = 31;
-
-const PLUS: u32 = 41;
-
-const MINUS: u32 = 42;
-
-const STAR: u32 = 43;
-
-const SLASH: u32 = 44;
-
-const PERCENT: u32 = 45;
-
-const SHR: u32 = 46;
-
-const SHL: u32 = 47;
-
-const IDENTIFIER: u32 = 48;
-
-const NUMBER: u32 = 50;
 
 // Whether a row's kind is `+` or `-`, which stand side by side among the kinds.
 fn is_add(k: u32) -> bool
@@ -66,13 +57,13 @@ fn binary_node(k: u32) -> u32
     ensures { λ r. ⌜ r ≡ binaryNode k ⌝ }
 {
     match k {
-        PLUS => 4,
-        MINUS => 5,
-        STAR => 6,
-        SLASH => 7,
-        PERCENT => 8,
-        SHL => 9,
-        _ => 10,
+        PLUS => node_kind::ADD,
+        MINUS => node_kind::SUB,
+        STAR => node_kind::MUL,
+        SLASH => node_kind::DIV,
+        PERCENT => node_kind::MOD,
+        SHL => node_kind::SHL,
+        _ => node_kind::SHR,
     }
 }
 
@@ -83,7 +74,7 @@ fn call_end(nodes: &mut [u32], s: At, m: usize, count: u32, next: usize) -> Got
 {
     if s.variable {
         let name = s.row + 1;
-        parse_nodes::close(nodes, m, 11, s.place, name as u32, count + 1);
+        parse_nodes::close(nodes, m, node_kind::CALL, s.place, name as u32, count + 1);
         return Got::Done(At {
             row: next,
             node: m + 1,
@@ -102,7 +93,7 @@ fn field_end(nodes: &mut [u32], s: At) -> At
 {
     let name = s.row + 1;
     let n = s.node;
-    parse_nodes::close(nodes, n, 12, name, name as u32, 1);
+    parse_nodes::close(nodes, n, node_kind::FIELD, name, name as u32, 1);
     At {
         row: name + 1,
         node: n + 1,
@@ -128,7 +119,13 @@ fn leaf(rows: &[u32], count: usize, nodes: &mut [u32], row: usize, node: usize) 
     ensures { λ r. ⌜ Leaf (now (rows .entry)) count row node (now (nodes .entry)) (now (nodes .exit)) r ⌝ }
 {
     if parse_nodes::kind_at(rows, count, row) == NUMBER {
-        return parse_nodes::number(nodes, row, node, rows[row * 8 + 5], rows[row * 8 + 6]);
+        return parse_nodes::number(
+            nodes,
+            row,
+            node,
+            rows[row * WORDS + LOW],
+            rows[row * WORDS + HIGH],
+        );
     }
     parse_nodes::variable(nodes, row, node)
 }
@@ -238,7 +235,7 @@ fn unary(rows: &[u32], count: usize, nodes: &mut [u32], row: usize, node: usize,
         }
         match unary(rows, count, nodes, row + 1, node, left - 1) {
             Got::Done(t) => {
-                return Got::Done(parse_nodes::shut(nodes, t, 3, t.place, 1));
+                return Got::Done(parse_nodes::shut(nodes, t, node_kind::DEREFERENCE, t.place, 1));
             }
             Got::Refused(why, r) => {
                 return Got::Refused(why, r);
@@ -255,8 +252,8 @@ fn atom(rows: &[u32], count: usize, nodes: &mut [u32], row: usize, node: usize, 
 {
     let k = parse_nodes::kind_at(rows, count, row);
     if k == NUMBER {
-        let at = row * 8;
-        return Got::Done(parse_nodes::number(nodes, row, node, rows[at + 5], rows[at + 6]));
+        let at = row * WORDS;
+        return Got::Done(parse_nodes::number(nodes, row, node, rows[at + LOW], rows[at + HIGH]));
     }
     if k == LPAREN {
         if left == 0 {

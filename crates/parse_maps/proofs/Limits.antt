@@ -1,6 +1,6 @@
 -- The numbers and shifts of a max, and its bounds.
 use mathlib.Core.Path.{_≡_, refl}
-use mathlib.Core.Bool.{Bool, true, false, cond, not, _&&_}
+use mathlib.Core.Bool.{Bool, true, false, cond, not, and-eq-true-iff}
 use mathlib.Core.List.{List}
 use Prim.Native.Nat.{ℕ, _+_, _^_, _≤_, _<_}
 use native.Mathlib.Omega.{arith}
@@ -26,15 +26,11 @@ shift-on ts c j = valued-all ts (λ u k. (j < k) × (k ≤ length ts)) _ (j + 1)
 
 -- ---- a max that is read fits a word
 
-second : (p q : Bool) → (p && q) ≡ true → q ≡ true
-second true q e = e
-second false q e = cc
-
 field-limit : {d : ℕ} {t : Tree} → Is true MapField d t → limitOf t ≤ 4294967296
 unfolding limitOf
 field-limit (i-type p) = omega arith
 field-limit (i-typed a b) = omega arith
-field-limit (i-limit {c = c} a p) = omega (arith, leb-true (maxBits c) most32 (second (not (leb (2 ^ 63) (maxBits c))) (leb (maxBits c) most32) (p refl)))
+field-limit (i-limit {c = c} a p) = omega (arith, leb-true (maxBits c) most32 (and-eq-true-iff (not (leb (2 ^ 63) (maxBits c))) (leb (maxBits c) most32) .0 (p refl) .1))
 
 pub fields-limit : {d : ℕ} {l : Tree} → Is true MapFields d l → limitOf l ≤ 4294967296
 unfolding limitOf

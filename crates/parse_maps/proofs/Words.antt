@@ -3,7 +3,7 @@ use mathlib.Core.Path.{_≡_, refl}
 use mathlib.Core.List.{List, [], _∷_}
 use Prim.Native.Nat.{ℕ}
 use Rattle.rules.specs.Kinds.{Spelt, kindIn}
-use Rattle.laws.proofs.Spellings.{differs}
+use Rattle.laws.proofs.Spelled.{differs}
 
 -- words of a table that a word is none of
 abbrev pub Not : List Spelt → List ℕ → Type 0

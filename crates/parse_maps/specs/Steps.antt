@@ -3,6 +3,7 @@ use mathlib.Core.Path.{_≡_}
 use mathlib.Core.List.{List}
 use Prim.Native.Nat.{ℕ, _+_, _*_, _^_}
 use lib.ListN.{getD}
+use Rattle.rules.specs.Rows.{atHigh, atLow, wordsPerRow}
 use Rattle.rules.specs.declared.Syntax.{Syntax}
 use Rattle.rules.specs.Kinds.{KeywordKey, KeywordValue, RBrace}
 use Rattle.rules.specs.Tree.{Tok, Tree, maxBits, lastOf, typeOf, typedBy, limitOf}
@@ -22,7 +23,7 @@ use Rattle.parse_maps.specs.declared.Summed.the-variants as summed
 
 -- the value's bits of row i
 abbrev pub bitsAt : List ℕ → ℕ → ℕ
-bitsAt ws i = getD ws (i * 8 + 6) 0 * 2 ^ 32 + getD ws (i * 8 + 5) 0
+bitsAt ws i = getD ws (i * wordsPerRow + atHigh) 0 * 2 ^ 32 + getD ws (i * wordsPerRow + atLow) 0
 
 -- row i is of the kind k
 pub record AsksRow (ws : List ℕ) (n i k : ℕ) : Type 0 where

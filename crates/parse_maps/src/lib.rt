@@ -3,6 +3,27 @@ use parse_nodes::At;
 use parse_nodes::Got;
 use parse_nodes::Words;
 use rules::Syntax;
+use rules::fact;
+use rules::kind;
+use rules::kind::COLON;
+use rules::kind::DOT;
+use rules::kind::EOF;
+use rules::kind::IDENTIFIER;
+use rules::kind::KEY;
+use rules::kind::LBRACE;
+use rules::kind::MAX;
+use rules::kind::NUMBER;
+use rules::kind::RBRACE;
+use rules::kind::SEMICOLON;
+use rules::kind::SHL;
+use rules::kind::SHR;
+use rules::kind::TYPE;
+use rules::kind::TYPE_I64;
+use rules::kind::TYPE_U32;
+use rules::kind::VALUE;
+use rules::limit;
+use rules::node_kind;
+use rules::row;
 ghost use mathlib.Core.Path.{_≡_};
 ghost use mathlib.Core.Bool.{true};
 ghost use Prim.Native.Nat.{pred, _+_, _*_, _≤_, _<_};
@@ -11,42 +32,10 @@ ghost use lib.Seq.{sets};
 ghost use Rattle.rules.specs.Kinds.{KeywordType, KeywordMax};
 ghost use Rattle.rules.specs.Tree.{mapTypeNumber, lacking, shiftBits};
 ghost use Rattle.rules.specs.Parse.{isTyped};
-ghost use Rattle.rules.specs.Nodes.{factNode, nodeWords};
+ghost use Rattle.rules.specs.Nodes.{NodeMap, factNode, nodeWords};
 ghost use Rattle.parse_nodes.specs.Post.{Asks, AsksOpen};
 ghost use Rattle.parse_nodes.specs.Names.{Spans};
 ghost use Rattle.parse_maps.specs.Steps.{bitsAt, AsksRow, ShiftFound, ChainFound, FieldFound, RowsFound, FieldsFound, MapMet};
-
-const TYPE: u32 = 7;
-
-const KEY: u32 = 8;
-
-const VALUE: u32 = 9;
-
-const MAX: u32 = 10;
-
-const TYPE_U32: u32 = 21;
-
-const TYPE_I64: u32 = 24;
-
-const LBRACE: u32 = 25;
-
-const RBRACE: u32 = 26;
-
-const COLON: u32 = 29;
-
-const DOT: u32 = 30;
-
-const SEMICOLON: u32 = 32;
-
-const SHR: u32 = 46;
-
-const SHL: u32 = 47;
-
-const IDENTIFIER: u32 = 48;
-
-const NUMBER: u32 = 50;
-
-const EOF: u32 = 52;
 
 // What the fields so far give, 0 for none, `limit` one more than max; and the next row.
 pub struct Facts {
@@ -80,8 +69,8 @@ fn bits_at(rows: &[u32], row: usize) -> u64
     requires { ⌜ row * 8 + 8 ≤ length (now rows) ⌝ }
     ensures { λ r. ⌜ r ≡ bitsAt (now (rows .entry)) row ⌝ }
 {
-    let at = row * 8;
-    (rows[at + 6] as u64) * 4294967296 + (rows[at + 5] as u64)
+    let at = row * row::WORDS;
+    (rows[at + row::HIGH] as u64) * limit::ABOVE_WORD + (rows[at + row::LOW] as u64)
 }
 
 // x shifted by c, left or right, in 64-bit two's complement.
@@ -92,10 +81,10 @@ fn shifted(kind: u32, x: u64, c: u64) -> u64
     if kind == SHL {
         return x << c;
     }
-    if x < 9223372036854775808 {
+    if x < limit::SIGN_BIT {
         return x >> c;
     }
-    18446744073709551615 - ((18446744073709551615 - x) >> c)
+    limit::ALL_BITS - ((limit::ALL_BITS - x) >> c)
 }
 
 // A shift whose sign is at the sum's row.
@@ -109,7 +98,7 @@ fn shift_step(rows: &[u32], count: usize, s: Sum, kind: u32) -> Summed
         return Summed::Refused(Syntax::Wanted(NUMBER, k), number);
     }
     let c = bits_at(rows, number);
-    if 63 < c {
+    if limit::MOST_SHIFT < c {
         return Summed::Refused(Syntax::ShiftCount, number);
     }
     Summed::Done(Sum {
@@ -162,10 +151,10 @@ fn max_field(rows: &[u32], count: usize, f: Facts) -> Found
     match chain(rows, count, colon + 1) {
         Summed::Done(s) => {
             let j = s.row;
-            if 9223372036854775808 <= s.bits {
+            if limit::SIGN_BIT <= s.bits {
                 return Found::Refused(Syntax::MaxNegative, j);
             }
-            if 4294967295 < s.bits {
+            if limit::MOST_WORD < s.bits {
                 return Found::Refused(Syntax::OutOfRange, j - 1);
             }
             let k2 = parse_nodes::kind_at(rows, count, j);
@@ -208,7 +197,7 @@ fn typed_field(rows: &[u32], count: usize, f: Facts, kind: u32) -> Found
     if k2 != SEMICOLON {
         return Found::Refused(Syntax::Wanted(SEMICOLON, k2), end);
     }
-    let number = t - 20;
+    let number = t - kind::LAST_UNMADE;
     let next = end + 1;
     if kind == KEY {
         return Found::Done(Facts {
@@ -233,19 +222,19 @@ fn type_number(word: &[u8]) -> u32
     ensures { λ r. ⌜ r ≡ mapTypeNumber (now (word .entry)) ⌝ }
 {
     if check::same(word, b"hash") {
-        return 1;
+        return fact::MAP_HASH;
     }
     if check::same(word, b"array") {
-        return 2;
+        return fact::MAP_ARRAY;
     }
     if check::same(word, b"ringbuf") {
-        return 3;
+        return fact::MAP_RINGBUF;
     }
     if check::same(word, b"lru_hash") {
-        return 4;
+        return fact::MAP_LRU_HASH;
     }
     if check::same(word, b"prog_array") {
-        return 5;
+        return fact::MAP_PROG_ARRAY;
     }
     0
 }
@@ -270,8 +259,8 @@ fn type_field(text: &[u8], rows: &[u32], count: usize, f: Facts) -> Found
     if k3 != IDENTIFIER {
         return Found::Refused(Syntax::Wanted(IDENTIFIER, k3), name);
     }
-    let a = rows[name * 8 + 1] as usize;
-    let e = rows[name * 8 + 2] as usize;
+    let a = rows[name * row::WORDS + row::START] as usize;
+    let e = rows[name * row::WORDS + row::END] as usize;
     let number = type_number(&text[a..e]);
     let end = name + 1;
     if number == 0 {
@@ -342,34 +331,34 @@ fn lacks(f: Facts) -> u32
     ensures { λ r. ⌜ r ≡ lacking (f .maptype) (f .key) (f .value) (f .limit) ⌝ }
 {
     if f.maptype == 0 {
-        return 1;
+        return fact::FIELD_TYPE;
     }
-    if f.maptype == 3 {
+    if f.maptype == fact::MAP_RINGBUF {
         if f.limit == 0 {
-            return 4;
+            return fact::FIELD_MAX;
         }
         return 0;
     }
     if f.key == 0 {
-        return 2;
+        return fact::FIELD_KEY;
     }
     if f.value == 0 {
-        return 3;
+        return fact::FIELD_VALUE;
     }
-    if f.limit == 0 { 4 } else { 0 }
+    if f.limit == 0 { fact::FIELD_MAX } else { 0 }
 }
 
 // The map's node, whose name is at a row, from fields that lack nothing.
 fn map_node(nodes: &mut [u32], node: usize, name: usize, f: Facts)
     requires { ⌜ (node ≤ 65537) × ((name ≤ 65537) × ((1 ≤ f .limit) × (f .limit ≤ 4294967296))) ⌝ }
-    ensures { λ _. ⌜ now (nodes .exit) ≡ sets (now (nodes .entry)) (8 * node) (nodeWords (factNode 28 name name 0 (f .maptype) (f .key) (f .value) (pred (f .limit)))) ⌝ }
+    ensures { λ _. ⌜ now (nodes .exit) ≡ sets (now (nodes .entry)) (8 * node) (nodeWords (factNode NodeMap name name 0 (f .maptype) (f .key) (f .value) (pred (f .limit)))) ⌝ }
 {
     let at = name as u32;
     parse_nodes::store(
         nodes,
         node,
         Words {
-            kind: 28,
+            kind: node_kind::MAP,
             place: at,
             name: at,
             children: 0,

@@ -1,6 +1,6 @@
 -- What the code sees in a row's words, and what the parser makes of that row.
 use mathlib.Core.Path.{_≡_, refl, sym, ap, _∙_}
-use mathlib.Core.Bool.{Bool, true, false, _&&_}
+use mathlib.Core.Bool.{true, and-eq-true-iff}
 use mathlib.Core.List.{List}
 use Prim.Native.Nat.{ℕ, _+_, _*_, _^_, _≤_, _<_}
 use lib.Dec.{leb}
@@ -46,8 +46,4 @@ module _ (ts : List Tok) (ws : List ℕ) (n : ℕ) (tells : Tells ts ws n) (i x 
 
 -- the kinds of types begin at 21
 pub type-low : (k : ℕ) → isType k ≡ true → 21 ≤ k
-type-low k e = leb-true 21 k (left (leb 21 k) (leb k 24) e)
-  where
-    left : (p q : Bool) → (p && q) ≡ true → p ≡ true
-    left true q e = refl
-    left false q e = e
+type-low k e = leb-true 21 k (and-eq-true-iff (leb 21 k) (leb k 24) .0 e .0)

@@ -1,41 +1,21 @@
 -- The tokens of a table and its text, as the definitions have them, are those that the rows and the text tell.
-use mathlib.Core.Path.{_≡_, refl, sym, ap, _∙_}
-use mathlib.Core.Bool.{Bool, true, false, cond}
+use mathlib.Core.Path.{_≡_, refl, ap, _∙_}
 use mathlib.Core.List.{List}
 use Prim.Native.Nat.{ℕ, zero, suc, _+_, _-_, _*_, _^_, _<_}
 use native.Mathlib.Nat.{not-suc-le-zero, le-of-suc-le-suc, add-zero}
 use native.Mathlib.Omega.{arith}
-use lib.ListN.{length, getD, take, drop}
+use lib.ListN.{getD, take, drop}
 use lib.Seq.{drop-drop, getD-drop}
-use lib.Dec.{eqb}
-use borrow.Author.Tests.{eqb-true}
 use Rattle.rules.specs.Kinds.{Identifier, StringLiteral, Number, Eof}
 use Rattle.rules.specs.Rows.{Row, rowIn, rowsIn, spelling, valueBits}
-use Rattle.rules.specs.Tree.{sign, name, string, value, kindOf, spellingOf, bitsIn, tokOf}
+use Rattle.rules.specs.Tree.{sign, kindOf, spellingOf, bitsIn, tokOf}
 use Rattle.rules.specs.Calls.{tokens}
+use Rattle.theory_grammar.proofs.Tables.{token-kind, tokens-length}
 use Rattle.parse_nodes.specs.Names.{Names}
 
 -- ---- a row's token
 
 module _ (t : List ℕ) (r : Row) where
-  pub tok-kind : kindOf (tokOf t r) ≡ r .kind
-  unfolding tokOf kindOf
-  tok-kind = named (eqb (r .kind) Identifier) refl
-    where
-      valued : (b : Bool) → eqb (r .kind) Number ≡ b → kindOf (cond b (value (valueBits r)) (sign (r .kind))) ≡ r .kind
-      valued true e = sym (eqb-true (r .kind) Number e)
-      valued false e = refl
-
-      quoted : (b : Bool) → eqb (r .kind) StringLiteral ≡ b
-          → kindOf (cond b (string (spelling t r)) (cond (eqb (r .kind) Number) (value (valueBits r)) (sign (r .kind)))) ≡ r .kind
-      quoted true e = sym (eqb-true (r .kind) StringLiteral e)
-      quoted false e = valued (eqb (r .kind) Number) refl
-
-      named : (b : Bool) → eqb (r .kind) Identifier ≡ b
-          → kindOf (cond b (name (spelling t r)) (cond (eqb (r .kind) StringLiteral) (string (spelling t r)) (cond (eqb (r .kind) Number) (value (valueBits r)) (sign (r .kind))))) ≡ r .kind
-      named true e = sym (eqb-true (r .kind) Identifier e)
-      named false e = quoted (eqb (r .kind) StringLiteral) refl
-
   pub tok-value : r .kind ≡ Number → bitsIn (tokOf t r) ≡ valueBits r
   unfolding tokOf bitsIn
   tok-value e = rw e
@@ -49,11 +29,6 @@ module _ (t : List ℕ) (r : Row) where
   tok-string e = rw e
 
 -- ---- the tokens of a table
-
-pub tokens-long : (t : List ℕ) (n : ℕ) (ws : List ℕ) → length (tokens t (rowsIn n ws)) ≡ n
-unfolding tokens rowsIn
-tokens-long t zero ws = refl
-tokens-long t (suc n) ws = ap suc (tokens-long t n (drop 8 ws))
 
 pub tokens-at : (t : List ℕ) (n : ℕ) (ws : List ℕ) (i : ℕ) → i < n → getD (tokens t (rowsIn n ws)) i (sign Eof) ≡ tokOf t (rowIn (drop (i * 8) ws))
 unfolding tokens rowsIn
@@ -78,8 +53,8 @@ spelling-words t ws i = rw (getD-drop i ws 2 0, getD-drop i ws 1 0)
 pub names-told : (t ws : List ℕ) (n : ℕ) → Names (tokens t (rowsIn n ws)) t ws n
 names-told t ws n = record {
   tells = record {
-    long = tokens-long t n ws;
-    kinds = λ i h. ap kindOf (tokens-at t n ws i h) ∙ tok-kind t (rowIn (drop (i * 8) ws)) ∙ kind-word ws (i * 8);
+    long = tokens-length t n ws;
+    kinds = λ i h. ap kindOf (tokens-at t n ws i h) ∙ token-kind t (rowIn (drop (i * 8) ws)) ∙ kind-word ws (i * 8);
     values = λ i h e. ap bitsIn (tokens-at t n ws i h) ∙ tok-value t (rowIn (drop (i * 8) ws)) (kind-word ws (i * 8) ∙ e) ∙ value-words ws (i * 8);
   };
   names = λ i h e. ap spellingOf (tokens-at t n ws i h) ∙ tok-name t (rowIn (drop (i * 8) ws)) (kind-word ws (i * 8) ∙ e) ∙ spelling-words t ws (i * 8);

@@ -6,6 +6,7 @@ use Prim.Native.Nat.{ℕ, _+_, _*_, _^_, _≤_, _<_}
 use lib.ListN.{length, getD}
 use lib.Dec.{ltb}
 use lib.Seq.{sets}
+use Rattle.rules.specs.Rows.{atHigh, atLow, wordsPerRow}
 use Rattle.rules.specs.Kinds.{Number, Eof}
 use Rattle.rules.specs.Tree.{Tok, sign, kindOf, bitsIn, Tree, isVariable, count}
 use Rattle.rules.specs.Nodes.{width, size, placeOf, treeWords}
@@ -16,13 +17,13 @@ use Rattle.parse_nodes.specs.declared.Got.the-variants.{Done, Refused}
 
 -- the kind of row i of n rows that stand in ws, and Eof past the last
 unfoldable pub kindWord : List ℕ → ℕ → ℕ → ℕ
-kindWord ws n i = cond (ltb i n) (getD ws (i * 8) 0) Eof
+kindWord ws n i = cond (ltb i n) (getD ws (i * wordsPerRow) 0) Eof
 
 -- The tokens are those of n rows that stand in ws, as far as kinds and values go.
 pub record Tells (ts : List Tok) (ws : List ℕ) (n : ℕ) : Type 0 where
   pub long : length ts ≡ n
-  pub kinds : (i : ℕ) → i < n → kindOf (getD ts i (sign Eof)) ≡ getD ws (i * 8) 0
-  pub values : (i : ℕ) → i < n → getD ws (i * 8) 0 ≡ Number → bitsIn (getD ts i (sign Eof)) ≡ getD ws (i * 8 + 6) 0 * 2 ^ 32 + getD ws (i * 8 + 5) 0
+  pub kinds : (i : ℕ) → i < n → kindOf (getD ts i (sign Eof)) ≡ getD ws (i * wordsPerRow) 0
+  pub values : (i : ℕ) → i < n → getD ws (i * wordsPerRow) 0 ≡ Number → bitsIn (getD ts i (sign Eof)) ≡ getD ws (i * wordsPerRow + atHigh) 0 * 2 ^ 32 + getD ws (i * wordsPerRow + atLow) 0
 
 -- the state behind a list of so many things
 abbrev pub listAt : (row node place things : ℕ) → At

@@ -1,5 +1,10 @@
 // Where the parser stands, what it answers, and the nodes it writes. Nothing here reads the grammar.
 use rules::Syntax;
+use rules::kind::EOF;
+use rules::node;
+use rules::node::MISSING;
+use rules::node_kind;
+use rules::row;
 ghost use mathlib.Core.Path.{_≡_};
 ghost use mathlib.Core.Bool.{true};
 ghost use Prim.Native.Nat.{_+_, _*_, _≤_};
@@ -7,10 +12,6 @@ ghost use lib.ListN.{length, set};
 ghost use lib.Seq.{sets};
 ghost use Rattle.rules.specs.Nodes.{node, factNode, nodeWords, missing};
 ghost use Rattle.parse_nodes.specs.Post.{kindWord, stateAt, listAt};
-
-pub const MISSING: u32 = 4294967295;
-
-pub const EOF: u32 = 52;
 
 // Where the parser stands: the next row, the next node, the place of what was read, whether that is a variable, and how many things
 // it has if it is a list.
@@ -45,7 +46,7 @@ pub fn kind_at(rows: &[u32], count: usize, i: usize) -> u32
     requires { ⌜ (count * 8 ≤ length (now rows)) ⌝ }
     ensures { λ r. ⌜ r ≡ kindWord (now (rows .entry)) count i ⌝ }
 {
-    if i < count { rows[i * 8] } else { EOF }
+    if i < count { rows[i * row::WORDS] } else { EOF }
 }
 
 // A word, if there is room.
@@ -63,13 +64,13 @@ fn store_part(nodes: &mut [u32], at: usize, w: Words)
     ensures { λ _. ⌜ now (nodes .exit) ≡ sets (now (nodes .entry)) at (nodeWords (factNode (w .kind) (w .place) (w .name) (w .children) (w .fact0) (w .fact1) (w .fact2) (w .fact3))) ⌝ }
 {
     put(nodes, at, w.kind);
-    put(nodes, at + 1, w.place);
-    put(nodes, at + 2, w.name);
-    put(nodes, at + 3, w.children);
-    put(nodes, at + 4, w.fact0);
-    put(nodes, at + 5, w.fact1);
-    put(nodes, at + 6, w.fact2);
-    put(nodes, at + 7, w.fact3);
+    put(nodes, at + node::PLACE, w.place);
+    put(nodes, at + node::NAME, w.name);
+    put(nodes, at + node::CHILDREN, w.children);
+    put(nodes, at + node::FACT0, w.fact0);
+    put(nodes, at + node::FACT1, w.fact1);
+    put(nodes, at + node::FACT2, w.fact2);
+    put(nodes, at + node::FACT3, w.fact3);
 }
 
 // A node's words from an index on, where there is room for all.
@@ -78,13 +79,13 @@ fn store_whole(nodes: &mut [u32], at: usize, w: Words)
     ensures { λ _. ⌜ now (nodes .exit) ≡ sets (now (nodes .entry)) at (nodeWords (factNode (w .kind) (w .place) (w .name) (w .children) (w .fact0) (w .fact1) (w .fact2) (w .fact3))) ⌝ }
 {
     nodes[at] = w.kind;
-    nodes[at + 1] = w.place;
-    nodes[at + 2] = w.name;
-    nodes[at + 3] = w.children;
-    nodes[at + 4] = w.fact0;
-    nodes[at + 5] = w.fact1;
-    nodes[at + 6] = w.fact2;
-    nodes[at + 7] = w.fact3;
+    nodes[at + node::PLACE] = w.place;
+    nodes[at + node::NAME] = w.name;
+    nodes[at + node::CHILDREN] = w.children;
+    nodes[at + node::FACT0] = w.fact0;
+    nodes[at + node::FACT1] = w.fact1;
+    nodes[at + node::FACT2] = w.fact2;
+    nodes[at + node::FACT3] = w.fact3;
 }
 
 // Node n, as far as there is room.
@@ -92,11 +93,11 @@ pub fn store(nodes: &mut [u32], n: usize, w: Words)
     requires { ⌜ n ≤ 65537 ⌝ }
     ensures { λ _. ⌜ now (nodes .exit) ≡ sets (now (nodes .entry)) (8 * n) (nodeWords (factNode (w .kind) (w .place) (w .name) (w .children) (w .fact0) (w .fact1) (w .fact2) (w .fact3))) ⌝ }
 {
-    let at = 8 * n;
+    let at = node::WORDS * n;
     if nodes.len() <= at {
         return;
     }
-    if nodes.len() < at + 8 {
+    if nodes.len() < at + node::WORDS {
         store_part(nodes, at, w);
         return;
     }
@@ -160,7 +161,7 @@ pub fn variable(nodes: &mut [u32], row: usize, n: usize) -> At
     requires { ⌜ (row ≤ 65537) × (n ≤ 65537) ⌝ }
     ensures { λ r. ⌜ (r ≡ record { row = row + 1; node = n + 1; place = row; variable = true; things = 0 }) × (now (nodes .exit) ≡ sets (now (nodes .entry)) (8 * n) (nodeWords (node 1 row row 0))) ⌝ }
 {
-    close(nodes, n, 1, row, row as u32, 0);
+    close(nodes, n, node_kind::VARIABLE, row, row as u32, 0);
     At {
         row: row + 1,
         node: n + 1,
@@ -179,7 +180,7 @@ pub fn number(nodes: &mut [u32], row: usize, n: usize, low: u32, high: u32) -> A
         nodes,
         n,
         Words {
-            kind: 2,
+            kind: node_kind::NUMBER,
             place: row as u32,
             name: MISSING,
             children: 0,

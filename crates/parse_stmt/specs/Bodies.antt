@@ -7,7 +7,7 @@ use lib.ListN.{length}
 use lib.Seq.{sets}
 use Rattle.rules.specs.Kinds.{KeywordElse}
 use Rattle.rules.specs.Tree.{Tok, spellingOf, Tree, thenBody, count}
-use Rattle.rules.specs.Nodes.{width, size, treeWords, node, nodeWords, missing}
+use Rattle.rules.specs.Nodes.{width, size, treeWords, node, nodeWords, missing, NodeVariable}
 use Rattle.rules.specs.Parse
 use Rattle.rules.specs.Parse.{Out, ok, no, P, then, branching, tokAt, kindAt}
 use Rattle.parse_nodes.specs.declared.At.{At}
@@ -55,7 +55,7 @@ pub record AsksElse (ws : List ℕ) (n : ℕ) (s : At) (g d : ℕ) : Type 0 wher
 pub record Guarded (i n : ℕ) (l : Tree) (m : List ℕ) (s : At) (m′ : List ℕ) : Type 0 where
   pub rows : s .row ≡ i + 5 + width (thenBody l)
   pub nodes : s .node ≡ n + 1 + size (thenBody l)
-  pub mem : m′ ≡ sets m (8 * n) (nodeWords (node 1 (i + 3) (i + 3) 0) ++ treeWords (i + 5) (thenBody l))
+  pub mem : m′ ≡ sets m (8 * n) (nodeWords (node NodeVariable (i + 3) (i + 3) 0) ++ treeWords (i + 5) (thenBody l))
 
 -- the answer there, whatever name and statements were read
 abbrev pub Elsewise : (List Tok → List ℕ → Tree → Out) → List ℕ → ℕ → At → ℕ → List ℕ → List ℕ → Got → Type 0

@@ -2,6 +2,22 @@
 use parse_nodes::At;
 use parse_nodes::Got;
 use rules::Syntax;
+use rules::kind::ELSE;
+use rules::kind::EQUALS;
+use rules::kind::GUARD;
+use rules::kind::HEAP;
+use rules::kind::IDENTIFIER;
+use rules::kind::IF;
+use rules::kind::IMM;
+use rules::kind::LBRACE;
+use rules::kind::LPAREN;
+use rules::kind::PLUS_EQUALS;
+use rules::kind::RBRACE;
+use rules::kind::REG;
+use rules::kind::RETURN;
+use rules::kind::RPAREN;
+use rules::kind::SEMICOLON;
+use rules::node_kind;
 ghost use mathlib.Core.Path.{_≡_};
 ghost use mathlib.Core.Bool.{true};
 ghost use Prim.Native.Nat.{_+_, _*_, _≤_, _<_};
@@ -14,36 +30,6 @@ ghost use Rattle.rules.specs.Nodes.{declNode, assignNode, node, nodeWords};
 ghost use Rattle.rules.specs.Parse.{isDeclaring, isAssign, declaring, returning, branching, expression, stmtBy, assignBy, elseBy, stmt, body, kindAt};
 ghost use Rattle.parse_nodes.specs.Post.{stateAt, Answers, Onward, Asks, AsksAt, AsksOpen};
 ghost use Rattle.parse_stmt.specs.Bodies.{HeadSays, BodyAnswers, AsksElse, Elsewise};
-
-const RETURN: u32 = 3;
-
-const REG: u32 = 4;
-
-const IMM: u32 = 5;
-
-const IF: u32 = 11;
-
-const ELSE: u32 = 12;
-
-const GUARD: u32 = 13;
-
-const HEAP: u32 = 14;
-
-const LBRACE: u32 = 25;
-
-const RBRACE: u32 = 26;
-
-const LPAREN: u32 = 27;
-
-const RPAREN: u32 = 28;
-
-const SEMICOLON: u32 = 32;
-
-const EQUALS: u32 = 35;
-
-const PLUS_EQUALS: u32 = 36;
-
-const IDENTIFIER: u32 = 48;
 
 // Whether a row's kind is reg, imm or heap.
 fn is_declaring(k: u32) -> bool
@@ -67,16 +53,24 @@ fn decl_node(k: u32) -> u32
     ensures { λ r. ⌜ r ≡ declNode k ⌝ }
 {
     if k == REG {
-        return 16;
+        return node_kind::REG;
     }
-    if k == IMM { 17 } else { 18 }
+    if k == IMM {
+        node_kind::IMM
+    } else {
+        node_kind::HEAP
+    }
 }
 
 // The node kind of an assignment's sign.
 fn assign_node(k: u32) -> u32
     ensures { λ r. ⌜ r ≡ assignNode k ⌝ }
 {
-    if k == EQUALS { 14 } else { 15 }
+    if k == EQUALS {
+        node_kind::ASSIGN
+    } else {
+        node_kind::ADD_ASSIGN
+    }
 }
 
 // The state behind a named node with one child, over what was read up to t, and behind the row that ends it.
@@ -144,7 +138,7 @@ fn give(rows: &[u32], count: usize, nodes: &mut [u32], row: usize, node: usize, 
             if k != SEMICOLON {
                 return Got::Refused(Syntax::Wanted(SEMICOLON, k), j);
             }
-            Got::Done(parse_nodes::ended(nodes, t, 19, place, 1))
+            Got::Done(parse_nodes::ended(nodes, t, node_kind::RETURN, place, 1))
         }
         Got::Refused(why, r) => Got::Refused(why, r),
     }
@@ -193,7 +187,7 @@ fn effect(
             if k != SEMICOLON {
                 return Got::Refused(Syntax::Wanted(SEMICOLON, k), j);
             }
-            Got::Done(parse_nodes::ended(nodes, t, 13, t.place, 1))
+            Got::Done(parse_nodes::ended(nodes, t, node_kind::EXPRESSION, t.place, 1))
         }
         Got::Refused(why, r) => Got::Refused(why, r),
     }
@@ -278,8 +272,8 @@ fn branch(
     match head(rows, count, row) {
         Opened::Brace(brace) => {
             let name = row + 3;
-            parse_nodes::close(nodes, node, 1, name, name as u32, 0);
-            match body(rows, count, nodes, brace, node + 1, left, 21) {
+            parse_nodes::close(nodes, node, node_kind::VARIABLE, name, name as u32, 0);
+            match body(rows, count, nodes, brace, node + 1, left, node_kind::THEN) {
                 Got::Done(t) => otherwise(rows, count, nodes, t, row + 1, left),
                 Got::Refused(why, r) => Got::Refused(why, r),
             }
@@ -296,20 +290,20 @@ fn otherwise(rows: &[u32], count: usize, nodes: &mut [u32], t: At, guard: usize,
     let j = t.row;
     let n = t.node;
     if parse_nodes::kind_at(rows, count, j) != ELSE {
-        return Got::Done(parse_nodes::shut(nodes, t, 20, guard, 2));
+        return Got::Done(parse_nodes::shut(nodes, t, node_kind::IF, guard, 2));
     }
     let brace = j + 1;
     let k = parse_nodes::kind_at(rows, count, brace);
     if k != LBRACE {
         return Got::Refused(Syntax::Wanted(LBRACE, k), brace);
     }
-    match body(rows, count, nodes, brace, n, left, 22) {
-        Got::Done(u) => Got::Done(parse_nodes::shut(nodes, u, 20, guard, 3)),
+    match body(rows, count, nodes, brace, n, left, node_kind::ELSE) {
+        Got::Done(u) => Got::Done(parse_nodes::shut(nodes, u, node_kind::IF, guard, 3)),
         Got::Refused(why, r) => Got::Refused(why, r),
     }
 }
 
-// The body whose brace is at the row: its statements, and its node, of a kind: 21 then, 22 else.
+// The body whose brace is at the row: its statements, and its node, of a kind: then or else.
 fn body(
     rows: &[u32],
     count: usize,

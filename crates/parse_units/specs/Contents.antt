@@ -6,6 +6,7 @@ use Prim.Native.Nat.{ℕ, _+_, _-_, _*_, _≤_}
 use lib.Dec.{eqb}
 use lib.ListN.{length, getD, take, drop}
 use lib.Seq.{sets}
+use Rattle.rules.specs.Rows.{atEnd, atStart, wordsPerRow}
 use Rattle.rules.specs.Kinds.{RBrace}
 use Rattle.rules.specs.Sets.{fromSection}
 use Rattle.rules.specs.Tree.{Tok, Tree, text, sectionsOf, sectionText}
@@ -40,7 +41,7 @@ lastRow x y = cond (eqb y missing) x y
 
 -- the spelling of row i
 abbrev pub spelt : List ℕ → List ℕ → ℕ → List ℕ
-spelt t ws i = take (getD ws (i * 8 + 2) 0 - getD ws (i * 8 + 1) 0) (drop (getD ws (i * 8 + 1) 0) t)
+spelt t ws i = take (getD ws (i * wordsPerRow + atEnd) 0 - getD ws (i * wordsPerRow + atStart) 0) (drop (getD ws (i * wordsPerRow + atStart) 0) t)
 
 -- ---- one thing more
 
@@ -69,8 +70,8 @@ pub record AsksItem (t ws : List ℕ) (n : ℕ) (u : Contents) : Type 0 where
 -- row i is a string's
 pub record AsksString (t ws : List ℕ) (i : ℕ) : Type 0 where
   pub lent : i * 8 + 8 ≤ length ws
-  pub order : getD ws (i * 8 + 1) 0 + 2 ≤ getD ws (i * 8 + 2) 0
-  pub inside : getD ws (i * 8 + 2) 0 ≤ length t
+  pub order : getD ws (i * wordsPerRow + atStart) 0 + 2 ≤ getD ws (i * wordsPerRow + atEnd) 0
+  pub inside : getD ws (i * wordsPerRow + atEnd) 0 ≤ length t
 
 -- the contents' row has the kind k, a section's or a licence's
 pub record AsksText (t ws : List ℕ) (n : ℕ) (u : Contents) (k : ℕ) : Type 0 where

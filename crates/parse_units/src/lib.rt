@@ -3,6 +3,18 @@ use parse_nodes::At;
 use parse_nodes::Got;
 use parse_nodes::Words;
 use rules::Syntax;
+use rules::fact;
+use rules::kind::IDENTIFIER;
+use rules::kind::LBRACE;
+use rules::kind::LICENSE;
+use rules::kind::RBRACE;
+use rules::kind::SECTION;
+use rules::kind::SEMICOLON;
+use rules::kind::STRING;
+use rules::limit;
+use rules::node;
+use rules::node_kind;
+use rules::row;
 ghost use mathlib.Core.Path.{_≡_};
 ghost use mathlib.Core.Bool.{cond};
 ghost use Prim.Native.Nat.{_+_, _-_, _*_, _≤_, _<_};
@@ -16,27 +28,11 @@ ghost use Rattle.parse_nodes.specs.Post.{stateAt, Asks, AsksOpen};
 ghost use Rattle.parse_nodes.specs.Names.{Spans};
 ghost use Rattle.parse_units.specs.Contents.{unset, firstOf, spelt, AsksItem, AsksString, AsksText, AsksQuoted, Texted, ItemMet, ItemsMet, UnitMet};
 
-const SECTION: u32 = 1;
+const QUOTE: u8 = b'"';
 
-const LICENSE: u32 = 2;
+const NO_SECTION: u32 = fact::PROGRAM_UNKNOWN + 1;
 
-const LBRACE: u32 = 25;
-
-const RBRACE: u32 = 26;
-
-const SEMICOLON: u32 = 32;
-
-const IDENTIFIER: u32 = 48;
-
-const STRING: u32 = 49;
-
-const QUOTE: u8 = 34;
-
-const UNKNOWN: u32 = 10;
-
-const NO_SECTION: u32 = 11;
-
-// Where the parser stands in a unit's contents, the kind that the first section gives (11 while there is none), and the row of the
+// Where the parser stands in a unit's contents, the kind that the first section gives (NO_SECTION while there is none), and the row of the
 // last licence's string.
 pub struct Contents {
     pub at: At,
@@ -75,9 +71,9 @@ fn first_kind(text: &[u8], rows: &[u32], row: usize, kind: u32) -> u32
     if kind != NO_SECTION {
         return kind;
     }
-    let at = row * 8;
-    let a = rows[at + 1] as usize;
-    let e = rows[at + 2] as usize;
+    let at = row * row::WORDS;
+    let a = rows[at + row::START] as usize;
+    let e = rows[at + row::END] as usize;
     kind_of_string(text, a, e)
 }
 
@@ -98,14 +94,14 @@ fn with_text(text: &[u8], rows: &[u32], nodes: &mut [u32], u: Contents, word: u3
         things: here.things + 1,
     };
     if word == LICENSE {
-        parse_nodes::close(nodes, n, 24, string, name, 0);
+        parse_nodes::close(nodes, n, node_kind::LICENSE, string, name, 0);
         return Contents {
             at,
             kind: u.kind,
             licence: name,
         };
     }
-    parse_nodes::close(nodes, n, 23, string, name, 0);
+    parse_nodes::close(nodes, n, node_kind::SECTION, string, name, 0);
     Contents {
         at,
         kind: first_kind(text, rows, string, u.kind),
@@ -150,7 +146,7 @@ fn item(text: &[u8], rows: &[u32], count: usize, nodes: &mut [u32], u: Contents)
     if (k == SECTION) | (k == LICENSE) {
         return text_item(text, rows, count, nodes, u, k);
     }
-    match parse_stmt::stmt(rows, count, nodes, row, here.node, 64) {
+    match parse_stmt::stmt(rows, count, nodes, row, here.node, limit::MOST_OPEN) {
         Got::Done(t) => {
             let at = parse_nodes::counted(t, here.place, here.things + 1);
             Went::Done(Contents {
@@ -185,7 +181,7 @@ fn items(
     let mut u = Contents {
         at: start,
         kind: NO_SECTION,
-        licence: parse_nodes::MISSING,
+        licence: node::MISSING,
     };
     loop {
         let here = u.at;
@@ -208,7 +204,7 @@ fn kind_or_unknown(kind: u32) -> u32
     ensures { λ r. ⌜ r ≡ cond (eqb kind unset) 10 kind ⌝ }
 {
     if kind == NO_SECTION {
-        return UNKNOWN;
+        return fact::PROGRAM_UNKNOWN;
     }
     kind
 }
@@ -224,7 +220,7 @@ fn unit_node(nodes: &mut [u32], row: usize, u: Contents) -> At
         nodes,
         n,
         Words {
-            kind: 25,
+            kind: node_kind::UNIT,
             place: row as u32,
             name: (row + 1) as u32,
             children: here.things,

@@ -4,8 +4,7 @@ use rules::Outer;
 use rules::Reason;
 use rules::Syntax;
 ghost use mathlib.Core.Path.{_≡_};
-ghost use lib.ListN.{getD};
-ghost use Rattle.rules.specs.Refusals.{outerNumber, lexicalNumber, syntaxNumber, reasonNumber, syntaxTells};
+ghost use Rattle.rules.specs.Refusals.{outerNumber, lexicalNumber, syntaxNumber, reasonNumber, firstTold, secondTold};
 
 // The number of a refusal of the call itself, 1 to 7.
 pub fn outer_number(why: Outer) -> u32
@@ -70,7 +69,7 @@ pub fn reason_number(why: Reason) -> u32
 
 // The kind that was wanted, or the field that a map lacks.
 pub fn first_told(why: Syntax) -> u32
-    ensures { λ r. ⌜ r ≡ getD (syntaxTells why) 0 0 ⌝ }
+    ensures { λ r. ⌜ r ≡ firstTold why ⌝ }
 {
     match why {
         Syntax::Wanted(wanted, _) => wanted,
@@ -90,7 +89,7 @@ pub fn first_told(why: Syntax) -> u32
 
 // The kind that was found.
 pub fn second_told(why: Syntax) -> u32
-    ensures { λ r. ⌜ r ≡ getD (syntaxTells why) 1 0 ⌝ }
+    ensures { λ r. ⌜ r ≡ secondTold why ⌝ }
 {
     match why {
         Syntax::Wanted(_, found) => found,

@@ -12,11 +12,12 @@ use crate::tally::Tally;
 use crate::words::first_other;
 use crate::words::told_words;
 use crate::words::words_read;
-use rules::Table;
-use rules::Told;
 use replay_input::input::LOST;
 use replay_input::input::count;
 use replay_input::input::letter;
+use rules::Table;
+use rules::Told;
+use rules::row;
 ghost use Prim.Native.Nat.{_≤_};
 
 // What stands in lent memory before a call.
@@ -95,7 +96,7 @@ fn expected(rows: &[u32; WORDS], count: u32, i: usize) -> u32 {
     if WORDS <= i {
         return UNTOUCHED;
     }
-    if ((i / 8) as u64) < count as u64 {
+    if ((i / row::WORDS) as u64) < count as u64 {
         return rows[i];
     }
     UNTOUCHED
@@ -126,7 +127,7 @@ pub fn words_compared(tally: Tally, ours: &[u32; 6], theirs: &[u32; 6]) -> Tally
 // Memory behind a call against so many rows and what was there: what differs is written.
 fn memory_compared(tally: Tally, memory: &[u32; WORDS], rows: &[u32; WORDS], count: u32) -> Tally {
     let i = first_changed(memory, rows, count);
-    let same = (i / 8) as u64;
+    let same = (i / row::WORDS) as u64;
     let all = count as u64;
     if i < WORDS {
         memory_line(tally, i, memory[i], expected(rows, count, i));

@@ -3,6 +3,8 @@ use crate::part::number;
 use replay_input::input::LOST;
 use replay_input::input::count;
 use replay_input::input::letter;
+use rules::kind;
+use rules::row;
 
 // The most bytes of a text, and the words that there are for its rows.
 pub const BYTES: usize = 600;
@@ -10,7 +12,7 @@ pub const BYTES: usize = 600;
 pub const WORDS: usize = 2500;
 
 // The last word at which a row may start.
-const LAST_ROW: usize = 2492;
+const LAST_ROW: usize = WORDS - row::WORDS;
 
 // What kind of edit it is; old bytes a to b become n others.
 pub struct Edit {
@@ -94,13 +96,13 @@ fn value_read(sample: &[u8], at: usize, rows: &mut [u32; WORDS], base: usize) ->
     if LAST_ROW < base {
         return LOST;
     }
-    if rows[base] != 50 {
+    if rows[base] != kind::NUMBER {
         return at;
     }
     let low = number(sample, at);
     let high = number(sample, low.next);
-    rows[base + 5] = low.value;
-    rows[base + 6] = high.value;
+    rows[base + row::LOW] = low.value;
+    rows[base + row::HIGH] = high.value;
     high.next
 }
 
@@ -115,10 +117,10 @@ fn row_read(sample: &[u8], at: usize, rows: &mut [u32; WORDS], base: usize) -> u
     let line = number(sample, end.next);
     let column = number(sample, line.next);
     rows[base] = kind.value;
-    rows[base + 1] = start.value;
-    rows[base + 2] = end.value;
-    rows[base + 3] = line.value;
-    rows[base + 4] = column.value;
+    rows[base + row::START] = start.value;
+    rows[base + row::END] = end.value;
+    rows[base + row::LINE] = line.value;
+    rows[base + row::COLUMN] = column.value;
     value_read(sample, column.next, rows, base)
 }
 
@@ -136,7 +138,7 @@ pub fn rows_read(sample: &[u8], at: usize, rows: &mut [u32; WORDS]) -> usize {
         if LAST_ROW < base {
             return LOST;
         }
-        base += 8;
+        base += row::WORDS;
         i += 1;
     }
     next

@@ -2,6 +2,7 @@
 use replay_input::input::LOST;
 use replay_input::input::count;
 use replay_input::input::letter;
+use rules::limit;
 
 // A number below 2^32, and the place behind it.
 pub struct Small {
@@ -19,7 +20,7 @@ pub struct Part {
 pub fn number(sample: &[u8], at: usize) -> Small {
     let w = count(sample, at);
     let value = w.value;
-    if 4294967295 < value {
+    if limit::MOST_WORD < value {
         return Small {
             value: 0,
             next: LOST,

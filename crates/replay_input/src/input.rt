@@ -1,5 +1,6 @@
 // The words of the sample: decimal numbers, letters and `?`, with blanks and newlines between. A place past every byte stands for a
 // sample that cannot be read: nothing is read from there.
+use rules::limit;
 ghost use Prim.Native.Nat.{_≤_};
 
 pub const LOST: usize = 18446744073709551615;
@@ -24,8 +25,8 @@ fn lost() -> Word {
 pub fn past_blanks(sample: &[u8], at: usize) -> usize {
     let mut i = at;
     while i < sample.len() {
-        if sample[i] != 32 {
-            if sample[i] != 10 {
+        if sample[i] != b' ' {
+            if sample[i] != b'\n' {
                 return i;
             }
         }
@@ -38,13 +39,13 @@ pub fn past_blanks(sample: &[u8], at: usize) -> usize {
 fn digit(byte: u8) -> u64
     ensures { λ r. ⌜ r ≤ 10 ⌝ }
 {
-    if byte < 48 {
+    if byte < b'0' {
         return 10;
     }
-    if 57 < byte {
+    if b'9' < byte {
         return 10;
     }
-    (byte - 48) as u64
+    (byte - b'0') as u64
 }
 
 // A number that was read from one place to another.
@@ -68,7 +69,7 @@ fn number(sample: &[u8], at: usize) -> Word {
         if 9 < d {
             return read(at, i, value);
         }
-        if 4294967295 < value {
+        if limit::MOST_WORD < value {
             return lost();
         }
         value = value * 10 + d;

@@ -3,6 +3,7 @@ use crate::tally::Tally;
 use replay_input::input::Word;
 use replay_input::input::next_word;
 use replay_input::more;
+use rules::row;
 
 // A word as a wider one.
 pub fn wide(x: u32) -> u64 {
@@ -45,9 +46,9 @@ pub fn compared(sample: &[u8], tally: Tally, what: usize, ours: &[u32], size: us
 // The eight words of row or node i of so many, or none.
 pub fn part(list: &[u32], count: usize, i: usize) -> &[u32] {
     if i < count {
-        if i < list.len() / 8 {
-            let from = i * 8;
-            let end = from + 8;
+        if i < list.len() / row::WORDS {
+            let from = i * row::WORDS;
+            let end = from + row::WORDS;
             return &list[from..end];
         }
     }

@@ -27,6 +27,6 @@ pub fn counts(tally: Tally) {
     line(b"programs ", tally, PROGRAMS);
     line(b"declarations ", tally, DECLARATIONS);
     line(b"nodes ", tally, NODES);
-    line(b"parses that only document 01 answers ", tally, UNCOMPARED);
+    line(b"parses that only the language answers ", tally, UNCOMPARED);
     one(b"words that the sample does not say ", tally.unsaid);
 }

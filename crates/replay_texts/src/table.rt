@@ -5,14 +5,15 @@ use crate::tally::ENDINGS;
 use crate::tally::ROWS;
 use crate::tally::TABLES;
 use crate::tally::Tally;
-use rules::Told;
 use replay_input::input::LOST;
 use replay_input::input::count;
 use replay_input::input::letter;
 use replay_input::told::ending_words;
 use replay_input::told::table_of;
+use rules::Told;
+use rules::row;
 
-// The next so many rows of the sample against ours.
+// The next so many rows of the sample against ours, in all words but the spare one.
 fn rows_compared(sample: &[u8], tally: Tally, rows: &[u32], own: usize, size: u64) -> Tally {
     let mut now = tally;
     let mut i = 0;
@@ -20,7 +21,7 @@ fn rows_compared(sample: &[u8], tally: Tally, rows: &[u32], own: usize, size: u6
         if now.at == LOST {
             return now;
         }
-        now = compared(sample, now, ROWS, part(rows, own, i), 7);
+        now = compared(sample, now, ROWS, part(rows, own, i), row::SPARE);
         i += 1;
     }
     now

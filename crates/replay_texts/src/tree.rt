@@ -12,15 +12,19 @@ use refusals::first_told;
 use refusals::lexical_number;
 use refusals::reason_number;
 use refusals::second_told;
-use rules::Cursor;
-use rules::Ending;
-use rules::Parsed;
-use rules::Reason;
-use rules::Table;
+use refusals::syntax_number;
 use replay_input::input::LOST;
 use replay_input::input::count;
 use replay_input::input::letter;
 use replay_input::more;
+use rules::Cursor;
+use rules::Ending;
+use rules::Parsed;
+use rules::Reason;
+use rules::Syntax;
+use rules::Table;
+use rules::node;
+use rules::node_kind;
 
 // The number of a refused parse, its place, the two words that it tells, and that the place is known. Zeros where it is not refused.
 fn refusal_words(parsed: Parsed) -> [u32; 7] {
@@ -60,10 +64,10 @@ fn left_out(node: &[u32]) -> bool {
     if node.len() == 0 {
         return false;
     }
-    if node[0] == 23 {
+    if node[node::KIND] == node_kind::SECTION {
         return true;
     }
-    node[0] == 24
+    node[node::KIND] == node_kind::LICENSE
 }
 
 // The first of our nodes from i on that the sample does not leave out.
@@ -82,7 +86,7 @@ fn past_left_out(nodes: &[u32], own: usize, i: usize) -> usize {
 fn node_compared(sample: &[u8], tally: Tally, nodes: &[u32], own: usize) -> Tally {
     let i = past_left_out(nodes, own, tally.node);
     let next = if i < own { i + 1 } else { i };
-    compared(sample, tally, NODES, part(nodes, own, i), 8).next_node(next)
+    compared(sample, tally, NODES, part(nodes, own, i), node::WORDS).next_node(next)
 }
 
 // The sample's next declaration against our next nodes.
@@ -104,7 +108,7 @@ fn declaration_compared(sample: &[u8], tally: Tally, nodes: &[u32], own: usize) 
 // Whether our next node is the program's and the last: at the last row, with so many declarations.
 fn program_agrees(nodes: &[u32], own: usize, i: usize, rows: u32, size: u64) -> bool {
     let node = part(nodes, own, i);
-    if node.len() < 8 {
+    if node.len() < node::WORDS {
         return false;
     }
     if own <= i {
@@ -113,16 +117,16 @@ fn program_agrees(nodes: &[u32], own: usize, i: usize, rows: u32, size: u64) -> 
     if own - i != 1 {
         return false;
     }
-    if node[0] != 29 {
+    if node[node::KIND] != node_kind::PROGRAM {
         return false;
     }
-    if node[2] != 4294967295 {
+    if node[node::NAME] != node::MISSING {
         return false;
     }
-    if more(wide(node[1])) != rows as u64 {
+    if more(wide(node[node::PLACE])) != rows as u64 {
         return false;
     }
-    wide(node[3]) == size
+    wide(node[node::CHILDREN]) == size
 }
 
 // An accepted text: its declarations, then the program.
@@ -157,15 +161,15 @@ fn refused_at(ours: [u32; 7], number: u32, place: Cursor) -> bool {
     ours[3] == place.column.0
 }
 
-// A parse that the sample has no answer for: it is the table's refused ending, or document 01 alone says 27 or 32.
+// A parse that the sample has no answer for: it is the table's refused ending, or the language alone says 27 or 32.
 fn uncompared_agrees(table: Table, ours: [u32; 7]) -> bool {
     let ending = table.ending;
     match ending {
         Ending::None => {
-            if ours[0] == 27 {
+            if ours[0] == syntax_number(Syntax::OutOfRange) {
                 return true;
             }
-            ours[0] == 32
+            ours[0] == syntax_number(Syntax::TooDeep)
         }
         Ending::Refused(why, place) => refused_at(ours, lexical_number(why), place),
     }

@@ -1,23 +1,28 @@
 -- What a well-formed table has: its parts for each number of a row, and that its rows lie inside its length.
-use mathlib.Core.Path.{_≡_, ap}
-use mathlib.Core.Bool.{Bool, true, false, not, _&&_}
+use mathlib.Core.Path.{_≡_, refl, sym, ap}
+use mathlib.Core.Bool.{Bool, true, false, not, _&&_, true≢false}
 use mathlib.Core.List.{List, []}
 use Prim.Native.Nat.{ℕ, zero, suc, _+_, _-_, _*_, _≤_, _<_}
 use native.Mathlib.Nat.{add-zero}
+use native.Mathlib.Decide.{decLe}
 use native.Mathlib.Omega.{arith}
 use lib.ListN.{length, getD}
 use lib.Dec.{eqb, leb}
-use borrow.Author.Tests.{eqb-true, leb-true, le-leb, not-true}
+use borrow.Author.Tests.{eqb-true, ne-eqb, leb-true, le-leb, not-true}
 use Rattle.rules.specs.declared.Cursor.{Cursor}
 use Rattle.rules.specs.declared.Lexical.{Lexical}
 use Rattle.rules.specs.declared.Ending.{Ending}
 use Rattle.rules.specs.declared.Ending.the-variants.{None, Refused}
 use Rattle.rules.specs.declared.Table.{Table}
+use Rattle.rules.specs.Text
 use Rattle.rules.specs.Text.{mostBytes}
-use Rattle.rules.specs.Kinds.{Eof, isMade}
+use Rattle.rules.specs.Kinds.{Eof, isMade, signs, reserved, lengthIn}
 use Rattle.rules.specs.Rows.{Row, rowIn, rowsIn, rowPlace, every, chained, lengthFits, spansFit, valueFits, placeFits, linesFit, rowFits, follows, lastRow, endsBehind, isEof, endingFits, rowsFit, wellFormed}
 use Rattle.rows.specs.Shape.{rowNo, behind}
-use Rattle.rows.proofs.Lists.{both-true, true-both, false-by, every-at, every-by, chained-at, chained-by, Closed, closed, closes, behind-at, behind-by, rowsIn-length, rowsIn-at}
+use Rattle.laws.specs.Tests.{allBelow}
+use Rattle.laws.proofs.Tests.{both-true, true-both, false-by, below}
+use Rattle.laws.proofs.Rows.{rows-length, rows-at}
+use Rattle.rows.proofs.Lists.{every-at, every-by, chained-at, chained-by, Closed, closed, closes, behind-at, behind-by}
 
 -- ---- a row and its kind
 
@@ -62,19 +67,19 @@ noRow = rowIn []
 -- a fact of each row of the list is one of each number
 module _ (ws : List ℕ) (count : ℕ) where
   below-list : {i : ℕ} → i < count → i < length (rowsIn count ws)
-  below-list h = rw rowsIn-length h
+  below-list h = rw rows-length h
 
   list-below : {i : ℕ} → i < length (rowsIn count ws) → i < count
-  list-below h = rw rowsIn-length at h
+  list-below h = rw rows-length at h
 
   last-list : {i : ℕ} → suc i ≡ count → suc i ≡ length (rowsIn count ws)
-  last-list h = rw rowsIn-length h
+  last-list h = rw rows-length h
 
   list-last : {i : ℕ} → suc i ≡ length (rowsIn count ws) → suc i ≡ count
-  list-last h = rw rowsIn-length at h
+  list-last h = rw rows-length at h
 
   at-list : (i : ℕ) → i < count → getD (rowsIn count ws) i noRow ≡ rowNo ws i
-  at-list i h = rowsIn-at count ws noRow i h
+  at-list i h = rows-at count ws noRow i h
 
   every-no : (p : Row → Bool) → every p (rowsIn count ws) ≡ true → (i : ℕ) → i < count → p (rowNo ws i) ≡ true
   every-no p e i h = rw (at-list i h) at (every-at p noRow (rowsIn count ws) e i (below-list h))
@@ -130,10 +135,8 @@ module _ (ws : List ℕ) (count : ℕ) where
   unfolding endingFits
   of-ends n None (clean c) = closes n noRow (rowsIn count ws) (no-closed n c)
   of-ends n (Refused why p) (broken b) =
-      true-both (every (λ r. not (isEof r)) (rowsIn count ws)) ((leb (p .offset .0) n && placeFits p) && endsBehind (lastRow (rowsIn count ws)) p)
-      (no-every (λ r. not (isEof r)) (λ i h. ap not (b .plain i h)))
-      (true-both (leb (p .offset .0) n && placeFits p) (endsBehind (lastRow (rowsIn count ws)) p)
-      (true-both (leb (p .offset .0) n) (placeFits p) (le-leb (p .offset .0) n (b .within)) (b .place))
+      true-both (no-every (λ r. not (isEof r)) (λ i h. ap not (b .plain i h)))
+      (true-both (true-both (le-leb (p .offset .0) n (b .within)) (b .place))
       (behind-by p noRow (rowsIn count ws) (λ i h.
       let l = list-last h in
       rw (at-list i (omega arith)) (b .last i l))))
@@ -161,12 +164,9 @@ module _ (ws : List ℕ) (t : Table) where
   well f =
       let rows = rowsIn (t .count) ws in
       let fit = rowsFit (t .length) rows (t .ending) in
-      true-both (leb (t .count * 8) (length ws) && leb (t .length) mostBytes) fit
-      (true-both (leb (t .count * 8) (length ws)) (leb (t .length) mostBytes) (le-leb (t .count * 8) (length ws) (f .lent)) (le-leb (t .length) mostBytes (f .short)))
-      (true-both (every rowFits rows) (chained follows rows && endingFits (t .length) rows (t .ending))
-      (no-every ws (t .count) rowFits (f .fit))
-      (true-both (chained follows rows) (endingFits (t .length) rows (t .ending))
-      (no-chained ws (t .count) follows (f .chain))
+      true-both (true-both (le-leb (t .count * 8) (length ws) (f .lent)) (le-leb (t .length) mostBytes (f .short)))
+      (true-both (no-every ws (t .count) rowFits (f .fit))
+      (true-both (no-chained ws (t .count) follows (f .chain))
       (of-ends ws (t .count) (t .length) (t .ending) (f .ends))))
 
 -- ---- a row that fits
@@ -216,6 +216,31 @@ eof-empty r s e =
     let z : r .end - r .start ≡ 0 = eqb-true (r .end - r .start) 0 (rw e at (s .long)) in
     omega (arith, s .ordered)
 
+-- every row but Eof has a byte or more
+hasBytes : ℕ → Bool
+hasBytes k = not ((isMade k && not (eqb k Eof)) && lengthFits k 0)
+
+all-bytes : allBelow hasBytes 53 ≡ true
+unfolding hasBytes isMade lengthFits signs reserved lengthIn
+all-bytes = refl
+
+long-row : (r : Row) → Sound r → (r .kind ≡ Eof → ⊥) → r .start < r .end
+unfolding hasBytes isMade
+long-row r s e = pick (decLe (r .end) (r .start))
+  where
+    made : r .kind ≤ 52
+    made = leb-true (r .kind) 52 (both-true (leb (r .kind) 52) (not (Text.within 16 20 (r .kind))) (s .made) .0)
+
+    empty : r .end ≤ r .start → lengthFits (r .kind) 0 ≡ true
+    empty h = let z : r .end - r .start ≡ 0 = omega arith in rw z at (s .long)
+
+    never : (isMade (r .kind) && not (eqb (r .kind) Eof)) ≡ true → lengthFits (r .kind) 0 ≡ true → not ((isMade (r .kind) && not (eqb (r .kind) Eof)) && lengthFits (r .kind) 0) ≡ true → ⊥
+    never f g h = true≢false (sym (rw (f, g) at h))
+
+    pick : Dec (r .end ≤ r .start) → r .start < r .end
+    pick (yes h) = absurd (never (rw (s .made, ne-eqb (r .kind) Eof e)) (empty h) (below hasBytes 53 all-bytes (r .kind) (omega (arith, made))))
+    pick (no h) = omega arith
+
 follow-ends : (r q : Row) → follows r q ≡ true → r .end ≤ q .start
 unfolding follows
 follow-ends r q e = leb-true (r .end) (q .start) (both-true (leb (r .end) (q .start)) (linesFit (rowPlace r) (rowPlace q)) e .0)
@@ -262,6 +287,20 @@ module _ {ws : List ℕ} {t : Table} (f : Fine ws t) where
       go : (e : Ending) → Ends ws (t .count) (t .length) e → rowNo ws i .kind ≡ Eof → ⊥
       go None (clean c) = plain-kind (rowNo ws i) (c .middle i h)
       go (Refused why p) (broken b) = plain-kind (rowNo ws i) (b .plain i (omega arith))
+
+  -- each row but the last has a byte, so row i starts at i or later
+  start-least : (i : ℕ) → i < t .count → i ≤ rowNo ws i .start
+  start-least zero h = omega arith
+  start-least (suc i) h =
+      omega (arith, start-least i (omega arith), long-row (rowNo ws i) (row-sound i (omega arith)) (middle-plain i h), rw add-zero at (in-order i 0 (rw add-zero h)))
+
+  -- there are no more rows than bytes, and one
+  pub few-rows : t .count ≤ t .length + 1
+  few-rows = pick (t .count) refl
+    where
+      pick : (n : ℕ) → t .count ≡ n → n ≤ t .length + 1
+      pick zero e = omega arith
+      pick (suc n) e = omega (arith, start-least n (omega arith), row-sound n (omega arith) .ordered, within n (omega arith))
 
   -- where the ending is none: there is a row, the last row is Eof, at the length
   pub clean-of : t .ending ≡ None → Clean ws (t .count) (t .length)

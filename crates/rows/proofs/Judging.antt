@@ -1,79 +1,26 @@
--- Laws of what a call over a text and its table is told, case by case, and what follows where all is well.
+-- Laws of what a call for a row's spelling is told, case by case, and what follows where all is well.
 use mathlib.Core.Path.{_≡_, refl}
-use mathlib.Core.Bool.{Bool, true, false, cond, not, _&&_}
+use mathlib.Core.Bool.{cond}
 use mathlib.Core.List.{List, []}
 use Prim.Native.Nat.{ℕ, _+_, _-_, _*_, _≤_, _<_}
 use native.Mathlib.Omega.{arith}
 use lib.ListN.{length, take, drop}
-use lib.Dec.{eqb, ltb}
-use borrow.Author.Tests.{eqb-true, eq-eqb, ne-eqb, ltb-true, lt-ltb, le-ltb}
+use lib.Dec.{ltb}
+use borrow.Author.Tests.{ltb-true, lt-ltb, le-ltb}
 use Rattle.rules.specs.declared.Cursor.{Cursor}
 use Rattle.rules.specs.declared.Table.{Table}
 use Rattle.rules.specs.declared.Outer.{Outer}
-use Rattle.rules.specs.declared.Outer.the-variants.{TextTooLong, BadByte, NotWellFormed}
+use Rattle.rules.specs.declared.Outer.the-variants.{NotWellFormed}
 use Rattle.rules.specs.declared.Judged.{Judged}
 use Rattle.rules.specs.declared.Judged.the-variants as verdict
-use Rattle.rules.specs.Text.{mostBytes, validBytes, valid, placeAt, startPlace}
-use Rattle.rules.specs.Rows.{wellFormed, spelling}
+use Rattle.rules.specs.Text.{startPlace}
+use Rattle.rules.specs.Rows.{spelling}
 use Rattle.rules.specs.Calls.{judged, spellingJudged, spellingPart}
-use Rattle.scan_place.proofs.Places.{front-le}
 use Rattle.rows.specs.Shape.{rowNo}
-use Rattle.rows.proofs.Lists.{both-true}
+use Rattle.laws.proofs.Calls.{test-fine, judged-fine}
 use Rattle.rows.proofs.Inside.{Fine, fine, row-sound, within}
 
-valid-le : (t : List ℕ) → validBytes t ≤ length t
-unfolding validBytes
-valid-le t = front-le (λ b. ltb b 128) t
-
-last-test : (a b d : Bool) (x y z : Cursor) →
-    cond a (verdict.Refused TextTooLong x) (cond b (verdict.Refused BadByte y) (cond d verdict.Fine (verdict.Refused NotWellFormed z))) ≡ verdict.Fine → d ≡ true
-last-test true b d x y z e = cc
-last-test false true d x y z e = cc
-last-test false false true x y z e = refl
-last-test false false false x y z e = cc
-
-row-test : (d : Bool) (z : Cursor) → cond d verdict.Fine (verdict.Refused NotWellFormed z) ≡ verdict.Fine → d ≡ true
-row-test true z e = refl
-row-test false z e = cc
-
 module _ (t ws : List ℕ) (tbl : Table) where
-  pub judged-long : mostBytes < length t → judged t ws tbl ≡ verdict.Refused TextTooLong startPlace
-  unfolding judged
-  judged-long h = rw (lt-ltb mostBytes (length t) h)
-
-  module _ (short : length t ≤ mostBytes) where
-    pub judged-byte : validBytes t < length t → judged t ws tbl ≡ verdict.Refused BadByte (placeAt t (validBytes t))
-    unfolding judged valid
-    judged-byte h = rw (le-ltb mostBytes (length t) short, ne-eqb (validBytes t) (length t) (λ e. omega arith))
-
-    module _ (whole : length t ≤ validBytes t) where
-      pub judged-size : (tbl .length ≡ length t → ⊥) → judged t ws tbl ≡ verdict.Refused NotWellFormed startPlace
-      unfolding judged valid
-      judged-size h =
-          let e : validBytes t ≡ length t = omega (arith, valid-le t) in
-          rw (le-ltb mostBytes (length t) short, eq-eqb (validBytes t) (length t) e, ne-eqb (tbl .length) (length t) h) (pick (wellFormed ws tbl))
-        where
-          pick : (b : Bool) → cond (b && false) verdict.Fine (verdict.Refused NotWellFormed startPlace) ≡ verdict.Refused NotWellFormed startPlace
-          pick true = refl
-          pick false = refl
-
-      pub judged-table : tbl .length ≡ length t → (b : Bool) → wellFormed ws tbl ≡ b → judged t ws tbl ≡ cond b verdict.Fine (verdict.Refused NotWellFormed startPlace)
-      unfolding judged valid
-      judged-table h b w =
-          let e : validBytes t ≡ length t = omega (arith, valid-le t) in
-          rw (le-ltb mostBytes (length t) short, eq-eqb (validBytes t) (length t) e, eq-eqb (tbl .length) (length t) h, w) (pick b)
-        where
-          pick : (b : Bool) → cond (b && true) verdict.Fine (verdict.Refused NotWellFormed startPlace) ≡ cond b verdict.Fine (verdict.Refused NotWellFormed startPlace)
-          pick true = refl
-          pick false = refl
-
-  -- where all is well, the table is well formed and as long as the text
-  pub judged-fine : judged t ws tbl ≡ verdict.Fine → (wellFormed ws tbl ≡ true) × (tbl .length ≡ length t)
-  unfolding judged
-  judged-fine e =
-      let b = both-true (wellFormed ws tbl) (eqb (tbl .length) (length t)) (last-test (ltb mostBytes (length t)) (not (valid t)) (wellFormed ws tbl && eqb (tbl .length) (length t)) startPlace (placeAt t (validBytes t)) startPlace e) in
-      (b .0, eqb-true (tbl .length) (length t) (b .1))
-
   module _ (row : ℕ) where
     pub told-refused : (why : Outer) (p : Cursor) → judged t ws tbl ≡ verdict.Refused why p → spellingJudged t ws tbl row ≡ verdict.Refused why p
     unfolding spellingJudged
@@ -99,14 +46,14 @@ module _ (t ws : List ℕ) (tbl : Table) where
       where
         inside : judged t ws tbl ≡ verdict.Fine → row < tbl .count → Told
         inside j h =
-            let w = judged-fine j in
+            let w = judged-fine t ws tbl j in
             let f = fine ws tbl (w .0) in
             record { lent = omega (arith, f .lent); ordered = row-sound f row h .ordered; within = omega (arith, within f row h, w .1) }
 
         go : (v : Judged) → judged t ws tbl ≡ v →
             elim v as (λ _. Judged) [ verdict.Fine ↦ cond (ltb row (tbl .count)) verdict.Fine (verdict.Refused NotWellFormed startPlace) | verdict.Refused why p ↦ verdict.Refused why p ] ≡ verdict.Fine
             → Told
-        go verdict.Fine j e = inside j (ltb-true row (tbl .count) (row-test (ltb row (tbl .count)) startPlace e))
+        go verdict.Fine j e = inside j (ltb-true row (tbl .count) (test-fine (ltb row (tbl .count)) startPlace e))
         go (verdict.Refused why p) j e = absurd (let z : _≡_ {A = ℕ} 0 1 = cc in omega arith)
 
     pub part-fine : spellingJudged t ws tbl row ≡ verdict.Fine → spellingPart t ws tbl row ≡ take (rowNo ws row .end - rowNo ws row .start) (drop (rowNo ws row .start) t)

@@ -10,8 +10,9 @@ use lib.Dec.{eqb, leb}
 use borrow.Author.Tests.{eqb-true, eq-eqb, ne-eqb, le-leb, lt-leb}
 use Rattle.rules.specs.Kinds.{Identifier, StringLiteral, Number, Eof, signs, reserved, lengthIn}
 use Rattle.rules.specs.Rows.{lengthFits}
-use Rattle.rows.specs.Shape.{LengthTable, allBelow}
-use Rattle.rows.proofs.Lists.{below}
+use Rattle.laws.specs.Tests.{allBelow}
+use Rattle.rows.specs.Shape.{LengthTable}
+use Rattle.laws.proofs.Tests.{below}
 
 abbrev pub lengths : List ℕ
 lengths =
@@ -27,7 +28,7 @@ right : ℕ → Bool
 right k = eqb (getD lengths k 0) (ownLength k)
 
 all-right : allBelow right 53 ≡ true
-unfolding allBelow right ownLength signs reserved lengthIn
+unfolding right ownLength signs reserved lengthIn
 all-right = refl
 
 own : (k : ℕ) → k ≤ 52 → getD lengths k 0 ≡ ownLength k

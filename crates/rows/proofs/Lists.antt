@@ -1,61 +1,17 @@
--- Laws of lists of rows: a test of every row, of each row and the next, and of the last row, said for each number of a row;
--- and the row of a number in a list of words.
-use mathlib.Core.Path.{_≡_, refl, sym, ap, _∙_}
-use mathlib.Core.Bool.{Bool, true, false, not, _&&_}
+-- Laws of lists of rows: a test of every row, of each row and the next, and of the last row, said for each number of a row.
+use mathlib.Core.Path.{_≡_, refl, ap}
+use mathlib.Core.Bool.{Bool, true, false, not}
 use mathlib.Core.List.{List, [], _∷_}
-use Prim.Native.Nat.{ℕ, zero, suc, _+_, _*_, _<_}
+use Prim.Native.Nat.{ℕ, zero, suc, _<_}
 use native.Mathlib.Nat.{not-suc-le-zero, le-of-suc-le-suc}
-use native.Mathlib.Numerals.{add-one}
-use native.Mathlib.Decide.{ℕ-discrete}
 use native.Mathlib.Omega.{arith}
-use lib.ListN.{length, getD, drop}
-use lib.Seq.{drop-drop}
+use lib.ListN.{length, getD}
 use lib.Dec.{eqb}
 use borrow.Author.Tests.{eqb-true, eq-eqb, not-true}
 use Rattle.rules.specs.declared.Cursor.{Cursor}
-use Rattle.rules.specs.Rows.{Row, rowsIn, every, chained, lastRow, endsBehind, isEof, eofLast}
-use Rattle.rows.specs.Shape.{rowNo, behind, allBelow}
-
-pub both-true : (p q : Bool) → (p && q) ≡ true → (p ≡ true) × (q ≡ true)
-both-true true q e = (refl, e)
-both-true false q e = (e, let z : _≡_ {A = Bool} false true = e in cc)
-
-pub true-both : (p q : Bool) → p ≡ true → q ≡ true → (p && q) ≡ true
-true-both p q e f = rw (e, f)
-
-pub false-by : (p : Bool) → (p ≡ true → ⊥) → p ≡ false
-false-by true h = absurd (h refl)
-false-by false h = refl
-
-pub same-bool : (p q : Bool) → (p ≡ true → q ≡ true) → (q ≡ true → p ≡ true) → p ≡ q
-same-bool true q f g = sym (f refl)
-same-bool false true f g = g refl
-same-bool false false f g = refl
-
--- ---- each number below n
-
-pub below : (f : ℕ → Bool) (n : ℕ) → allBelow f n ≡ true → (k : ℕ) → k < n → f k ≡ true
-unfolding allBelow
-below f zero e k h = absurd (not-suc-le-zero h)
-below f (suc n) e k h =
-    let b = both-true (f n) (allBelow f n) e in
-    pick (ℕ-discrete k n) (b .0) (below f n (b .1) k)
-  where
-    pick : Dec (k ≡ n) → f n ≡ true → (k < n → f k ≡ true) → f k ≡ true
-    pick (yes p) b r = rw p b
-    pick (no p) b r = r (omega arith)
-
-pub below-by : (f : ℕ → Bool) (n : ℕ) → ((k : ℕ) → k < n → f k ≡ true) → allBelow f n ≡ true
-unfolding allBelow
-below-by f zero h = refl
-below-by f (suc n) h = true-both (f n) (allBelow f n) (h n (omega arith)) (below-by f n (λ k l. h k (omega arith)))
-
-pub below-one : (f : ℕ → Bool) (n : ℕ) → allBelow f n ≡ true → f n ≡ true → allBelow f (n + 1) ≡ true
-unfolding allBelow
-below-one f n e h = rw add-one (true-both (f n) (allBelow f n) h e)
-
-pub below-not : (f : ℕ → Bool) (n k : ℕ) → k < n → f k ≡ false → allBelow f n ≡ false
-below-not f n k h e = false-by (allBelow f n) (λ a. let z : _≡_ {A = Bool} false true = sym e ∙ below f n a k h in absurd (let y : _≡_ {A = ℕ} 0 1 = cc in omega arith))
+use Rattle.rules.specs.Rows.{Row, every, chained, lastRow, endsBehind, isEof, eofLast}
+use Rattle.laws.proofs.Tests.{both-true, true-both}
+use Rattle.rows.specs.Shape.{behind}
 
 -- ---- every row
 
@@ -69,7 +25,7 @@ pub every-by : (p : Row → Bool) (d : Row) (rs : List Row) → ((i : ℕ) → i
 unfolding every
 every-by p d [] f = refl
 every-by p d (r ∷ rs) f =
-    true-both (p r) (every p rs) (f 0 (omega arith)) (every-by p d rs (λ i h. f (suc i) (omega arith)))
+    true-both (f 0 (omega arith)) (every-by p d rs (λ i h. f (suc i) (omega arith)))
 
 -- ---- each row and the next
 
@@ -85,7 +41,7 @@ unfolding chained
 chained-by p d [] f = refl
 chained-by p d (r ∷ []) f = refl
 chained-by p d (r ∷ q ∷ rs) f =
-    true-both (p r q) (chained p (q ∷ rs)) (f 0 (omega arith)) (chained-by p d (q ∷ rs) (λ i h. f (suc i) (omega arith)))
+    true-both (f 0 (omega arith)) (chained-by p d (q ∷ rs) (λ i h. f (suc i) (omega arith)))
 
 -- ---- the last row
 
@@ -124,9 +80,9 @@ pub closes : (n : ℕ) (d : Row) (rs : List Row) → Closed n d rs → eofLast n
 unfolding eofLast
 closes n d [] c = absurd (not-suc-le-zero (c .some))
 closes n d (r ∷ []) c =
-    true-both (isEof r) (eqb (r .start) n) (c .last 0 refl) (eq-eqb (r .start) n (c .start 0 refl))
+    true-both (c .last 0 refl) (eq-eqb (r .start) n (c .start 0 refl))
 closes n d (r ∷ q ∷ rs) c =
-    true-both (not (isEof r)) (eofLast n (q ∷ rs)) (ap not (c .middle 0 (omega arith)))
+    true-both (ap not (c .middle 0 (omega arith)))
     (closes n d (q ∷ rs) (record {
       some = omega arith;
       middle = λ i h. c .middle (suc i) (omega arith);
@@ -148,18 +104,3 @@ module _ (p : Cursor) (d : Row) where
   behind-by [] f = refl
   behind-by (r ∷ []) f = f 0 refl
   behind-by (r ∷ q ∷ rs) f = behind-by (q ∷ rs) (λ i h. f (suc i) (omega arith))
-
--- ---- the rows of a list of words
-
-pub rowsIn-length : (n : ℕ) (ws : List ℕ) → length (rowsIn n ws) ≡ n
-unfolding rowsIn
-rowsIn-length zero ws = refl
-rowsIn-length (suc n) ws = ap suc (rowsIn-length n (drop 8 ws))
-
-pub rowsIn-at : (n : ℕ) (ws : List ℕ) (d : Row) (i : ℕ) → i < n → getD (rowsIn n ws) i d ≡ rowNo ws i
-unfolding rowsIn
-rowsIn-at zero ws d i h = absurd (not-suc-le-zero h)
-rowsIn-at (suc n) ws d zero h = refl
-rowsIn-at (suc n) ws d (suc i) h =
-    let e : 8 + 8 * i ≡ 8 * suc i = omega arith in
-    rowsIn-at n (drop 8 ws) d i (le-of-suc-le-suc h) ∙ rw (drop-drop, e)

@@ -12,7 +12,7 @@ use borrow.Author.Tests.{leb-true, eq-eqb, ne-eqb}
 use Rattle.rules.specs.Text.{within}
 use Rattle.rules.specs.Kinds.{Number, isMade}
 use Rattle.rules.specs.Rows.{Row, rowIn, valueFits, valueBits}
-use Rattle.rows.proofs.Lists.{both-true}
+use Rattle.laws.proofs.Tests.{both-true}
 
 pub made-le : (k : ℕ) → isMade k ≡ true → k ≤ 52
 unfolding isMade

@@ -16,8 +16,9 @@ use Rattle.rules.specs.declared.Table.{Table}
 use Rattle.rules.specs.Text.{mostBytes}
 use Rattle.rules.specs.Kinds.{Eof}
 use Rattle.rules.specs.Rows.{Row, rowIn, rowPlace, rowFits, follows, linesFit, placeFits, isEof, wellFormed}
-use Rattle.rows.specs.Shape.{rowNo, behind, joined, stands, allBelow, closes, breaks}
-use Rattle.rows.proofs.Lists.{both-true, true-both, same-bool, below, below-by}
+use Rattle.laws.specs.Tests.{allBelow}
+use Rattle.rows.specs.Shape.{rowNo, behind, joined, stands, closes, breaks}
+use Rattle.laws.proofs.Tests.{both-true, true-both, same-bool, below, below-by}
 use Rattle.rows.proofs.Inside.{sound, clean, broken, Fine, fine, well, not-well, clean-of, broken-of}
 
 -- ---- a row and the row before it
@@ -183,8 +184,7 @@ module _ (ws : List ℕ) (t : Table) where
       none-to f =
           let c = clean-of f e in
           let join = join-by ws (t .count) (f .chain) in
-          true-both (allBelow (stands ws) i) (closes ws (t .length) i)
-          (below-by (stands ws) i (λ k l. of-stands ws k (record { plain = c .middle k (omega arith); fit = f .fit k (omega arith); join = join k (omega arith) })))
+          true-both (below-by (stands ws) i (λ k l. of-stands ws k (record { plain = c .middle k (omega arith); fit = f .fit k (omega arith); join = join k (omega arith) })))
           (of-closes ws (t .length) i (record { eof = c .last i h; start = c .start i h; fit = f .fit i (omega arith); join = join i (omega arith) }))
 
       none-from : (allBelow (stands ws) i && closes ws (t .length) i) ≡ true → Fine ws t
@@ -218,8 +218,7 @@ module _ (ws : List ℕ) (t : Table) where
       refused-to f =
           let b = broken-of f e in
           let join = join-by ws (t .count) (f .chain) in
-          true-both (allBelow (stands ws) (t .count)) (breaks ws (t .length) (t .count) p)
-          (below-by (stands ws) (t .count) (λ k l. of-stands ws k (record { plain = b .plain k l; fit = f .fit k l; join = join k l })))
+          true-both (below-by (stands ws) (t .count) (λ k l. of-stands ws k (record { plain = b .plain k l; fit = f .fit k l; join = join k l })))
           (of-breaks ws (t .length) (t .count) p (record { within = b .within; place = b .place; last = b .last }))
 
       refused-from : (allBelow (stands ws) (t .count) && breaks ws (t .length) (t .count) p) ≡ true → Fine ws t

@@ -2,12 +2,14 @@
 use mathlib.Core.Bool.{Bool, true, cond, not, _&&_}
 use mathlib.Core.Path.{_≡_}
 use mathlib.Core.List.{List}
-use Prim.Native.Nat.{ℕ, zero, suc, _-_, _*_, _≤_}
-use lib.ListN.{drop, getD}
+use Prim.Native.Nat.{ℕ, _-_, _≤_}
+use lib.ListN.{getD}
 use lib.Dec.{eqb, leb}
 use Rattle.rules.specs.declared.Cursor.{Cursor}
+use Rattle.rules.specs.Kinds.{Identifier, Number, Eof}
 use Rattle.rules.specs.Rows
-use Rattle.rules.specs.Rows.{rowIn, rowPlace, lengthFits, rowFits, follows, linesFit, placeFits, isEof}
+pub use Rattle.rules.specs.Rows.{rowNo}
+use Rattle.rules.specs.Rows.{rowPlace, lengthFits, rowFits, follows, linesFit, placeFits, isEof}
 use Rattle.rows.specs.declared.shape.Row.{Row}
 
 abbrev pub asRow : Row → Rows.Row
@@ -24,12 +26,8 @@ asRow r = record {
 
 -- each kind's entry says how long its spelling is: so long or longer for identifiers, strings and numbers, just so long for the others
 pub record LengthTable (ls : List ℕ) : Type 0 where
-  pub least : (k n : ℕ) → 48 ≤ k → k ≤ 50 → leb (getD ls k 0) n ≡ lengthFits k n
-  pub own : (k n : ℕ) → k ≤ 52 → (48 ≤ k → k ≤ 50 → ⊥) → eqb n (getD ls k 0) ≡ lengthFits k n
-
--- row i of a list of words
-abbrev pub rowNo : List ℕ → ℕ → Rows.Row
-rowNo ws i = rowIn (drop (8 * i) ws)
+  pub least : (k n : ℕ) → Identifier ≤ k → k ≤ Number → leb (getD ls k 0) n ≡ lengthFits k n
+  pub own : (k n : ℕ) → k ≤ Eof → (Identifier ≤ k → k ≤ Number → ⊥) → eqb n (getD ls k 0) ≡ lengthFits k n
 
 -- a place stands behind a row
 unfoldable pub behind : Rows.Row → Cursor → Bool
@@ -42,11 +40,6 @@ joined ws i = cond (eqb i 0) true (follows (rowNo ws (i - 1)) (rowNo ws i))
 -- row i fits where it stands, and is not Eof
 unfoldable pub stands : List ℕ → ℕ → Bool
 stands ws i = (not (isEof (rowNo ws i)) && rowFits (rowNo ws i)) && joined ws i
-
--- a test that holds at each number below n
-unfoldable pub allBelow : (ℕ → Bool) → ℕ → Bool
-allBelow f zero = true
-allBelow f (suc n) = f n && allBelow f n
 
 -- row i fits where it stands, and is Eof at n
 unfoldable pub closes : List ℕ → ℕ → ℕ → Bool

@@ -4,6 +4,9 @@ use rules::Ending;
 use rules::Judged;
 use rules::Outer;
 use rules::Table;
+use rules::kind;
+use rules::limit;
+use rules::row;
 use shape::Row;
 ghost use mathlib.Core.Path.{_≡_};
 ghost use mathlib.Core.Bool.{not, _&&_};
@@ -11,7 +14,8 @@ ghost use Prim.Native.Nat.{_+_, _*_, _≤_};
 ghost use lib.ListN.{length};
 ghost use Rattle.rules.specs.Rows.{rowFits, follows, isEof, wellFormed};
 ghost use Rattle.rules.specs.Calls.{judged, spellingJudged, spellingPart};
-ghost use Rattle.rows.specs.Shape.{LengthTable, asRow, joined, stands, allBelow, closes, breaks};
+ghost use Rattle.laws.specs.Tests.{allBelow};
+ghost use Rattle.rows.specs.Shape.{LengthTable, asRow, joined, stands, closes, breaks};
 
 pub mod shape;
 
@@ -29,15 +33,15 @@ fn row_joined(rows: &[u32], i: usize) -> bool
 }
 
 // Whether row q fits behind row r, and is not Eof.
-fn row_stands(lengths: &[u32; 53], r: Row, q: Row) -> bool
+fn row_stands(lengths: &[u32; kind::KINDS], r: Row, q: Row) -> bool
     requires { ⌜ LengthTable (now lengths) ⌝ }
     ensures { λ b. ⌜ b ≡ ((not (isEof (asRow q)) && rowFits (asRow q)) && follows (asRow r) (asRow q)) ⌝ }
 {
-    ((q.kind != 52) & shape::row_fits(lengths, q)) & shape::row_follows(r, q)
+    ((q.kind != kind::EOF) & shape::row_fits(lengths, q)) & shape::row_follows(r, q)
 }
 
 // Whether the first n rows fit where they stand, none of them Eof.
-fn rows_stand(lengths: &[u32; 53], rows: &[u32], n: usize) -> bool
+fn rows_stand(lengths: &[u32; kind::KINDS], rows: &[u32], n: usize) -> bool
     requires { ⌜ (n * 8 ≤ length (now rows)) × LengthTable (now lengths) ⌝ }
     ensures { λ r. ⌜ r ≡ allBelow (stands (now (rows .entry))) n ⌝ }
 {
@@ -55,12 +59,12 @@ fn rows_stand(lengths: &[u32; 53], rows: &[u32], n: usize) -> bool
 }
 
 // Whether row i fits where it stands, and is Eof at the text's size.
-fn row_closes(lengths: &[u32; 53], rows: &[u32], size: u32, i: usize) -> bool
+fn row_closes(lengths: &[u32; kind::KINDS], rows: &[u32], size: u32, i: usize) -> bool
     requires { ⌜ (i * 8 + 8 ≤ length (now rows)) × LengthTable (now lengths) ⌝ }
     ensures { λ r. ⌜ r ≡ closes (now (rows .entry)) size i ⌝ }
 {
     let r = shape::row_at(rows, i);
-    if r.kind != 52 {
+    if r.kind != kind::EOF {
         return false;
     }
     if r.start != size {
@@ -98,10 +102,10 @@ pub fn well_formed(rows: &[u32], table: Table) -> bool
     let lengths = shape::LENGTHS;
     let count = table.count as usize;
     let size = table.length;
-    if rows.len() < count * 8 {
+    if rows.len() < count * row::WORDS {
         return false;
     }
-    if 65536 < size {
+    if limit::MOST_BYTES_U32 < size {
         return false;
     }
     let ending = table.ending;
@@ -128,13 +132,11 @@ pub fn well_formed(rows: &[u32], table: Table) -> bool
 pub fn judge(text: &[u8], rows: &[u32], table: Table) -> Judged
     ensures { λ r. ⌜ r ≡ judged (now (text .entry)) (now (rows .entry)) table ⌝ }
 {
-    if 65536 < text.len() {
-        return Judged::Refused(Outer::TextTooLong, Cursor::start());
-    }
-    let n = scan_place::valid_bytes(text);
-    if n < text.len() {
-        let at = scan_place::pass(text, Cursor::start(), n);
-        return Judged::Refused(Outer::BadByte, at);
+    match scan_place::judge_text(text) {
+        Judged::Refused(why, at) => {
+            return Judged::Refused(why, at);
+        }
+        Judged::Fine => {}
     }
     let size = table.length as usize;
     if size != text.len() {

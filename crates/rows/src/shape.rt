@@ -3,6 +3,9 @@ use rules::Column;
 use rules::Cursor;
 use rules::Line;
 use rules::Offset;
+use rules::kind;
+use rules::limit;
+use rules::row;
 ghost use mathlib.Core.Path.{_≡_};
 ghost use mathlib.Core.List.{[]};
 ghost use Prim.Native.Nat.{_+_, _*_, _≤_};
@@ -24,7 +27,7 @@ pub struct Row {
 }
 
 // How long the spelling of each kind is; of identifiers, strings and numbers, how long at least.
-pub const LENGTHS: [u32; 53] = [
+pub const LENGTHS: [u32; kind::KINDS] = [
     4,
     7,
     7,
@@ -92,16 +95,16 @@ pub fn row_at(rows: &[u32], i: usize) -> Row
     requires { ⌜ i * 8 + 8 ≤ length (now rows) ⌝ }
     ensures { λ r. ⌜ asRow r ≡ rowIn (drop (8 * i) (now (rows .entry))) ⌝ }
 {
-    let base = i * 8;
+    let base = i * row::WORDS;
     Row {
         kind: rows[base],
-        start: rows[base + 1],
-        end: rows[base + 2],
-        line: rows[base + 3],
-        column: rows[base + 4],
-        low: rows[base + 5],
-        high: rows[base + 6],
-        spare: rows[base + 7],
+        start: rows[base + row::START],
+        end: rows[base + row::END],
+        line: rows[base + row::LINE],
+        column: rows[base + row::COLUMN],
+        low: rows[base + row::LOW],
+        high: rows[base + row::HIGH],
+        spare: rows[base + row::SPARE],
     }
 }
 
@@ -136,11 +139,11 @@ pub fn row_place(r: Row) -> Cursor
 fn is_made(kind: u32) -> bool
     ensures { λ r. ⌜ r ≡ isMade kind ⌝ }
 {
-    (kind <= 52) & !((16 <= kind) & (kind <= 20))
+    (kind <= kind::EOF) & !((kind::FIRST_UNMADE <= kind) & (kind <= kind::LAST_UNMADE))
 }
 
 // How long the spelling of a kind is, or at least is.
-fn own_length(lengths: &[u32; 53], kind: u32) -> u32
+fn own_length(lengths: &[u32; kind::KINDS], kind: u32) -> u32
     requires { ⌜ kind ≤ 52 ⌝ }
     ensures { λ r. ⌜ r ≡ getD (now (lengths .entry)) kind 0 ⌝ }
 {
@@ -148,22 +151,22 @@ fn own_length(lengths: &[u32; 53], kind: u32) -> u32
 }
 
 // Whether a row's bytes are in order and as many as its kind has.
-fn spans_fit(lengths: &[u32; 53], r: Row) -> bool
+fn spans_fit(lengths: &[u32; kind::KINDS], r: Row) -> bool
     requires { ⌜ (r .kind ≤ 52) × LengthTable (now lengths) ⌝ }
     ensures { λ b. ⌜ b ≡ spansFit (asRow r) ⌝ }
 {
     let kind = r.kind;
     let stop = wide(r.start) + wide(own_length(lengths, kind));
     let end = wide(r.end);
-    (((48 <= kind) & (kind <= 50)) & (stop <= end)) | (stop == end)
+    (((kind::IDENTIFIER <= kind) & (kind <= kind::NUMBER)) & (stop <= end)) | (stop == end)
 }
 
 // Whether a row's value is one of 64 bits but the least, and zero unless Number.
 fn value_fits(r: Row) -> bool
     ensures { λ b. ⌜ b ≡ valueFits (asRow r) ⌝ }
 {
-    let bits = wide(r.high) * 4294967296 + wide(r.low);
-    ((r.kind == 50) & (bits != 9223372036854775808)) | (bits == 0)
+    let bits = wide(r.high) * limit::ABOVE_WORD + wide(r.low);
+    ((r.kind == kind::NUMBER) & (bits != limit::SIGN_BIT)) | (bits == 0)
 }
 
 // Whether a place has a line and a column of 1 or more, and neither over its offset + 1.
@@ -188,7 +191,7 @@ fn lines_fit(p: Cursor, q: Cursor) -> bool
 }
 
 // Whether a row fits by itself.
-pub fn row_fits(lengths: &[u32; 53], r: Row) -> bool
+pub fn row_fits(lengths: &[u32; kind::KINDS], r: Row) -> bool
     requires { ⌜ LengthTable (now lengths) ⌝ }
     ensures { λ b. ⌜ b ≡ rowFits (asRow r) ⌝ }
 {

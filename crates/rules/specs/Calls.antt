@@ -1,5 +1,5 @@
 -- What the calls over a lent table answer and leave in lent memory: the table test, spelling, the method sets, and the parse.
-use mathlib.Core.Bool.{cond, not, _&&_}
+use mathlib.Core.Bool.{cond, _&&_}
 use mathlib.Core.List.{List, [], _++_, map}
 use Prim.Native.Nat.{ℕ, _+_, _*_, _/_}
 use lib.ListN.{length, drop}
@@ -8,7 +8,7 @@ use Rattle.rules.specs.declared.Cursor.{Cursor}
 use Rattle.rules.specs.declared.Ending.{Ending}
 use Rattle.rules.specs.declared.Ending.the-variants as ending
 use Rattle.rules.specs.declared.Table.{Table}
-use Rattle.rules.specs.declared.Outer.the-variants.{TextTooLong, BadByte, NotWellFormed, NoNodeRoom}
+use Rattle.rules.specs.declared.Outer.the-variants.{NotWellFormed, NoNodeRoom}
 use Rattle.rules.specs.declared.Judged.{Judged}
 use Rattle.rules.specs.declared.Judged.the-variants as verdict
 use Rattle.rules.specs.declared.Asked.{Asked}
@@ -16,11 +16,11 @@ use Rattle.rules.specs.declared.Asked.the-variants as asked
 use Rattle.rules.specs.declared.Reason.the-variants as reason
 use Rattle.rules.specs.declared.Parsed.{Parsed}
 use Rattle.rules.specs.declared.Parsed.the-variants as parsed
-use Rattle.rules.specs.Text.{mostBytes, validBytes, valid, placeAt, startPlace}
-use Rattle.rules.specs.Rows.{Row, rowIn, rowsIn, rowPlace, wellFormed, spelling}
-use Rattle.rules.specs.Sets.{allows, setSize}
+use Rattle.rules.specs.Text.{startPlace, textJudged}
+use Rattle.rules.specs.Rows.{Row, rowNo, rowsIn, rowPlace, wellFormed, spelling}
+use Rattle.rules.specs.Sets.{Unknown, ProbeReadKernelStr, allows, setSize}
 use Rattle.rules.specs.Tree.{Tok, tokOf}
-use Rattle.rules.specs.Nodes.{size, treeWords}
+use Rattle.rules.specs.Nodes.{wordsPerNode, size, treeWords}
 use Rattle.rules.specs.Parse.{Out, ok, no, parse}
 
 -- ---- a text and its table
@@ -28,9 +28,10 @@ use Rattle.rules.specs.Parse.{Out, ok, no, parse}
 -- 1, 2, 3; a table length other than the text's is 3
 unfoldable pub judged : List ℕ → List ℕ → Table → Judged
 judged t ws tbl =
-    cond (ltb mostBytes (length t)) (verdict.Refused TextTooLong startPlace)
-    (cond (not (valid t)) (verdict.Refused BadByte (placeAt t (validBytes t)))
-    (cond (wellFormed ws tbl && eqb (tbl .length) (length t)) verdict.Fine (verdict.Refused NotWellFormed startPlace)))
+    elim (textJudged t) [
+      | verdict.Fine ↦ cond (wellFormed ws tbl && eqb (tbl .length) (length t)) verdict.Fine (verdict.Refused NotWellFormed startPlace)
+      | verdict.Refused why p ↦ verdict.Refused why p
+    ]
 
 -- ---- spelling: 1, 2, 3, a row number from the count on being 3
 
@@ -44,16 +45,16 @@ spellingJudged t ws tbl row =
 -- refusals hand back the empty part at 0
 unfoldable pub spellingPart : List ℕ → List ℕ → Table → ℕ → List ℕ
 spellingPart t ws tbl row =
-    elim (spellingJudged t ws tbl row) [ verdict.Fine ↦ spelling t (rowIn (drop (8 * row) ws)) | verdict.Refused why p ↦ [] ]
+    elim (spellingJudged t ws tbl row) [ verdict.Fine ↦ spelling t (rowNo ws row) | verdict.Refused why p ↦ [] ]
 
 -- ---- sets: kind over 10 or method over 15 answers 3
 
 unfoldable pub memberAsked : ℕ → ℕ → Asked
 memberAsked kind method =
-    cond (leb kind 10 && leb method 15) (asked.Is (cond (allows kind method) 1 0)) (asked.Refused NotWellFormed)
+    cond (leb kind Unknown && leb method ProbeReadKernelStr) (asked.Is (cond (allows kind method) 1 0)) (asked.Refused NotWellFormed)
 
 unfoldable pub sizeAsked : ℕ → Asked
-sizeAsked kind = cond (leb kind 10) (asked.Is (setSize kind)) (asked.Refused NotWellFormed)
+sizeAsked kind = cond (leb kind Unknown) (asked.Is (setSize kind)) (asked.Refused NotWellFormed)
 
 -- ---- parse
 
@@ -62,11 +63,11 @@ tokens t rows = map (tokOf t) rows
 
 -- the place of row r
 unfoldable pub placeOfRow : List ℕ → ℕ → Cursor
-placeOfRow ws r = rowPlace (rowIn (drop (8 * r) ws))
+placeOfRow ws r = rowPlace (rowNo ws r)
 
 -- nodes are eight words each; a remainder is no node
 unfoldable pub nodeRoom : List ℕ → ℕ
-nodeRoom new = length new / 8
+nodeRoom new = length new / wordsPerNode
 
 -- the reading of rows that stand in ws
 unfoldable pub outTold : List ℕ → Out → Parsed
@@ -75,7 +76,7 @@ outTold ws (no why r) = parsed.Refused (reason.Syntax why) (placeOfRow ws r)
 
 -- the nodes, and then what was there; a refusal leaves node memory untouched
 unfoldable pub outLeaves : Out → List ℕ → List ℕ
-outLeaves (ok t j) new = treeWords 0 t ++ drop (8 * size t) new
+outLeaves (ok t j) new = treeWords 0 t ++ drop (wordsPerNode * size t) new
 outLeaves (no why r) new = new
 
 unfoldable pub reading : List ℕ → List ℕ → Table → Out

@@ -14,7 +14,7 @@ use Rattle.rules.specs.declared.Told.{Told}
 use Rattle.rules.specs.declared.Told.the-variants.{Refused}
 use Rattle.rules.specs.declared.Restart.{Restart}
 use Rattle.rules.specs.declared.Restart.the-variants as starts
-use Rattle.rules.specs.Text.{mostBytes, validBytes, valid, isBlank, place, startPlace, over}
+use Rattle.rules.specs.Text.{byte, mostBytes, validBytes, valid, isBlank, place, startPlace, over}
 use Rattle.rules.specs.Rows.{Row, rowAt, eofRow, rowPlace, rowsIn, wellFormed}
 use Rattle.rules.specs.Lex.{blank, comment, row, refused, known, end, unknown, item}
 use Rattle.rules.specs.Scan.{told, laid}
@@ -43,11 +43,11 @@ restart rows a = lastEnd startPlace (kept a rows)
 -- a gap goes on: a blank, or the first two bytes of a comment; a `/` last in the window opens none
 unfoldable pub slashOrStar : List ℕ → Bool
 slashOrStar [] = false
-slashOrStar (b ∷ s) = eqb b 47 || eqb b 42
+slashOrStar (b ∷ s) = eqb b (byte "/") || eqb b (byte "*")
 
 unfoldable pub opens : List ℕ → Bool
 opens [] = false
-opens (b ∷ s) = isBlank b || (eqb b 47 && slashOrStar s)
+opens (b ∷ s) = isBlank b || (eqb b (byte "/") && slashOrStar s)
 
 -- rows, and then: the scan is over with an ending, it meets old rows at an offset, or the window is short
 pub data Seen : Type 0 where

@@ -7,7 +7,7 @@ use Prim.Native.Nat.{ℕ, suc, _^_}
 use lib.Dec.{eqb, leb}
 use Rattle.rules.specs.Kinds.{KeywordKey, KeywordValue}
 use Rattle.rules.specs.Tree.{Tree, none, num, var, star, group, field, call, bin, one, more, decl, ret, plain, assign, guard, thenBody, elseBody, seq, text, unit, mapType, typed, limit, first, shifted, mapDecl, plainField, bytesField, arrayField, event, program, isVariable, mapTypeNumber, maxBits, typeOf, typedBy, limitOf, lacking}
-use Rattle.rules.specs.Parse.{isAdd, isShift, isMul, isAssign, isDeclaring, isText, isType, isTyped, most32}
+use Rattle.rules.specs.Parse.{isAdd, isShift, isMul, isAssign, isDeclaring, isText, isType, isTyped, most32, mostShift}
 
 pub data Nt : Type 0 where
   Add Shift Mul Unary Basic Args : Nt
@@ -58,7 +58,7 @@ module _ (strict : Bool) where
     i-items : {d : ℕ} {l s : Tree} → Is Items d l → Is Item d s → Is Items d (seq l s)
     -- map fields: `type:.` name`;`, `key:` or `value:` type`;`, `max:` Number (shift Number)*`;`
     i-first : {d v : ℕ} → Is Chain d (first v)
-    i-shifted : {d k v : ℕ} {c : Tree} → Is Chain d c → isShift k ≡ true → Passes (leb v 63) → Is Chain d (shifted k c v)
+    i-shifted : {d k v : ℕ} {c : Tree} → Is Chain d c → isShift k ≡ true → Passes (leb v mostShift) → Is Chain d (shifted k c v)
     i-type : {d : ℕ} {w : List ℕ} → Passes (not (eqb (mapTypeNumber w) 0)) → Is MapField d (mapType w)
     i-typed : {d k t : ℕ} → isTyped k ≡ true → isType t ≡ true → Is MapField d (typed k t)
     i-limit : {d : ℕ} {c : Tree} → Is Chain d c → Passes (not (leb (2 ^ 63) (maxBits c)) && leb (maxBits c) most32) → Is MapField d (limit c)

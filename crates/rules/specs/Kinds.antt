@@ -5,7 +5,7 @@ use mathlib.Core.List.{List, [], _∷_}
 use Prim.Native.Nat.{ℕ}
 use lib.ListN.{length}
 use lib.Dec.{eqb, leb}
-use Rattle.rules.specs.Text.{within}
+use Rattle.rules.specs.Text.{bytes, within}
 
 abbrev pub KeywordUnit : ℕ
 KeywordUnit = 0
@@ -151,67 +151,82 @@ KeywordBytes = 51
 abbrev pub Eof : ℕ
 Eof = 52
 
+-- 16 to 20 are never made
+abbrev pub firstUnmade : ℕ
+firstUnmade = 16
+
+abbrev pub lastUnmade : ℕ
+lastUnmade = 20
+
+-- all of them, and then the bounds of those never made, as the code lists its own
+abbrev pub rowKinds : List ℕ
+rowKinds =
+    KeywordUnit ∷ KeywordSection ∷ KeywordLicense ∷ KeywordReturn ∷ KeywordReg ∷ KeywordImm ∷ KeywordMap ∷ KeywordType ∷ KeywordKey ∷ KeywordValue ∷
+    KeywordMax ∷ KeywordIf ∷ KeywordElse ∷ KeywordGuard ∷ KeywordHeap ∷ KeywordEvent ∷ TypeU32 ∷ TypeU64 ∷ TypeI32 ∷ TypeI64 ∷ LBrace ∷ RBrace ∷
+    LParen ∷ RParen ∷ Colon ∷ Dot ∷ Comma ∷ Semicolon ∷ LBracket ∷ RBracket ∷ Equals ∷ PlusEquals ∷ MinusEquals ∷ StarEquals ∷ SlashEquals ∷
+    PercentEquals ∷ Plus ∷ Minus ∷ Star ∷ Slash ∷ Percent ∷ Shr ∷ Shl ∷ Identifier ∷ StringLiteral ∷ Number ∷ KeywordBytes ∷ Eof ∷ firstUnmade ∷
+    lastUnmade ∷ []
+
 -- the kinds that are made
 unfoldable pub isMade : ℕ → Bool
-isMade k = leb k Eof && not (within 16 20 k)
+isMade k = leb k Eof && not (within firstUnmade lastUnmade k)
 
 pub record Spelt : Type 0 where
   pub spelling : List ℕ
   pub kind : ℕ
 
--- The 21 reserved words form one constant table of spellings:
--- unit section license return reg imm map type key value max if else guard heap event bytes u32 u64 i32 i64
+-- The 21 reserved words form one constant table of spellings.
 unfoldable pub reserved : List Spelt
 reserved =
-    record { spelling = 117 ∷ 110 ∷ 105 ∷ 116 ∷ []; kind = KeywordUnit }
-    ∷ record { spelling = 115 ∷ 101 ∷ 99 ∷ 116 ∷ 105 ∷ 111 ∷ 110 ∷ []; kind = KeywordSection }
-    ∷ record { spelling = 108 ∷ 105 ∷ 99 ∷ 101 ∷ 110 ∷ 115 ∷ 101 ∷ []; kind = KeywordLicense }
-    ∷ record { spelling = 114 ∷ 101 ∷ 116 ∷ 117 ∷ 114 ∷ 110 ∷ []; kind = KeywordReturn }
-    ∷ record { spelling = 114 ∷ 101 ∷ 103 ∷ []; kind = KeywordReg }
-    ∷ record { spelling = 105 ∷ 109 ∷ 109 ∷ []; kind = KeywordImm }
-    ∷ record { spelling = 109 ∷ 97 ∷ 112 ∷ []; kind = KeywordMap }
-    ∷ record { spelling = 116 ∷ 121 ∷ 112 ∷ 101 ∷ []; kind = KeywordType }
-    ∷ record { spelling = 107 ∷ 101 ∷ 121 ∷ []; kind = KeywordKey }
-    ∷ record { spelling = 118 ∷ 97 ∷ 108 ∷ 117 ∷ 101 ∷ []; kind = KeywordValue }
-    ∷ record { spelling = 109 ∷ 97 ∷ 120 ∷ []; kind = KeywordMax }
-    ∷ record { spelling = 105 ∷ 102 ∷ []; kind = KeywordIf }
-    ∷ record { spelling = 101 ∷ 108 ∷ 115 ∷ 101 ∷ []; kind = KeywordElse }
-    ∷ record { spelling = 103 ∷ 117 ∷ 97 ∷ 114 ∷ 100 ∷ []; kind = KeywordGuard }
-    ∷ record { spelling = 104 ∷ 101 ∷ 97 ∷ 112 ∷ []; kind = KeywordHeap }
-    ∷ record { spelling = 101 ∷ 118 ∷ 101 ∷ 110 ∷ 116 ∷ []; kind = KeywordEvent }
-    ∷ record { spelling = 98 ∷ 121 ∷ 116 ∷ 101 ∷ 115 ∷ []; kind = KeywordBytes }
-    ∷ record { spelling = 117 ∷ 51 ∷ 50 ∷ []; kind = TypeU32 }
-    ∷ record { spelling = 117 ∷ 54 ∷ 52 ∷ []; kind = TypeU64 }
-    ∷ record { spelling = 105 ∷ 51 ∷ 50 ∷ []; kind = TypeI32 }
-    ∷ record { spelling = 105 ∷ 54 ∷ 52 ∷ []; kind = TypeI64 }
+    record { spelling = bytes "unit"; kind = KeywordUnit }
+    ∷ record { spelling = bytes "section"; kind = KeywordSection }
+    ∷ record { spelling = bytes "license"; kind = KeywordLicense }
+    ∷ record { spelling = bytes "return"; kind = KeywordReturn }
+    ∷ record { spelling = bytes "reg"; kind = KeywordReg }
+    ∷ record { spelling = bytes "imm"; kind = KeywordImm }
+    ∷ record { spelling = bytes "map"; kind = KeywordMap }
+    ∷ record { spelling = bytes "type"; kind = KeywordType }
+    ∷ record { spelling = bytes "key"; kind = KeywordKey }
+    ∷ record { spelling = bytes "value"; kind = KeywordValue }
+    ∷ record { spelling = bytes "max"; kind = KeywordMax }
+    ∷ record { spelling = bytes "if"; kind = KeywordIf }
+    ∷ record { spelling = bytes "else"; kind = KeywordElse }
+    ∷ record { spelling = bytes "guard"; kind = KeywordGuard }
+    ∷ record { spelling = bytes "heap"; kind = KeywordHeap }
+    ∷ record { spelling = bytes "event"; kind = KeywordEvent }
+    ∷ record { spelling = bytes "bytes"; kind = KeywordBytes }
+    ∷ record { spelling = bytes "u32"; kind = TypeU32 }
+    ∷ record { spelling = bytes "u64"; kind = TypeU64 }
+    ∷ record { spelling = bytes "i32"; kind = TypeI32 }
+    ∷ record { spelling = bytes "i64"; kind = TypeI64 }
     ∷ []
 
--- the signs: { } ( ) : . , ; [ ] = += -= *= /= %= + - * / % >> <<
+-- the signs
 unfoldable pub signs : List Spelt
 signs =
-    record { spelling = 123 ∷ []; kind = LBrace }
-    ∷ record { spelling = 125 ∷ []; kind = RBrace }
-    ∷ record { spelling = 40 ∷ []; kind = LParen }
-    ∷ record { spelling = 41 ∷ []; kind = RParen }
-    ∷ record { spelling = 58 ∷ []; kind = Colon }
-    ∷ record { spelling = 46 ∷ []; kind = Dot }
-    ∷ record { spelling = 44 ∷ []; kind = Comma }
-    ∷ record { spelling = 59 ∷ []; kind = Semicolon }
-    ∷ record { spelling = 91 ∷ []; kind = LBracket }
-    ∷ record { spelling = 93 ∷ []; kind = RBracket }
-    ∷ record { spelling = 61 ∷ []; kind = Equals }
-    ∷ record { spelling = 43 ∷ 61 ∷ []; kind = PlusEquals }
-    ∷ record { spelling = 45 ∷ 61 ∷ []; kind = MinusEquals }
-    ∷ record { spelling = 42 ∷ 61 ∷ []; kind = StarEquals }
-    ∷ record { spelling = 47 ∷ 61 ∷ []; kind = SlashEquals }
-    ∷ record { spelling = 37 ∷ 61 ∷ []; kind = PercentEquals }
-    ∷ record { spelling = 43 ∷ []; kind = Plus }
-    ∷ record { spelling = 45 ∷ []; kind = Minus }
-    ∷ record { spelling = 42 ∷ []; kind = Star }
-    ∷ record { spelling = 47 ∷ []; kind = Slash }
-    ∷ record { spelling = 37 ∷ []; kind = Percent }
-    ∷ record { spelling = 62 ∷ 62 ∷ []; kind = Shr }
-    ∷ record { spelling = 60 ∷ 60 ∷ []; kind = Shl }
+    record { spelling = bytes "{"; kind = LBrace }
+    ∷ record { spelling = bytes "}"; kind = RBrace }
+    ∷ record { spelling = bytes "("; kind = LParen }
+    ∷ record { spelling = bytes ")"; kind = RParen }
+    ∷ record { spelling = bytes ":"; kind = Colon }
+    ∷ record { spelling = bytes "."; kind = Dot }
+    ∷ record { spelling = bytes ","; kind = Comma }
+    ∷ record { spelling = bytes ";"; kind = Semicolon }
+    ∷ record { spelling = bytes "["; kind = LBracket }
+    ∷ record { spelling = bytes "]"; kind = RBracket }
+    ∷ record { spelling = bytes "="; kind = Equals }
+    ∷ record { spelling = bytes "+="; kind = PlusEquals }
+    ∷ record { spelling = bytes "-="; kind = MinusEquals }
+    ∷ record { spelling = bytes "*="; kind = StarEquals }
+    ∷ record { spelling = bytes "/="; kind = SlashEquals }
+    ∷ record { spelling = bytes "%="; kind = PercentEquals }
+    ∷ record { spelling = bytes "+"; kind = Plus }
+    ∷ record { spelling = bytes "-"; kind = Minus }
+    ∷ record { spelling = bytes "*"; kind = Star }
+    ∷ record { spelling = bytes "/"; kind = Slash }
+    ∷ record { spelling = bytes "%"; kind = Percent }
+    ∷ record { spelling = bytes ">>"; kind = Shr }
+    ∷ record { spelling = bytes "<<"; kind = Shl }
     ∷ []
 
 unfoldable pub sameBytes : List ℕ → List ℕ → Bool

@@ -7,7 +7,7 @@ use lib.ListN.{length, take, drop, getD}
 use lib.Dec.{eqb, leb, ltb}
 use Rattle.rules.specs.declared.Lexical.{Lexical}
 use Rattle.rules.specs.declared.Lexical.the-variants.{NoRowBegins, LoneSign, NoHexDigit, OpenComment, OpenString, BadEscape, NumberTooLarge}
-use Rattle.rules.specs.Text.{front, within, isBlank, notNewline}
+use Rattle.rules.specs.Text.{byte, front, within, isBlank, notNewline}
 use Rattle.rules.specs.Kinds
 use Rattle.rules.specs.Kinds.{Identifier, StringLiteral, Number, reserved, signs, kindIn}
 use Rattle.rules.specs.Rows.{bitsOf}
@@ -30,7 +30,7 @@ lineComment s =
 -- how many bytes stand before the next `*/`, or all
 unfoldable pub beforeClose : List ℕ → ℕ
 beforeClose [] = 0
-beforeClose (b ∷ s) = elim (eqb b 42 && eqb (getD s 0 0) 47) [ true ↦ 0 | false ↦ suc (beforeClose s) ]
+beforeClose (b ∷ s) = elim (eqb b (byte "*") && eqb (getD s 0 0) (byte "/")) [ true ↦ 0 | false ↦ suc (beforeClose s) ]
 
 unfoldable pub blockComment : List ℕ → Piece
 blockComment s =
@@ -41,10 +41,10 @@ blockComment s =
 -- ---- identifier: letter or `_`, then letters, digits, `_`
 
 unfoldable pub isDigit : ℕ → Bool
-isDigit b = within 48 57 b
+isDigit b = within (byte "0") (byte "9") b
 
 unfoldable pub isLetter : ℕ → Bool
-isLetter b = (within 65 90 b || within 97 122 b) || eqb b 95
+isLetter b = (within (byte "A") (byte "Z") b || within (byte "a") (byte "z") b) || eqb b (byte "_")
 
 unfoldable pub isWord : ℕ → Bool
 isWord b = isLetter b || isDigit b
@@ -55,10 +55,10 @@ word s = row (kindIn reserved Identifier (take (front isWord s) s)) (front isWor
 -- ---- number: digits, or `0x` and at least one hex digit; a `-` directly before a digit belongs to it
 
 unfoldable pub isHexDigit : ℕ → Bool
-isHexDigit b = (isDigit b || within 65 70 b) || within 97 102 b
+isHexDigit b = (isDigit b || within (byte "A") (byte "F") b) || within (byte "a") (byte "f") b
 
 unfoldable pub digitValue : ℕ → ℕ
-digitValue b = cond (isDigit b) (b - 48) (cond (within 65 70 b) (b - 55) (b - 87))
+digitValue b = cond (isDigit b) (b - byte "0") (cond (within (byte "A") (byte "F") b) (b - (byte "A" - 10)) (b - (byte "a" - 10)))
 
 -- what digits spell in a base, behind digits that spell v
 unfoldable pub spelt : ℕ → ℕ → List ℕ → ℕ
@@ -83,22 +83,22 @@ hex negative m s =
 
 unfoldable pub number : Bool → ℕ → List ℕ → Piece
 number negative m s =
-    cond (eqb (getD s 0 0) 48 && eqb (getD s 1 0) 120) (hex negative (m + 2) (drop 2 s)) (decimal negative m s)
+    cond (eqb (getD s 0 0) (byte "0") && eqb (getD s 1 0) (byte "x")) (hex negative (m + 2) (drop 2 s)) (decimal negative m s)
 
 -- ---- string: `\"`, `\\`, `\n` are the only escapes; no newline inside
 
 unfoldable pub isEscape : ℕ → Bool
-isEscape b = (eqb b 34 || eqb b 92) || eqb b 110
+isEscape b = (eqb b (byte "\"") || eqb b (byte "\\")) || eqb b (byte "n")
 
 -- n bytes of the string stand before s; escaped: the last of them is a backslash
 unfoldable pub string : (escaped : Bool) → ℕ → List ℕ → Piece
 string escaped n [] = refused OpenString n n
 string false n (b ∷ s) =
-    elim (eqb b 34) [
+    elim (eqb b (byte "\"")) [
       | true ↦ row StringLiteral (n + 1) 0 n
-      | false ↦ elim (eqb b 10) [
+      | false ↦ elim (eqb b (byte "\n")) [
         | true ↦ refused OpenString n n
-        | false ↦ elim (eqb b 92) [ true ↦ string true (suc n) s | false ↦ string false (suc n) s ]
+        | false ↦ elim (eqb b (byte "\\")) [ true ↦ string true (suc n) s | false ↦ string false (suc n) s ]
       ]
     ]
 string true n (b ∷ s) = elim (isEscape b) [ true ↦ string false (suc n) s | false ↦ refused BadEscape (n - 1) n ]
@@ -106,11 +106,12 @@ string true n (b ∷ s) = elim (isEscape b) [ true ↦ string false (suc n) s | 
 -- ---- `+= -= *= /= %= << >>` before single signs
 
 abbrev pub isLone : ℕ → Bool
-isLone b = eqb b 60 || eqb b 62
+isLone b = eqb b (byte "<") || eqb b (byte ">")
 
 -- the signs that may be the first byte of two: + - * / % < >
 unfoldable pub maybeTwo : ℕ → Bool
-maybeTwo b = ((((eqb b 43 || eqb b 45) || eqb b 42) || eqb b 47) || eqb b 37) || isLone b
+maybeTwo b =
+    ((((eqb b (byte "+") || eqb b (byte "-")) || eqb b (byte "*")) || eqb b (byte "/")) || eqb b (byte "%")) || isLone b
 
 -- a sign of one byte, which the byte at `decided` settles; a lone `<` or `>` is refused
 unfoldable pub single : ℕ → ℕ → Piece
@@ -133,7 +134,7 @@ sign s =
 
 unfoldable pub slashed : List ℕ → Piece
 slashed s =
-    cond (eqb (getD s 1 0) 47) (lineComment s) (cond (eqb (getD s 1 0) 42) (blockComment s) (sign s))
+    cond (eqb (getD s 1 0) (byte "/")) (lineComment s) (cond (eqb (getD s 1 0) (byte "*")) (blockComment s) (sign s))
 
 unfoldable pub dashed : List ℕ → Piece
 dashed s = cond (isDigit (getD s 1 0)) (number true 1 (drop 1 s)) (sign s)
@@ -141,11 +142,11 @@ dashed s = cond (isDigit (getD s 1 0)) (number true 1 (drop 1 s)) (sign s)
 unfoldable pub beginning : ℕ → List ℕ → Piece
 beginning b s =
     cond (isBlank b) blank
-    (cond (eqb b 47) (slashed s)
+    (cond (eqb b (byte "/")) (slashed s)
     (cond (isLetter b) (word s)
     (cond (isDigit b) (number false 0 s)
-    (cond (eqb b 45) (dashed s)
-    (cond (eqb b 34) (string false 1 (drop 1 s))
+    (cond (eqb b (byte "-")) (dashed s)
+    (cond (eqb b (byte "\"")) (string false 1 (drop 1 s))
     (sign s))))))
 
 unfoldable pub piece : List ℕ → Piece

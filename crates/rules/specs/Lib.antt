@@ -1,4 +1,4 @@
--- Document 01 as definitions, a module for each of its sections.
+-- docs/LANGUAGE.md as definitions, a module for each of its parts.
 pub mod Text
 pub mod Kinds
 pub mod Refusals
@@ -12,3 +12,4 @@ pub mod Nodes
 pub mod Parse
 pub mod Grammar
 pub mod Calls
+pub mod Names

@@ -17,8 +17,120 @@ pub record Node : Type 0 where
   pub fact2 : ℕ
   pub fact3 : ℕ
 
+abbrev pub wordsPerNode : ℕ
+wordsPerNode = 8
+
 abbrev pub missing : ℕ
 missing = 4294967295
+
+-- 1 variable, 2 number, 3 dereference, 4 to 10 add sub mul div mod shl shr, 11 call, 12 field, 13 expression, 14 assign, 15 add-assign, 16 reg,
+-- 17 imm, 18 heap, 19 return, 20 if, 21 then, 22 else, 23 section, 24 license, 25 unit, 26 event field, 27 event, 28 map, 29 program.
+abbrev pub NodeVariable : ℕ
+NodeVariable = 1
+
+abbrev pub NodeNumber : ℕ
+NodeNumber = 2
+
+abbrev pub NodeDereference : ℕ
+NodeDereference = 3
+
+abbrev pub NodeAdd : ℕ
+NodeAdd = 4
+
+abbrev pub NodeSub : ℕ
+NodeSub = 5
+
+abbrev pub NodeMul : ℕ
+NodeMul = 6
+
+abbrev pub NodeDiv : ℕ
+NodeDiv = 7
+
+abbrev pub NodeMod : ℕ
+NodeMod = 8
+
+abbrev pub NodeShl : ℕ
+NodeShl = 9
+
+abbrev pub NodeShr : ℕ
+NodeShr = 10
+
+abbrev pub NodeCall : ℕ
+NodeCall = 11
+
+abbrev pub NodeField : ℕ
+NodeField = 12
+
+abbrev pub NodeExpression : ℕ
+NodeExpression = 13
+
+abbrev pub NodeAssign : ℕ
+NodeAssign = 14
+
+abbrev pub NodeAddAssign : ℕ
+NodeAddAssign = 15
+
+abbrev pub NodeReg : ℕ
+NodeReg = 16
+
+abbrev pub NodeImm : ℕ
+NodeImm = 17
+
+abbrev pub NodeHeap : ℕ
+NodeHeap = 18
+
+abbrev pub NodeReturn : ℕ
+NodeReturn = 19
+
+abbrev pub NodeIf : ℕ
+NodeIf = 20
+
+abbrev pub NodeThen : ℕ
+NodeThen = 21
+
+abbrev pub NodeElse : ℕ
+NodeElse = 22
+
+abbrev pub NodeSection : ℕ
+NodeSection = 23
+
+abbrev pub NodeLicense : ℕ
+NodeLicense = 24
+
+abbrev pub NodeUnit : ℕ
+NodeUnit = 25
+
+abbrev pub NodeEventField : ℕ
+NodeEventField = 26
+
+abbrev pub NodeEvent : ℕ
+NodeEvent = 27
+
+abbrev pub NodeMap : ℕ
+NodeMap = 28
+
+abbrev pub NodeProgram : ℕ
+NodeProgram = 29
+
+abbrev pub nodeKinds : List ℕ
+nodeKinds =
+    NodeVariable ∷ NodeNumber ∷ NodeDereference ∷ NodeAdd ∷ NodeSub ∷ NodeMul ∷ NodeDiv ∷ NodeMod ∷ NodeShl ∷ NodeShr ∷ NodeCall ∷ NodeField ∷
+    NodeExpression ∷ NodeAssign ∷ NodeAddAssign ∷ NodeReg ∷ NodeImm ∷ NodeHeap ∷ NodeReturn ∷ NodeIf ∷ NodeThen ∷ NodeElse ∷ NodeSection ∷
+    NodeLicense ∷ NodeUnit ∷ NodeEventField ∷ NodeEvent ∷ NodeMap ∷ NodeProgram ∷ []
+
+-- an event field's form: 1 plain, 2 bytes, 3 array
+abbrev pub FormPlain : ℕ
+FormPlain = 1
+
+abbrev pub FormBytes : ℕ
+FormBytes = 2
+
+abbrev pub FormArray : ℕ
+FormArray = 3
+
+abbrev pub eventForms : List ℕ
+eventForms =
+    FormPlain ∷ FormBytes ∷ FormArray ∷ []
 
 -- Unused facts are zero.
 abbrev pub node : ℕ → ℕ → ℕ → ℕ → Node
@@ -134,55 +246,55 @@ licenceRow i (program l) = missing
 
 -- ---- nodes
 
--- 4 to 10 add sub mul div mod shl shr
+-- the node of an operator, of a declaration's word, of an assignment's sign, of a text's word
 unfoldable pub binaryNode : ℕ → ℕ
 binaryNode k =
-    cond (eqb k Plus) 4 (cond (eqb k Minus) 5 (cond (eqb k Star) 6 (cond (eqb k Slash) 7 (cond (eqb k Percent) 8 (cond (eqb k Shl) 9 10)))))
+    cond (eqb k Plus) NodeAdd
+    (cond (eqb k Minus) NodeSub
+    (cond (eqb k Star) NodeMul
+    (cond (eqb k Slash) NodeDiv (cond (eqb k Percent) NodeMod (cond (eqb k Shl) NodeShl NodeShr)))))
 
--- 16 reg, 17 imm, 18 heap
 unfoldable pub declNode : ℕ → ℕ
-declNode k = cond (eqb k KeywordReg) 16 (cond (eqb k KeywordImm) 17 18)
+declNode k = cond (eqb k KeywordReg) NodeReg (cond (eqb k KeywordImm) NodeImm NodeHeap)
 
--- 14 assign, 15 add-assign
 unfoldable pub assignNode : ℕ → ℕ
-assignNode k = cond (eqb k Equals) 14 15
+assignNode k = cond (eqb k Equals) NodeAssign NodeAddAssign
 
--- 23 section, 24 license
 unfoldable pub textNode : ℕ → ℕ
-textNode k = cond (eqb k KeywordSection) 23 24
+textNode k = cond (eqb k KeywordSection) NodeSection NodeLicense
 
 unfoldable pub nodesOf : ℕ → Tree → List Node
 nodesOf i none = []
-nodesOf i (num v) = factNode 2 i missing 0 (v % 2 ^ 32) (v / 2 ^ 32) 0 0 ∷ []
-nodesOf i (var w) = node 1 i i 0 ∷ []
-nodesOf i (star t) = nodesOf (i + 1) t ++ (node 3 (placeOf (i + 1) t) missing 1 ∷ [])
+nodesOf i (num v) = factNode NodeNumber i missing 0 (v % 2 ^ 32) (v / 2 ^ 32) 0 0 ∷ []
+nodesOf i (var w) = node NodeVariable i i 0 ∷ []
+nodesOf i (star t) = nodesOf (i + 1) t ++ (node NodeDereference (placeOf (i + 1) t) missing 1 ∷ [])
 nodesOf i (group t) = nodesOf (i + 1) t
-nodesOf i (field t w) = nodesOf i t ++ (node 12 (i + width t + 1) (i + width t + 1) 1 ∷ [])
-nodesOf i (call t w a) = nodesOf i t ++ (nodesOf (i + width t + 3) a ++ (node 11 (placeOf i t) (i + width t + 1) (count a + 1) ∷ []))
+nodesOf i (field t w) = nodesOf i t ++ (node NodeField (i + width t + 1) (i + width t + 1) 1 ∷ [])
+nodesOf i (call t w a) = nodesOf i t ++ (nodesOf (i + width t + 3) a ++ (node NodeCall (placeOf i t) (i + width t + 1) (count a + 1) ∷ []))
 nodesOf i (bin k l r) = nodesOf i l ++ (nodesOf (i + width l + 1) r ++ (node (binaryNode k) (placeOf i l) missing 2 ∷ []))
 nodesOf i (one t) = nodesOf i t
 nodesOf i (more a t) = nodesOf i a ++ nodesOf (i + width a + 1) t
 nodesOf i (decl k w e) = nodesOf (i + 3) e ++ (node (declNode k) (i + 1) (i + 1) 1 ∷ [])
-nodesOf i (ret e) = nodesOf (i + 1) e ++ (node 19 (i + 1) missing 1 ∷ [])
-nodesOf i (plain e) = nodesOf i e ++ (node 13 (placeOf i e) missing 1 ∷ [])
+nodesOf i (ret e) = nodesOf (i + 1) e ++ (node NodeReturn (i + 1) missing 1 ∷ [])
+nodesOf i (plain e) = nodesOf i e ++ (node NodeExpression (placeOf i e) missing 1 ∷ [])
 nodesOf i (assign k l r) = nodesOf i l ++ (nodesOf (i + width l + 1) r ++ (node (assignNode k) (placeOf i l) missing 2 ∷ []))
-nodesOf i (guard w b e) = node 1 (i + 3) (i + 3) 0 ∷ (nodesOf (i + 5) b ++ (nodesOf (i + 5 + width b) e ++ (node 20 (i + 1) missing (2 + count e) ∷ [])))
-nodesOf i (thenBody s) = nodesOf (i + 1) s ++ (node 21 i missing (count s) ∷ [])
-nodesOf i (elseBody s) = nodesOf (i + 2) s ++ (node 22 (i + 1) missing (count s) ∷ [])
+nodesOf i (guard w b e) = node NodeVariable (i + 3) (i + 3) 0 ∷ (nodesOf (i + 5) b ++ (nodesOf (i + 5 + width b) e ++ (node NodeIf (i + 1) missing (2 + count e) ∷ [])))
+nodesOf i (thenBody s) = nodesOf (i + 1) s ++ (node NodeThen i missing (count s) ∷ [])
+nodesOf i (elseBody s) = nodesOf (i + 2) s ++ (node NodeElse (i + 1) missing (count s) ∷ [])
 nodesOf i (seq l t) = nodesOf i l ++ nodesOf (i + width l) t
 nodesOf i (text k w) = node (textNode k) (i + 1) (i + 1) 0 ∷ []
-nodesOf i (unit w l) = nodesOf (i + 3) l ++ (factNode 25 i (i + 1) (count l) (unitKind l) (licenceRow (i + 3) l) 0 0 ∷ [])
+nodesOf i (unit w l) = nodesOf (i + 3) l ++ (factNode NodeUnit i (i + 1) (count l) (unitKind l) (licenceRow (i + 3) l) 0 0 ∷ [])
 nodesOf i (mapType w) = []
 nodesOf i (typed k t) = []
 nodesOf i (limit c) = []
 nodesOf i (first v) = []
 nodesOf i (shifted k c v) = []
-nodesOf i (mapDecl w l) = factNode 28 (i + 1) (i + 1) 0 (typeOf l) (typedBy KeywordKey l) (typedBy KeywordValue l) (pred (limitOf l)) ∷ []
-nodesOf i (plainField w t) = factNode 26 i i 0 1 (typeNumber t) 0 0 ∷ []
-nodesOf i (bytesField w v) = factNode 26 i i 0 2 0 v 0 ∷ []
-nodesOf i (arrayField w t v) = factNode 26 i i 0 3 (typeNumber t) v 0 ∷ []
-nodesOf i (event w l) = nodesOf (i + 3) l ++ (node 27 (i + 1) (i + 1) (count l) ∷ [])
-nodesOf i (program l) = nodesOf i l ++ (node 29 (i + width l) missing (count l) ∷ [])
+nodesOf i (mapDecl w l) = factNode NodeMap (i + 1) (i + 1) 0 (typeOf l) (typedBy KeywordKey l) (typedBy KeywordValue l) (pred (limitOf l)) ∷ []
+nodesOf i (plainField w t) = factNode NodeEventField i i 0 FormPlain (typeNumber t) 0 0 ∷ []
+nodesOf i (bytesField w v) = factNode NodeEventField i i 0 FormBytes 0 v 0 ∷ []
+nodesOf i (arrayField w t v) = factNode NodeEventField i i 0 FormArray (typeNumber t) v 0 ∷ []
+nodesOf i (event w l) = nodesOf (i + 3) l ++ (node NodeEvent (i + 1) (i + 1) (count l) ∷ [])
+nodesOf i (program l) = nodesOf i l ++ (node NodeProgram (i + width l) missing (count l) ∷ [])
 
 -- how many nodes
 unfoldable pub size : Tree → ℕ

@@ -8,7 +8,7 @@ use lib.ListN.{length, getD}
 use Rattle.rules.specs.declared.Syntax.{Syntax}
 use Rattle.rules.specs.declared.Syntax.the-variants.{Wanted, NotTopLevel, NotMapField, MapTypeUnknown, NotType, MaxNegative, OutOfRange, ShiftCount, MapLacks, NotEventType, CallOnOther, TooDeep}
 use Rattle.rules.specs.Text.{within}
-use Rattle.rules.specs.Kinds.{KeywordUnit, KeywordSection, KeywordLicense, KeywordReturn, KeywordReg, KeywordImm, KeywordMap, KeywordType, KeywordKey, KeywordValue, KeywordMax, KeywordIf, KeywordElse, KeywordGuard, KeywordHeap, KeywordEvent, LBrace, RBrace, LParen, RParen, Colon, Dot, Comma, Semicolon, LBracket, RBracket, Equals, PlusEquals, Plus, Minus, Star, Slash, Percent, Shr, Shl, Identifier, StringLiteral, Number, KeywordBytes, Eof}
+use Rattle.rules.specs.Kinds.{TypeU32, TypeI64, KeywordUnit, KeywordSection, KeywordLicense, KeywordReturn, KeywordReg, KeywordImm, KeywordMap, KeywordType, KeywordKey, KeywordValue, KeywordMax, KeywordIf, KeywordElse, KeywordGuard, KeywordHeap, KeywordEvent, LBrace, RBrace, LParen, RParen, Colon, Dot, Comma, Semicolon, LBracket, RBracket, Equals, PlusEquals, Plus, Minus, Star, Slash, Percent, Shr, Shl, Identifier, StringLiteral, Number, KeywordBytes, Eof}
 use Rattle.rules.specs.Tree.{Tok, sign, kindOf, spellingOf, bitsIn, Tree, none, num, var, star, group, field, call, bin, one, more, decl, ret, plain, assign, guard, thenBody, elseBody, seq, text, unit, mapType, typed, limit, first, shifted, mapDecl, plainField, bytesField, arrayField, event, program, isVariable, mapTypeNumber, maxBits, typeOf, typedBy, limitOf, lacking}
 
 pub data Out : Type 0 where
@@ -56,7 +56,7 @@ isText k = eqb k KeywordSection || eqb k KeywordLicense
 
 -- u32 u64 i32 i64
 abbrev pub isType : ℕ → Bool
-isType k = within 21 24 k
+isType k = within TypeU32 TypeI64 k
 
 -- key, value
 abbrev pub isTyped : ℕ → Bool
@@ -96,6 +96,14 @@ topLead k = cond (eqb k KeywordMap) mapLead (cond (eqb k KeywordUnit) unitLead (
 -- 2^32 - 1
 abbrev pub most32 : ℕ
 most32 = 4294967295
+
+-- how many constructs may be open
+abbrev pub mostOpen : ℕ
+mostOpen = 64
+
+-- the largest shift count
+abbrev pub mostShift : ℕ
+mostShift = 63
 
 -- what can stand behind an opening row: an operand behind a star, an expression behind a parenthesis or a comma
 pub data Sort : Type 0 where
@@ -252,7 +260,7 @@ module _ (ts : List Tok) where
 
   unfoldable pub itemBy : Bool → P
   itemBy true i = quoted (λ w. want Semicolon (ok (text (kindAt i) w))) (i + 1)
-  itemBy false i = stmt 64 (body 64) i
+  itemBy false i = stmt mostOpen (body mostOpen) i
 
   unfoldable pub item : P
   item i = itemBy (isText (kindAt i)) i
@@ -277,7 +285,7 @@ module _ (ts : List Tok) where
 
   -- a shift whose sign is at row k
   unfoldable pub chainStep : Tree → P
-  chainStep c k = valued (λ v. countBy (leb v 63) c k v) (k + 1)
+  chainStep c k = valued (λ v. countBy (leb v mostShift) c k v) (k + 1)
 
   unfoldable pub chain : P
   chain j = valued (λ v. loop (λ r. isShift (kindAt r)) chainStep (first v)) j

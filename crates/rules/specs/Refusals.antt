@@ -1,6 +1,5 @@
 -- "Refusal numbers": the number of each refusal, and what it tells besides.
 use Prim.Native.Nat.{ℕ}
-use mathlib.Core.List.{List, [], _∷_}
 use Rattle.rules.specs.declared.Lexical.{Lexical}
 use Rattle.rules.specs.declared.Lexical.the-variants.{NoRowBegins, LoneSign, NoHexDigit, OpenComment, OpenString, BadEscape, NumberTooLarge}
 use Rattle.rules.specs.declared.Outer.{Outer}
@@ -10,7 +9,7 @@ use Rattle.rules.specs.declared.Syntax.the-variants.{Wanted, NotTopLevel
 use Rattle.rules.specs.declared.Reason.{Reason}
 use Rattle.rules.specs.declared.Reason.the-variants as reason
 
-unfoldable pub outerNumber : Outer → ℕ
+abbrev pub outerNumber : Outer → ℕ
 outerNumber TextTooLong = 1
 outerNumber BadByte = 2
 outerNumber NotWellFormed = 3
@@ -19,7 +18,7 @@ outerNumber NoNodeRoom = 5
 outerNumber EditNotSensible = 6
 outerNumber WindowShort = 7
 
-unfoldable pub lexicalNumber : Lexical → ℕ
+abbrev pub lexicalNumber : Lexical → ℕ
 lexicalNumber NoRowBegins = 11
 lexicalNumber LoneSign = 11
 lexicalNumber NoHexDigit = 11
@@ -28,7 +27,7 @@ lexicalNumber OpenString = 13
 lexicalNumber BadEscape = 14
 lexicalNumber NumberTooLarge = 15
 
-unfoldable pub syntaxNumber : Syntax → ℕ
+abbrev pub syntaxNumber : Syntax → ℕ
 syntaxNumber (Wanted wanted found) = 21
 syntaxNumber NotTopLevel = 22
 syntaxNumber NotMapField = 23
@@ -42,22 +41,37 @@ syntaxNumber NotEventType = 30
 syntaxNumber CallOnOther = 31
 syntaxNumber TooDeep = 32
 
--- wanted and found of 21, the field of 29
-unfoldable pub syntaxTells : Syntax → List ℕ
-syntaxTells (Wanted wanted found) = wanted ∷ found ∷ []
-syntaxTells NotTopLevel = []
-syntaxTells NotMapField = []
-syntaxTells MapTypeUnknown = []
-syntaxTells NotType = []
-syntaxTells MaxNegative = []
-syntaxTells OutOfRange = []
-syntaxTells ShiftCount = []
-syntaxTells (MapLacks field) = field ∷ []
-syntaxTells NotEventType = []
-syntaxTells CallOnOther = []
-syntaxTells TooDeep = []
+-- the kind that 21 wanted, the field of 29
+abbrev pub firstTold : Syntax → ℕ
+firstTold (Wanted wanted found) = wanted
+firstTold NotTopLevel = 0
+firstTold NotMapField = 0
+firstTold MapTypeUnknown = 0
+firstTold NotType = 0
+firstTold MaxNegative = 0
+firstTold OutOfRange = 0
+firstTold ShiftCount = 0
+firstTold (MapLacks field) = field
+firstTold NotEventType = 0
+firstTold CallOnOther = 0
+firstTold TooDeep = 0
 
-unfoldable pub reasonNumber : Reason → ℕ
+-- the kind that 21 found
+abbrev pub secondTold : Syntax → ℕ
+secondTold (Wanted wanted found) = found
+secondTold NotTopLevel = 0
+secondTold NotMapField = 0
+secondTold MapTypeUnknown = 0
+secondTold NotType = 0
+secondTold MaxNegative = 0
+secondTold OutOfRange = 0
+secondTold ShiftCount = 0
+secondTold (MapLacks field) = 0
+secondTold NotEventType = 0
+secondTold CallOnOther = 0
+secondTold TooDeep = 0
+
+abbrev pub reasonNumber : Reason → ℕ
 reasonNumber (reason.Outer x) = outerNumber x
 reasonNumber (reason.Lexical x) = lexicalNumber x
 reasonNumber (reason.Syntax x) = syntaxNumber x

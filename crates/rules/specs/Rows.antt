@@ -12,6 +12,9 @@ use Rattle.rules.specs.Text.{mostBytes, place}
 use Rattle.rules.specs.Kinds.{Identifier, StringLiteral, Number, Eof, isMade, signs, reserved, lengthIn}
 
 -- A row is eight u32 words.
+abbrev pub wordsPerRow : ℕ
+wordsPerRow = 8
+
 pub record Row : Type 0 where
   pub kind : ℕ
   pub start : ℕ
@@ -22,6 +25,28 @@ pub record Row : Type 0 where
   pub high : ℕ
   pub spare : ℕ
 
+-- the index of each word but the first
+abbrev pub atStart : ℕ
+atStart = 1
+
+abbrev pub atEnd : ℕ
+atEnd = 2
+
+abbrev pub atLine : ℕ
+atLine = 3
+
+abbrev pub atColumn : ℕ
+atColumn = 4
+
+abbrev pub atLow : ℕ
+atLow = 5
+
+abbrev pub atHigh : ℕ
+atHigh = 6
+
+abbrev pub atSpare : ℕ
+atSpare = 7
+
 unfoldable pub rowWords : Row → List ℕ
 rowWords r =
     r .kind ∷ r .start ∷ r .end ∷ r .line ∷ r .column ∷ r .low ∷ r .high ∷ r .spare ∷ []
@@ -30,19 +55,23 @@ rowWords r =
 unfoldable pub rowIn : List ℕ → Row
 rowIn ws = record {
   kind = getD ws 0 0;
-  start = getD ws 1 0;
-  end = getD ws 2 0;
-  line = getD ws 3 0;
-  column = getD ws 4 0;
-  low = getD ws 5 0;
-  high = getD ws 6 0;
-  spare = getD ws 7 0;
+  start = getD ws atStart 0;
+  end = getD ws atEnd 0;
+  line = getD ws atLine 0;
+  column = getD ws atColumn 0;
+  low = getD ws atLow 0;
+  high = getD ws atHigh 0;
+  spare = getD ws atSpare 0;
 }
+
+-- row i of a list of words
+abbrev pub rowNo : List ℕ → ℕ → Row
+rowNo ws i = rowIn (drop (wordsPerRow * i) ws)
 
 -- the first n rows of a list of words, and the words of a list of rows
 unfoldable pub rowsIn : ℕ → List ℕ → List Row
 rowsIn zero ws = []
-rowsIn (suc n) ws = rowIn ws ∷ rowsIn n (drop 8 ws)
+rowsIn (suc n) ws = rowIn ws ∷ rowsIn n (drop wordsPerRow ws)
 
 unfoldable pub wordsOf : List Row → List ℕ
 wordsOf [] = []
@@ -154,7 +183,7 @@ rowsFit n rows ending = every rowFits rows && (chained follows rows && endingFit
 -- "It is well formed if the count's rows are lent .."
 unfoldable pub wellFormed : List ℕ → Table → Bool
 wellFormed ws t =
-    (leb (t .count * 8) (length ws) && leb (t .length) mostBytes) && rowsFit (t .length) (rowsIn (t .count) ws) (t .ending)
+    (leb (t .count * wordsPerRow) (length ws) && leb (t .length) mostBytes) && rowsFit (t .length) (rowsIn (t .count) ws) (t .ending)
 
 -- ---- spelling
 

@@ -1,18 +1,19 @@
 -- The scan of a text into rows and ending, and what a scan with so much room answers and leaves in lent memory.
-use mathlib.Core.Bool.{cond, not}
+use mathlib.Core.Bool.{cond}
 use mathlib.Core.List.{List, [], _∷_, _++_}
 use Prim.Native.Nat.{ℕ, zero, suc, pred, _+_, _*_, _/_, min}
 use lib.ListN.{length, take, drop}
-use lib.Dec.{leb, ltb}
+use lib.Dec.{leb}
 use Rattle.rules.specs.declared.Cursor.{Cursor}
 use Rattle.rules.specs.declared.Lexical.{Lexical}
 use Rattle.rules.specs.declared.Ending.{Ending}
 use Rattle.rules.specs.declared.Ending.the-variants as ending
-use Rattle.rules.specs.declared.Outer.the-variants.{TextTooLong, BadByte, NoRowRoom}
+use Rattle.rules.specs.declared.Outer.the-variants.{NoRowRoom}
+use Rattle.rules.specs.declared.Judged.the-variants as verdict
 use Rattle.rules.specs.declared.Told.{Told}
 use Rattle.rules.specs.declared.Told.the-variants.{Rows, Refused}
-use Rattle.rules.specs.Text.{mostBytes, validBytes, valid, placeAt, startPlace}
-use Rattle.rules.specs.Rows.{Row, rowAt, eofRow, wordsOf}
+use Rattle.rules.specs.Text.{placeAt, startPlace, textJudged}
+use Rattle.rules.specs.Rows.{Row, rowAt, eofRow, wordsOf, wordsPerRow}
 use Rattle.rules.specs.Lex.{blank, comment, row, refused, piece}
 
 -- A reading: rows, and then the end, which Eof's row stands before, or a refusal with its place and the offset of its deciding byte.
@@ -51,7 +52,7 @@ scan t = read (placeAt t) 0 0 t
 
 -- Room is whole rows; a remainder is never written.
 unfoldable pub roomOf : List ℕ → ℕ
-roomOf ws = length ws / 8
+roomOf ws = length ws / wordsPerRow
 
 -- "4 standing where the row that finds no room is complete": the rows of a text of n bytes, into room for m
 unfoldable pub told : ℕ → ℕ → List Row → Ending → Told
@@ -60,15 +61,16 @@ told n m rows e =
 
 -- as many rows as there is room for, and then what was there
 unfoldable pub laid : List Row → List ℕ → List ℕ
-laid rows ws = wordsOf (take (roomOf ws) rows) ++ drop (8 * min (roomOf ws) (length rows)) ws
+laid rows ws = wordsOf (take (roomOf ws) rows) ++ drop (wordsPerRow * min (roomOf ws) (length rows)) ws
 
 -- Scan order: 1, 2, then reading order.
 unfoldable pub scanTold : List ℕ → ℕ → Told
 scanTold t m =
-    cond (ltb mostBytes (length t)) (Refused TextTooLong startPlace 0)
-    (cond (not (valid t)) (Refused BadByte (placeAt t (validBytes t)) 0)
-    (told (length t) m (readRows (scan t)) (readEnding (scan t))))
+    elim (textJudged t) [
+      | verdict.Fine ↦ told (length t) m (readRows (scan t)) (readEnding (scan t))
+      | verdict.Refused why p ↦ Refused why p 0
+    ]
 
 -- 1, 2: rows untouched
 unfoldable pub scanLeaves : List ℕ → List ℕ → List ℕ
-scanLeaves t ws = cond (ltb mostBytes (length t)) ws (cond (not (valid t)) ws (laid (readRows (scan t)) ws))
+scanLeaves t ws = elim (textJudged t) [ verdict.Fine ↦ laid (readRows (scan t)) ws | verdict.Refused why p ↦ ws ]

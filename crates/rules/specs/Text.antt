@@ -2,9 +2,22 @@
 use mathlib.Core.Bool.{Bool, true, false, cond, not, _&&_, _||_}
 use mathlib.Core.List.{List, [], _∷_, reverse}
 use Prim.Native.Nat.{ℕ, suc, _+_, _^_, _<_}
+use Prim.Native.Char.{Char, code}
+use Prim.Native.String.{String, [] as []ˢ, _∷_ as _∷ˢ_}
 use lib.ListN.{length, take}
 use lib.Dec.{eqb, leb, ltb}
 use Rattle.rules.specs.declared.Cursor.{Cursor}
+use Rattle.rules.specs.declared.Outer.the-variants.{TextTooLong, BadByte}
+use Rattle.rules.specs.declared.Judged.{Judged}
+use Rattle.rules.specs.declared.Judged.the-variants.{Fine, Refused}
+
+-- the byte of a character, and the bytes of a spelling
+abbrev pub byte : Char → ℕ
+byte c = code c
+
+abbrev pub bytes : String → List ℕ
+bytes []ˢ = []
+bytes (c ∷ˢ s) = code c ∷ bytes s
 
 -- A text has 0 to 65,536 bytes.
 abbrev pub mostBytes : ℕ
@@ -31,10 +44,10 @@ isBlank b = within 9 13 b || eqb b 32
 
 unfoldable pub newlines : List ℕ → ℕ
 newlines [] = 0
-newlines (b ∷ s) = cond (eqb b 10) (suc (newlines s)) (newlines s)
+newlines (b ∷ s) = cond (eqb b (byte "\n")) (suc (newlines s)) (newlines s)
 
 abbrev pub notNewline : ℕ → Bool
-notNewline b = not (eqb b 10)
+notNewline b = not (eqb b (byte "\n"))
 
 -- The position before byte k is line 1 + newlines before k, column 1 + bytes since the last newline.
 unfoldable pub lineAt : List ℕ → ℕ → ℕ
@@ -52,10 +65,16 @@ placeAt t k = place k (lineAt t k) (columnAt t k)
 abbrev pub startPlace : Cursor
 startPlace = place 0 1 1
 
+-- 1, then 2 at the first byte that no text may have there
+unfoldable pub textJudged : List ℕ → Judged
+textJudged t =
+    cond (ltb mostBytes (length t)) (Refused TextTooLong startPlace) (cond (not (valid t)) (Refused BadByte (placeAt t (validBytes t))) Fine)
+
 -- The cursor behind byte b, and behind a list of bytes.
 unfoldable pub moved : Cursor → ℕ → Cursor
 moved c b =
-    place (c .offset .0 + 1) (cond (eqb b 10) (c .line .0 + 1) (c .line .0)) (cond (eqb b 10) 1 (c .column .0 + 1))
+    place (c .offset .0 + 1) (cond (eqb b (byte "\n")) (c .line .0 + 1) (c .line .0))
+    (cond (eqb b (byte "\n")) 1 (c .column .0 + 1))
 
 unfoldable pub over : Cursor → List ℕ → Cursor
 over c [] = c

@@ -4,9 +4,10 @@ use mathlib.Core.Bool.{Bool, true, false, cond}
 use mathlib.Core.List.{List, [], _∷_, _++_}
 use lib.Dec.{eqb, ltb}
 use lib.ListN.{length, take, drop, getD}
-use Rattle.rules.specs.Kinds.{Spelt, kindIn, KeywordUnit, KeywordSection, KeywordReturn, KeywordMap, KeywordType, KeywordMax, KeywordIf, KeywordElse, KeywordGuard, KeywordEvent, LBrace, RBrace, LParen, RParen, Colon, Dot, Comma, Semicolon, LBracket, RBracket, Equals, Star, Shl, Identifier, StringLiteral, Number, KeywordBytes, Eof}
+use Rattle.rules.specs.Text.{byte, bytes}
+use Rattle.rules.specs.Kinds.{Spelt, kindIn, lastUnmade, KeywordUnit, KeywordSection, KeywordReturn, KeywordMap, KeywordType, KeywordMax, KeywordIf, KeywordElse, KeywordGuard, KeywordEvent, LBrace, RBrace, LParen, RParen, Colon, Dot, Comma, Semicolon, LBracket, RBracket, Equals, Star, Shl, Identifier, StringLiteral, Number, KeywordBytes, Eof}
 use Rattle.rules.specs.Rows.{Row, spelling, valueBits}
-use Rattle.rules.specs.Sets.{fromSection}
+use Rattle.rules.specs.Sets.{fromSection, Unknown}
 
 -- What a parser sees of a row: a name or a string with its spelling, a number with its value's bits, and of any other its kind.
 pub data Tok : Type 0 where
@@ -220,12 +221,12 @@ content w = take (length w - 2) (drop 1 w)
 unfoldable pub sectionText : List ℕ → List ℕ
 sectionText w =
     cond (ltb 0 (length (content w)))
-    (cond (eqb (getD (content w) (length (content w) - 1) 0) 34) (take (length (content w) - 1) (content w)) (content w))
+    (cond (eqb (getD (content w) (length (content w) - 1) 0) (byte "\"")) (take (length (content w) - 1) (content w)) (content w))
     (content w)
 
 -- The first section gives the kind (none: Unknown).
 unfoldable pub kindOfFirst : List (List ℕ) → ℕ
-kindOfFirst [] = 10
+kindOfFirst [] = Unknown
 kindOfFirst (w ∷ ws) = fromSection (sectionText w)
 
 unfoldable pub unitKind : Tree → ℕ
@@ -233,14 +234,33 @@ unitKind l = kindOfFirst (sectionsOf l)
 
 -- ---- maps: fields repeat freely, the last holds
 
--- the types in source order: hash 1, array 2, ringbuf 3, lru_hash 4, prog_array 5
+-- the types in source order
+abbrev pub MapHash : ℕ
+MapHash = 1
+
+abbrev pub MapArray : ℕ
+MapArray = 2
+
+abbrev pub MapRingbuf : ℕ
+MapRingbuf = 3
+
+abbrev pub MapLruHash : ℕ
+MapLruHash = 4
+
+abbrev pub MapProgArray : ℕ
+MapProgArray = 5
+
+abbrev pub mapTypeNumbers : List ℕ
+mapTypeNumbers =
+    MapHash ∷ MapArray ∷ MapRingbuf ∷ MapLruHash ∷ MapProgArray ∷ []
+
 unfoldable pub mapTypes : List Spelt
 mapTypes =
-    record { spelling = 104 ∷ 97 ∷ 115 ∷ 104 ∷ []; kind = 1 }
-    ∷ record { spelling = 97 ∷ 114 ∷ 114 ∷ 97 ∷ 121 ∷ []; kind = 2 }
-    ∷ record { spelling = 114 ∷ 105 ∷ 110 ∷ 103 ∷ 98 ∷ 117 ∷ 102 ∷ []; kind = 3 }
-    ∷ record { spelling = 108 ∷ 114 ∷ 117 ∷ 95 ∷ 104 ∷ 97 ∷ 115 ∷ 104 ∷ []; kind = 4 }
-    ∷ record { spelling = 112 ∷ 114 ∷ 111 ∷ 103 ∷ 95 ∷ 97 ∷ 114 ∷ 114 ∷ 97 ∷ 121 ∷ []; kind = 5 }
+    record { spelling = bytes "hash"; kind = MapHash }
+    ∷ record { spelling = bytes "array"; kind = MapArray }
+    ∷ record { spelling = bytes "ringbuf"; kind = MapRingbuf }
+    ∷ record { spelling = bytes "lru_hash"; kind = MapLruHash }
+    ∷ record { spelling = bytes "prog_array"; kind = MapProgArray }
     ∷ []
 
 -- 0 if it is none
@@ -291,9 +311,9 @@ maxBits (program l) = 0
 abbrev pub lastOf : ℕ → ℕ → ℕ
 lastOf x y = cond (eqb y 0) x y
 
--- types are numbered 1 to 4 in source order
+-- types are numbered 1 to 4 in source order, which is that of their kinds
 abbrev pub typeNumber : ℕ → ℕ
-typeNumber k = k - 20
+typeNumber k = k - lastUnmade
 
 -- the number of a map's type, 0 if none is given
 unfoldable pub typeOf : Tree → ℕ
@@ -397,9 +417,26 @@ limitOf (arrayField w t v) = 0
 limitOf (event w l) = 0
 limitOf (program l) = 0
 
+-- the fields that a map may lack
+abbrev pub FieldType : ℕ
+FieldType = 1
+
+abbrev pub FieldKey : ℕ
+FieldKey = 2
+
+abbrev pub FieldValue : ℕ
+FieldValue = 3
+
+abbrev pub FieldMax : ℕ
+FieldMax = 4
+
+abbrev pub mapFieldNumbers : List ℕ
+mapFieldNumbers =
+    FieldType ∷ FieldKey ∷ FieldValue ∷ FieldMax ∷ []
+
 -- After `}`: type is required, then key, value, max in that order (ringbuf: max only). The field that lacks, 1 to 4, or 0.
 unfoldable pub lacking : (type key val lim : ℕ) → ℕ
 lacking type key val lim =
-    cond (eqb type 0) 1
-    (cond (eqb type 3) (cond (eqb lim 0) 4 0)
-    (cond (eqb key 0) 2 (cond (eqb val 0) 3 (cond (eqb lim 0) 4 0))))
+    cond (eqb type 0) FieldType
+    (cond (eqb type MapRingbuf) (cond (eqb lim 0) FieldMax 0)
+    (cond (eqb key 0) FieldKey (cond (eqb val 0) FieldValue (cond (eqb lim 0) FieldMax 0))))

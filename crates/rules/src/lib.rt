@@ -1,4 +1,11 @@
-// The plain data that the definitions and the code share: places, refusals, endings, tables and answers.
+// The plain data that the definitions and the code share: places, refusals, endings, tables and answers, and the names of numbers.
+pub mod fact;
+pub mod kind;
+pub mod limit;
+pub mod node;
+pub mod node_kind;
+pub mod row;
+
 ghost use mathlib.Core.Path.{_≡_};
 ghost use Rattle.rules.specs.Text.{startPlace, moved, along, Roomy};
 
@@ -34,7 +41,7 @@ impl Cursor {
         ensures { λ r. ⌜ r ≡ moved self byte ⌝ }
     {
         let offset = Offset(self.offset.0 + 1);
-        if byte == 10 {
+        if byte == b'\n' {
             return Cursor {
                 offset,
                 line: Line(self.line.0 + 1),

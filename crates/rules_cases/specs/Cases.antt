@@ -1,5 +1,5 @@
 -- "Both sides of each edge": the worked cases as one table under one theorem, which the checker computes from the rules.
--- [P]: a case that document 01 wants proved.
+-- [P]: a case that LANGUAGE.md 12 lists as proved.
 use mathlib.Core.Path.{_≡_, refl}
 use mathlib.Core.List.{List, [], _∷_, map}
 use Prim.Native.Nat.{ℕ}
@@ -7,9 +7,9 @@ use Rattle.rules.specs.declared.Cursor.{Cursor}
 use Rattle.rules.specs.declared.Ending.{Ending}
 use Rattle.rules.specs.declared.Ending.the-variants as ending
 use Rattle.rules.specs.Text
+use Rattle.rules.specs.Text.{bytes}
 use Rattle.rules.specs.Kinds
-use Rattle.rules.specs.Refusals
-use Rattle.rules.specs.Refusals.{lexicalNumber, syntaxNumber, syntaxTells}
+use Rattle.rules.specs.Refusals.{lexicalNumber, syntaxNumber, firstTold, secondTold}
 use Rattle.rules.specs.Rows
 use Rattle.rules.specs.Rows.{Row, rowWords, rowPlace, wordsOf}
 use Rattle.rules.specs.Lex
@@ -37,7 +37,7 @@ placeWords p more = p .offset .0 ∷ p .line .0 ∷ p .column .0 ∷ more
 pub refusalOf : List ℕ → Ending → Out → List ℕ
 refusalOf ws (ending.Refused why p) o = lexicalNumber why ∷ placeWords p []
 refusalOf ws ending.None (ok t j) = []
-refusalOf ws ending.None (no why r) = syntaxNumber why ∷ placeWords (placeOfRow ws r) (syntaxTells why)
+refusalOf ws ending.None (no why r) = syntaxNumber why ∷ placeWords (placeOfRow ws r) (firstTold why ∷ secondTold why ∷ [])
 
 pub treeOf : Ending → Out → List (List ℕ)
 treeOf (ending.Refused why p) o = []
@@ -63,7 +63,7 @@ cases =
     }
     -- [P] `a << 1 + b` is (a<<1)+b
     ∷ record {
-      text = 117 ∷ 110 ∷ 105 ∷ 116 ∷ 32 ∷ 117 ∷ 123 ∷ 97 ∷ 32 ∷ 60 ∷ 60 ∷ 32 ∷ 49 ∷ 32 ∷ 43 ∷ 32 ∷ 98 ∷ 59 ∷ 125 ∷ [];
+      text = bytes "unit u{a << 1 + b;}";
       rows =
           (0 ∷ 0 ∷ 4 ∷ 1 ∷ 1 ∷ 0 ∷ 0 ∷ 0 ∷ []) ∷
           (48 ∷ 5 ∷ 6 ∷ 1 ∷ 6 ∷ 0 ∷ 0 ∷ 0 ∷ []) ∷
@@ -89,7 +89,7 @@ cases =
     }
     -- [P] `a + b << 1;` 21 at `<<`
     ∷ record {
-      text = 117 ∷ 110 ∷ 105 ∷ 116 ∷ 32 ∷ 117 ∷ 123 ∷ 97 ∷ 32 ∷ 43 ∷ 32 ∷ 98 ∷ 32 ∷ 60 ∷ 60 ∷ 32 ∷ 49 ∷ 59 ∷ 125 ∷ [];
+      text = bytes "unit u{a + b << 1;}";
       rows =
           (0 ∷ 0 ∷ 4 ∷ 1 ∷ 1 ∷ 0 ∷ 0 ∷ 0 ∷ []) ∷
           (48 ∷ 5 ∷ 6 ∷ 1 ∷ 6 ∷ 0 ∷ 0 ∷ 0 ∷ []) ∷
@@ -107,7 +107,7 @@ cases =
     }
     -- [P] `x -1;` 21
     ∷ record {
-      text = 117 ∷ 110 ∷ 105 ∷ 116 ∷ 32 ∷ 117 ∷ 123 ∷ 120 ∷ 32 ∷ 45 ∷ 49 ∷ 59 ∷ 125 ∷ [];
+      text = bytes "unit u{x -1;}";
       rows =
           (0 ∷ 0 ∷ 4 ∷ 1 ∷ 1 ∷ 0 ∷ 0 ∷ 0 ∷ []) ∷
           (48 ∷ 5 ∷ 6 ∷ 1 ∷ 6 ∷ 0 ∷ 0 ∷ 0 ∷ []) ∷
@@ -122,7 +122,7 @@ cases =
     }
     -- `a--1` is a minus -1
     ∷ record {
-      text = 117 ∷ 110 ∷ 105 ∷ 116 ∷ 32 ∷ 117 ∷ 123 ∷ 97 ∷ 45 ∷ 45 ∷ 49 ∷ 59 ∷ 125 ∷ [];
+      text = bytes "unit u{a--1;}";
       rows =
           (0 ∷ 0 ∷ 4 ∷ 1 ∷ 1 ∷ 0 ∷ 0 ∷ 0 ∷ []) ∷
           (48 ∷ 5 ∷ 6 ∷ 1 ∷ 6 ∷ 0 ∷ 0 ∷ 0 ∷ []) ∷
@@ -144,47 +144,47 @@ cases =
     }
     -- [P] `0x` 11 at 2
     ∷ record {
-      text = 48 ∷ 120 ∷ [];
+      text = bytes "0x";
       rows = [];
       refusal = 11 ∷ 2 ∷ 1 ∷ 3 ∷ [];
       nodes = [];
     }
     -- [P] `0X10`: 0, then X10
     ∷ record {
-      text = 48 ∷ 88 ∷ 49 ∷ 48 ∷ [];
+      text = bytes "0X10";
       rows =
           (50 ∷ 0 ∷ 1 ∷ 1 ∷ 1 ∷ 0 ∷ 0 ∷ 0 ∷ []) ∷
           (48 ∷ 1 ∷ 4 ∷ 1 ∷ 2 ∷ 0 ∷ 0 ∷ 0 ∷ []) ∷
           (52 ∷ 4 ∷ 4 ∷ 1 ∷ 5 ∷ 0 ∷ 0 ∷ 0 ∷ []) ∷ [];
-      refusal = 22 ∷ 0 ∷ 1 ∷ 1 ∷ [];
+      refusal = 22 ∷ 0 ∷ 1 ∷ 1 ∷ 0 ∷ 0 ∷ [];
       nodes = [];
     }
     -- [P] `/*/` 12 at 2
     ∷ record {
-      text = 47 ∷ 42 ∷ 47 ∷ [];
+      text = bytes "/*/";
       rows = [];
       refusal = 12 ∷ 2 ∷ 1 ∷ 3 ∷ [];
       nodes = [];
     }
     -- 9223372036854775807 is fine
     ∷ record {
-      text = 57 ∷ 50 ∷ 50 ∷ 51 ∷ 51 ∷ 55 ∷ 50 ∷ 48 ∷ 51 ∷ 54 ∷ 56 ∷ 53 ∷ 52 ∷ 55 ∷ 55 ∷ 53 ∷ 56 ∷ 48 ∷ 55 ∷ [];
+      text = bytes "9223372036854775807";
       rows =
           (50 ∷ 0 ∷ 19 ∷ 1 ∷ 1 ∷ 4294967295 ∷ 2147483647 ∷ 0 ∷ []) ∷
           (52 ∷ 19 ∷ 19 ∷ 1 ∷ 20 ∷ 0 ∷ 0 ∷ 0 ∷ []) ∷ [];
-      refusal = 22 ∷ 0 ∷ 1 ∷ 1 ∷ [];
+      refusal = 22 ∷ 0 ∷ 1 ∷ 1 ∷ 0 ∷ 0 ∷ [];
       nodes = [];
     }
     -- [P] with `-` before ..808 still 15
     ∷ record {
-      text = 45 ∷ 57 ∷ 50 ∷ 50 ∷ 51 ∷ 51 ∷ 55 ∷ 50 ∷ 48 ∷ 51 ∷ 54 ∷ 56 ∷ 53 ∷ 52 ∷ 55 ∷ 55 ∷ 53 ∷ 56 ∷ 48 ∷ 56 ∷ [];
+      text = bytes "-9223372036854775808";
       rows = [];
       refusal = 15 ∷ 0 ∷ 1 ∷ 1 ∷ [];
       nodes = [];
     }
     -- max: 4294967295 is fine
     ∷ record {
-      text = 109 ∷ 97 ∷ 112 ∷ 32 ∷ 109 ∷ 123 ∷ 116 ∷ 121 ∷ 112 ∷ 101 ∷ 58 ∷ 46 ∷ 104 ∷ 97 ∷ 115 ∷ 104 ∷ 59 ∷ 107 ∷ 101 ∷ 121 ∷ 58 ∷ 117 ∷ 51 ∷ 50 ∷ 59 ∷ 118 ∷ 97 ∷ 108 ∷ 117 ∷ 101 ∷ 58 ∷ 117 ∷ 54 ∷ 52 ∷ 59 ∷ 109 ∷ 97 ∷ 120 ∷ 58 ∷ 52 ∷ 50 ∷ 57 ∷ 52 ∷ 57 ∷ 54 ∷ 55 ∷ 50 ∷ 57 ∷ 53 ∷ 59 ∷ 125 ∷ [];
+      text = bytes "map m{type:.hash;key:u32;value:u64;max:4294967295;}";
       rows =
           (6 ∷ 0 ∷ 3 ∷ 1 ∷ 1 ∷ 0 ∷ 0 ∷ 0 ∷ []) ∷
           (48 ∷ 4 ∷ 5 ∷ 1 ∷ 5 ∷ 0 ∷ 0 ∷ 0 ∷ []) ∷
@@ -215,7 +215,7 @@ cases =
     }
     -- [P] max: `1 << 32` 27, at the last number read
     ∷ record {
-      text = 109 ∷ 97 ∷ 112 ∷ 32 ∷ 109 ∷ 123 ∷ 116 ∷ 121 ∷ 112 ∷ 101 ∷ 58 ∷ 46 ∷ 104 ∷ 97 ∷ 115 ∷ 104 ∷ 59 ∷ 107 ∷ 101 ∷ 121 ∷ 58 ∷ 117 ∷ 51 ∷ 50 ∷ 59 ∷ 118 ∷ 97 ∷ 108 ∷ 117 ∷ 101 ∷ 58 ∷ 117 ∷ 54 ∷ 52 ∷ 59 ∷ 109 ∷ 97 ∷ 120 ∷ 58 ∷ 49 ∷ 32 ∷ 60 ∷ 60 ∷ 32 ∷ 51 ∷ 50 ∷ 59 ∷ 125 ∷ [];
+      text = bytes "map m{type:.hash;key:u32;value:u64;max:1 << 32;}";
       rows =
           (6 ∷ 0 ∷ 3 ∷ 1 ∷ 1 ∷ 0 ∷ 0 ∷ 0 ∷ []) ∷
           (48 ∷ 4 ∷ 5 ∷ 1 ∷ 5 ∷ 0 ∷ 0 ∷ 0 ∷ []) ∷
@@ -241,12 +241,12 @@ cases =
           (32 ∷ 46 ∷ 47 ∷ 1 ∷ 47 ∷ 0 ∷ 0 ∷ 0 ∷ []) ∷
           (26 ∷ 47 ∷ 48 ∷ 1 ∷ 48 ∷ 0 ∷ 0 ∷ 0 ∷ []) ∷
           (52 ∷ 48 ∷ 48 ∷ 1 ∷ 49 ∷ 0 ∷ 0 ∷ 0 ∷ []) ∷ [];
-      refusal = 27 ∷ 44 ∷ 1 ∷ 45 ∷ [];
+      refusal = 27 ∷ 44 ∷ 1 ∷ 45 ∷ 0 ∷ 0 ∷ [];
       nodes = [];
     }
     -- max: `1 << 63` 26, at the row after the expression
     ∷ record {
-      text = 109 ∷ 97 ∷ 112 ∷ 32 ∷ 109 ∷ 123 ∷ 116 ∷ 121 ∷ 112 ∷ 101 ∷ 58 ∷ 46 ∷ 104 ∷ 97 ∷ 115 ∷ 104 ∷ 59 ∷ 107 ∷ 101 ∷ 121 ∷ 58 ∷ 117 ∷ 51 ∷ 50 ∷ 59 ∷ 118 ∷ 97 ∷ 108 ∷ 117 ∷ 101 ∷ 58 ∷ 117 ∷ 54 ∷ 52 ∷ 59 ∷ 109 ∷ 97 ∷ 120 ∷ 58 ∷ 49 ∷ 32 ∷ 60 ∷ 60 ∷ 32 ∷ 54 ∷ 51 ∷ 59 ∷ 125 ∷ [];
+      text = bytes "map m{type:.hash;key:u32;value:u64;max:1 << 63;}";
       rows =
           (6 ∷ 0 ∷ 3 ∷ 1 ∷ 1 ∷ 0 ∷ 0 ∷ 0 ∷ []) ∷
           (48 ∷ 4 ∷ 5 ∷ 1 ∷ 5 ∷ 0 ∷ 0 ∷ 0 ∷ []) ∷
@@ -272,12 +272,12 @@ cases =
           (32 ∷ 46 ∷ 47 ∷ 1 ∷ 47 ∷ 0 ∷ 0 ∷ 0 ∷ []) ∷
           (26 ∷ 47 ∷ 48 ∷ 1 ∷ 48 ∷ 0 ∷ 0 ∷ 0 ∷ []) ∷
           (52 ∷ 48 ∷ 48 ∷ 1 ∷ 49 ∷ 0 ∷ 0 ∷ 0 ∷ []) ∷ [];
-      refusal = 26 ∷ 46 ∷ 1 ∷ 47 ∷ [];
+      refusal = 26 ∷ 46 ∷ 1 ∷ 47 ∷ 0 ∷ 0 ∷ [];
       nodes = [];
     }
     -- max: `1 << 64` 28, at the count
     ∷ record {
-      text = 109 ∷ 97 ∷ 112 ∷ 32 ∷ 109 ∷ 123 ∷ 116 ∷ 121 ∷ 112 ∷ 101 ∷ 58 ∷ 46 ∷ 104 ∷ 97 ∷ 115 ∷ 104 ∷ 59 ∷ 107 ∷ 101 ∷ 121 ∷ 58 ∷ 117 ∷ 51 ∷ 50 ∷ 59 ∷ 118 ∷ 97 ∷ 108 ∷ 117 ∷ 101 ∷ 58 ∷ 117 ∷ 54 ∷ 52 ∷ 59 ∷ 109 ∷ 97 ∷ 120 ∷ 58 ∷ 49 ∷ 32 ∷ 60 ∷ 60 ∷ 32 ∷ 54 ∷ 52 ∷ 59 ∷ 125 ∷ [];
+      text = bytes "map m{type:.hash;key:u32;value:u64;max:1 << 64;}";
       rows =
           (6 ∷ 0 ∷ 3 ∷ 1 ∷ 1 ∷ 0 ∷ 0 ∷ 0 ∷ []) ∷
           (48 ∷ 4 ∷ 5 ∷ 1 ∷ 5 ∷ 0 ∷ 0 ∷ 0 ∷ []) ∷
@@ -303,12 +303,12 @@ cases =
           (32 ∷ 46 ∷ 47 ∷ 1 ∷ 47 ∷ 0 ∷ 0 ∷ 0 ∷ []) ∷
           (26 ∷ 47 ∷ 48 ∷ 1 ∷ 48 ∷ 0 ∷ 0 ∷ 0 ∷ []) ∷
           (52 ∷ 48 ∷ 48 ∷ 1 ∷ 49 ∷ 0 ∷ 0 ∷ 0 ∷ []) ∷ [];
-      refusal = 28 ∷ 44 ∷ 1 ∷ 45 ∷ [];
+      refusal = 28 ∷ 44 ∷ 1 ∷ 45 ∷ 0 ∷ 0 ∷ [];
       nodes = [];
     }
     -- `(x).m()` is fine
     ∷ record {
-      text = 117 ∷ 110 ∷ 105 ∷ 116 ∷ 32 ∷ 117 ∷ 123 ∷ 40 ∷ 120 ∷ 41 ∷ 46 ∷ 109 ∷ 40 ∷ 41 ∷ 59 ∷ 125 ∷ [];
+      text = bytes "unit u{(x).m();}";
       rows =
           (0 ∷ 0 ∷ 4 ∷ 1 ∷ 1 ∷ 0 ∷ 0 ∷ 0 ∷ []) ∷
           (48 ∷ 5 ∷ 6 ∷ 1 ∷ 6 ∷ 0 ∷ 0 ∷ 0 ∷ []) ∷
@@ -333,7 +333,7 @@ cases =
     }
     -- [P] `a.b.c()` 31, at the method's name
     ∷ record {
-      text = 117 ∷ 110 ∷ 105 ∷ 116 ∷ 32 ∷ 117 ∷ 123 ∷ 97 ∷ 46 ∷ 98 ∷ 46 ∷ 99 ∷ 40 ∷ 41 ∷ 59 ∷ 125 ∷ [];
+      text = bytes "unit u{a.b.c();}";
       rows =
           (0 ∷ 0 ∷ 4 ∷ 1 ∷ 1 ∷ 0 ∷ 0 ∷ 0 ∷ []) ∷
           (48 ∷ 5 ∷ 6 ∷ 1 ∷ 6 ∷ 0 ∷ 0 ∷ 0 ∷ []) ∷
@@ -348,12 +348,12 @@ cases =
           (32 ∷ 14 ∷ 15 ∷ 1 ∷ 15 ∷ 0 ∷ 0 ∷ 0 ∷ []) ∷
           (26 ∷ 15 ∷ 16 ∷ 1 ∷ 16 ∷ 0 ∷ 0 ∷ 0 ∷ []) ∷
           (52 ∷ 16 ∷ 16 ∷ 1 ∷ 17 ∷ 0 ∷ 0 ∷ 0 ∷ []) ∷ [];
-      refusal = 31 ∷ 11 ∷ 1 ∷ 12 ∷ [];
+      refusal = 31 ∷ 11 ∷ 1 ∷ 12 ∷ 0 ∷ 0 ∷ [];
       nodes = [];
     }
     -- the lister's text
     ∷ record {
-      text = 117 ∷ 110 ∷ 105 ∷ 116 ∷ 32 ∷ 117 ∷ 123 ∷ 10 ∷ 32 ∷ 120 ∷ 43 ∷ 61 ∷ 45 ∷ 49 ∷ 59 ∷ 10 ∷ 125 ∷ 10 ∷ [];
+      text = bytes "unit u{\n x+=-1;\n}\n";
       rows =
           (0 ∷ 0 ∷ 4 ∷ 1 ∷ 1 ∷ 0 ∷ 0 ∷ 0 ∷ []) ∷
           (48 ∷ 5 ∷ 6 ∷ 1 ∷ 6 ∷ 0 ∷ 0 ∷ 0 ∷ []) ∷
@@ -375,5 +375,5 @@ cases =
     ∷ []
 
 pub right : map (λ (c : Case). answer (c .text)) cases ≡ cases
-unfolding placeWords refusalOf treeOf answer Text.front Text.validBytes Text.valid Text.isBlank Text.newlines Text.lineAt Text.columnAt Text.placeAt Text.moved Text.over Text.along Kinds.isMade Kinds.reserved Kinds.signs Kinds.sameBytes Kinds.kindIn Kinds.lengthIn Refusals.outerNumber Refusals.lexicalNumber Refusals.syntaxNumber Refusals.syntaxTells Refusals.reasonNumber Rows.rowWords Rows.rowIn Rows.rowsIn Rows.wordsOf Rows.bitsOf Rows.valueBits Rows.rowAt Rows.eofRow Rows.rowPlace Rows.every Rows.chained Rows.lengthFits Rows.spansFit Rows.valueFits Rows.placeFits Rows.linesFit Rows.rowFits Rows.follows Rows.lastRow Rows.endsBehind Rows.isEof Rows.eofLast Rows.endingFits Rows.rowsFit Rows.wellFormed Rows.spelling Lex.lineComment Lex.beforeClose Lex.blockComment Lex.isDigit Lex.isLetter Lex.isWord Lex.word Lex.isHexDigit Lex.digitValue Lex.spelt Lex.numberOf Lex.decimal Lex.hex Lex.number Lex.isEscape Lex.string Lex.maybeTwo Lex.single Lex.sign Lex.slashed Lex.dashed Lex.beginning Lex.piece Lex.decidedAt Lex.item Scan.readRows Scan.readEnding Scan.read Scan.scan Scan.roomOf Scan.told Scan.laid Scan.scanTold Scan.scanLeaves Sets.sections Sets.fits Sets.kindOfSection Sets.fromSection Sets.allowed Sets.member Sets.allows Sets.setSize Tree.kindOf Tree.spellingOf Tree.bitsIn Tree.tokOf Tree.yield Tree.isVariable Tree.count Tree.sectionsOf Tree.content Tree.sectionText Tree.kindOfFirst Tree.unitKind Tree.mapTypes Tree.mapTypeNumber Tree.shiftRight Tree.shiftBits Tree.maxBits Tree.typeOf Tree.typedBy Tree.limitOf Tree.lacking Nodes.width Nodes.placeOf Nodes.licenceRow Nodes.binaryNode Nodes.declNode Nodes.assignNode Nodes.textNode Nodes.nodesOf Nodes.size Nodes.nodeWords Nodes.wordsOfNodes Nodes.treeWords Parse.then Parse.many Parse.lead Parse.stmtLead Parse.fieldLead Parse.eventLead Parse.topLead Parse.wantBy Parse.want Parse.needBy Parse.need Parse.named Parse.quoted Parse.valued Parse.loop Parse.listStep Parse.listTo Parse.braced Parse.called Parse.atomBy Parse.atom Parse.argStep Parse.args Parse.callBy Parse.openBy Parse.post Parse.prim Parse.unaryBy Parse.unary Parse.binStep Parse.mul Parse.shift Parse.add Parse.inner Parse.expr Parse.elseBy Parse.assignBy Parse.bodies Parse.stmtBy Parse.stmt Parse.body Parse.itemBy Parse.item Parse.unitAt Parse.typeBy Parse.keyBy Parse.countBy Parse.chainStep Parse.chain Parse.limitBy Parse.mapFieldBy Parse.mapField Parse.mapEnd Parse.mapAt Parse.lengthBy Parse.lengthAt Parse.arrayBy Parse.eventTypeBy Parse.eventField Parse.eventAt Parse.topBy Parse.top Parse.parse Calls.judged Calls.spellingJudged Calls.spellingPart Calls.memberAsked Calls.sizeAsked Calls.tokens Calls.placeOfRow Calls.nodeRoom Calls.outTold Calls.outLeaves Calls.reading Calls.endingTold Calls.endingLeaves Calls.parseTold Calls.parseLeaves
+unfolding placeWords refusalOf treeOf answer Text.front Text.validBytes Text.valid Text.isBlank Text.newlines Text.lineAt Text.columnAt Text.placeAt Text.textJudged Text.moved Text.over Text.along Kinds.isMade Kinds.reserved Kinds.signs Kinds.sameBytes Kinds.kindIn Kinds.lengthIn Rows.rowWords Rows.rowIn Rows.rowsIn Rows.wordsOf Rows.bitsOf Rows.valueBits Rows.rowAt Rows.eofRow Rows.rowPlace Rows.every Rows.chained Rows.lengthFits Rows.spansFit Rows.valueFits Rows.placeFits Rows.linesFit Rows.rowFits Rows.follows Rows.lastRow Rows.endsBehind Rows.isEof Rows.eofLast Rows.endingFits Rows.rowsFit Rows.wellFormed Rows.spelling Lex.lineComment Lex.beforeClose Lex.blockComment Lex.isDigit Lex.isLetter Lex.isWord Lex.word Lex.isHexDigit Lex.digitValue Lex.spelt Lex.numberOf Lex.decimal Lex.hex Lex.number Lex.isEscape Lex.string Lex.maybeTwo Lex.single Lex.sign Lex.slashed Lex.dashed Lex.beginning Lex.piece Lex.decidedAt Lex.item Scan.readRows Scan.readEnding Scan.read Scan.scan Scan.roomOf Scan.told Scan.laid Scan.scanTold Scan.scanLeaves Sets.sections Sets.fits Sets.kindOfSection Sets.fromSection Sets.allowed Sets.member Sets.allows Sets.setSize Tree.kindOf Tree.spellingOf Tree.bitsIn Tree.tokOf Tree.yield Tree.isVariable Tree.count Tree.sectionsOf Tree.content Tree.sectionText Tree.kindOfFirst Tree.unitKind Tree.mapTypes Tree.mapTypeNumber Tree.shiftRight Tree.shiftBits Tree.maxBits Tree.typeOf Tree.typedBy Tree.limitOf Tree.lacking Nodes.width Nodes.placeOf Nodes.licenceRow Nodes.binaryNode Nodes.declNode Nodes.assignNode Nodes.textNode Nodes.nodesOf Nodes.size Nodes.nodeWords Nodes.wordsOfNodes Nodes.treeWords Parse.then Parse.many Parse.lead Parse.stmtLead Parse.fieldLead Parse.eventLead Parse.topLead Parse.wantBy Parse.want Parse.needBy Parse.need Parse.named Parse.quoted Parse.valued Parse.loop Parse.listStep Parse.listTo Parse.braced Parse.called Parse.atomBy Parse.atom Parse.argStep Parse.args Parse.callBy Parse.openBy Parse.post Parse.prim Parse.unaryBy Parse.unary Parse.binStep Parse.mul Parse.shift Parse.add Parse.inner Parse.expr Parse.elseBy Parse.assignBy Parse.bodies Parse.stmtBy Parse.stmt Parse.body Parse.itemBy Parse.item Parse.unitAt Parse.typeBy Parse.keyBy Parse.countBy Parse.chainStep Parse.chain Parse.limitBy Parse.mapFieldBy Parse.mapField Parse.mapEnd Parse.mapAt Parse.lengthBy Parse.lengthAt Parse.arrayBy Parse.eventTypeBy Parse.eventField Parse.eventAt Parse.topBy Parse.top Parse.parse Calls.judged Calls.spellingJudged Calls.spellingPart Calls.memberAsked Calls.sizeAsked Calls.tokens Calls.placeOfRow Calls.nodeRoom Calls.outTold Calls.outLeaves Calls.reading Calls.endingTold Calls.endingLeaves Calls.parseTold Calls.parseLeaves
 right = refl

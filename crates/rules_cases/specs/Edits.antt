@@ -1,4 +1,4 @@
--- Edits: 01's own case, and for each easy misreading of "The edit" the smallest case that shows it. One table under one theorem.
+-- Edits: the worked case of LANGUAGE.md 12, and for each easy misreading of "The edit" the smallest case that shows it. One table under one theorem.
 use mathlib.Core.Path.{_≡_, refl}
 use mathlib.Core.Bool.{Bool, true, false, cond}
 use mathlib.Core.List.{List, [], _∷_, _++_, map}
@@ -9,7 +9,7 @@ use Rattle.rules.specs.declared.Told.the-variants.{Refused}
 use Rattle.rules.specs.declared.Outer.the-variants.{WindowShort}
 use Rattle.rules.specs.declared.Table.{Table}
 use Rattle.rules.specs.Text
-use Rattle.rules.specs.Text.{startPlace}
+use Rattle.rules.specs.Text.{startPlace, bytes}
 use Rattle.rules.specs.Kinds
 use Rattle.rules.specs.Rows
 use Rattle.rules.specs.Rows.{Row, wordsOf}
@@ -25,7 +25,7 @@ pub record Case : Type 0 where
   pub text : List ℕ
   pub a : ℕ
   pub b : ℕ
-  pub bytes : List ℕ
+  pub added : List ℕ
   pub shown : ℕ
   pub room : ℕ
   pub short : Bool
@@ -36,7 +36,7 @@ pub record Outcome : Type 0 where
   pub words : List ℕ
 
 pub newText : Case → List ℕ
-newText c = take (c .a) (c .text) ++ (c .bytes ++ drop (c .b) (c .text))
+newText c = take (c .a) (c .text) ++ (c .added ++ drop (c .b) (c .text))
 
 -- the lent memory: room for so many rows, at most ten, every word 7
 abbrev sevens : List ℕ
@@ -52,8 +52,8 @@ told c =
     let start : ℕ = restart rows (c .a) .offset .0 in
     let window : List ℕ = take (c .shown) (drop start (newText c)) in
     record {
-      told = editTold (wordsOf rows) table (c .a) (c .b) (length (c .bytes)) start window (roomOf (memory c));
-      words = editLeaves (wordsOf rows) table (c .a) (c .b) (length (c .bytes)) start window (memory c);
+      told = editTold (wordsOf rows) table (c .a) (c .b) (length (c .added)) start window (roomOf (memory c));
+      words = editLeaves (wordsOf rows) table (c .a) (c .b) (length (c .added)) start window (memory c);
     }
 
 pub means : Case → Outcome
@@ -65,33 +65,33 @@ means c = record {
 abbrev pub cases : List Case
 cases =
     -- the lister's text, 13 to 14 becomes `12`: four window bytes suffice
-    record { text = 117 ∷ 110 ∷ 105 ∷ 116 ∷ 32 ∷ 117 ∷ 123 ∷ 10 ∷ 32 ∷ 120 ∷ 43 ∷ 61 ∷ 45 ∷ 49 ∷ 59 ∷ 10 ∷ 125 ∷ 10 ∷ []; a = 13; b = 14; bytes = 49 ∷ 50 ∷ []; shown = 4; room = 10; short = false }
+    record { text = bytes "unit u{\n x+=-1;\n}\n"; a = 13; b = 14; added = bytes "12"; shown = 4; room = 10; short = false }
     -- and three are short
-    ∷ record { text = 117 ∷ 110 ∷ 105 ∷ 116 ∷ 32 ∷ 117 ∷ 123 ∷ 10 ∷ 32 ∷ 120 ∷ 43 ∷ 61 ∷ 45 ∷ 49 ∷ 59 ∷ 10 ∷ 125 ∷ 10 ∷ []; a = 13; b = 14; bytes = 49 ∷ 50 ∷ []; shown = 3; room = 10; short = true }
+    ∷ record { text = bytes "unit u{\n x+=-1;\n}\n"; a = 13; b = 14; added = bytes "12"; shown = 3; room = 10; short = true }
     -- a `/` last in the window is no comment: the refusal behind it moves
-    ∷ record { text = 47 ∷ 34 ∷ []; a = 0; b = 0; bytes = []; shown = 1; room = 10; short = false }
+    ∷ record { text = bytes "/\""; a = 0; b = 0; added = []; shown = 1; room = 10; short = false }
     -- no meeting place lies before a + n
-    ∷ record { text = 47 ∷ []; a = 0; b = 1; bytes = 42 ∷ []; shown = 1; room = 10; short = false }
+    ∷ record { text = bytes "/"; a = 0; b = 1; added = bytes "*"; shown = 1; room = 10; short = false }
     -- none lies at the window's end
-    ∷ record { text = 47 ∷ []; a = 0; b = 0; bytes = []; shown = 0; room = 10; short = true }
+    ∷ record { text = bytes "/"; a = 0; b = 0; added = []; shown = 0; room = 10; short = true }
     -- a lone `<` is not decided at the window's end
-    ∷ record { text = 47 ∷ []; a = 0; b = 0; bytes = 60 ∷ []; shown = 1; room = 10; short = true }
+    ∷ record { text = bytes "/"; a = 0; b = 0; added = bytes "<"; shown = 1; room = 10; short = true }
     -- nor is `0x`
-    ∷ record { text = 47 ∷ []; a = 0; b = 0; bytes = 48 ∷ 120 ∷ []; shown = 2; room = 10; short = true }
+    ∷ record { text = bytes "/"; a = 0; b = 0; added = bytes "0x"; shown = 2; room = 10; short = true }
     -- nor 15 at the digit that overflows
-    ∷ record { text = 57 ∷ 92 ∷ 56 ∷ 97 ∷ []; a = 1; b = 1; bytes = 57 ∷ 57 ∷ 57 ∷ 57 ∷ 57 ∷ 57 ∷ 57 ∷ 57 ∷ 57 ∷ 57 ∷ 57 ∷ 57 ∷ 57 ∷ 57 ∷ 57 ∷ 57 ∷ 57 ∷ 57 ∷ 57 ∷ 57 ∷ []; shown = 21; room = 10; short = true }
+    ∷ record { text = bytes "9\\8a"; a = 1; b = 1; added = bytes "99999999999999999999"; shown = 21; room = 10; short = true }
     -- a column moves on the meeting row's old line only
-    ∷ record { text = 47 ∷ 10 ∷ []; a = 0; b = 0; bytes = 42 ∷ []; shown = 2; room = 10; short = false }
+    ∷ record { text = bytes "/\n"; a = 0; b = 0; added = bytes "*"; shown = 2; room = 10; short = false }
     -- the restart column is behind the kept row
-    ∷ record { text = 47 ∷ 34 ∷ []; a = 2; b = 2; bytes = []; shown = 1; room = 10; short = false }
+    ∷ record { text = bytes "/\""; a = 2; b = 2; added = []; shown = 1; room = 10; short = false }
     -- 7 comes before 4
-    ∷ record { text = []; a = 0; b = 0; bytes = 47 ∷ []; shown = 0; room = 0; short = true }
+    ∷ record { text = []; a = 0; b = 0; added = bytes "/"; shown = 0; room = 0; short = true }
     -- a row that ends at a is not kept: `ab`, `c` behind it
-    ∷ record { text = 97 ∷ 98 ∷ []; a = 2; b = 2; bytes = 99 ∷ []; shown = 3; room = 10; short = false }
+    ∷ record { text = bytes "ab"; a = 2; b = 2; added = bytes "c"; shown = 3; room = 10; short = false }
     -- no old row is met inside a new comment: `a b`, `/*` before `b`
-    ∷ record { text = 97 ∷ 32 ∷ 98 ∷ []; a = 2; b = 2; bytes = 47 ∷ 42 ∷ []; shown = 4; room = 10; short = false }
+    ∷ record { text = bytes "a b"; a = 2; b = 2; added = bytes "/*"; shown = 4; room = 10; short = false }
     ∷ []
 
 pub right : map told cases ≡ map means cases
-unfolding newText told means Text.front Text.validBytes Text.valid Text.isBlank Text.newlines Text.lineAt Text.columnAt Text.placeAt Text.moved Text.over Text.along Kinds.isMade Kinds.reserved Kinds.signs Kinds.sameBytes Kinds.kindIn Kinds.lengthIn Rows.rowWords Rows.rowIn Rows.rowsIn Rows.wordsOf Rows.bitsOf Rows.valueBits Rows.rowAt Rows.eofRow Rows.rowPlace Rows.every Rows.chained Rows.lengthFits Rows.spansFit Rows.valueFits Rows.placeFits Rows.linesFit Rows.rowFits Rows.follows Rows.lastRow Rows.endsBehind Rows.isEof Rows.eofLast Rows.endingFits Rows.rowsFit Rows.wellFormed Rows.spelling Lex.lineComment Lex.beforeClose Lex.blockComment Lex.isDigit Lex.isLetter Lex.isWord Lex.word Lex.isHexDigit Lex.digitValue Lex.spelt Lex.numberOf Lex.decimal Lex.hex Lex.number Lex.isEscape Lex.string Lex.maybeTwo Lex.single Lex.sign Lex.slashed Lex.dashed Lex.beginning Lex.piece Lex.decidedAt Lex.item Scan.readRows Scan.readEnding Scan.read Scan.scan Scan.roomOf Scan.told Scan.laid Scan.scanTold Scan.scanLeaves Edit.kept Edit.endPlace Edit.lastEnd Edit.restart Edit.slashOrStar Edit.opens Edit.look Edit.isShort Edit.from Edit.some Edit.firstPlace Edit.carry Edit.carryRow Edit.carryEnding Edit.meets Edit.windowPlace Edit.seenRows Edit.seenEnding Edit.seen Edit.newRows Edit.newEnding Edit.newLength Edit.sensible Edit.windowShort Edit.editTold Edit.editLeaves Edit.restartTold
+unfolding newText told means Text.front Text.validBytes Text.valid Text.isBlank Text.newlines Text.lineAt Text.columnAt Text.placeAt Text.textJudged Text.moved Text.over Text.along Kinds.isMade Kinds.reserved Kinds.signs Kinds.sameBytes Kinds.kindIn Kinds.lengthIn Rows.rowWords Rows.rowIn Rows.rowsIn Rows.wordsOf Rows.bitsOf Rows.valueBits Rows.rowAt Rows.eofRow Rows.rowPlace Rows.every Rows.chained Rows.lengthFits Rows.spansFit Rows.valueFits Rows.placeFits Rows.linesFit Rows.rowFits Rows.follows Rows.lastRow Rows.endsBehind Rows.isEof Rows.eofLast Rows.endingFits Rows.rowsFit Rows.wellFormed Rows.spelling Lex.lineComment Lex.beforeClose Lex.blockComment Lex.isDigit Lex.isLetter Lex.isWord Lex.word Lex.isHexDigit Lex.digitValue Lex.spelt Lex.numberOf Lex.decimal Lex.hex Lex.number Lex.isEscape Lex.string Lex.maybeTwo Lex.single Lex.sign Lex.slashed Lex.dashed Lex.beginning Lex.piece Lex.decidedAt Lex.item Scan.readRows Scan.readEnding Scan.read Scan.scan Scan.roomOf Scan.told Scan.laid Scan.scanTold Scan.scanLeaves Edit.kept Edit.endPlace Edit.lastEnd Edit.restart Edit.slashOrStar Edit.opens Edit.look Edit.isShort Edit.from Edit.some Edit.firstPlace Edit.carry Edit.carryRow Edit.carryEnding Edit.meets Edit.windowPlace Edit.seenRows Edit.seenEnding Edit.seen Edit.newRows Edit.newEnding Edit.newLength Edit.sensible Edit.windowShort Edit.editTold Edit.editLeaves Edit.restartTold
 right = refl

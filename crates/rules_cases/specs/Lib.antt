@@ -1,3 +1,3 @@
--- Document 01's worked cases, of texts and of edits.
+-- The worked cases of LANGUAGE.md 12, of texts and of edits.
 pub mod Cases
 pub mod Edits

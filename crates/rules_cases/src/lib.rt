@@ -1,1 +1,1 @@
-// The worked cases of document 01: no code, one table under one theorem in specs/.
+// The worked cases of LANGUAGE.md 12: no code, one table under one theorem in specs/.

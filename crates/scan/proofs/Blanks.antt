@@ -16,8 +16,9 @@ use Rattle.rules.specs.Lex
 use Rattle.rules.specs.Lex.{isLetter, isDigit, maybeTwo, blank, known, piece, beginning, decidedAt, item}
 use Rattle.rules.specs.Kinds.{signs, kindIn, sameBytes}
 use Rattle.scan_words.specs.Class.{classOf, markOf, Classes}
-use Rattle.laws.proofs.Tables.{allBelow, below}
-use Rattle.scan_place.proofs.Places.{front-le}
+use Rattle.laws.specs.Tests.{allBelow}
+use Rattle.laws.proofs.Tests.{below}
+use Rattle.laws.proofs.Fronts.{front-le}
 use Rattle.scan_reader.specs.declared.Spot.{Spot}
 use Rattle.scan_reader.specs.Read.{onward, Ahead}
 use Rattle.scan_reader.proofs.Moves.{onward-none, onward-more, onward-one, ahead-more}

@@ -23,7 +23,8 @@ use Rattle.scan.specs.declared.Stop.the-variants.{At, End, Refused, Full
 use Rattle.scan.specs.declared.Wrote.{Wrote}
 use Rattle.scan.specs.Writing.{Writing, put, stop, rowsOf, stopOf, following, write, spotFrom, written, blanksBelow, wroteOf, leaves}
 use Rattle.scan.specs.Answer.{rowOf, placed, endOf}
-use Rattle.scan.proofs.Laid.{laid-length, laid-all, laid-just, placed-behind, same-length, wrote-all, wrote-full}
+use Rattle.laws.proofs.Rows.{laid-length, laid-all, laid-just}
+use Rattle.scan.proofs.Laid.{placed-behind, same-length, wrote-all, wrote-full}
 use Rattle.scan.proofs.Blanks.{below-le, write-blanks}
 use Rattle.scan.proofs.Writings.{write-on, write-stop, writeAt, behind, found, Gap, Rowed, Barred}
 

@@ -1,72 +1,28 @@
--- Laws of rows that are laid over lent words: rows behind others, rows that find no room, and the answer.
-use mathlib.Core.Path.{_≡_, refl, sym, ap, _∙_}
+-- Words that hold n rows and then what was there: a row written behind them, and the answer.
+use mathlib.Core.Path.{_≡_}
 use mathlib.Core.List.{List, [], _∷_, _++_, append-assoc, append-nil}
-use Prim.Native.Nat.{ℕ, _+_, _-_, _*_, _≤_, _<_, min}
+use Prim.Native.Nat.{ℕ, _+_, _-_, _*_, _≤_, _<_}
 use native.Mathlib.Omega.{arith}
-use lib.ListN.{length, take, drop, length-append, length-take, length-drop}
-use lib.Seq.{take-nil, take-append-add, drop-drop, take-at, drop-at}
+use lib.ListN.{length, take, drop, length-append, length-drop}
+use lib.Seq.{drop-drop, take-at, drop-at}
 use borrow.Author.Tests.{le-leb, lt-leb}
+use borrow.Rule.Slice.PartMut.{putMid}
 use Rattle.rules.specs.Rows.{Row, rowWords, wordsOf}
-use Rattle.rules.specs.Scan.{roomOf, laid}
+use Rattle.rules.specs.Scan.{roomOf}
+use Rattle.laws.proofs.Lists.{lent-tail, back-tail}
+use Rattle.laws.proofs.Rows.{words-length, words-append}
 use Rattle.scan.specs.declared.Stop.{Stop}
 use Rattle.scan.specs.declared.Stop.the-variants.{Full}
 use Rattle.scan.specs.Writing.{wrote}
 use Rattle.scan.specs.Answer.{placed}
 
--- ---- the words of rows
+-- a row that was written at the front of the tail behind n rows
+pub row-back : (n : ℕ) (r : Row) (xs : List ℕ) → n * 8 + 8 ≤ length xs →
+    putMid (n * 8) (length xs - n * 8) xs (rowWords r ++ drop 8 (take (length xs - n * 8) (drop (n * 8) xs))) ≡ placed n r xs
+unfolding placed
+row-back n r xs h = rw (lent-tail xs (n * 8) (omega arith), back-tail xs (n * 8) (omega arith), drop-drop)
 
-pub words-length : (rs : List Row) → length (wordsOf rs) ≡ 8 * length rs
-unfolding wordsOf rowWords
-words-length [] = refl
-words-length (r ∷ rs) = omega (arith, words-length rs)
-
-pub words-append : (xs ys : List Row) → wordsOf (xs ++ ys) ≡ wordsOf xs ++ wordsOf ys
-unfolding wordsOf
-words-append [] ys = refl
-words-append (r ∷ xs) ys = rw (words-append xs ys, append-assoc)
-
--- ---- laid over words
-
-pub room-behind : (k : ℕ) (ws : List ℕ) → roomOf (drop (8 * k) ws) ≡ roomOf ws - k
-unfolding roomOf
-room-behind k ws = rw (length-drop (8 * k) ws) (omega arith)
-
-pub laid-none : (ws : List ℕ) → laid [] ws ≡ ws
-unfolding laid wordsOf
-laid-none ws = let e : 8 * min (roomOf ws) 0 ≡ 0 = omega arith in rw (take-nil, e)
-
-pub laid-full : (rs : List Row) (ws : List ℕ) → roomOf ws ≡ 0 → laid rs ws ≡ ws
-unfolding laid wordsOf
-laid-full rs ws h = let e : 8 * min 0 (length rs) ≡ 0 = omega arith in rw (h, e)
-
-pub laid-length : (rs : List Row) (ws : List ℕ) → length (laid rs ws) ≡ length ws
-unfolding laid roomOf
-laid-length rs ws = rw (length-append, words-length, length-take, length-drop) (omega arith)
-
-parted : (m : ℕ) (xs ys : List Row) (ws : List ℕ) →
-    wordsOf (take (length xs + m) (xs ++ ys)) ++ drop (8 * min (length xs + m) (length (xs ++ ys))) ws
-    ≡ wordsOf xs ++ (wordsOf (take m ys) ++ drop (8 * min m (length ys)) (drop (8 * length xs) ws))
-parted m xs ys ws =
-    let e : 8 * min (length xs + m) (length xs + length ys) ≡ 8 * length xs + 8 * min m (length ys) = omega arith in
-    rw (take-append-add, words-append, append-assoc, drop-drop, length-append, e)
-
--- rows that have room, and others behind them
-pub laid-append : (xs ys : List Row) (ws : List ℕ) → length xs ≤ roomOf ws → laid (xs ++ ys) ws ≡ wordsOf xs ++ laid ys (drop (8 * length xs) ws)
-unfolding laid
-laid-append xs ys ws h =
-    let e : roomOf ws ≡ length xs + (roomOf ws - length xs) = omega arith in
-    rw (room-behind (length xs) ws) (ap (λ (m : ℕ). wordsOf (take m (xs ++ ys)) ++ drop (8 * min m (length (xs ++ ys))) ws) e ∙ parted (roomOf ws - length xs) xs ys ws)
-
--- all rows have room, and no others do
-pub laid-all : (xs : List Row) (ws : List ℕ) → length xs ≤ roomOf ws → laid xs ws ≡ wordsOf xs ++ drop (8 * length xs) ws
-laid-all xs ws h = ap (λ (rs : List Row). laid rs ws) (sym (append-nil xs)) ∙ laid-append xs [] ws h ∙ rw laid-none
-
-pub laid-just : (xs ys : List Row) (ws : List ℕ) → length xs ≡ roomOf ws → laid (xs ++ ys) ws ≡ wordsOf xs ++ drop (8 * length xs) ws
-laid-just xs ys ws h = laid-append xs ys ws (omega arith) ∙ rw (laid-full ys (drop (8 * length xs) ws) (room-behind (length xs) ws ∙ (omega arith)))
-
--- ---- words that hold n rows and then what was there
-
--- a row written behind them
+-- a row written behind n others
 pub placed-behind : (rs : List Row) (r : Row) (old : List ℕ) (n : ℕ) → length rs ≡ n →
     placed n r (wordsOf rs ++ drop (8 * n) old) ≡ wordsOf (rs ++ (r ∷ [])) ++ drop (8 * (n + 1)) old
 unfolding placed wordsOf

@@ -1,5 +1,4 @@
--- The laws that the proofs of this crate share, and the theorems on the scan.
-pub mod Lent
+-- The laws that the proofs of this crate share, the theorems on the scan, and how tight its contract is.
 pub mod Laid
 pub mod Blanks
 pub mod Writings

@@ -1,25 +1,28 @@
 -- The scan of a text is what is written from its start on, with no place to stop at: the rows, the ending and the answer.
-use mathlib.Core.Path.{_≡_, refl, ap}
+use mathlib.Core.Path.{_≡_, refl, sym, ap}
 use mathlib.Core.Bool.{Bool, true, false, cond}
 use mathlib.Core.List.{List, [], _∷_}
 use Prim.Native.Nat.{ℕ, zero, suc, pred, _+_, _-_, _≤_, _<_, _^_}
 use native.Mathlib.Nat.{sub-zero}
 use native.Mathlib.Omega.{arith}
-use lib.ListN.{length, take}
-use lib.Dec.{leb, ltb}
-use borrow.Author.Tests.{lt-leb, leb-false, lt-ltb, le-ltb, eq-eqb, ne-eqb}
+use lib.ListN.{length}
+use lib.Dec.{leb}
+use borrow.Author.Tests.{lt-leb, leb-false}
 use Rattle.rules.specs.declared.Ending.{Ending}
 use Rattle.rules.specs.declared.Ending.the-variants as ending
 use Rattle.rules.specs.declared.Told.the-variants as tells
-use Rattle.rules.specs.declared.Outer.the-variants.{TextTooLong, BadByte}
-use Rattle.rules.specs.Text.{mostBytes, validBytes, valid, placeAt, startPlace, over, Roomy}
+use Rattle.rules.specs.declared.Cursor.{Cursor}
+use Rattle.rules.specs.declared.Outer.{Outer}
+use Rattle.rules.specs.declared.Judged.the-variants as verdict
+use Rattle.rules.specs.Text.{mostBytes, placeAt, startPlace, textJudged, Roomy}
 use Rattle.rules.specs.Rows.{Row, rowAt}
 use Rattle.rules.specs.Lex.{Piece, blank, comment, row, refused, Item, known, end, unknown, piece, item}
 use Rattle.rules.specs.Scan
 use Rattle.rules.specs.Scan.{Reading, readRows, readEnding, read, scan, roomOf, told, scanTold, scanLeaves}
 use Rattle.theory_machine.proofs.Spans.{Spans, row-spans, refused-spans}
 use Rattle.theory_machine.proofs.Same.{piece-spans}
-use Rattle.scan_place.proofs.Places.{front-le, over-start}
+use Rattle.laws.proofs.Places.{over-start}
+use Rattle.laws.proofs.Rows.{scan-told-refused, scan-leaves-refused, scan-told, scan-leaves}
 use Rattle.scan_reader.specs.declared.Spot.{Spot}
 use Rattle.scan_reader.specs.Read.{onward, Ahead}
 use Rattle.scan.specs.declared.Stop.{Stop}
@@ -138,33 +141,18 @@ count-few m rs x = pick (leb (length rs) m) refl
 start-roomy : (n : ℕ) → n ≤ mostBytes → Roomy n startPlace
 start-roomy n h = record { offset = omega arith; line = omega arith; column = omega arith }
 
-valid-inside : (t : List ℕ) → validBytes t ≤ length t
-unfolding validBytes
-valid-inside t = front-le (λ b. ltb b 128) t
-
 module _ (t : List ℕ) (h : length t ≤ mostBytes) where
-  pub pass-ready : (validBytes t ≤ length t) × Roomy (validBytes t) startPlace
-  pass-ready = (valid-inside t, start-roomy (validBytes t) (omega (arith, valid-inside t)))
-
   pub start-ahead : Ahead t startSpot
   start-ahead = record { inside = omega arith; roomy = start-roomy (length t - 0) (omega arith) }
 
 module _ (t ws : List ℕ) where
-  pub over-long : mostBytes < length t → (tells.Refused TextTooLong startPlace 0 ≡ scanTold t (roomOf ws)) × (ws ≡ scanLeaves t ws)
-  unfolding scanTold scanLeaves
-  over-long h = rw (lt-ltb mostBytes (length t) h) (refl, refl)
+  pub refused-text : {why : Outer} {p : Cursor} → textJudged t ≡ verdict.Refused why p → (tells.Refused why p 0 ≡ scanTold t (roomOf ws)) × (ws ≡ scanLeaves t ws)
+  refused-text e = (sym (scan-told-refused t e (roomOf ws)), sym (scan-leaves-refused t e ws))
 
-  pub bad-byte : length t ≤ mostBytes → (validBytes t ≡ length t → ⊥) →
-      (tells.Refused BadByte (over startPlace (take (validBytes t) t)) 0 ≡ scanTold t (roomOf ws)) × (ws ≡ scanLeaves t ws)
-  unfolding scanTold scanLeaves valid
-  bad-byte h d =
-      rw (le-ltb mostBytes (length t) h, ne-eqb (validBytes t) (length t) d, over-start t (validBytes t) (valid-inside t)) (refl, refl)
-
-  pub all-rows : length t ≤ mostBytes → validBytes t ≡ length t →
+  pub all-rows : textJudged t ≡ verdict.Fine →
       (toldOf (length t) (wroteOf ws (written t startSpot (length t + 1) true)) ≡ scanTold t (roomOf ws)) × (leaves ws (written t startSpot (length t + 1) true) ≡ scanLeaves t ws)
-  unfolding scanTold scanLeaves valid wroteOf leaves
-  all-rows h d =
-      rw (le-ltb mostBytes (length t) h, eq-eqb (validBytes t) (length t) d, scan-written t) (told-same (length t) (roomOf ws) (scan t), rw (rows-same (scan t)))
+  unfolding wroteOf leaves
+  all-rows e = rw (scan-told t e (roomOf ws), scan-leaves t e ws, scan-written t) (told-same (length t) (roomOf ws) (scan t), rw (rows-same (scan t)))
 
   pub count-fits : length t ≤ mostBytes → wroteOf ws (written t startSpot (length t + 1) true) .count < 2 ^ 32
   unfolding wroteOf written

@@ -1,20 +1,9 @@
--- How tight a promise is: where it names the result and the lent words, any two results that it allows are equal.
-use mathlib.Core.Path.{_≡_, sym, _∙_}
-use mathlib.Core.List.{List}
-use Prim.Native.Nat.{ℕ}
-use Rattle.rules.specs.declared.Told.{Told}
-use Rattle.rules.specs.Scan.{roomOf, scanTold, scanLeaves}
+-- The contract of `scan::scan` asks nothing, and determines its result and every word of the lent rows. The text is lent as `&`, and shared memory
+-- cannot change.
+use mathlib.Core.Path.{refl}
+use Rattle.laws.specs.Tight.{Tight}
+use Rattle.laws.proofs.Tight.{alike, _▸_}
+use Rattle.scan.proofs.scan
 
--- a result and what it leaves are promised to be these
-abbrev pub Promised : {A B : Type 0} → A → B → A → B → Type 0
-Promised answer left r m = (r ≡ answer) × (m ≡ left)
-
-pub tight : {A B : Type 0} (answer : A) (left : B) (r₁ r₂ : A) (m₁ m₂ : B) → Promised answer left r₁ m₁ → Promised answer left r₂ m₂ → (r₁ ≡ r₂) × (m₁ ≡ m₂)
-tight answer left r₁ r₂ m₁ m₂ p q = (p .0 ∙ sym (q .0), p .1 ∙ sym (q .1))
-
--- The scan of a text t with the words `old` lent.
-abbrev pub Scanned : List ℕ → List ℕ → Told → List ℕ → Type 0
-Scanned t old r m = (r ≡ scanTold t (roomOf old)) × (m ≡ scanLeaves t old)
-
-pub scan-tight : (t old : List ℕ) (r₁ r₂ : Told) (m₁ m₂ : List ℕ) → Scanned t old r₁ m₁ → Scanned t old r₂ m₂ → (r₁ ≡ r₂) × (m₁ ≡ m₂)
-scan-tight t old = tight (scanTold t (roomOf old)) (scanLeaves t old)
+pub scan-tight : Tight scan.Kinds.ps scan.Kinds.r scan.Reads.Asked scan.Reads.Learnt
+scan-tight κs a = (tt, λ r₁ r₂ m₁ m₂ p q. (alike (p .0) (q .0), refl ▸ alike (p .1) (q .1) ▸ refl))

@@ -10,7 +10,7 @@ use Rattle.rules.specs.declared.Outer.the-variants.{NoRowRoom}
 use Rattle.rules.specs.declared.Told.{Told}
 use Rattle.rules.specs.declared.Told.the-variants as tells
 use Rattle.rules.specs.Text.{startPlace}
-use Rattle.rules.specs.Rows.{Row, rowAt, rowWords}
+use Rattle.rules.specs.Rows.{Row, rowAt, rowWords, wordsPerRow}
 use Rattle.scan_reader.specs.declared.Token.{Token}
 use Rattle.scan.specs.declared.Stop.the-variants.{At, End, Refused, Full, Unknown}
 use Rattle.scan.specs.declared.Wrote.{Wrote}
@@ -21,7 +21,7 @@ rowOf at token = rowAt at (token .kind) (token .end .cursor .offset .0) (token .
 
 -- a row's words behind n rows
 unfoldable pub placed : ℕ → Row → List ℕ → List ℕ
-placed n r ws = take (n * 8) ws ++ (rowWords r ++ drop (n * 8 + 8) ws)
+placed n r ws = take (n * wordsPerRow) ws ++ (rowWords r ++ drop (n * wordsPerRow + wordsPerRow) ws)
 
 -- the row of the text's end behind n others, with room for m
 unfoldable pub endOf : ℕ → ℕ → Wrote

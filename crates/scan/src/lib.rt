@@ -1,16 +1,19 @@
 // The scan: the rows of a text, written into lent words as far as they go.
-use scan_place::pass;
-use scan_place::valid_bytes;
-use scan_reader::Read;
-use scan_reader::Spot;
-use scan_reader::Token;
-use scan_reader::quick::next;
 use rules::Cursor;
 use rules::Ending;
+use rules::Judged;
 use rules::Lexical;
 use rules::Outer;
 use rules::Table;
 use rules::Told;
+use rules::kind;
+use rules::limit;
+use rules::row;
+use scan_place::judge_text;
+use scan_reader::Read;
+use scan_reader::Spot;
+use scan_reader::Token;
+use scan_reader::quick::next;
 ghost use mathlib.Core.Path.{_≡_};
 ghost use mathlib.Core.Bool.{cond};
 ghost use mathlib.Core.List.{_++_};
@@ -45,24 +48,24 @@ fn put(rows: &mut [u32], at: Cursor, token: Token)
     requires { ⌜ 8 ≤ length (now rows) ⌝ }
     ensures { λ _. ⌜ now (rows .exit) ≡ rowWords (rowOf at token) ++ drop 8 (now (rows .entry)) ⌝ }
 {
-    rows[0] = token.kind;
-    rows[1] = at.offset.0;
-    rows[2] = token.end.cursor.offset.0;
-    rows[3] = at.line.0;
-    rows[4] = at.column.0;
-    rows[5] = (token.bits % 4294967296) as u32;
-    rows[6] = (token.bits / 4294967296) as u32;
-    rows[7] = 0;
+    rows[row::KIND] = token.kind;
+    rows[row::START] = at.offset.0;
+    rows[row::END] = token.end.cursor.offset.0;
+    rows[row::LINE] = at.line.0;
+    rows[row::COLUMN] = at.column.0;
+    rows[row::LOW] = (token.bits % limit::ABOVE_WORD) as u32;
+    rows[row::HIGH] = (token.bits / limit::ABOVE_WORD) as u32;
+    rows[row::SPARE] = 0;
 }
 
 // A row behind n others, where there is room for it: whether there is.
 fn put_behind(rows: &mut [u32], n: usize, at: Cursor, token: Token) -> bool
     ensures { λ r. ⌜ (r ≡ ltb n (roomOf (now (rows .entry)))) × (now (rows .exit) ≡ cond (ltb n (roomOf (now (rows .entry)))) (placed n (rowOf at token) (now (rows .entry))) (now (rows .entry))) ⌝ }
 {
-    if rows.len() / 8 <= n {
+    if rows.len() / row::WORDS <= n {
         return false;
     }
-    let base = n * 8;
+    let base = n * row::WORDS;
     put(&mut rows[base..], at, token);
     true
 }
@@ -80,7 +83,7 @@ fn write_end(rows: &mut [u32], n: usize, here: Spot) -> Wrote
 {
     let cursor = here.cursor;
     let token = Token {
-        kind: 52,
+        kind: kind::EOF,
         bits: 0,
         end: here,
     };
@@ -184,18 +187,16 @@ fn told(length: usize, wrote: Wrote) -> Told
 pub fn scan(text: &[u8], rows: &mut [u32]) -> Told
     ensures { λ r. ⌜ (r ≡ scanTold (now (text .entry)) (roomOf (now (rows .entry)))) × (now (rows .exit) ≡ scanLeaves (now (text .entry)) (now (rows .entry))) ⌝ }
 {
-    let start = Cursor::start();
-    let length = text.len();
-    if 65536 < length {
-        return Told::Refused(Outer::TextTooLong, start, 0);
-    }
-    let valid = valid_bytes(text);
-    if valid != length {
-        return Told::Refused(Outer::BadByte, pass(text, start, valid), 0);
+    match judge_text(text) {
+        Judged::Refused(why, at) => {
+            return Told::Refused(why, at, 0);
+        }
+        Judged::Fine => {}
     }
     let from = Spot {
         at: 0,
-        cursor: start,
+        cursor: Cursor::start(),
     };
+    let length = text.len();
     told(length, write_rows(text, from, length + 1, true, rows))
 }

@@ -1,9 +1,12 @@
-// Places in a text: how far its bytes are valid, and the cursor behind some of them.
+// Places in a text: how far its bytes are valid, the cursor behind some of them, and what a text is told before it is read.
 use rules::Cursor;
+use rules::Judged;
+use rules::Outer;
+use rules::limit;
 ghost use mathlib.Core.Path.{_≡_};
 ghost use Prim.Native.Nat.{ℕ, _≤_, _<_};
 ghost use lib.ListN.{length, getD, take};
-ghost use Rattle.rules.specs.Text.{validBytes, over, Roomy};
+ghost use Rattle.rules.specs.Text.{validBytes, over, textJudged, Roomy};
 
 // The larger of two bytes.
 fn larger(a: u8, b: u8) -> u8
@@ -54,4 +57,19 @@ pub fn pass(text: &[u8], from: Cursor, n: usize) -> Cursor
         i += 1;
     }
     here
+}
+
+// What every call over a text is told first: 1, then 2 at its place, or that all is well.
+pub fn judge_text(text: &[u8]) -> Judged
+    ensures { λ r. ⌜ r ≡ textJudged (now (text .entry)) ⌝ }
+{
+    let start = Cursor::start();
+    if limit::MOST_BYTES < text.len() {
+        return Judged::Refused(Outer::TextTooLong, start);
+    }
+    let valid = valid_bytes(text);
+    if valid < text.len() {
+        return Judged::Refused(Outer::BadByte, pass(text, start, valid));
+    }
+    Judged::Fine
 }

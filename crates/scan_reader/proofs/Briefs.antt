@@ -16,8 +16,9 @@ use Rattle.rules.specs.Lex.{Piece, blank, comment, row, refused, Item, known, e
 use Rattle.scan_words.specs.Class.{classOf, markOf, Classes}
 use Rattle.scan_runs.specs.Leaf.{digitIn, digitsOf}
 use Rattle.scan_runs.specs.declared.Digits.{Digits}
-use Rattle.laws.proofs.Tables.{allBelow, below, both-true}
-use Rattle.scan_place.proofs.Places.{front-on}
+use Rattle.laws.specs.Tests.{allBelow}
+use Rattle.laws.proofs.Tests.{below, both-true}
+use Rattle.laws.proofs.Fronts.{front-on}
 use Rattle.scan_reader.specs.declared.Spot.{Spot}
 use Rattle.scan_reader.specs.declared.Brief.{Brief}
 use Rattle.scan_reader.specs.declared.Read.{Read}

@@ -13,8 +13,9 @@ use Rattle.rules.specs.Text.{front, notNewline, isBlank}
 use Rattle.rules.specs.Kinds.{Identifier, Eof, reserved, signs, sameBytes, kindIn}
 use Rattle.rules.specs.Lex.{Piece, blank, row, decidedAt, isLetter, isDigit, isWord, maybeTwo, word, number, slashed, dashed, string, sign, single, beginning, piece, known, unknown, item}
 use Rattle.scan_words.specs.Class.{classOf}
-use Rattle.laws.proofs.Tables.{allBelow, below}
-use Rattle.scan_place.proofs.Places.{front-in-line}
+use Rattle.laws.specs.Tests.{allBelow}
+use Rattle.laws.proofs.Tests.{below}
+use Rattle.laws.proofs.Fronts.{front-in-line}
 use Rattle.scan_reader.specs.declared.Spot.{Spot}
 use Rattle.scan_reader.specs.declared.Read.the-variants.{Blank, End, Unknown}
 use Rattle.scan_reader.specs.Read.{onward, Ahead, pieceRead, readOf}

@@ -12,7 +12,7 @@ use borrow.Author.Tests.{lt-ltb, le-ltb}
 use Rattle.rules.specs.Text.{front, notNewline}
 use Rattle.rules.specs.Lex.{Piece, comment, refused, decidedAt, lineComment, blockComment, beforeClose}
 use Rattle.rules.specs.declared.Lexical.the-variants.{OpenComment}
-use Rattle.scan_place.proofs.Places.{front-le}
+use Rattle.laws.proofs.Fronts.{front-le}
 use Rattle.scan_reader.specs.declared.Spot.{Spot}
 use Rattle.scan_reader.specs.declared.Read.the-variants.{Comment, Refused, Unknown}
 use Rattle.scan_reader.specs.Read.{onward, Ahead, pieceRead}

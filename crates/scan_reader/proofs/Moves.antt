@@ -12,7 +12,8 @@ use lib.Dec.{eqb}
 use borrow.Author.Tests.{eqb-true}
 use Rattle.rules.specs.Text.{front, notNewline, moved, over, along, Roomy}
 use Rattle.rules.specs.Lex.{beforeClose}
-use Rattle.scan_place.proofs.Places.{over-append, over-front, roomy-less, roomy-over, front-le}
+use Rattle.laws.proofs.Fronts.{front-le}
+use Rattle.laws.proofs.Places.{over-append, over-front, roomy-less, roomy-over}
 use Rattle.scan_reader.specs.declared.Spot.{Spot}
 use Rattle.scan_reader.specs.Read.{onward, Ahead}
 use Rattle.scan_reader.specs.Settled.{InLine}

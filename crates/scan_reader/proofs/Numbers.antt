@@ -14,8 +14,8 @@ use Rattle.rules.specs.Kinds.{Number}
 use Rattle.rules.specs.Rows.{bitsOf}
 use Rattle.rules.specs.Lex.{row, refused, decidedAt, largest, numberOf, spelt, decimal, hex, number, isDigit, isHexDigit}
 use Rattle.rules.specs.declared.Lexical.the-variants.{NumberTooLarge, NoHexDigit}
-use Rattle.laws.proofs.Tables.{both-true}
-use Rattle.scan_place.proofs.Places.{front-drop, front-more, front-in-line, inside}
+use Rattle.laws.proofs.Tests.{both-true}
+use Rattle.laws.proofs.Fronts.{front-drop, front-more, front-in-line, inside}
 use Rattle.scan_reader.specs.declared.Spot.{Spot}
 use Rattle.scan_reader.specs.declared.Read.the-variants.{Refused, Unknown}
 use Rattle.scan_reader.specs.Read.{pieceRead}

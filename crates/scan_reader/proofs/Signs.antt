@@ -13,8 +13,9 @@ use Rattle.rules.specs.Text.{front, notNewline}
 use Rattle.rules.specs.Kinds.{Eof, signs, sameBytes, kindIn}
 use Rattle.rules.specs.Lex.{row, refused, decidedAt, isLone, isDigit, maybeTwo, single, sign, slashed, dashed, lineComment, blockComment, number}
 use Rattle.rules.specs.declared.Lexical.the-variants.{LoneSign, NoRowBegins}
-use Rattle.laws.proofs.Tables.{allBelow, below}
-use Rattle.scan_place.proofs.Places.{front-more, met-in-line, inside}
+use Rattle.laws.specs.Tests.{allBelow}
+use Rattle.laws.proofs.Tests.{below}
+use Rattle.laws.proofs.Fronts.{front-more, met-in-line, inside}
 use Rattle.scan_reader.specs.declared.Spot.{Spot}
 use Rattle.scan_reader.specs.declared.Read.the-variants.{Refused, Unknown}
 use Rattle.scan_reader.specs.Read.{Ahead, pieceRead}

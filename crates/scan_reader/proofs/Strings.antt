@@ -11,7 +11,7 @@ use Rattle.rules.specs.Text.{front, notNewline}
 use Rattle.rules.specs.Kinds.{StringLiteral}
 use Rattle.rules.specs.Lex.{Piece, row, refused, decidedAt, string}
 use Rattle.rules.specs.declared.Lexical.the-variants.{OpenString, BadEscape}
-use Rattle.scan_place.proofs.Places.{front-on}
+use Rattle.laws.proofs.Fronts.{front-on}
 use Rattle.scan_reader.specs.declared.Spot.{Spot}
 use Rattle.scan_reader.specs.declared.Read.the-variants.{Unknown}
 use Rattle.scan_runs.specs.declared.Quoted.{Quoted}

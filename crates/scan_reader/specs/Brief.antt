@@ -7,7 +7,7 @@ use lib.ListN.{getD}
 use lib.Dec.{eqb, leb}
 use Rattle.rules.specs.Kinds.{Eof}
 use Rattle.rules.specs.Lex.{blank, comment, row, refused, Item, known, end, unknown, item}
-use Rattle.scan_words.specs.Class.{classOf}
+use Rattle.scan_words.specs.Class.{classOf, Letter, Digit, Double}
 use Rattle.scan_reader.specs.declared.Brief.{Brief}
 
 -- no row is told
@@ -24,7 +24,7 @@ rowIn unknown = none
 
 -- the classes that `brief` reads
 unfoldable pub isBrief : ℕ → Bool
-isBrief k = (eqb k 2 || eqb k 3) || leb 7 k
+isBrief k = (eqb k Letter || eqb k Digit) || leb Double k
 
 unfoldable pub briefOf : Bool → List ℕ → Brief
 briefOf whole s = cond (isBrief (classOf (getD s 0 0))) (rowIn (item whole s)) none

@@ -9,6 +9,13 @@ use crate::pieces::slash;
 use crate::pieces::string;
 use crate::pieces::word;
 use crate::spots::step;
+use scan_words::classes::BLANK;
+use scan_words::classes::DASH;
+use scan_words::classes::DIGIT;
+use scan_words::classes::DOUBLE;
+use scan_words::classes::LETTER;
+use scan_words::classes::QUOTE;
+use scan_words::classes::SLASH;
 ghost use mathlib.Core.Path.{_≡_};
 ghost use lib.ListN.{drop};
 ghost use Rattle.rules.specs.Lex.{item};
@@ -28,13 +35,13 @@ pub fn read(text: &[u8], s: Spot, whole: bool) -> Read
     }
     let class = scan_words::class_of(text[at]);
     match class {
-        1 => Read::Blank(step(text, s)),
-        2 => word(text, s, whole),
-        3 => number(text, s, 0, false, whole),
-        4 => slash(text, s, whole),
-        5 => dash(text, s, whole),
-        6 => string(text, s, whole),
-        7 => sign(text, s, whole),
+        BLANK => Read::Blank(step(text, s)),
+        LETTER => word(text, s, whole),
+        DIGIT => number(text, s, 0, false, whole),
+        SLASH => slash(text, s, whole),
+        DASH => dash(text, s, whole),
+        QUOTE => string(text, s, whole),
+        DOUBLE => sign(text, s, whole),
         _ => single(text, s),
     }
 }

@@ -6,6 +6,9 @@ use crate::spots::a_row;
 use crate::spots::body_end;
 use crate::spots::past;
 use crate::spots::step;
+use rules::Lexical;
+use rules::kind;
+use rules::limit;
 use scan_runs::Digits;
 use scan_runs::Quoted;
 use scan_runs::line_end;
@@ -14,12 +17,12 @@ use scan_runs::read_digits;
 use scan_runs::read_quoted;
 use scan_runs::shown;
 use scan_runs::word_end;
-use rules::Lexical;
 ghost use mathlib.Core.Path.{_≡_};
 ghost use mathlib.Core.Bool.{true, false, _&&_};
 ghost use Prim.Native.Nat.{_+_, _-_, _≤_, _<_};
 ghost use lib.ListN.{length, getD, drop};
 ghost use lib.Dec.{eqb};
+ghost use Rattle.rules.specs.Text.{byte};
 ghost use Rattle.rules.specs.Kinds;
 ghost use Rattle.rules.specs.Rows.{bitsOf};
 ghost use Rattle.rules.specs.Lex as lex;
@@ -83,7 +86,7 @@ fn bits_of(negative: bool, value: u64) -> u64
         if value == 0 {
             return 0;
         }
-        return 18446744073709551615 - value + 1;
+        return limit::ALL_BITS - value + 1;
     }
     value
 }
@@ -99,11 +102,11 @@ fn numeral(text: &[u8], s: Spot, d: Digits, negative: bool, whole: bool) -> Read
     if !shown(text, end, whole) {
         return Read::Unknown;
     }
-    if 9223372036854775807 < value {
+    if limit::LARGEST < value {
         let place = s.cursor;
         return Read::Refused(Lexical::NumberTooLarge, place);
     }
-    a_row(text, s, end - at, 50, bits_of(negative, value))
+    a_row(text, s, end - at, kind::NUMBER, bits_of(negative, value))
 }
 
 // A decimal number of which m bytes are behind the spot.
@@ -137,12 +140,12 @@ fn hex(text: &[u8], s: Spot, m: usize, negative: bool, whole: bool) -> Read
 // Whether `0x` stands at an index.
 pub fn is_hex(text: &[u8], at: usize) -> bool
     requires { ⌜ at ≤ length (now text) ⌝ }
-    ensures { λ r. ⌜ r ≡ (eqb (getD (now (text .entry)) at 0) 48 && eqb (getD (now (text .entry)) (at + 1) 0) 120) ⌝ }
+    ensures { λ r. ⌜ r ≡ (eqb (getD (now (text .entry)) at 0) (byte "0") && eqb (getD (now (text .entry)) (at + 1) 0) (byte "x")) ⌝ }
 {
-    if peek(text, at) != 48 {
+    if peek(text, at) != b'0' {
         return false;
     }
-    peek(text, at + 1) == 120
+    peek(text, at + 1) == b'x'
 }
 
 // A number of which m bytes, its sign, are behind the spot.
@@ -159,13 +162,13 @@ pub fn number(text: &[u8], s: Spot, m: usize, negative: bool, whole: bool) -> Re
 
 // A string.
 pub fn string(text: &[u8], s: Spot, whole: bool) -> Read
-    requires { ⌜ Begins (now text) s 34 ⌝ }
+    requires { ⌜ Begins (now text) s (byte "\"") ⌝ }
     ensures { λ r. ⌜ r ≡ settled whole (now (text .entry)) s (lex.string false 1 (drop 1 (drop (s .at) (now (text .entry))))) ⌝ }
 {
     let at = s.at;
     let q = read_quoted(text, at + 1);
     match q {
-        Quoted::Closed(e) => a_row(text, s, e + 1 - at, 49, 0),
+        Quoted::Closed(e) => a_row(text, s, e + 1 - at, kind::STRING, 0),
         Quoted::Open(e) => {
             if !shown(text, e, whole) {
                 return Read::Unknown;
@@ -184,11 +187,11 @@ pub fn single(text: &[u8], s: Spot) -> Read
     let at = s.at;
     let b = text[at];
     let place = s.cursor;
-    if (b == 60) | (b == 62) {
+    if (b == b'<') | (b == b'>') {
         return Read::Refused(Lexical::LoneSign, place);
     }
     let kind = scan_words::one_sign(b);
-    if kind == 52 {
+    if kind == kind::EOF {
         return Read::Refused(Lexical::NoRowBegins, place);
     }
     a_row(text, s, 1, kind, 0)
@@ -205,7 +208,7 @@ pub fn sign(text: &[u8], s: Spot, whole: bool) -> Read
         return Read::Unknown;
     }
     let kind = scan_words::two_sign(text[at], peek(text, next));
-    if kind == 52 {
+    if kind == kind::EOF {
         return single(text, s);
     }
     a_row(text, s, 2, kind, 0)
@@ -213,15 +216,15 @@ pub fn sign(text: &[u8], s: Spot, whole: bool) -> Read
 
 // A comment or a sign.
 pub fn slash(text: &[u8], s: Spot, whole: bool) -> Read
-    requires { ⌜ Begins (now text) s 47 ⌝ }
+    requires { ⌜ Begins (now text) s (byte "/") ⌝ }
     ensures { λ r. ⌜ r ≡ settled whole (now (text .entry)) s (lex.slashed (drop (s .at) (now (text .entry)))) ⌝ }
 {
     let at = s.at;
     let next = peek(text, at + 1);
-    if next == 47 {
+    if next == b'/' {
         return line_comment(text, s, whole);
     }
-    if next == 42 {
+    if next == b'*' {
         return block_comment(text, s, whole);
     }
     sign(text, s, whole)
@@ -229,7 +232,7 @@ pub fn slash(text: &[u8], s: Spot, whole: bool) -> Read
 
 // A negative number or a sign.
 pub fn dash(text: &[u8], s: Spot, whole: bool) -> Read
-    requires { ⌜ Begins (now text) s 45 ⌝ }
+    requires { ⌜ Begins (now text) s (byte "-") ⌝ }
     ensures { λ r. ⌜ r ≡ settled whole (now (text .entry)) s (lex.dashed (drop (s .at) (now (text .entry)))) ⌝ }
 {
     let at = s.at;

@@ -5,15 +5,18 @@ use crate::Spot;
 use crate::front::read;
 use crate::pieces::is_hex;
 use crate::spots::a_row;
+use rules::kind;
+use rules::limit;
 use scan_runs::peek;
 use scan_runs::read_digits;
 use scan_runs::shown;
+use scan_words::classes;
 ghost use mathlib.Core.Path.{_≡_};
 ghost use Prim.Native.Nat.{_+_, _≤_, _<_};
 ghost use lib.ListN.{length, getD, drop};
 ghost use Rattle.rules.specs.Text.{front, notNewline};
 ghost use Rattle.rules.specs.Lex.{isWord, item};
-ghost use Rattle.scan_words.specs.Class.{classOf, Classes};
+ghost use Rattle.scan_words.specs.Class.{classOf, Classes, Letter, Digit, Double};
 ghost use Rattle.scan_words.specs.Entries.{Spellings};
 ghost use Rattle.scan_reader.specs.Read.{Ahead, readOf};
 ghost use Rattle.scan_reader.specs.Brief.{none, rowIn, briefOf};
@@ -24,7 +27,7 @@ fn nothing() -> Brief
 {
     Brief {
         size: 0,
-        kind: 52,
+        kind: kind::EOF,
         bits: 0,
     }
 }
@@ -37,7 +40,7 @@ fn word_end(classes: &[u8; 256], text: &[u8], at: usize) -> usize
     let mut i = at;
     while i < text.len() {
         let class = classes[text[i] as usize];
-        if (class != 2) & (class != 3) {
+        if (class != classes::LETTER) & (class != classes::DIGIT) {
             return i;
         }
         i += 1;
@@ -53,7 +56,7 @@ fn word(
     at: usize,
     whole: bool,
 ) -> Brief
-    requires { ⌜ (Classes (now classes) × Spellings (now spellings)) × ((at < length (now text)) × (classOf (getD (now text) at 0) ≡ 2)) ⌝ }
+    requires { ⌜ (Classes (now classes) × Spellings (now spellings)) × ((at < length (now text)) × (classOf (getD (now text) at 0) ≡ Letter)) ⌝ }
     ensures { λ r. ⌜ (r ≡ rowIn (item whole (drop at (now (text .entry))))) × (r .size ≤ front notNewline (drop at (now (text .entry)))) ⌝ }
 {
     let end = word_end(classes, text, at);
@@ -70,7 +73,7 @@ fn word(
 
 // A number without a sign.
 fn number(text: &[u8], at: usize, whole: bool) -> Brief
-    requires { ⌜ (at < length (now text)) × (classOf (getD (now text) at 0) ≡ 3) ⌝ }
+    requires { ⌜ (at < length (now text)) × (classOf (getD (now text) at 0) ≡ Digit) ⌝ }
     ensures { λ r. ⌜ (r ≡ rowIn (item whole (drop at (now (text .entry))))) × (r .size ≤ front notNewline (drop at (now (text .entry)))) ⌝ }
 {
     let hex = is_hex(text, at);
@@ -78,19 +81,19 @@ fn number(text: &[u8], at: usize, whole: bool) -> Brief
     let digits = read_digits(text, from, hex);
     let end = digits.end;
     let value = digits.value;
-    if ((end == from) | (9223372036854775807 < value)) | !shown(text, end, whole) {
+    if ((end == from) | (limit::LARGEST < value)) | !shown(text, end, whole) {
         return nothing();
     }
     Brief {
         size: end - at,
-        kind: 50,
+        kind: kind::NUMBER,
         bits: value,
     }
 }
 
 // A sign that may be the first byte of two, and opens neither a comment nor a number.
 fn sign(text: &[u8], at: usize, whole: bool) -> Brief
-    requires { ⌜ (at < length (now text)) × (classOf (getD (now text) at 0) ≡ 7) ⌝ }
+    requires { ⌜ (at < length (now text)) × (classOf (getD (now text) at 0) ≡ Double) ⌝ }
     ensures { λ r. ⌜ (r ≡ rowIn (item whole (drop at (now (text .entry))))) × (r .size ≤ front notNewline (drop at (now (text .entry)))) ⌝ }
 {
     let next = at + 1;
@@ -99,14 +102,14 @@ fn sign(text: &[u8], at: usize, whole: bool) -> Brief
     }
     let b = text[at];
     let kind = scan_words::two_sign(b, peek(text, next));
-    if kind != 52 {
+    if kind != kind::EOF {
         return Brief {
             size: 2,
             kind,
             bits: 0,
         };
     }
-    if (b == 60) | (b == 62) {
+    if (b == b'<') | (b == b'>') {
         return nothing();
     }
     Brief {
@@ -131,19 +134,19 @@ fn brief(
         return nothing();
     }
     let class = classes[text[at] as usize];
-    if class == 2 {
+    if class == classes::LETTER {
         return word(classes, spellings, text, at, whole);
     }
-    if class == 7 {
+    if class == classes::DOUBLE {
         return sign(text, at, whole);
     }
-    if class == 3 {
+    if class == classes::DIGIT {
         return number(text, at, whole);
     }
-    if 32 < class {
+    if classes::SIGNS < class {
         return Brief {
             size: 1,
-            kind: (class - 32) as u32,
+            kind: (class - classes::SIGNS) as u32,
             bits: 0,
         };
     }

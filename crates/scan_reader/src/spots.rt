@@ -2,8 +2,8 @@
 use crate::Read;
 use crate::Spot;
 use crate::Token;
-use scan_runs::peek;
 use rules::Lexical;
+use scan_runs::peek;
 ghost use mathlib.Core.Path.{_≡_};
 ghost use Prim.Native.Nat.{_<_};
 ghost use lib.ListN.{length, drop};
@@ -45,8 +45,8 @@ pub fn body_end(text: &[u8], s: Spot) -> Spot
     let mut here = s;
     let mut i = s.at;
     while i < text.len() {
-        if text[i] == 42 {
-            if peek(text, i + 1) == 47 {
+        if text[i] == b'*' {
+            if peek(text, i + 1) == b'/' {
                 return here;
             }
         }

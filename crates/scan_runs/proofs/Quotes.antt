@@ -14,7 +14,7 @@ use Rattle.rules.specs.Text.{front, notNewline}
 use Rattle.rules.specs.Kinds.{StringLiteral}
 use Rattle.rules.specs.Lex.{Piece, row, refused, isEscape, string}
 use Rattle.rules.specs.declared.Lexical.the-variants.{OpenString, BadEscape}
-use Rattle.scan_place.proofs.Places.{met-in-line}
+use Rattle.laws.proofs.Fronts.{met-in-line}
 use Rattle.scan_runs.specs.Leaf.{quotedFrom}
 use Rattle.scan_runs.specs.declared.Quoted.{Quoted}
 use Rattle.scan_runs.specs.declared.Quoted.the-variants.{Closed, Open, Escape}

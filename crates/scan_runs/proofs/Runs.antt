@@ -12,8 +12,9 @@ use lib.Dec.{eqb, ltb}
 use borrow.Author.Tests.{lt-ltb, le-ltb, lt-leb}
 use Rattle.rules.specs.Text.{front}
 use Rattle.rules.specs.Lex.{isDigit, isHexDigit, digitValue, spelt, largest, numberOf}
-use Rattle.laws.proofs.Tables.{allBelow, below}
-use Rattle.scan_place.proofs.Places.{front-on, front-off, front-end}
+use Rattle.laws.specs.Tests.{allBelow}
+use Rattle.laws.proofs.Tests.{below}
+use Rattle.laws.proofs.Fronts.{front-on, front-off, front-end}
 use Rattle.scan_runs.specs.Leaf.{digitIn, baseOf, digitOf, clipped, speltFront, digitsOf}
 use Rattle.scan_runs.specs.declared.Digits.{Digits}
 

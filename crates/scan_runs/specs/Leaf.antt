@@ -4,7 +4,7 @@ use mathlib.Core.List.{List, [], _∷_}
 use Prim.Native.Nat.{ℕ, suc, _+_, _-_, min}
 use lib.ListN.{take}
 use lib.Dec.{eqb}
-use Rattle.rules.specs.Text.{front}
+use Rattle.rules.specs.Text.{front, byte}
 use Rattle.rules.specs.Lex.{isDigit, isHexDigit, digitValue, spelt, largest, isEscape}
 use Rattle.scan_runs.specs.declared.Digits.{Digits}
 use Rattle.scan_runs.specs.declared.Quoted.{Quoted}
@@ -39,11 +39,11 @@ digitsOf hex at s = record { end = at + front (digitIn hex) s; value = speltFron
 unfoldable pub quotedFrom : (escaped : Bool) → ℕ → List ℕ → Quoted
 quotedFrom escaped i [] = Open i
 quotedFrom false i (b ∷ s) =
-    elim (eqb b 34) [
+    elim (eqb b (byte "\"")) [
       | true ↦ Closed i
-      | false ↦ elim (eqb b 10) [
+      | false ↦ elim (eqb b (byte "\n")) [
         | true ↦ Open i
-        | false ↦ elim (eqb b 92) [ true ↦ quotedFrom true (suc i) s | false ↦ quotedFrom false (suc i) s ]
+        | false ↦ elim (eqb b (byte "\\")) [ true ↦ quotedFrom true (suc i) s | false ↦ quotedFrom false (suc i) s ]
       ]
     ]
 quotedFrom true i (b ∷ s) = elim (isEscape b) [ true ↦ quotedFrom false (suc i) s | false ↦ Escape (i - 1) ]

@@ -1,4 +1,5 @@
 // Leaves over the lent bytes and an index into them: where runs end, what digits are worth, and how a string closes.
+use rules::limit;
 ghost use mathlib.Core.Path.{_≡_};
 ghost use mathlib.Core.Bool.{_||_};
 ghost use Prim.Native.Nat.{_+_, _*_, _≤_, _<_};
@@ -58,7 +59,7 @@ pub fn line_end(text: &[u8], at: usize) -> usize
 {
     let mut i = at;
     while i < text.len() {
-        if text[i] == 10 {
+        if text[i] == b'\n' {
             return i;
         }
         i += 1;
@@ -66,29 +67,37 @@ pub fn line_end(text: &[u8], at: usize) -> usize
     i
 }
 
-// What a byte is worth as a hex digit, and 16 for any other.
+// What a digit of a run is worth: behind `0`, `A` and `a` the bytes count on, from 0 and from ten.
+const UPPER: u8 = b'A' - 10;
+
+const LOWER: u8 = b'a' - 10;
+
+// What is worth more than any digit.
+const NO_DIGIT: u8 = 16;
+
+// What a byte is worth as a hex digit, and more than any digit for any other.
 fn digit_of(b: u8) -> u8
     ensures { λ r. ⌜ r ≡ digitOf b ⌝ }
 {
-    if b < 48 {
-        return 16;
+    if b < b'0' {
+        return NO_DIGIT;
     }
-    if b <= 57 {
-        return b - 48;
+    if b <= b'9' {
+        return b - b'0';
     }
-    if b < 65 {
-        return 16;
+    if b < b'A' {
+        return NO_DIGIT;
     }
-    if b <= 70 {
-        return b - 55;
+    if b <= b'F' {
+        return b - UPPER;
     }
-    if b < 97 {
-        return 16;
+    if b < b'a' {
+        return NO_DIGIT;
     }
-    if b <= 102 {
-        return b - 87;
+    if b <= b'f' {
+        return b - LOWER;
     }
-    16
+    NO_DIGIT
 }
 
 // The base of hex digits or of decimal ones.
@@ -98,6 +107,11 @@ fn base_of(hex: bool) -> u8
     if hex { 16 } else { 10 }
 }
 
+// The largest numbers that one digit more, in hex or in decimal, may leave within the limit.
+const MOST_BEFORE_HEX: u64 = limit::LARGEST / 16;
+
+const MOST_BEFORE_DECIMAL: u64 = limit::LARGEST / 10;
+
 // What digits spell with one digit more, as far as it is told apart.
 fn longer(value: u64, digit: u8, hex: bool) -> u64
     requires { ⌜ digit < baseOf hex ⌝ }
@@ -105,17 +119,17 @@ fn longer(value: u64, digit: u8, hex: bool) -> u64
 {
     let d = digit as u64;
     if hex {
-        if 576460752303423487 < value {
-            return 9223372036854775808;
+        if MOST_BEFORE_HEX < value {
+            return limit::SIGN_BIT;
         }
         return value * 16 + d;
     }
-    if 922337203685477580 < value {
-        return 9223372036854775808;
+    if MOST_BEFORE_DECIMAL < value {
+        return limit::SIGN_BIT;
     }
     let next = value * 10 + d;
-    if 9223372036854775807 < next {
-        return 9223372036854775808;
+    if limit::LARGEST < next {
+        return limit::SIGN_BIT;
     }
     next
 }
@@ -149,7 +163,7 @@ pub fn read_digits(text: &[u8], at: usize, hex: bool) -> Digits
 fn escapes(b: u8) -> bool
     ensures { λ r. ⌜ r ≡ isEscape b ⌝ }
 {
-    (b == 34) | (b == 92) | (b == 110)
+    (b == b'"') | (b == b'\\') | (b == b'n')
 }
 
 // A string behind its opening quote: closed by the quote at an index; open at a newline or the end; or a backslash that escapes nothing.
@@ -167,13 +181,13 @@ pub fn read_quoted(text: &[u8], at: usize) -> Quoted
     let mut i = at;
     while i < text.len() {
         let b = text[i];
-        if b == 34 {
+        if b == b'"' {
             return Quoted::Closed(i);
         }
-        if b == 10 {
+        if b == b'\n' {
             return Quoted::Open(i);
         }
-        if b == 92 {
+        if b == b'\\' {
             let next = i + 1;
             if text.len() <= next {
                 return Quoted::Open(next);

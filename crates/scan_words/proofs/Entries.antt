@@ -10,8 +10,9 @@ use lib.Dec.{eqb, leb}
 use borrow.Author.Tests.{eqb-true, leb-true, eq-eqb, not-true}
 use Rattle.rules.specs.Kinds.{Spelt, Identifier, reserved, sameBytes, kindIn}
 use Rattle.scan_words.specs.Entries.{noEntry, spellingAt, lastByte, framed, entryIn, entryOf, Spellings}
-use Rattle.laws.proofs.Tables.{both-true, allBelow, below}
-use Rattle.laws.proofs.Spellings.{same-eq}
+use Rattle.laws.specs.Tests.{allBelow}
+use Rattle.laws.proofs.Tests.{both-true, below}
+use Rattle.laws.proofs.Spelled.{same-eq}
 
 abbrev pub lengths : List ℕ
 lengths = 4 ∷ 7 ∷ 7 ∷ 6 ∷ 3 ∷ 3 ∷ 3 ∷ 4 ∷ 3 ∷ 5 ∷ 3 ∷ 2 ∷ 4 ∷ 5 ∷ 4 ∷ 5 ∷ 5 ∷ 3 ∷ 3 ∷ 3 ∷ 3 ∷ []

@@ -5,7 +5,7 @@ use mathlib.Core.List.{List, [], _∷_}
 use Prim.Native.Nat.{ℕ}
 use borrow.Author.Tests.{not-true}
 use Rattle.rules.specs.Kinds.{Spelt, sameBytes, kindIn}
-use Rattle.laws.proofs.Tables.{both-true}
+use Rattle.laws.proofs.Tests.{both-true}
 
 -- ---- a table that has no entry for a word
 

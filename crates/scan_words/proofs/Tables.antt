@@ -5,7 +5,8 @@ use mathlib.Core.List.{List, [], _∷_}
 use Prim.Native.Nat.{ℕ, _<_}
 use lib.Dec.{eqb}
 use borrow.Author.Tests.{eqb-true, ne-eqb}
-use Rattle.laws.proofs.Tables.{allBelow, below}
+use Rattle.laws.specs.Tests.{allBelow}
+use Rattle.laws.proofs.Tests.{below}
 
 -- the keys of a match, the last first, and that a number is none of them
 abbrev pub hasKey : List ℕ → ℕ → Bool

@@ -1,6 +1,16 @@
 // Bytes and words: what a byte begins, the kinds of signs, and the reserved words.
 pub mod classes;
 
+use classes::BLANK;
+use classes::DASH;
+use classes::DIGIT;
+use classes::DOUBLE;
+use classes::LETTER;
+use classes::NOTHING;
+use classes::QUOTE;
+use classes::SIGN;
+use classes::SLASH;
+use rules::kind;
 ghost use mathlib.Core.Path.{_≡_};
 ghost use mathlib.Core.List.{[], _∷_};
 ghost use mathlib.Core.Bool.{cond};
@@ -15,21 +25,21 @@ ghost use Rattle.scan_words.specs.Entries.{entryOf, Spellings};
 pub fn is_blank(b: u8) -> bool
     ensures { λ r. ⌜ r ≡ isBlank b ⌝ }
 {
-    (9 <= b) & (b <= 13) | (b == 32)
+    (b'\t' <= b) & (b <= b'\r') | (b == b' ')
 }
 
 // Whether a byte is a letter or an underscore.
 pub fn is_letter(b: u8) -> bool
     ensures { λ r. ⌜ r ≡ isLetter b ⌝ }
 {
-    ((65 <= b) & (b <= 90) | (97 <= b) & (b <= 122)) | (b == 95)
+    ((b'A' <= b) & (b <= b'Z') | (b'a' <= b) & (b <= b'z')) | (b == b'_')
 }
 
 // Whether a byte is a decimal digit.
 pub fn is_digit(b: u8) -> bool
     ensures { λ r. ⌜ r ≡ isDigit b ⌝ }
 {
-    (48 <= b) & (b <= 57)
+    (b'0' <= b) & (b <= b'9')
 }
 
 // Whether a byte may be the first of a sign of two.
@@ -45,23 +55,23 @@ pub fn one_sign(b: u8) -> u32
     ensures { λ r. ⌜ r ≡ kindIn signs Eof (b ∷ []) ⌝ }
 {
     match b {
-        b'{' => 25,
-        b'}' => 26,
-        b'(' => 27,
-        b')' => 28,
-        b':' => 29,
-        b'.' => 30,
-        b',' => 31,
-        b';' => 32,
-        b'[' => 33,
-        b']' => 34,
-        b'=' => 35,
-        b'+' => 41,
-        b'-' => 42,
-        b'*' => 43,
-        b'/' => 44,
-        b'%' => 45,
-        _ => 52,
+        b'{' => kind::LBRACE,
+        b'}' => kind::RBRACE,
+        b'(' => kind::LPAREN,
+        b')' => kind::RPAREN,
+        b':' => kind::COLON,
+        b'.' => kind::DOT,
+        b',' => kind::COMMA,
+        b';' => kind::SEMICOLON,
+        b'[' => kind::LBRACKET,
+        b']' => kind::RBRACKET,
+        b'=' => kind::EQUALS,
+        b'+' => kind::PLUS,
+        b'-' => kind::MINUS,
+        b'*' => kind::STAR,
+        b'/' => kind::SLASH,
+        b'%' => kind::PERCENT,
+        _ => kind::EOF,
     }
 }
 
@@ -72,7 +82,7 @@ fn followed(x: u8, wanted: u8, kind: u32) -> u32
     if x == wanted {
         return kind;
     }
-    52
+    kind::EOF
 }
 
 // The kind of a sign of two bytes, or Eof's.
@@ -80,14 +90,14 @@ pub fn two_sign(b: u8, x: u8) -> u32
     ensures { λ r. ⌜ r ≡ kindIn signs Eof (b ∷ x ∷ []) ⌝ }
 {
     match b {
-        b'+' => followed(x, b'=', 36),
-        b'-' => followed(x, b'=', 37),
-        b'*' => followed(x, b'=', 38),
-        b'/' => followed(x, b'=', 39),
-        b'%' => followed(x, b'=', 40),
-        b'>' => followed(x, b'>', 46),
-        b'<' => followed(x, b'<', 47),
-        _ => 52,
+        b'+' => followed(x, b'=', kind::PLUS_EQUALS),
+        b'-' => followed(x, b'=', kind::MINUS_EQUALS),
+        b'*' => followed(x, b'=', kind::STAR_EQUALS),
+        b'/' => followed(x, b'=', kind::SLASH_EQUALS),
+        b'%' => followed(x, b'=', kind::PERCENT_EQUALS),
+        b'>' => followed(x, b'>', kind::SHR),
+        b'<' => followed(x, b'<', kind::SHL),
+        _ => kind::EOF,
     }
 }
 
@@ -96,55 +106,55 @@ pub fn class_of(b: u8) -> u8
     ensures { λ r. ⌜ r ≡ classOf b ⌝ }
 {
     if is_blank(b) {
-        return 1;
+        return BLANK;
     }
     if b == b'/' {
-        return 4;
+        return SLASH;
     }
     if is_letter(b) {
-        return 2;
+        return LETTER;
     }
     if is_digit(b) {
-        return 3;
+        return DIGIT;
     }
     if b == b'-' {
-        return 5;
+        return DASH;
     }
     if b == b'"' {
-        return 6;
+        return QUOTE;
     }
     if maybe_two(b) {
-        return 7;
+        return DOUBLE;
     }
-    if one_sign(b) == 52 {
-        return 0;
+    if one_sign(b) == kind::EOF {
+        return NOTHING;
     }
-    8
+    SIGN
 }
 
 // The reserved words: spellings padded to eight bytes, their lengths and their kinds.
 const SPELLINGS: [[u8; 8]; 21] = [
-    [b'u', b'n', b'i', b't', 0, 0, 0, 0],
-    [b's', b'e', b'c', b't', b'i', b'o', b'n', 0],
-    [b'l', b'i', b'c', b'e', b'n', b's', b'e', 0],
-    [b'r', b'e', b't', b'u', b'r', b'n', 0, 0],
-    [b'r', b'e', b'g', 0, 0, 0, 0, 0],
-    [b'i', b'm', b'm', 0, 0, 0, 0, 0],
-    [b'm', b'a', b'p', 0, 0, 0, 0, 0],
-    [b't', b'y', b'p', b'e', 0, 0, 0, 0],
-    [b'k', b'e', b'y', 0, 0, 0, 0, 0],
-    [b'v', b'a', b'l', b'u', b'e', 0, 0, 0],
-    [b'm', b'a', b'x', 0, 0, 0, 0, 0],
-    [b'i', b'f', 0, 0, 0, 0, 0, 0],
-    [b'e', b'l', b's', b'e', 0, 0, 0, 0],
-    [b'g', b'u', b'a', b'r', b'd', 0, 0, 0],
-    [b'h', b'e', b'a', b'p', 0, 0, 0, 0],
-    [b'e', b'v', b'e', b'n', b't', 0, 0, 0],
-    [b'b', b'y', b't', b'e', b's', 0, 0, 0],
-    [b'u', b'3', b'2', 0, 0, 0, 0, 0],
-    [b'u', b'6', b'4', 0, 0, 0, 0, 0],
-    [b'i', b'3', b'2', 0, 0, 0, 0, 0],
-    [b'i', b'6', b'4', 0, 0, 0, 0, 0],
+    *b"unit    ",
+    *b"section ",
+    *b"license ",
+    *b"return  ",
+    *b"reg     ",
+    *b"imm     ",
+    *b"map     ",
+    *b"type    ",
+    *b"key     ",
+    *b"value   ",
+    *b"max     ",
+    *b"if      ",
+    *b"else    ",
+    *b"guard   ",
+    *b"heap    ",
+    *b"event   ",
+    *b"bytes   ",
+    *b"u32     ",
+    *b"u64     ",
+    *b"i32     ",
+    *b"i64     ",
 ];
 
 const LENGTHS: [u8; 21] = [
@@ -172,27 +182,27 @@ const LENGTHS: [u8; 21] = [
 ];
 
 const KINDS: [u8; 21] = [
-    0,
-    1,
-    2,
-    3,
-    4,
-    5,
-    6,
-    7,
-    8,
-    9,
-    10,
-    11,
-    12,
-    13,
-    14,
-    15,
-    51,
-    21,
-    22,
-    23,
-    24,
+    kind::UNIT as u8,
+    kind::SECTION as u8,
+    kind::LICENSE as u8,
+    kind::RETURN as u8,
+    kind::REG as u8,
+    kind::IMM as u8,
+    kind::MAP as u8,
+    kind::TYPE as u8,
+    kind::KEY as u8,
+    kind::VALUE as u8,
+    kind::MAX as u8,
+    kind::IF as u8,
+    kind::ELSE as u8,
+    kind::GUARD as u8,
+    kind::HEAP as u8,
+    kind::EVENT as u8,
+    kind::BYTES as u8,
+    kind::TYPE_U32 as u8,
+    kind::TYPE_U64 as u8,
+    kind::TYPE_I32 as u8,
+    kind::TYPE_I64 as u8,
 ];
 
 // The padded spellings, for whoever looks many words up to lend.
@@ -262,18 +272,18 @@ pub fn kind_in(spellings: &[[u8; 8]; 21], word: &[u8]) -> u32
 {
     let n = word.len();
     if n == 0 {
-        return 48;
+        return kind::IDENTIFIER;
     }
     let k = entry_of(word[0], word[n - 1]);
     if k == 21 {
-        return 48;
+        return kind::IDENTIFIER;
     }
     let size = LENGTHS[k] as usize;
     let padded = &spellings[k][..];
     if check::same(word, &padded[..size]) {
         return KINDS[k] as u32;
     }
-    48
+    kind::IDENTIFIER
 }
 
 // The kind of one word.

@@ -16,7 +16,7 @@ use Rattle.rules.specs.declared.Told.the-variants.{Rows}
 use Rattle.rules.specs.declared.Judged.{Judged}
 use Rattle.rules.specs.declared.Judged.the-variants as verdict
 use Rattle.rules.specs.Refusals.{lexicalNumber}
-use Rattle.rules.specs.Text.{mostBytes, valid}
+use Rattle.rules.specs.Text.{mostBytes, valid, textJudged}
 use Rattle.rules.specs.Rows.{Row, rowsIn, endingFits, rowsFit, wellFormed}
 use Rattle.rules.specs.Scan.{told}
 use Rattle.rules.specs.Edit.{Seen, sees, over′, met, short, meets, windowPlace, seenRows, seenEnding, seen, carryEnding, newRows, newEnding, newLength, sensible, windowShort, editTold, editLeaves, restartTold}
@@ -33,7 +33,7 @@ record IsLexical (number : ℕ) : Type 0 where
   not-0 : eqb number 0 ≡ false
 
 is-lexical : (why : Lexical) → IsLexical (lexicalNumber why)
-unfolding lexicalNumber lexicalOf isEnding
+unfolding lexicalOf isEnding
 is-lexical NoRowBegins = record { again = refl; table = refl; not-0 = refl }
 is-lexical LoneSign = record { again = refl; table = refl; not-0 = refl }
 is-lexical NoHexDigit = record { again = refl; table = refl; not-0 = refl }
@@ -175,7 +175,11 @@ module _ (ws : List ℕ) {x y : Table} (s : Alike x y) where
 
   alike-judged : (t : List ℕ) → judged t ws x ≡ judged t ws y
   unfolding judged
-  alike-judged t = rw (alike-well-formed ws s, s .size)
+  alike-judged t = by (textJudged t) refl
+    where
+      by : (z : Judged) → textJudged t ≡ z → judged t ws x ≡ judged t ws y
+      by verdict.Fine e = rw (judged, e) (rw (alike-well-formed ws s, s .size))
+      by (verdict.Refused why p) e = rw (judged, e)
 
   pub alike-spelling : (t : List ℕ) (row : ℕ) → spellingJudged t ws x row ≡ spellingJudged t ws y row
   unfolding spellingJudged

@@ -11,7 +11,6 @@ use borrow.Author.Tests.{le-ltb}
 use Rattle.rules.specs.declared.Table.{Table}
 use Rattle.rules.specs.declared.Told.{Told}
 use Rattle.rules.specs.declared.Told.the-variants.{Rows}
-use Rattle.rules.specs.Refusals.{outerNumber}
 use Rattle.rules.specs.Rows.{wellFormed}
 use Rattle.rules.specs.Scan.{roomOf, scanTold}
 use Rattle.rules.specs.Edit.{restart, editTold, editLeaves, restartTold}
@@ -67,7 +66,6 @@ module _ (c : Change) (ws : List ℕ) (table : Table) (answer w : List ℕ) (e :
   leaves-words new h = rw e (outer-edit-leaves ws table _ _ _ _ w new ∙ h)
 
   outer-seven : SaysSeven c ws table w → OuterSeven c ws answer w
-  unfolding outerNumber
   outer-seven s = record { told = λ new. tells-words new (s .told (roomOf new)); left = λ new. leaves-words new (s .left new) }
 
   outer-fresh : IsFresh c ws table w → OuterFresh c ws answer w
@@ -91,7 +89,7 @@ outer-demand-3 c ws table answer w g e = by (demand-3 c ws table w g)
 
 -- a scan whose answer's words are a table's tells its rows
 rows-told : (t : List ℕ) (m : ℕ) → isEnding (getD (toldWords (scanTold t m)) 0 0) ≡ true → scanTold t m ≡ Rows (scanned.tableOf t)
-unfolding isEnding outerNumber
+unfolding isEnding
 rows-told t m h = by (scan-says t m) h
   where
     by : {x : Told} → Scans t m x → isEnding (getD (toldWords x) 0 0) ≡ true → x ≡ Rows (scanned.tableOf t)

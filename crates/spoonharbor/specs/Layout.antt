@@ -5,6 +5,7 @@ use mathlib.Core.List.{List, [], _∷_}
 use Prim.Native.Nat.{ℕ, _+_, _*_}
 use lib.ListN.{getD}
 use lib.Dec.{eqb, leb}
+use Rattle.rules.specs.Rows.{atEnd, atStart, wordsPerRow}
 use Rattle.rules.specs.declared.Cursor.{Cursor}
 use Rattle.rules.specs.declared.Lexical.{Lexical}
 use Rattle.rules.specs.declared.Lexical.the-variants.{NoRowBegins, OpenComment, OpenString, BadEscape, NumberTooLarge}
@@ -26,7 +27,7 @@ use Rattle.rules.specs.declared.Reason.the-variants as reason
 use Rattle.rules.specs.declared.Parsed.{Parsed}
 use Rattle.rules.specs.declared.Parsed.the-variants as parsed
 use Rattle.rules.specs.Text.{place, startPlace}
-use Rattle.rules.specs.Refusals.{outerNumber, lexicalNumber, syntaxNumber, syntaxTells}
+use Rattle.rules.specs.Refusals.{outerNumber, lexicalNumber, syntaxNumber, firstTold, secondTold}
 use Rattle.rules.specs.Calls.{spellingJudged}
 
 -- number, place, two words told, count, length
@@ -65,7 +66,7 @@ restartWords (restarts.At p) = words 0 p 0 0 0 0
 restartWords (restarts.Refused why) = outerWords why
 
 abbrev pub syntaxWords : Syntax → Cursor → List ℕ
-syntaxWords why p = words (syntaxNumber why) p (getD (syntaxTells why) 0 0) (getD (syntaxTells why) 1 0) 0 0
+syntaxWords why p = words (syntaxNumber why) p (firstTold why) (secondTold why) 0 0
 
 abbrev pub reasonWords : Reason → Cursor → List ℕ
 reasonWords (reason.Outer why) p = words (outerNumber why) p 0 0 0 0
@@ -100,4 +101,4 @@ tableOf ws = record { count = getD ws 6 0; length = lengthOf ws; ending = ending
 
 -- the spelling's start and end
 abbrev pub spellingWords : List ℕ → List ℕ → Table → ℕ → List ℕ
-spellingWords t ws tbl row = judgedWords (getD ws (row * 8 + 1) 0) (getD ws (row * 8 + 2) 0) (spellingJudged t ws tbl row)
+spellingWords t ws tbl row = judgedWords (getD ws (row * wordsPerRow + atStart) 0) (getD ws (row * wordsPerRow + atEnd) 0) (spellingJudged t ws tbl row)

@@ -1,3 +1,5 @@
--- The words of the outer face, and tables that they do not tell apart.
+-- The words of the outer face, tables that they do not tell apart, what its calls answer in them, and the version.
 pub mod Layout
 pub mod Alike
+pub mod OuterParse
+pub mod Version

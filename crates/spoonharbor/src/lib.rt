@@ -20,6 +20,7 @@ use rules::Restart;
 use rules::Syntax;
 use rules::Table;
 use rules::Told;
+use rules::row;
 ghost use mathlib.Core.Path.{_≡_};
 ghost use mathlib.Core.Bool.{cond};
 ghost use lib.ListN.{getD};
@@ -29,6 +30,7 @@ ghost use Rattle.rules.specs.Edit.{editTold, editLeaves, restartTold};
 ghost use Rattle.rules.specs.Sets.{fromSection};
 ghost use Rattle.rules.specs.Calls.{memberAsked, sizeAsked, parseTold, parseLeaves, nodeRoom};
 ghost use Rattle.spoonharbor.specs.Layout.{words, nowhere, syntaxWords, toldWords, outerWords, askedWords, restartWords, parsedWords, isEnding, lexicalOf, lengthOf, tableOf, spellingWords};
+ghost use Rattle.spoonharbor.specs.Version.{version};
 
 // ---- numbers
 
@@ -206,6 +208,14 @@ fn table_of(told: &[u32; 8]) -> Table
 
 // ---- the calls
 
+// The library's version: major, minor and patch in a byte each.
+#[no_mangle]
+pub extern "C" fn spoonharbor_version() -> u32
+    ensures { λ r. ⌜ r ≡ version ⌝ }
+{
+    0x00_02_00
+}
+
 // The rows of a text into lent words, and the table or the refusal into the answer.
 #[no_mangle]
 pub extern "C" fn spoonharbor_scan(text: &[u8], rows: &mut [u32], answer: &mut [u32; 8])
@@ -239,8 +249,16 @@ pub extern "C" fn spoonharbor_spelling(
 {
     match rows::spelling_judge(text, rows, table_of(table), row) {
         Judged::Fine => {
-            let at = (row as usize) * 8;
-            put(answer, 0, no_place(), rows[at + 1], rows[at + 2], 0, 0);
+            let at = (row as usize) * row::WORDS;
+            put(
+                answer,
+                0,
+                no_place(),
+                rows[at + row::START],
+                rows[at + row::END],
+                0,
+                0,
+            );
         }
         Judged::Refused(why, at) => {
             put(answer, outer_number(why), at, 0, 0, 0, 0);

@@ -12,12 +12,14 @@ use Rattle.rules.specs.declared.Table.{Table}
 use Rattle.rules.specs.declared.Told.the-variants.{Refused}
 use Rattle.rules.specs.declared.Outer.the-variants.{TextTooLong, BadByte, WindowShort}
 use Rattle.rules.specs.Text.{mostBytes, validBytes, valid, startPlace, over}
-use Rattle.rules.specs.Scan.{told, laid, scanTold, scanLeaves}
+use Rattle.rules.specs.Scan.{told, laid}
 use Rattle.rules.specs.Edit.{restart, sensible, newLength, editTold, editLeaves}
 use Rattle.theory_edits.specs.Scanned.{Scanned}
 use Rattle.theory_edits.specs.Change.{Change, oldText, newText, a, b, n, oldRows, starts, stops, Window, isShort, editRows, editEnding}
 use Rattle.theory_edits.specs.Demand3.{Given, Due, tells, leaves, SaysSeven, IsFresh}
-use Rattle.theory_edits.proofs.Steps.{and-both}
+use Rattle.laws.proofs.Tests.{true-both}
+use Rattle.laws.proofs.Valid.{text-long, text-bad, text-fine}
+use Rattle.laws.proofs.Rows.{scan-told-refused, scan-leaves-refused, scan-told, scan-leaves}
 use Rattle.theory_edits.proofs.WellFormed.{scanned-rows, scanned-well-formed}
 use Rattle.theory_edits.proofs.Fresh.{new-length, inside, edit-fresh, short-exactly}
 use Rattle.theory_edits.proofs.Valid.{bad-window, bad-place, good-window}
@@ -32,8 +34,8 @@ module _ (c : Change) (w : List ℕ) (v : Window c w) where
       let l : length (oldText c) ≡ a c + (length (c .removed) + length (c .behind)) = simp length-append in
       let m : stops c w + length (v .rest) ≡ length (newText c) = inside c w v in
       let k : newLength (length (oldText c)) (a c) (b c) (n c) ≡ length (newText c) = new-length c in
-      and-both (and-both (le-leb (a c) (b c) (omega arith)) (le-leb (b c) (length (oldText c)) (omega arith)))
-      (and-both (eq-eqb (starts c) (starts c) refl) (le-leb (stops c w) (newLength (length (oldText c)) (a c) (b c) (n c)) (omega arith)))
+      true-both (true-both (le-leb (a c) (b c) (omega arith)) (le-leb (b c) (length (oldText c)) (omega arith)))
+      (true-both (eq-eqb (starts c) (starts c) refl) (le-leb (stops c w) (newLength (length (oldText c)) (a c) (b c) (n c)) (omega arith)))
 
   -- the call on a scanned table: what is left of its order
   module _ (ws : List ℕ) (table : Table) (s : Scanned (oldText c) ws table) where
@@ -52,21 +54,25 @@ module _ (c : Change) (w : List ℕ) (v : Window c w) where
     -- each answer of that order, where the old text is valid
     module _ (old : valid (oldText c) ≡ true) where
       too-long : mostBytes < length (newText c) → IsFresh c ws table w
-      unfolding scanTold scanLeaves
       too-long h =
           let e : ltb mostBytes (length (newText c)) ≡ true = lt-ltb mostBytes (length (newText c)) h in
-          record { told = λ m. told-is m ∙ rw e; left = λ new. left-is new ∙ rw e }
+          let j = text-long (newText c) h in
+          record {
+            told = λ m. told-is m ∙ rw (e, scan-told-refused (newText c) j m);
+            left = λ new. left-is new ∙ rw (e, scan-leaves-refused (newText c) j new);
+          }
 
       module _ (fits : length (newText c) ≤ mostBytes) where
         e : ltb mostBytes (length (newText c)) ≡ false
         e = le-ltb mostBytes (length (newText c)) fits
 
         bad : valid w ≡ false → IsFresh c ws table w
-        unfolding scanTold scanLeaves
-        bad h = record {
-          told = λ m. told-is m ∙ rw (e, h, bad-window c w v old h, bad-place c w v old h);
-          left = λ new. left-is new ∙ rw (e, h, bad-window c w v old h);
-        }
+        bad h =
+            let j = text-bad (newText c) fits (bad-window c w v old h) in
+            record {
+              told = λ m. told-is m ∙ rw (e, h, scan-told-refused (newText c) j m, bad-place c w v old h);
+              left = λ new. left-is new ∙ rw (e, h, scan-leaves-refused (newText c) j new);
+            }
 
         module _ (good : valid w ≡ true) where
           short : isShort c w ≡ true → SaysSeven c ws table w
@@ -80,12 +86,11 @@ module _ (c : Change) (w : List ℕ) (v : Window c w) where
               by false x = ltb-false (stops c w) (a c + n c) x
 
           enough : isShort c w ≡ false → IsFresh c ws table w
-          unfolding scanTold scanLeaves
           enough h =
-              let g : valid (newText c) ≡ true = good-window c w v old (reaches h) good in
+              let j = text-fine (newText c) fits (good-window c w v old (reaches h) good) in
               record {
-                told = λ m. told-is m ∙ rw (e, good, h, g, edit-fresh c w v h .0, edit-fresh c w v h .1);
-                left = λ new. left-is new ∙ rw (e, good, h, g, edit-fresh c w v h .0);
+                told = λ m. told-is m ∙ rw (e, good, h, scan-told (newText c) j m, edit-fresh c w v h .0, edit-fresh c w v h .1);
+                left = λ new. left-is new ∙ rw (e, good, h, scan-leaves (newText c) j new, edit-fresh c w v h .0);
               }
 
 -- ---- the theorem

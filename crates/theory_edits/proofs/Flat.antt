@@ -19,7 +19,7 @@ use Rattle.theory_machine.specs.Machine.{Token, St, gap, First, go, clear, over
 use Rattle.theory_machine.proofs.Same.{same-scan}
 use Rattle.theory_edits.proofs.Steps.{comment, stays, halts, ceases, closes, comment-stays, newline-ceases, newline-begins, comment-closes}
 use Rattle.theory_edits.proofs.Stand.{At, at-next, at-same}
-use Rattle.theory_edits.proofs.Places.{place-eq, place-add, at}
+use Rattle.laws.proofs.Places.{place-eq, at, place-add}
 
 module _ (T : List ℕ) where
   -- each row ends, behind its start or there, at the place that it says

@@ -14,6 +14,7 @@ use Rattle.rules.specs.Rows.{Row}
 use Rattle.rules.specs.Scan.{Reading, readRows, readEnding, scan}
 use Rattle.rules.specs.Edit
 use Rattle.rules.specs.Edit.{seen, newRows, newEnding, newLength, windowShort}
+use Rattle.laws.proofs.Tests.{neither}
 use Rattle.theory_edits.specs.Shows.{Shows, meeting, refusal}
 use Rattle.theory_edits.specs.Change.{Change, oldText, newText, a, b, n, oldRows, oldEnding, starts, stops, Window, isShort, TooShort, endsText, editRows, editEnding}
 use Rattle.theory_edits.proofs.Stand.{At}
@@ -29,10 +30,6 @@ same-seen rows e a b n w whole = same-look _ _ whole w _
 empty : (z : List ℕ) → length z ≡ 0 → z ≡ []
 empty [] h = refl
 empty (x ∷ z) h = absurd (let y : ⊥ = omega arith in y)
-
-or-right : (x y : Bool) → (x || y) ≡ false → y ≡ false
-or-right true y h = absurd (true≢false h)
-or-right false y h = h
 
 shows-more : {old new : Reading} {a b n hi hi′ : ℕ} → hi ≤ hi′ → Shows old new a b n hi → Shows old new a b n hi′
 shows-more l (meeting m c h s s′) = meeting m c (omega arith) s s′
@@ -80,14 +77,14 @@ module _ (c : Change) where
     rows-fresh h =
         rw (whole-is, same-seen (oldRows c) (oldEnding c) (a c) (b c) (n c) w whole)
         (fresh-rows (c .before) (c .removed) (c .inserted) (c .behind) w (v .rest) at whole (nothing-behind whole refl)
-        (or-right (ltb (stops c w) (a c + n c)) _ (sym short-is ∙ h)))
+        (neither (ltb (stops c w) (a c + n c)) _ (sym short-is ∙ h) .1))
 
     ending-fresh : isShort c w ≡ false → editEnding c w ≡ readEnding (scan (newText c))
     unfolding newEnding
     ending-fresh h =
         rw (whole-is, same-seen (oldRows c) (oldEnding c) (a c) (b c) (n c) w whole)
         (fresh-ending (c .before) (c .removed) (c .inserted) (c .behind) w (v .rest) at whole (nothing-behind whole refl)
-        (or-right (ltb (stops c w) (a c + n c)) _ (sym short-is ∙ h)))
+        (neither (ltb (stops c w) (a c + n c)) _ (sym short-is ∙ h) .1))
 
     never : shortBytes true ≡ false
     unfolding seenBytes

@@ -1,7 +1,7 @@
 -- Lines and columns of a text are under the line rules of a well-formed table.
-use Prim.Native.Nat.{ℕ, suc, _+_, _-_, _≤_}
+use Prim.Native.Nat.{ℕ, _+_, _-_, _≤_}
 use native.Mathlib.Omega.{arith}
-use mathlib.Core.Bool.{Bool, true, false, cond, not, _||_}
+use mathlib.Core.Bool.{Bool, true, false, not, _||_}
 use mathlib.Core.List.{List, [], _∷_, reverse}
 use mathlib.Core.Path.{_≡_, refl, ap, _∙_}
 use lib.Dec.{eqb}
@@ -11,27 +11,10 @@ use borrow.Author.Tests.{eqb-true, eq-eqb, le-leb}
 use Rattle.rules.specs.declared.Cursor.{Cursor}
 use Rattle.rules.specs.Text.{front, newlines, notNewline, lineAt, columnAt, placeAt, moved, over}
 use Rattle.rules.specs.Rows.{placeFits, linesFit}
-use Rattle.theory_edits.proofs.Places.{place-eq, place-add, over-offset}
+use Rattle.laws.proofs.Fronts.{front-le}
+use Rattle.laws.proofs.Places.{place-eq, over-offset, newlines-le, place-add}
 
 -- ---- line and column never exceed offset + 1
-
-pub front-le : (p : ℕ → Bool) (s : List ℕ) → front p s ≤ length s
-unfolding front
-front-le p [] = omega arith
-front-le p (b ∷ s) = by (p b) refl (front-le p s)
-  where
-    by : (q : Bool) → p b ≡ q → front p s ≤ length s → front p (b ∷ s) ≤ suc (length s)
-    by true q ih = rw (front, q) (omega arith)
-    by false q ih = rw (front, q) (omega arith)
-
-newlines-le : (s : List ℕ) → newlines s ≤ length s
-unfolding newlines
-newlines-le [] = omega arith
-newlines-le (b ∷ s) = by (eqb b 10) (newlines-le s)
-  where
-    by : (q : Bool) → newlines s ≤ length s → cond q (suc (newlines s)) (newlines s) ≤ suc (length s)
-    by true ih = omega arith
-    by false ih = omega arith
 
 pub place-fits : (t : List ℕ) (k : ℕ) → placeFits (placeAt t k) ≡ true
 unfolding placeFits placeAt lineAt columnAt

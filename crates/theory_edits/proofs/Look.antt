@@ -15,7 +15,8 @@ use Rattle.rules.specs.Rows.{Row, rowAt}
 use Rattle.rules.specs.Scan.{Reading, put, ends, stops, readRows, readEnding}
 use Rattle.rules.specs.Edit.{opens, Seen, sees, over′, met, short, isShort}
 use Rattle.theory_machine.specs.Machine.{St, gap, First, go, clear, over, bad, Move, fresh, on, back, Last, clean, ended, cut, spot, begin, step, finish, after, move, close, run}
-use Rattle.theory_edits.proofs.Steps.{and-left, spot-le}
+use Rattle.laws.proofs.Tests.{both-true}
+use Rattle.theory_machine.proofs.Spans.{spot-le}
 use Rattle.theory_edits.proofs.Stand.{At, at-next, at-same, rest, rest-begin}
 
 -- a reading to the text's end, as the window's scan tells it
@@ -113,7 +114,7 @@ module _ (T : List ℕ) (pos : ℕ → Cursor) (lo hi : ℕ) (agree : (n : ℕ) 
 
         by : (q : Bool) → (meet n && not (opens (b ∷ w))) ≡ q → Says g h (seeAt pos meet w rs b n) (after (placeAt T) rf n 0 (begin b))
         by true q =
-            let c : meet n ≡ true = and-left (meet n) (not (opens (b ∷ w))) q in
+            let c : meet n ≡ true = both-true (meet n) (not (opens (b ∷ w))) q .0 in
             rw q (says-met n _ (ap readRows (sym is) ∙ meets-rows n l (omega arith) c) (ap readEnding (sym is) ∙ meets-ending n l (omega arith) c))
         by false q = rw q (after-says n 0 (begin b) l (omega arith) (at-next d (omega arith)))
 

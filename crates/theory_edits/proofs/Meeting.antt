@@ -18,7 +18,7 @@ use Rattle.rules.specs.Scan.{Reading, put, readRows, readEnding, scan}
 use Rattle.rules.specs.Edit.{kept, endPlace, lastEnd, restart, opens, from, some, firstPlace, carry, carryRow, carryEnding, meets}
 use Rattle.theory_machine.specs.Machine.{gap}
 use Rattle.theory_edits.specs.Shows.{Starts, first, later}
-use Rattle.theory_edits.proofs.Steps.{and-left, and-right}
+use Rattle.laws.proofs.Tests.{both-true}
 use Rattle.theory_edits.proofs.Stand.{At, rest}
 use Rattle.theory_edits.proofs.Places.{place-carried}
 use Rattle.theory_edits.proofs.Kept.{place-agree}
@@ -114,11 +114,11 @@ module _ (p o i q : List ℕ) where
 
   pub meets-behind : (w : List ℕ) (m : ℕ) → meets rows e a b n w m ≡ true → a + n ≤ m
   unfolding meets
-  meets-behind w m h = leb-true (a + n) m (and-left (leb (a + n) m) (some (from (old m) rows)) h)
+  meets-behind w m h = leb-true (a + n) m (both-true (leb (a + n) m) (some (from (old m) rows)) h .0)
 
   pub meets-starts : (w : List ℕ) (m : ℕ) → meets rows e a b n w m ≡ true → Starts (old m) rows
   unfolding meets
-  meets-starts w m h = some-starts (old m) rows (and-right (leb (a + n) m) (some (from (old m) rows)) h)
+  meets-starts w m h = some-starts (old m) rows (both-true (leb (a + n) m) (some (from (old m) rows)) h .1)
 
   -- the old rows and ending that follow at m, moved
   pub record Follows (m : ℕ) : Type 0 where

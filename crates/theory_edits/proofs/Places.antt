@@ -1,86 +1,17 @@
--- Places of a text: counted in the text they are what a cursor has that walked over it; and what becomes of a place where the
--- bytes before it change.
-use Prim.Native.Nat.{ℕ, suc, _+_, _-_, _≤_}
+-- What becomes of a place where the bytes before it change.
+use Prim.Native.Nat.{ℕ, _+_, _-_, _≤_}
 use native.Mathlib.Omega.{arith}
-use mathlib.Core.Bool.{Bool, true, false, cond}
-use mathlib.Core.List.{List, [], _∷_, _++_, reverse, reverseAux, append-assoc, append-nil}
+use mathlib.Core.Bool.{Bool, true, false}
+use mathlib.Core.List.{List, [], _∷_, _++_}
 use mathlib.Core.Path.{_≡_, refl, ap, sym, _∙_}
 use lib.Dec.{eqb}
-use lib.ListN.{length, drop, take, length-append}
-use lib.Seq.{take-add, take-append-le, length-take-le}
+use lib.ListN.{length, drop, take}
+use lib.Seq.{take-append-le, length-take-le}
 use borrow.Author.Tests.{eqb-true, eq-eqb, ne-eqb}
 use Rattle.rules.specs.declared.Cursor.{Cursor}
-use Rattle.rules.specs.Text.{front, newlines, notNewline, lineAt, columnAt, place, placeAt, startPlace, moved, over}
+use Rattle.rules.specs.Text.{placeAt, moved, over}
 use Rattle.rules.specs.Edit.{carry}
-
-pub place-eq : (p q : Cursor) → p .offset .0 ≡ q .offset .0 → p .line .0 ≡ q .line .0 → p .column .0 ≡ q .column .0 → p ≡ q
-place-eq p q o l c = λ i. place (o i) (l i) (c i)
-
--- the place at offset k with the line and column of another
-abbrev pub at : ℕ → Cursor → Cursor
-at k c = place k (c .line .0) (c .column .0)
-
--- ---- counting is walking
-
--- the place behind the bytes u, counted
-abbrev behind : List ℕ → Cursor
-behind u = place (length u) (1 + newlines u) (1 + front notNewline (reverse u))
-
-newlines-snoc : (u : List ℕ) (b : ℕ) → newlines (u ++ b ∷ []) ≡ cond (eqb b 10) (suc (newlines u)) (newlines u)
-unfolding newlines
-newlines-snoc [] b = refl
-newlines-snoc (x ∷ u) b = by (eqb x 10) (eqb b 10) (newlines-snoc u b)
-  where
-    by : (q r : Bool) → newlines (u ++ b ∷ []) ≡ cond r (suc (newlines u)) (newlines u)
-        → cond q (suc (newlines (u ++ b ∷ []))) (newlines (u ++ b ∷ [])) ≡ cond r (suc (cond q (suc (newlines u)) (newlines u))) (cond q (suc (newlines u)) (newlines u))
-    by true true h = ap suc h
-    by true false h = ap suc h
-    by false true h = h
-    by false false h = h
-
-reverse-snoc : (u r : List ℕ) (b : ℕ) → reverseAux (u ++ b ∷ []) r ≡ b ∷ reverseAux u r
-reverse-snoc [] r b = refl
-reverse-snoc (x ∷ u) r b = reverse-snoc u (x ∷ r) b
-
-behind-snoc : (u : List ℕ) (b : ℕ) → moved (behind u) b ≡ behind (u ++ b ∷ [])
-unfolding moved front
-behind-snoc u b = by (eqb b 10) refl
-  where
-    by : (q : Bool) → eqb b 10 ≡ q → moved (behind u) b ≡ behind (u ++ b ∷ [])
-    by true q = place-eq _ _ (simp length-append) (rw (newlines-snoc u b, q) (omega arith)) (rw (reverse-snoc u [] b, front, q))
-    by false q = place-eq _ _ (simp length-append) (rw (newlines-snoc u b, q)) (rw (reverse-snoc u [] b, front, q) (omega arith))
-
-over-behind : (u s : List ℕ) → over (behind u) s ≡ behind (u ++ s)
-unfolding over
-over-behind u [] = rw append-nil
-over-behind u (b ∷ s) = rw (behind-snoc u b, over-behind (u ++ b ∷ []) s, append-assoc)
-
--- The place before byte k is that of a cursor that walked from the start, whatever k is.
-pub place-walked : (t : List ℕ) (k : ℕ) → placeAt t k ≡ at k (over startPlace (take k t))
-unfolding placeAt lineAt columnAt newlines front
-place-walked t k = ap (at k) (sym (over-behind [] (take k t)))
-
-pub over-append : (c : Cursor) (s t : List ℕ) → over c (s ++ t) ≡ over (over c s) t
-unfolding over
-over-append c [] t = refl
-over-append c (b ∷ s) t = over-append (moved c b) s t
-
-pub over-offset : (c : Cursor) (s : List ℕ) → over c s .offset .0 ≡ c .offset .0 + length s
-unfolding over moved
-over-offset c [] = omega arith
-over-offset c (b ∷ s) = rw (over-offset (moved c b) s) (omega arith)
-
--- a cursor's line and column do not hang on its offset
-over-at : (j k : ℕ) (c : Cursor) (s : List ℕ) → at j (over (at k c) s) ≡ at j (over c s)
-unfolding over moved
-over-at j k c [] = refl
-over-at j k c (b ∷ s) = over-at j (k + 1) (moved c b) s
-
--- the place j bytes further on
-pub place-add : (t : List ℕ) (n j : ℕ) → placeAt t (n + j) ≡ at (n + j) (over (placeAt t n) (take j (drop n t)))
-place-add t n j =
-    place-walked t (n + j)
-    ∙ rw (take-add n j t, over-append startPlace (take n t) (take j (drop n t)), place-walked t n) (sym (over-at (n + j) n (over startPlace (take n t)) (take j (drop n t))))
+use Rattle.laws.proofs.Places.{place-eq, at, over-offset, place-add}
 
 -- ---- where what stood at o stands at p
 

@@ -13,7 +13,8 @@ use Rattle.rules.specs.Scan.{Reading, put, ends, stops, readRows}
 use Rattle.rules.specs.Edit.{opens, Seen, met, isShort}
 use Rattle.theory_machine.specs.Machine.{Token, St, gap, First, go, clear, over, bad, Move, fresh, on, back, Last, clean, ended, cut, begin, step, finish, after, move, close, run}
 use Rattle.theory_edits.specs.Shows.{Starts, first, later, Decided, here, behind}
-use Rattle.theory_edits.proofs.Steps.{and-left, step-gap, finish-gap, opens-more}
+use Rattle.laws.proofs.Tests.{both-true}
+use Rattle.theory_edits.proofs.Steps.{step-gap, finish-gap, opens-more}
 use Rattle.theory_edits.proofs.Stand.{At, at-next, at-same, rest, rest-begin, puts}
 use Rattle.theory_edits.proofs.Look.{listed, seeAfter, seeAt, seeMove, lookBytes}
 
@@ -200,7 +201,7 @@ module _ (T : List ℕ) (posw : ℕ → Cursor) (meet : ℕ → Bool) (hi : ℕ)
       where
         by : (q : Bool) → (meet m && not (opens (b ∷ w))) ≡ q → Meets meet hi (after (placeAt T) rf m 0 (begin b))
         by true q =
-            let e : meet m ≡ true = and-left (meet m) (not (opens (b ∷ w))) q in row-starts m (omega arith) e (rw rf-is (rw (rest-begin d) at (starts m e)))
+            let e : meet m ≡ true = both-true (meet m) (not (opens (b ∷ w))) q .0 in row-starts m (omega arith) e (rw rf-is (rw (rest-begin d) at (starts m e)))
         by false q = after-meets m 0 (begin b) (omega arith) (at-next d (omega arith)) (rw q at i)
 
     move-meets : (b t k : ℕ) (x : Move) → t + k + suc (length w) ≡ hi → At T (b ∷ (w ++ z)) (t + k) → isShort (seeMove posw meet w rs b t k x) ≡ false

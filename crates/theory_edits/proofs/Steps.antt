@@ -1,7 +1,6 @@
 -- All that the theorems on edits know of `begin`, `step` and `finish`: a machine in a gap only begins, no row holds a newline, and no row
 -- starts where a gap goes on.
-use Prim.Native.Nat.{ℕ, _≤_}
-use native.Mathlib.Omega.{arith}
+use Prim.Native.Nat.{ℕ}
 use mathlib.Core.Bool.{Bool, true, false, cond, not, _&&_, _||_, true≢false}
 use mathlib.Core.List.{List, [], _∷_, _++_}
 use mathlib.Core.Path.{_≡_, refl, sym, _∙_}
@@ -12,25 +11,8 @@ use Rattle.rules.specs.Kinds
 use Rattle.rules.specs.Kinds.{Spelt, signs, sameBytes, kindIn}
 use Rattle.rules.specs.Lex.{isDigit, isLetter, isWord, isHexDigit, isEscape, largest, isLone}
 use Rattle.rules.specs.Edit.{opens, slashOrStar}
-use Rattle.theory_machine.specs.Machine.{St, gap, slash, line, block, star, minus, str, esc, two, name, zer, hex0, dec, hex, Spot, mark, opened, here, before, First, go, clear, over, bad, Move, fresh, on, back, Last, clean, ended, cut, spot, number, begin, step, finish}
-
-pub and-left : (x y : Bool) → (x && y) ≡ true → x ≡ true
-and-left true y h = refl
-and-left false y h = h
-
-pub and-right : (x y : Bool) → (x && y) ≡ true → y ≡ true
-and-right true y h = h
-and-right false y h = absurd (true≢false (sym h))
-
-pub and-both : {x y : Bool} → x ≡ true → y ≡ true → (x && y) ≡ true
-and-both {x} {y} e f = rw (e, f)
-
-pub spot-le : (x : Spot) (k : ℕ) → spot x k ≤ k
-unfolding spot
-spot-le mark k = omega arith
-spot-le opened k = omega arith
-spot-le here k = omega arith
-spot-le before k = omega arith
+use Rattle.laws.proofs.Tests.{both-true}
+use Rattle.theory_machine.specs.Machine.{St, gap, slash, line, block, star, minus, str, esc, two, name, zer, hex0, dec, hex, First, go, clear, over, bad, Move, fresh, on, back, Last, clean, ended, cut, number, begin, step, finish}
 
 pub step-gap : (k b : ℕ) → step gap k b ≡ fresh
 unfolding step
@@ -121,8 +103,8 @@ noSecond y (e ∷ es) = not (secondIs y (e .spelling)) && noSecond y es
 same-second : (x y : ℕ) (s : List ℕ) → sameBytes s (x ∷ y ∷ []) ≡ true → secondIs y s ≡ true
 unfolding sameBytes secondIs
 same-second x y [] h = h
-same-second x y (a ∷ []) h = and-right (eqb a x) false h
-same-second x y (a ∷ c ∷ s) h = and-left (eqb c y) _ (and-right (eqb a x) _ h)
+same-second x y (a ∷ []) h = both-true (eqb a x) false h .1
+same-second x y (a ∷ c ∷ s) h = both-true (eqb c y) _ (both-true (eqb a x) _ h .1) .0
 
 no-sign : (x y d : ℕ) (es : List Spelt) → noSecond y es ≡ true → kindIn es d (x ∷ y ∷ []) ≡ d
 unfolding kindIn noSecond

@@ -16,7 +16,8 @@ use Rattle.rules.specs.Rows.{bitsOf, valueBits, rowAt, lengthFits, valueFits}
 use Rattle.rules.specs.Text.{isBlank}
 use Rattle.rules.specs.Lex.{isDigit, isLetter, isWord, isHexDigit, isEscape, largest, isLone, maybeTwo}
 use Rattle.theory_machine.specs.Machine.{Token, tok, St, gap, slash, line, block, star, minus, str, esc, two, name, zer, hex0, dec, hex, Spot, First, go, clear, over, bad, Move, fresh, on, back, Last, clean, ended, cut, word, number, numberEnd, oneSign, twoSign, begin, step, finish}
-use Rattle.theory_edits.proofs.Steps.{and-left, and-right}
+use Rattle.laws.proofs.Tests.{both-true}
+use Rattle.laws.proofs.Spelled.{same-eq}
 
 -- a row of n bytes may have this kind and value
 pub record Fit (x : Token) (n : ℕ) : Type 0 where
@@ -46,11 +47,11 @@ not-yes false h = refl
 fit : (kind n : ℕ) → isFit kind n ≡ true → Fit (tok kind) n
 unfolding isFit
 fit kind n h =
-    let h′ : (not (eqb kind Kinds.Eof) && lengthFits kind n) ≡ true = and-right (isMade kind) _ h in
+    let h′ : (not (eqb kind Kinds.Eof) && lengthFits kind n) ≡ true = both-true (isMade kind) _ h .1 in
     record {
-      made = and-left (isMade kind) _ h;
-      proper = not-yes (eqb kind Kinds.Eof) (and-left (not (eqb kind Kinds.Eof)) (lengthFits kind n) h′);
-      long = and-right (not (eqb kind Kinds.Eof)) (lengthFits kind n) h′;
+      made = both-true (isMade kind) _ h .0;
+      proper = not-yes (eqb kind Kinds.Eof) (both-true (not (eqb kind Kinds.Eof)) (lengthFits kind n) h′ .0);
+      long = both-true (not (eqb kind Kinds.Eof)) (lengthFits kind n) h′ .1;
       value = no-value kind;
     }
 
@@ -60,11 +61,7 @@ allFit [] = true
 allFit (e ∷ es) = isFit (e .kind) (length (e .spelling)) && allFit es
 
 same-length : (s w : List ℕ) → sameBytes s w ≡ true → length s ≡ length w
-unfolding sameBytes
-same-length [] [] h = refl
-same-length [] (y ∷ w) h = absurd (true≢false (sym h))
-same-length (x ∷ s) [] h = absurd (true≢false (sym h))
-same-length (x ∷ s) (y ∷ w) h = ap suc (same-length s w (and-right (eqb x y) _ h))
+same-length s w h = ap length (same-eq s w h)
 
 -- a kind that a table gives n bytes, or d
 data Kinded (d n : ℕ) : ℕ → Type 0 where
@@ -74,10 +71,10 @@ data Kinded (d n : ℕ) : ℕ → Type 0 where
 kind-fits : (es : List Spelt) (d : ℕ) (w : List ℕ) → allFit es ≡ true → Kinded d (length w) (kindIn es d w)
 unfolding kindIn allFit
 kind-fits [] d w h = default refl
-kind-fits (e ∷ es) d w h = by (sameBytes (e .spelling) w) refl (kind-fits es d w (and-right (isFit (e .kind) (length (e .spelling))) (allFit es) h))
+kind-fits (e ∷ es) d w h = by (sameBytes (e .spelling) w) refl (kind-fits es d w (both-true (isFit (e .kind) (length (e .spelling))) (allFit es) h .1))
   where
     fits : isFit (e .kind) (length (e .spelling)) ≡ true
-    fits = and-left (isFit (e .kind) (length (e .spelling))) (allFit es) h
+    fits = both-true (isFit (e .kind) (length (e .spelling))) (allFit es) h .0
 
     by : (q : Bool) → sameBytes (e .spelling) w ≡ q → Kinded d (length w) (kindIn es d w) → Kinded d (length w) (kindIn (e ∷ es) d w)
     by true q ih = rw (kindIn, q) (kinded (rw (same-length (e .spelling) w q) at fits))
@@ -273,13 +270,13 @@ step-good str k b h =
     if-move (eqb b 92) (λ t. good-on (good-go (long-enough k))) (λ t. good-on (good-go (long-enough k)))))
 step-good esc k b h = if-move (isEscape b) (λ t. good-on (good-go (long-enough k))) (λ t. good-on good-bad)
 step-good (two x) k b h =
-    let e : k ≡ 1 = eqb-true k 1 (and-left (eqb k 1) (maybeTwo x) h) in
+    let e : k ≡ 1 = eqb-true k 1 (both-true (eqb k 1) (maybeTwo x) h .0) in
     if-move (eqb (twoSign x b) Kinds.Eof) (λ t.
-    if-move (isLone x) (λ l. good-on good-bad) (λ l. good-back (fit-at k e (sign-fit (x ∷ []) (maybe-is x (and-right (eqb k 1) (maybeTwo x) h) l))))) (λ t.
+    if-move (isLone x) (λ l. good-on good-bad) (λ l. good-back (fit-at k e (sign-fit (x ∷ []) (maybe-is x (both-true (eqb k 1) (maybeTwo x) h .1) l))))) (λ t.
     good-on (good-over (fit-at (suc k) (ap suc e) (sign-fit (x ∷ b ∷ []) t))))
 step-good (name w) k b h =
-    let e : length w ≡ k = eqb-true (length w) k (and-left (eqb (length w) k) (leb 1 k) h) in
-    let l : 1 ≤ k = leb-true 1 k (and-right (eqb (length w) k) (leb 1 k) h) in
+    let e : length w ≡ k = eqb-true (length w) k (both-true (eqb (length w) k) (leb 1 k) h .0) in
+    let l : 1 ≤ k = leb-true 1 k (both-true (eqb (length w) k) (leb 1 k) h .1) in
     if-move (isWord b) (λ t. good-on (good-go (rw (eq-eqb (length (w ++ b ∷ [])) (suc k) (simp length-append (omega arith))) (long-enough k)))) (λ t.
     good-back (fit-at k (sym e) (word-fit w (omega arith))))
 step-good (zer n) k b h =
@@ -300,11 +297,11 @@ finish-good minus k h = good-ended (fixed Minus 1 minus-alone k (eqb-true k 1 h)
 finish-good str k h = good-cut
 finish-good esc k h = good-cut
 finish-good (two x) k h =
-    let e : k ≡ 1 = eqb-true k 1 (and-left (eqb k 1) (maybeTwo x) h) in
-    if-last (isLone x) (λ l. good-cut) (λ l. good-ended (fit-at k e (sign-fit (x ∷ []) (maybe-is x (and-right (eqb k 1) (maybeTwo x) h) l))))
+    let e : k ≡ 1 = eqb-true k 1 (both-true (eqb k 1) (maybeTwo x) h .0) in
+    if-last (isLone x) (λ l. good-cut) (λ l. good-ended (fit-at k e (sign-fit (x ∷ []) (maybe-is x (both-true (eqb k 1) (maybeTwo x) h .1) l))))
 finish-good (name w) k h =
-    let e : length w ≡ k = eqb-true (length w) k (and-left (eqb (length w) k) (leb 1 k) h) in
-    let l : 1 ≤ k = leb-true 1 k (and-right (eqb (length w) k) (leb 1 k) h) in
+    let e : length w ≡ k = eqb-true (length w) k (both-true (eqb (length w) k) (leb 1 k) h .0) in
+    let l : 1 ≤ k = leb-true 1 k (both-true (eqb (length w) k) (leb 1 k) h .1) in
     good-ended (fit-at k (sym e) (word-fit w (omega arith)))
 finish-good (zer n) k h = number-end-good n 0 k h
 finish-good (hex0 n) k h = good-cut

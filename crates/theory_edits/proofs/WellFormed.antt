@@ -1,29 +1,31 @@
 -- What a scan gives is a well-formed table.
-use Prim.Native.Nat.{ℕ, _+_, _-_, _*_, _≤_, min}
+use Prim.Native.Nat.{ℕ, _+_, _-_, _*_, _≤_}
 use native.Mathlib.Omega.{arith}
 use mathlib.Core.Bool.{Bool, true, false, not, true≢false}
 use mathlib.Core.List.{List, [], _∷_, _++_}
 use mathlib.Core.Path.{_≡_, refl, ap, sym, _∙_, subst}
-use lib.Dec.{leb, ltb}
+use lib.Dec.{leb}
 use lib.ListN.{length, drop, length-append}
-use lib.Seq.{take-all}
-use borrow.Author.Tests.{eq-eqb, le-leb, leb-true, ltb-false, le-ltb}
+use borrow.Author.Tests.{eq-eqb, le-leb, leb-true}
 use Rattle.rules.specs.declared.Cursor.{Cursor}
 use Rattle.rules.specs.declared.Lexical.{Lexical}
 use Rattle.rules.specs.declared.Ending.{Ending}
 use Rattle.rules.specs.declared.Ending.the-variants as ending
 use Rattle.rules.specs.declared.Table.{Table}
 use Rattle.rules.specs.declared.Outer.the-variants.{TextTooLong, BadByte, NoRowRoom}
+use Rattle.rules.specs.declared.Judged.{Judged}
 use Rattle.rules.specs.declared.Told.{Told}
 use Rattle.rules.specs.declared.Told.the-variants.{Rows, Refused}
 use Rattle.rules.specs.Kinds
 use Rattle.rules.specs.Kinds.{isMade}
-use Rattle.rules.specs.Text.{mostBytes, validBytes, valid, placeAt, startPlace}
+use Rattle.rules.specs.Text.{mostBytes, validBytes, valid, placeAt, startPlace, textJudged}
 use Rattle.rules.specs.Rows.{Row, rowWords, rowIn, rowsIn, wordsOf, rowAt, eofRow, rowPlace, every, chained, lengthFits, spansFit, valueFits, rowFits, follows, lastRow, endsBehind, isEof, eofLast, endingFits, rowsFit, wellFormed}
-use Rattle.rules.specs.Scan.{Reading, put, readRows, readEnding, scan, roomOf, told, laid, scanTold, scanLeaves}
+use Rattle.rules.specs.Scan.{Reading, put, readRows, readEnding, scan, roomOf, told, scanTold, scanLeaves}
 use Rattle.theory_machine.specs.Machine.{Token}
 use Rattle.theory_edits.specs.Scanned.{tableOf, Scanned}
-use Rattle.theory_edits.proofs.Steps.{and-both}
+use Rattle.laws.proofs.Tests.{true-both}
+use Rattle.laws.proofs.Valid.{text-fine, TextJudged, long, bad, fine, text-judged}
+use Rattle.laws.proofs.Rows.{words-length, laid-all, scan-told-refused, scan-told, scan-leaves}
 use Rattle.theory_edits.proofs.Lines.{place-fits, places-fit}
 use Rattle.theory_edits.proofs.Tokens.{Fit}
 use Rattle.theory_edits.proofs.Well.{Well, well-row, well-eof, well-stops, scan-well}
@@ -35,17 +37,17 @@ module _ (T : List ℕ) where
   unfolding rowFits spansFit rowPlace rowAt placeAt
   row-fits t k x f =
       let e : t + k - t ≡ k = omega arith in
-      and-both (and-both (and-both (f .made) refl) (f .value (placeAt T t) (t + k)))
-      (and-both (and-both (le-leb t (t + k) (omega arith)) (rw e (f .long))) (place-fits T t))
+      true-both (true-both (true-both (f .made) refl) (f .value (placeAt T t) (t + k)))
+      (true-both (true-both (le-leb t (t + k) (omega arith)) (rw e (f .long))) (place-fits T t))
 
   eof-fits : (n : ℕ) → rowFits (eofRow (placeAt T n)) ≡ true
   unfolding rowFits spansFit rowPlace eofRow rowAt placeAt isMade lengthFits valueFits
-  eof-fits n = and-both refl (and-both (and-both (le-leb n n (omega arith)) (eq-eqb (n - n) 0 (omega arith))) (place-fits T n))
+  eof-fits n = true-both refl (true-both (true-both (le-leb n n (omega arith)) (eq-eqb (n - n) 0 (omega arith))) (place-fits T n))
 
   every-fits : {lo : ℕ} {l : Reading} → Well T lo l → every rowFits (readRows l) ≡ true
   unfolding every readRows
-  every-fits (well-row {t = t} {k = k} {x = x} a h f w) = and-both (row-fits t k x f) (every-fits w)
-  every-fits (well-eof {n = n} a h) = and-both (eof-fits n) refl
+  every-fits (well-row {t = t} {k = k} {x = x} a h f w) = true-both (row-fits t k x f) (every-fits w)
+  every-fits (well-eof {n = n} a h) = true-both (eof-fits n) refl
   every-fits (well-stops a h) = refl
 
   -- ---- each row and the next
@@ -53,14 +55,14 @@ module _ (T : List ℕ) where
   pair-fits : (t k j lo : ℕ) (x : Token) (kind end bits : ℕ) → t ≤ lo → lo ≤ j → j ≤ length T
       → follows (rowAt (placeAt T t) (x .kind) lo (x .bits)) (rowAt (placeAt T j) kind end bits) ≡ true
   unfolding follows rowPlace rowAt placeAt
-  pair-fits t k j lo x kind end bits a h l = and-both (le-leb lo j h) (places-fit T t j (omega arith) l)
+  pair-fits t k j lo x kind end bits a h l = true-both (le-leb lo j h) (places-fit T t j (omega arith) l)
 
   chained-put : (t k : ℕ) (x : Token) {l : Reading} → Well T (t + k) l → chained follows (readRows l) ≡ true
       → chained follows (readRows (put (rowAt (placeAt T t) (x .kind) (t + k) (x .bits)) l)) ≡ true
   unfolding chained readRows eofRow
   chained-put t k x (well-row {t = j} {k = i} {x = y} a h f w) c =
-      and-both (pair-fits t k j (t + k) x (y .kind) (j + i) (y .bits) (omega arith) a (omega arith)) c
-  chained-put t k x (well-eof {n = n} a h) c = and-both (pair-fits t k n (t + k) x Kinds.Eof _ 0 (omega arith) a (omega arith)) c
+      true-both (pair-fits t k j (t + k) x (y .kind) (j + i) (y .bits) (omega arith) a (omega arith)) c
+  chained-put t k x (well-eof {n = n} a h) c = true-both (pair-fits t k n (t + k) x Kinds.Eof _ 0 (omega arith) a (omega arith)) c
   chained-put t k x (well-stops a h) c = refl
 
   chained-fits : {lo : ℕ} {l : Reading} → Well T lo l → chained follows (readRows l) ≡ true
@@ -78,7 +80,7 @@ module _ (T : List ℕ) where
   eof-put : (r : Row) (n : ℕ) (rs : List Row) → not (isEof r) ≡ true → eofLast n rs ≡ true → eofLast n (r ∷ rs) ≡ true
   unfolding eofLast
   eof-put r n [] e h = absurd (true≢false (sym h))
-  eof-put r n (q ∷ rs) e h = and-both e h
+  eof-put r n (q ∷ rs) e h = true-both e h
 
   eof-last : {lo : ℕ} {l : Reading} → Well T lo l → readEnding l ≡ ending.None → eofLast (length T) (readRows l) ≡ true
   unfolding readRows readEnding eofLast isEof eofRow rowAt placeAt
@@ -109,9 +111,9 @@ module _ (T : List ℕ) where
         far = omega arith;
         inside = s .inside;
         place = s .place;
-        rows = and-both (not-eof t (t + k) x f) (s .rows);
+        rows = true-both (not-eof t (t + k) x f) (s .rows);
         last = last-put _ rs p
-            (and-both (le-leb (t + k) (p .offset .0) g) (rw (s .place) (places-fit T t (p .offset .0) (omega arith) (s .inside)))) (s .last);
+            (true-both (le-leb (t + k) (p .offset .0) g) (rw (s .place) (places-fit T t (p .offset .0) (omega arith) (s .inside)))) (s .last);
       }
 
   stopped : {lo : ℕ} {l : Reading} → Well T lo l → (why : Lexical) (p : Cursor) → readEnding l ≡ ending.Refused why p → Stopped lo (readRows l) p
@@ -127,18 +129,13 @@ module _ (T : List ℕ) where
   ending-fits w ending.None e = eof-last w e
   ending-fits w (ending.Refused why p) e =
       let s : Stopped _ _ p = stopped w why p e in
-      and-both (s .rows) (and-both (and-both (le-leb (p .offset .0) (length T) (s .inside)) (rw (s .place) (place-fits T (p .offset .0)))) (s .last))
+      true-both (s .rows) (true-both (true-both (le-leb (p .offset .0) (length T) (s .inside)) (rw (s .place) (place-fits T (p .offset .0)))) (s .last))
 
   pub scan-fits : rowsFit (length T) (readRows (scan T)) (readEnding (scan T)) ≡ true
   unfolding rowsFit
-  scan-fits = and-both (every-fits (scan-well T)) (and-both (chained-fits (scan-well T)) (ending-fits (scan-well T) (readEnding (scan T)) refl))
+  scan-fits = true-both (every-fits (scan-well T)) (true-both (chained-fits (scan-well T)) (ending-fits (scan-well T) (readEnding (scan T)) refl))
 
 -- ---- the words of rows
-
-length-words : (rs : List Row) → length (wordsOf rs) ≡ length rs * 8
-unfolding wordsOf rowWords
-length-words [] = refl
-length-words (r ∷ rs) = rw (length-words rs) (omega arith)
 
 pub rows-in-words : (rs : List Row) (ws : List ℕ) → rowsIn (length rs) (wordsOf rs ++ ws) ≡ rs
 unfolding wordsOf rowWords rowsIn rowIn
@@ -148,15 +145,7 @@ rows-in-words (r ∷ rs) ws = ap (λ (l : List Row). r ∷ l) (rows-in-words rs 
 pub length-laid : (t ws : List ℕ) (table : Table) → Scanned t ws table → length (readRows (scan t)) * 8 ≤ length ws
 length-laid t ws table s =
     let l : length ws ≡ length (wordsOf (readRows (scan t))) + length (s .spare) = ap length (s .words) ∙ length-append (wordsOf (readRows (scan t))) (s .spare) in
-    let k : length (wordsOf (readRows (scan t))) ≡ length (readRows (scan t)) * 8 = length-words (readRows (scan t)) in
-    omega arith
-
--- where all rows have room
-laid-all : (rs : List Row) (ws : List ℕ) → length rs ≤ roomOf ws → laid rs ws ≡ wordsOf rs ++ drop (8 * length rs) ws
-unfolding laid
-laid-all rs ws h =
-    let m : min (roomOf ws) (length rs) ≡ length rs = omega arith in
-    rw (take-all (roomOf ws) rs h, m)
+    omega (arith, words-length (readRows (scan t)))
 
 -- ---- the theorems: a scan's words and table
 
@@ -168,7 +157,7 @@ pub scanned-well-formed : {t ws : List ℕ} {table : Table} → Scanned t ws tab
 unfolding wellFormed
 scanned-well-formed {t} {ws} {table} s =
     rw (scanned-rows s, s .told)
-    (and-both (and-both (le-leb (length (readRows (scan t)) * 8) (length ws) (length-laid t ws table s)) (le-leb (length t) mostBytes (s .fits))) (scan-fits t))
+    (true-both (true-both (le-leb (length (readRows (scan t)) * 8) (length ws) (length-laid t ws table s)) (le-leb (length t) mostBytes (s .fits))) (scan-fits t))
 
 -- What a scan says, with room for m rows: 1, 2, 4, or its table.
 pub data Scans (t : List ℕ) (m : ℕ) : Told → Type 0 where
@@ -178,14 +167,14 @@ pub data Scans (t : List ℕ) (m : ℕ) : Told → Type 0 where
   says-rows : length t ≤ mostBytes → valid t ≡ true → length (readRows (scan t)) ≤ m → Scans t m (Rows (tableOf t))
 
 pub scan-says : (t : List ℕ) (m : ℕ) → Scans t m (scanTold t m)
-unfolding scanTold told
-scan-says t m = by (ltb mostBytes (length t)) refl (valid t) refl (leb (length (readRows (scan t))) m) refl
+unfolding told
+scan-says t m = by (text-judged t) refl (leb (length (readRows (scan t))) m) refl
   where
-    by : (x : Bool) → ltb mostBytes (length t) ≡ x → (y : Bool) → valid t ≡ y → (z : Bool) → leb (length (readRows (scan t))) m ≡ z → Scans t m (scanTold t m)
-    by true x y f z g = rw (x) says-1
-    by false x false f z g = rw (x, f) says-2
-    by false x true f false g = rw (x, f, g) says-4
-    by false x true f true g = rw (x, f, g) (says-rows (ltb-false mostBytes (length t) x) f (leb-true _ m g))
+    by : {v : Judged} → TextJudged t v → textJudged t ≡ v → (z : Bool) → leb (length (readRows (scan t))) m ≡ z → Scans t m (scanTold t m)
+    by (long l) e z g = rw (scan-told-refused t e m) says-1
+    by (bad l v) e z g = rw (scan-told-refused t e m) says-2
+    by (fine l v) e false g = rw (scan-told t e m, g) says-4
+    by (fine l v) e true g = rw (scan-told t e m, g) (says-rows l v (leb-true _ m g))
 
 -- a text whose scan tells rows is valid
 pub scan-valid : (t : List ℕ) (m : ℕ) (table : Table) → scanTold t m ≡ Rows table → valid t ≡ true
@@ -199,18 +188,15 @@ scan-valid t m table e = by (scan-says t m) e
 
 -- where it tells rows, it leaves them
 pub scan-scanned : (t new : List ℕ) (table : Table) → scanTold t (roomOf new) ≡ Rows table → Scanned t (scanLeaves t new) table
-unfolding scanLeaves
 scan-scanned t new table e = by (scan-says t (roomOf new)) e
   where
     by : {x : Told} → Scans t (roomOf new) x → x ≡ Rows table → Scanned t (scanLeaves t new) table
     by says-1 f = absurd (let z : _≡_ {A = ℕ} 0 1 = cc in let y : ⊥ = omega arith in y)
     by says-2 f = absurd (let z : _≡_ {A = ℕ} 0 1 = cc in let y : ⊥ = omega arith in y)
     by says-4 f = absurd (let z : _≡_ {A = ℕ} 0 1 = cc in let y : ⊥ = omega arith in y)
-    by (says-rows l v r) f =
-        let g : ltb mostBytes (length t) ≡ false = le-ltb mostBytes (length t) l in
-        record {
-          fits = l;
-          spare = drop (8 * length (readRows (scan t))) new;
-          words = rw (g, v) (laid-all (readRows (scan t)) new r);
-          told = cc;
-        }
+    by (says-rows l v r) f = record {
+      fits = l;
+      spare = drop (8 * length (readRows (scan t))) new;
+      words = scan-leaves t (text-fine t l v) new ∙ laid-all (readRows (scan t)) new r;
+      told = cc;
+    }

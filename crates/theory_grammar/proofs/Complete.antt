@@ -20,7 +20,7 @@ use Rattle.rules.specs.Parse.{Out, ok, no, P, then, many, isAdd, isShift, isMul
 use Rattle.rules.specs.Grammar.{Nt, Add, Shift, Mul, Unary, Basic, Args, Stmt, Stmts, Item, Items, Chain, MapField, MapFields, EventField, EventFields, Decl, Decls, Program, Is, i-num, i-var, i-group, i-field, i-bare, i-call, i-one, i-more, i-prim, i-star, i-unary, i-mul, i-lone, i-shift, i-up, i-add, i-decl, i-ret, i-plain, i-assign, i-if, i-if-else, i-no-stmts, i-stmts, i-stmt, i-text, i-no-items, i-items, i-first, i-shifted, i-type, i-typed, i-limit, i-no-fields, i-fields, i-plain-field, i-bytes-field, i-array-field, i-no-event-fields, i-event-fields, i-unit, i-map, i-event, i-no-decls, i-decls, i-program}
 use Rattle.theory_grammar.proofs.Laws.{either-kind, three-kinds, yield-width, is-wide}
 use Rattle.theory_grammar.proofs.Cases
-use Rattle.theory_grammar.specs.Spot.{isMisfit}
+use Rattle.theory_grammar.specs.Lost.{isMisfit, isCheck}
 
 -- the kind of the first of some tokens
 unfoldable pub front : List Tok → ℕ
@@ -28,42 +28,57 @@ front ys = kindOf (getD ys 0 (sign Eof))
 
 -- ---- what the parser gives
 
--- a refusal by a check or the nesting: 24, 26 to 29, 31, 32
+-- a refusal by a check: 24, 26 to 29, 31
 abbrev pub Checked : Out → Type 0
 Checked (ok t j) = ⊥
-Checked (no why r) = isMisfit why ≡ false
+Checked (no why r) = isCheck why ≡ true
 
--- What the parser answers where o′ is expected: just that; or, where the checks are left aside, a refusal by one of them.
-pub data Gives (strict : Bool) (o o′ : Out) : Type 0 where
-  gives : o ≡ o′ → Gives strict o o′
-  checked : strict ≡ false → Checked o → Gives strict o o′
+-- a refusal by the nesting: 32
+abbrev pub Nested : Out → Type 0
+Nested (ok t j) = ⊥
+Nested (no why r) = (isMisfit why ≡ false) × (isCheck why ≡ false)
+
+-- What the parser answers where o′ is expected: just that; or, where the checks are left aside, a refusal by one of them; or, where the
+-- nesting is left aside, a refusal by that.
+pub data Gives (strict close : Bool) (o o′ : Out) : Type 0 where
+  gives : o ≡ o′ → Gives strict close o o′
+  checked : strict ≡ false → Checked o → Gives strict close o o′
+  nested : close ≡ false → Nested o → Gives strict close o o′
 
 then-checked : (o : Out) (f : Tree → P) → Checked o → Checked (then o f)
 unfolding then
 then-checked (ok t j) f c = absurd c
 then-checked (no why r) f c = c
 
+then-nested : (o : Out) (f : Tree → P) → Nested o → Nested (then o f)
+unfolding then
+then-nested (ok t j) f c = absurd c
+then-nested (no why r) f c = c
+
 not-strict : (b : Bool) → (b ≡ true → ⊥) → b ≡ false
 not-strict true h = absurd (h refl)
 not-strict false h = refl
 
-module _ {strict : Bool} {o : Out} where
+module _ {strict close : Bool} {o : Out} where
   infixr 30 _▹_
-  _▹_ : {o′ r : Out} → o ≡ o′ → Gives strict o′ r → Gives strict o r
+  _▹_ : {o′ r : Out} → o ≡ o′ → Gives strict close o′ r → Gives strict close o r
   e ▹ gives f = gives (e ∙ f)
   e ▹ checked s c = checked s (subst Checked (sym e) c)
+  e ▹ nested s c = nested s (subst Nested (sym e) c)
 
-  leads : {o′ r : Out} → Gives strict o o′ → Gives strict o′ r → Gives strict o r
+  leads : {o′ r : Out} → Gives strict close o o′ → Gives strict close o′ r → Gives strict close o r
   leads (gives e) g = e ▹ g
   leads (checked s c) g = checked s c
+  leads (nested s c) g = nested s c
 
-module _ {strict : Bool} {o : Out} where
-  then-run : {r : Out} {t : Tree} {j : ℕ} (f : Tree → P) → Gives strict o (ok t j) → Gives strict (f t j) r → Gives strict (then o f) r
+module _ {strict close : Bool} {o : Out} where
+  then-run : {r : Out} {t : Tree} {j : ℕ} (f : Tree → P) → Gives strict close o (ok t j) → Gives strict close (f t j) r → Gives strict close (then o f) r
   then-run {r} {t} {j} f (gives e) h = Cases.then-ok o f t j e ▹ h
   then-run f (checked s c) h = checked s (then-checked o f c)
+  then-run f (nested s c) h = nested s (then-nested o f c)
 
   -- a check that holds where checks count: what is given if it holds, and a refusal if it does not
-  passes : {r : Out} (b : Bool) → (strict ≡ true → b ≡ true) → (b ≡ true → Gives strict o r) → (b ≡ false → Checked o) → Gives strict o r
+  passes : {r : Out} (b : Bool) → (strict ≡ true → b ≡ true) → (b ≡ true → Gives strict close o r) → (b ≡ false → Checked o) → Gives strict close o r
   passes true q g c = g refl
   passes false q g c = checked (not-strict strict (λ e. true≢false (sym (q e)))) (c refl)
 
@@ -101,28 +116,28 @@ module _ {ts : List Tok} where
 
   -- ---- the parser's steps over such a run
 
-  module _ {strict : Bool} {i : ℕ} {ys : List Tok} {o : Out} where
-    want-run : {k : ℕ} (f : P) → From ts i (sign k ∷ ys) → (From ts (i + 1) ys → Gives strict (f (i + 1)) o) → Gives strict (Parse.want ts k f i) o
+  module _ {strict close : Bool} {i : ℕ} {ys : List Tok} {o : Out} where
+    want-run : {k : ℕ} (f : P) → From ts i (sign k ∷ ys) → (From ts (i + 1) ys → Gives strict close (f (i + 1)) o) → Gives strict close (Parse.want ts k f i) o
     want-run {k} f e h = Cases.want-yes ts k f i (sign-kind e) ▹ h (tail-of e)
 
-    need-run : {k : ℕ} (f : P) → From ts i (sign k ∷ ys) → Gives strict (f i) o → Gives strict (Parse.need ts k f i) o
+    need-run : {k : ℕ} (f : P) → From ts i (sign k ∷ ys) → Gives strict close (f i) o → Gives strict close (Parse.need ts k f i) o
     need-run {k} f e h = Cases.need-yes ts k f i (sign-kind e) ▹ h
 
-    named-run : {w : List ℕ} (f : List ℕ → P) → From ts i (name w ∷ ys) → (From ts (i + 1) ys → Gives strict (f w (i + 1)) o) → Gives strict (Parse.named ts f i) o
+    named-run : {w : List ℕ} (f : List ℕ → P) → From ts i (name w ∷ ys) → (From ts (i + 1) ys → Gives strict close (f w (i + 1)) o) → Gives strict close (Parse.named ts f i) o
     unfolding kindOf spellingOf
     named-run f e h = Cases.named-yes ts f i (ap kindOf (tok-of e)) ▹ ap (λ (x : Tok). f (spellingOf x) (i + 1)) (tok-of e) ▹ h (tail-of e)
 
-    quoted-run : {w : List ℕ} (f : List ℕ → P) → From ts i (string w ∷ ys) → (From ts (i + 1) ys → Gives strict (f w (i + 1)) o)
-        → Gives strict (Parse.quoted ts f i) o
+    quoted-run : {w : List ℕ} (f : List ℕ → P) → From ts i (string w ∷ ys) → (From ts (i + 1) ys → Gives strict close (f w (i + 1)) o)
+        → Gives strict close (Parse.quoted ts f i) o
     unfolding kindOf spellingOf
     quoted-run f e h = Cases.quoted-yes ts f i (ap kindOf (tok-of e)) ▹ ap (λ (x : Tok). f (spellingOf x) (i + 1)) (tok-of e) ▹ h (tail-of e)
 
-    valued-run : {v : ℕ} (f : ℕ → P) → From ts i (value v ∷ ys) → (From ts (i + 1) ys → Gives strict (f v (i + 1)) o) → Gives strict (Parse.valued ts f i) o
+    valued-run : {v : ℕ} (f : ℕ → P) → From ts i (value v ∷ ys) → (From ts (i + 1) ys → Gives strict close (f v (i + 1)) o) → Gives strict close (Parse.valued ts f i) o
     unfolding kindOf bitsIn
     valued-run f e h = Cases.valued-yes ts f i (ap kindOf (tok-of e)) ▹ ap (λ (x : Tok). f (bitsIn x) (i + 1)) (tok-of e) ▹ h (tail-of e)
 
-up-to : {strict : Bool} {t : Tree} {j k : ℕ} → j ≡ k → Gives strict (ok t j) (ok t k)
-up-to {strict} {t} e = gives (ap (λ (n : ℕ). ok t n) e)
+up-to : {strict close : Bool} {t : Tree} {j k : ℕ} → j ≡ k → Gives strict close (ok t j) (ok t k)
+up-to {strict} {close} {t} e = gives (ap (λ (n : ℕ). ok t n) e)
 
 -- a row with tokens from it on is in the table
 within-table : {ts : List Tok} {j : ℕ} {x : Tok} {ys : List Tok} → From ts j (x ∷ ys) → j < length ts
@@ -130,27 +145,27 @@ within-table {ts} {j} {x} {ys} e = omega (arith, length-drop j ts, ap length (e 
 
 -- ---- a loop that has come to a tree
 
-pub record Reach (strict : Bool) (ts : List Tok) (all : Out) (test : ℕ → Bool) (step : Tree → P) (t : Tree) (j : ℕ) : Type 0 where
+pub record Reach (strict close : Bool) (ts : List Tok) (all : Out) (test : ℕ → Bool) (step : Tree → P) (t : Tree) (j : ℕ) : Type 0 where
   pub fuel : ℕ
   pub enough : length ts < fuel + j
-  pub rest : Gives strict all (many test step fuel (test j) t j)
+  pub rest : Gives strict close all (many test step fuel (test j) t j)
 
-module _ {strict : Bool} {ts : List Tok} {all : Out} {test : ℕ → Bool} {step : Tree → P} {t : Tree} {j : ℕ} where
-  reach-loop : Gives strict all (Parse.loop ts test step t j) → Reach strict ts all test step t j
+module _ {strict close : Bool} {ts : List Tok} {all : Out} {test : ℕ → Bool} {step : Tree → P} {t : Tree} {j : ℕ} where
+  reach-loop : Gives strict close all (Parse.loop ts test step t j) → Reach strict close ts all test step t j
   unfolding Parse.loop
   reach-loop e = record { fuel = suc (length ts); enough = omega arith; rest = e }
 
-  reach-at : {k : ℕ} → j ≡ k → Reach strict ts all test step t j → Reach strict ts all test step t k
-  reach-at e c = subst (λ (n : ℕ). Reach strict ts all test step t n) e c
+  reach-at : {k : ℕ} → j ≡ k → Reach strict close ts all test step t j → Reach strict close ts all test step t k
+  reach-at e c = subst (λ (n : ℕ). Reach strict close ts all test step t n) e c
 
-  reach-end : Reach strict ts all test step t j → test j ≡ false → Gives strict all (ok t j)
+  reach-end : Reach strict close ts all test step t j → test j ≡ false → Gives strict close all (ok t j)
   reach-end c b = leads (c .rest) (gives (Cases.many-stop test step (c .fuel) t j b))
 
-  reach-next : Reach strict ts all test step t j → test j ≡ true → j < length ts → {u : Tree} {k : ℕ} → Gives strict (step t j) (ok u k) → j < k
-      → Reach strict ts all test step u k
+  reach-next : Reach strict close ts all test step t j → test j ≡ true → j < length ts → {u : Tree} {k : ℕ} → Gives strict close (step t j) (ok u k) → j < k
+      → Reach strict close ts all test step u k
   reach-next c b h {u} {k} e up = go (c .fuel) refl
     where
-      go : (f : ℕ) → c .fuel ≡ f → Reach strict ts all test step u k
+      go : (f : ℕ) → c .fuel ≡ f → Reach strict close ts all test step u k
       go zero q = absurd (omega (arith, c .enough))
       go (suc f) q = record {
         fuel = f;
@@ -285,74 +300,74 @@ opens i-no-decls ys = tt
 opens (i-decls h v) ys = tt
 opens (i-program h) ys = tt
 
-module _ (strict : Bool) (ts : List Tok) where
+module _ (strict close : Bool) (ts : List Tok) where
   abbrev G : ℕ → Sort → P
   G d = Parse.inner ts d
 
   -- a list of things p up to a row of kind `stop` has come to l
   abbrev ListReach : ℕ → P → ℕ → Tree → Type 0
-  ListReach stop p i l = Reach strict ts (Parse.listTo ts stop p i) (λ r. not (eqb (kindAt ts r) stop)) (Parse.listStep ts p) l (i + width l)
+  ListReach stop p i l = Reach strict close ts (Parse.listTo ts stop p i) (λ r. not (eqb (kindAt ts r) stop)) (Parse.listStep ts p) l (i + width l)
 
   -- what the parser does, with d constructs left, at the rows of a tree of each nonterminal, if what follows them is ys
   abbrev At : Nt → ℕ → Tree → ℕ → Type 0
-  At Basic d t i = Reach strict ts (Parse.prim ts (G d) i) (λ r. eqb (kindAt ts r) Dot) (Parse.post ts (G d)) t (i + width t)
-  At Unary d t i = Gives strict (Parse.unary ts (G d) i) (ok t (i + width t))
-  At Mul d t i = Reach strict ts (Parse.mul ts (G d) i) (λ r. isMul (kindAt ts r)) (Parse.binStep ts (G d) (Parse.unary ts (G d))) t (i + width t)
-  At Shift d t i = Reach strict ts (Parse.shift ts (G d) i) (λ r. isShift (kindAt ts r)) (Parse.binStep ts (G d) (Parse.mul ts (G d))) t (i + width t)
-  At Add d t i = Reach strict ts (Parse.add ts (G d) i) (λ r. isAdd (kindAt ts r)) (Parse.binStep ts (G d) (Parse.mul ts (G d))) t (i + width t)
-  At Args d t i = (o : ℕ) → o + 1 ≡ i → Reach strict ts (Parse.args ts (G d) o) (λ r. eqb (kindAt ts r) Comma) (Parse.argStep ts (G d)) t (i + width t)
-  At Stmt d t i = Gives strict (Parse.stmt ts d (Parse.body ts d) i) (ok t (i + width t))
+  At Basic d t i = Reach strict close ts (Parse.prim ts (G d) i) (λ r. eqb (kindAt ts r) Dot) (Parse.post ts (G d)) t (i + width t)
+  At Unary d t i = Gives strict close (Parse.unary ts (G d) i) (ok t (i + width t))
+  At Mul d t i = Reach strict close ts (Parse.mul ts (G d) i) (λ r. isMul (kindAt ts r)) (Parse.binStep ts (G d) (Parse.unary ts (G d))) t (i + width t)
+  At Shift d t i = Reach strict close ts (Parse.shift ts (G d) i) (λ r. isShift (kindAt ts r)) (Parse.binStep ts (G d) (Parse.mul ts (G d))) t (i + width t)
+  At Add d t i = Reach strict close ts (Parse.add ts (G d) i) (λ r. isAdd (kindAt ts r)) (Parse.binStep ts (G d) (Parse.mul ts (G d))) t (i + width t)
+  At Args d t i = (o : ℕ) → o + 1 ≡ i → Reach strict close ts (Parse.args ts (G d) o) (λ r. eqb (kindAt ts r) Comma) (Parse.argStep ts (G d)) t (i + width t)
+  At Stmt d t i = Gives strict close (Parse.stmt ts d (Parse.body ts d) i) (ok t (i + width t))
   At Stmts d t i = ListReach RBrace (Parse.stmt ts d (Parse.body ts d)) i t
-  At Item d t i = d ≡ 64 → Gives strict (Parse.item ts i) (ok t (i + width t))
+  At Item d t i = d ≡ 64 → Gives strict close (Parse.item ts i) (ok t (i + width t))
   At Items d t i = d ≡ 64 → ListReach RBrace (Parse.item ts) i t
-  At Chain d t i = Reach strict ts (Parse.chain ts i) (λ r. isShift (kindAt ts r)) (Parse.chainStep ts) t (i + width t)
-  At MapField d t i = Gives strict (Parse.mapField ts i) (ok t (i + width t))
+  At Chain d t i = Reach strict close ts (Parse.chain ts i) (λ r. isShift (kindAt ts r)) (Parse.chainStep ts) t (i + width t)
+  At MapField d t i = Gives strict close (Parse.mapField ts i) (ok t (i + width t))
   At MapFields d t i = ListReach RBrace (Parse.mapField ts) i t
-  At EventField d t i = Gives strict (Parse.eventField ts i) (ok t (i + width t))
+  At EventField d t i = Gives strict close (Parse.eventField ts i) (ok t (i + width t))
   At EventFields d t i = ListReach RBrace (Parse.eventField ts) i t
-  At Decl d t i = d ≡ 64 → Gives strict (Parse.top ts i) (ok t (i + width t))
+  At Decl d t i = d ≡ 64 → Gives strict close (Parse.top ts i) (ok t (i + width t))
   At Decls d t i = d ≡ 64 → ListReach Eof (Parse.top ts) i t
-  At Program d t i = d ≡ 64 → i ≡ 0 → Gives strict (Parse.parse ts) (ok t (width t))
+  At Program d t i = d ≡ 64 → i ≡ 0 → Gives strict close (Parse.parse ts) (ok t (width t))
 
   abbrev Claim : Nt → ℕ → Tree → Type 0
   Claim N d t = (i : ℕ) (ys : List Tok) → From ts i (yield t ++ ys) → Stop N (front ys) → At N d t i
 
   -- a claim's loop is at its end where no operator follows
   mul-ends : (d : ℕ) (t : Tree) → Claim Mul d t → (i : ℕ) (ys : List Tok) → From ts i (yield t ++ ys) → Stop Shift (front ys)
-      → Gives strict (Parse.mul ts (G d) i) (ok t (i + width t))
+      → Gives strict close (Parse.mul ts (G d) i) (ok t (i + width t))
   mul-ends d t c i ys e s = reach-end (c i ys e (s .0, s .1)) (ap isMul (kind-of (after t e)) ∙ s .2)
 
   shift-ends : (d : ℕ) (t : Tree) → Claim Shift d t → (i : ℕ) (ys : List Tok) → From ts i (yield t ++ ys) → Stop Add (front ys)
-      → Gives strict (Parse.shift ts (G d) i) (ok t (i + width t))
+      → Gives strict close (Parse.shift ts (G d) i) (ok t (i + width t))
   shift-ends d t c i ys e s = reach-end (c i ys e (s .0, s .1, s .2)) (ap isShift (kind-of (after t e)) ∙ s .3)
 
   add-ends : (d : ℕ) (t : Tree) → Claim Add d t → (i : ℕ) (ys : List Tok) → From ts i (yield t ++ ys) → Stop Args (front ys)
-      → Gives strict (Parse.add ts (G d) i) (ok t (i + width t))
+      → Gives strict close (Parse.add ts (G d) i) (ok t (i + width t))
   add-ends d t c i ys e s = reach-end (c i ys e (s .0, s .1, s .2, s .3)) (ap isAdd (kind-of (after t e)) ∙ s .4)
 
   -- ---- one construct deeper
 
   -- a tree with n constructs open is within d, where nesting counts
   abbrev Fits : ℕ → ℕ → Type 0
-  Fits n d = strict ≡ true → n ≤ d
+  Fits n d = close ≡ true → n ≤ d
 
   fits-under : (n d : ℕ) → Fits (suc n) (suc d) → Fits n d
   fits-under n d f q = let h : suc n ≤ suc d = f q in omega arith
 
   -- 32, where none is left
-  too-deep : (n r : ℕ) {o o′ : Out} → Fits (suc n) 0 → o ≡ no TooDeep r → Gives strict o o′
-  unfolding isMisfit
-  too-deep n r f e = checked (not-strict strict (λ q. omega (arith, f q))) (subst Checked (sym e) refl)
+  too-deep : (n r : ℕ) {o o′ : Out} → Fits (suc n) 0 → o ≡ no TooDeep r → Gives strict close o o′
+  unfolding isMisfit isCheck
+  too-deep n r f e = nested (not-strict close (λ q. omega (arith, f q))) (subst Nested (sym e) (refl, refl))
 
   -- what is read behind the opening row o: an expression, an operand, statements in braces
   abbrev WholeAt : ℕ → Tree → Type 0
-  WholeAt d t = (o : ℕ) (ys : List Tok) → From ts (o + 1) (yield t ++ ys) → Stop Args (front ys) → Gives strict (G d whole o) (ok t (o + 1 + width t))
+  WholeAt d t = (o : ℕ) (ys : List Tok) → From ts (o + 1) (yield t ++ ys) → Stop Args (front ys) → Gives strict close (G d whole o) (ok t (o + 1 + width t))
 
   abbrev OperandAt : ℕ → Tree → Type 0
-  OperandAt d t = (o : ℕ) (ys : List Tok) → From ts (o + 1) (yield t ++ ys) → Stop Unary (front ys) → Gives strict (G d operand o) (ok t (o + 1 + width t))
+  OperandAt d t = (o : ℕ) (ys : List Tok) → From ts (o + 1) (yield t ++ ys) → Stop Unary (front ys) → Gives strict close (G d operand o) (ok t (o + 1 + width t))
 
   abbrev BodyAt : ℕ → Tree → Type 0
-  BodyAt d l = (o : ℕ) (ys : List Tok) → From ts o (sign LBrace ∷ (yield l ++ (sign RBrace ∷ ys))) → Gives strict (Parse.body ts d o) (ok l (o + 1 + width l + 1))
+  BodyAt d l = (o : ℕ) (ys : List Tok) → From ts o (sign LBrace ∷ (yield l ++ (sign RBrace ∷ ys))) → Gives strict close (Parse.body ts d o) (ok l (o + 1 + width l + 1))
 
   module _ (n : ℕ) (t : Tree) where
     whole-at : (d : ℕ) → Fits (suc n) d → ((d : ℕ) → Fits n d → Claim Add d t) → WholeAt d t
@@ -397,8 +412,8 @@ module _ (strict : Bool) (ts : List Tok) where
         (omega arith)
 
     -- a call's end, where its check passes
-    call-ends : (w : List ℕ) (a : Tree) (m k j : ℕ) → (strict ≡ true → isVariable t ≡ true) → k ≡ j → Gives strict (Parse.called ts t w a m k) (ok (call t w a) j)
-    unfolding isMisfit
+    call-ends : (w : List ℕ) (a : Tree) (m k j : ℕ) → (strict ≡ true → isVariable t ≡ true) → k ≡ j → Gives strict close (Parse.called ts t w a m k) (ok (call t w a) j)
+    unfolding isCheck
     call-ends w a m k j q e =
         passes (isVariable t) q (λ b. Cases.called-yes ts t w a m k b ▹ up-to e) (λ b. subst Checked (sym (Cases.called-no ts t w a m k b)) refl)
 
@@ -465,9 +480,9 @@ module _ (strict : Bool) (ts : List Tok) where
 
       -- a ladder's next operand: operators isOp, operands p
       run-bin : (isOp : ℕ → Bool) (all : Out) (p : P) (k i : ℕ) (ys : List Tok) → isOp k ≡ true → From ts i ((yield t ++ (sign k ∷ yield u)) ++ ys)
-          → (From ts i (yield t ++ (sign k ∷ (yield u ++ ys))) → Reach strict ts all (λ r. isOp (kindAt ts r)) (Parse.binStep ts (G d) p) t (i + width t))
-          → ((j : ℕ) → From ts j (yield u ++ ys) → Gives strict (p j) (ok u (j + width u)))
-          → Reach strict ts all (λ r. isOp (kindAt ts r)) (Parse.binStep ts (G d) p) (bin k t u) (i + (width t + 1 + width u))
+          → (From ts i (yield t ++ (sign k ∷ (yield u ++ ys))) → Reach strict close ts all (λ r. isOp (kindAt ts r)) (Parse.binStep ts (G d) p) t (i + width t))
+          → ((j : ℕ) → From ts j (yield u ++ ys) → Gives strict close (p j) (ok u (j + width u)))
+          → Reach strict close ts all (λ r. isOp (kindAt ts r)) (Parse.binStep ts (G d) p) (bin k t u) (i + (width t + 1 + width u))
       unfolding Parse.binStep
       run-bin isOp all p k i ys b e c v =
           let e1 : From ts i (yield t ++ (sign k ∷ (yield u ++ ys))) = regroup e (append-assoc (yield t) (sign k ∷ yield u) ys) in
@@ -489,7 +504,7 @@ module _ (strict : Bool) (ts : List Tok) where
       run-add k b c v i ys e s = run-bin isAdd (Parse.add ts (G d) i) (Parse.mul ts (G d)) k i ys b e (λ e1. c i _ e1 (add-stops k b)) (λ j a. mul-ends d u v j ys a (s .0, s .1, s .2))
 
   expr-ends : (d : ℕ) (t : Tree) → Claim Add d t → (i : ℕ) (ys : List Tok) → From ts i (yield t ++ ys) → Stop Args (front ys)
-      → Gives strict (Parse.expr ts d i) (ok t (i + width t))
+      → Gives strict close (Parse.expr ts d i) (ok t (i + width t))
   unfolding Parse.expr
   expr-ends d t c i ys e s = add-ends d t c i ys e s
 
@@ -501,7 +516,7 @@ module _ (strict : Bool) (ts : List Tok) where
     list-nil i = reach-at (omega arith) (reach-loop (gives refl))
 
     list-snoc : (i : ℕ) (l s : Tree) (ys : List Tok) → From ts i ((yield l ++ yield s) ++ ys) → (From ts i (yield l ++ (yield s ++ ys)) → ListReach stop p i l)
-        → (From ts (i + width l) (yield s ++ ys) → Gives strict (p (i + width l)) (ok s (i + width l + width s))) → eqb (front (yield s ++ ys)) stop ≡ false
+        → (From ts (i + width l) (yield s ++ ys) → Gives strict close (p (i + width l)) (ok s (i + width l + width s))) → eqb (front (yield s ++ ys)) stop ≡ false
         → 1 ≤ width s
         → ListReach stop p i (seq l s)
     unfolding Parse.listStep width
@@ -513,13 +528,13 @@ module _ (strict : Bool) (ts : List Tok) where
         (reach-next (c e1) (ap not (ap (λ (x : ℕ). eqb x stop) (kind-of a) ∙ lead)) h (then-run _ (v a) (gives refl)) (omega arith))
 
     list-ends : (i : ℕ) (l : Tree) (ys : List Tok) → From ts i (yield l ++ (sign stop ∷ ys)) → ListReach stop p i l
-        → Gives strict (Parse.listTo ts stop p i) (ok l (i + width l))
+        → Gives strict close (Parse.listTo ts stop p i) (ok l (i + width l))
     list-ends i l ys e c = reach-end c (ap not (eq-eqb _ stop (sign-kind (after l e))))
 
   -- name `{` contents `}`, behind a keyword
   braced-ends : (p : P) (f : List ℕ → Tree → P) (i k : ℕ) (w : List ℕ) (l : Tree) (ys : List Tok) → From ts i ((sign k ∷ name w ∷ sign LBrace ∷ (yield l ++ (sign RBrace ∷ []))) ++ ys)
       → ((j : ℕ) → From ts j (yield l ++ (sign RBrace ∷ ys)) → ListReach RBrace p j l)
-      → Gives strict (Parse.braced ts p f i) (f w l (i + (3 + width l + 1)))
+      → Gives strict close (Parse.braced ts p f i) (f w l (i + (3 + width l + 1)))
   unfolding Parse.braced
   braced-ends p f i k w l ys e c =
       let e1 : From ts i (sign k ∷ name w ∷ sign LBrace ∷ (yield l ++ (sign RBrace ∷ ys))) = regroup e (simp append-assoc) in
@@ -582,8 +597,8 @@ module _ (strict : Bool) (ts : List Tok) where
   -- behind `if guard ( name )`
   guard-run : (d : ℕ) (w : List ℕ) (i : ℕ) (ys : List Tok) (o : Out)
       → From ts i (sign KeywordIf ∷ sign KeywordGuard ∷ sign LParen ∷ name w ∷ sign RParen ∷ ys)
-      → (From ts (i + 1 + 1 + 1 + 1 + 1) ys → Gives strict (Parse.bodies ts d (Parse.body ts d) w (i + 1 + 1 + 1 + 1 + 1)) o)
-      → Gives strict (Parse.stmt ts d (Parse.body ts d) i) o
+      → (From ts (i + 1 + 1 + 1 + 1 + 1) ys → Gives strict close (Parse.bodies ts d (Parse.body ts d) w (i + 1 + 1 + 1 + 1 + 1)) o)
+      → Gives strict close (Parse.stmt ts d (Parse.body ts d) i) o
   guard-run d w i ys o e h =
       Cases.stmt-branching ts d (Parse.body ts d) i (sign-kind e) ▹ want-run _ (tail-of e) (λ a. want-run _ a (λ b. named-run _ b (λ c. want-run _ c h)))
 
@@ -611,7 +626,7 @@ module _ (strict : Bool) (ts : List Tok) where
   run-stmt : (d : ℕ) (t : Tree) → Claim Stmt d t → ((ys : List Tok) → isText (front (yield t ++ ys)) ≡ false) → Claim Item d t
   run-stmt d t c lead i ys e s q =
       Cases.item-stmt ts i (ap isText (kind-of e) ∙ lead ys)
-      ▹ subst (λ (x : ℕ). Gives strict (Parse.stmt ts x (Parse.body ts x) i) (ok t (i + width t))) q (c i ys e s)
+      ▹ subst (λ (x : ℕ). Gives strict close (Parse.stmt ts x (Parse.body ts x) i) (ok t (i + width t))) q (c i ys e s)
 
   run-text : (d k : ℕ) (w : List ℕ) → isText k ≡ true → Claim Item d (text k w)
   unfolding yield width
@@ -631,7 +646,7 @@ module _ (strict : Bool) (ts : List Tok) where
   run-first d v i ys e s = reach-loop (valued-run _ e (λ _. gives refl))
 
   run-shifted : (d k v : ℕ) (t : Tree) → isShift k ≡ true → (strict ≡ true → leb v 63 ≡ true) → Claim Chain d t → Claim Chain d (shifted k t v)
-  unfolding yield width Parse.chainStep isMisfit
+  unfolding yield width Parse.chainStep isCheck
   run-shifted d k v t b q c i ys e s =
       let e1 : From ts i (yield t ++ (sign k ∷ value v ∷ ys)) = regroup e (append-assoc (yield t) (sign k ∷ value v ∷ []) ys) in
       let a : From ts (i + width t) (sign k ∷ value v ∷ ys) = after t e1 in
@@ -643,7 +658,7 @@ module _ (strict : Bool) (ts : List Tok) where
       (omega arith)
 
   run-type : (d : ℕ) (w : List ℕ) → (strict ≡ true → not (eqb (mapTypeNumber w) 0) ≡ true) → Claim MapField d (mapType w)
-  unfolding yield width isMisfit
+  unfolding yield width isCheck
   run-type d w q i ys e s =
       Cases.field-typing ts i (sign-kind e)
       ▹ want-run _ (tail-of e) (λ a. want-run _ a (λ f. named-run _ f (λ h. passes (not (eqb (mapTypeNumber w) 0)) q
@@ -663,8 +678,8 @@ module _ (strict : Bool) (ts : List Tok) where
   -- the end of a chain at row k, where its checks pass
   limit-ends : (t : Tree) (k j : ℕ) (ys : List Tok) → (strict ≡ true → not (leb (2 ^ 63) (maxBits t)) && leb (maxBits t) most32 ≡ true)
       → From ts k (sign Semicolon ∷ ys) → k + 1 ≡ j
-      → Gives strict (Parse.limitBy ts (leb (2 ^ 63) (maxBits t)) (not (leb (maxBits t) most32)) t k) (ok (limit t) j)
-  unfolding isMisfit
+      → Gives strict close (Parse.limitBy ts (leb (2 ^ 63) (maxBits t)) (not (leb (maxBits t) most32)) t k) (ok (limit t) j)
+  unfolding isCheck
   limit-ends t k j ys q e f =
       passes (not (leb (2 ^ 63) (maxBits t))) (λ z. and-eq-true-iff (not (leb (2 ^ 63) (maxBits t))) (leb (maxBits t) most32) .0 (q z) .0)
       (λ a. passes (leb (maxBits t) most32) (λ z. and-eq-true-iff (not (leb (2 ^ 63) (maxBits t))) (leb (maxBits t) most32) .0 (q z) .1)
@@ -683,7 +698,7 @@ module _ (strict : Bool) (ts : List Tok) where
   run-map : (d : ℕ) (w : List ℕ) (l : Tree)
       → (strict ≡ true → eqb (lacking (typeOf l) (typedBy KeywordKey l) (typedBy KeywordValue l) (limitOf l)) 0 ≡ true) → Claim MapFields d l
       → Claim Decl d (mapDecl w l)
-  unfolding yield width front kindOf Parse.mapAt isMisfit
+  unfolding yield width front kindOf Parse.mapAt isCheck
   run-map d w l b c i ys e s q =
       let f : ℕ = lacking (typeOf l) (typedBy KeywordKey l) (typedBy KeywordValue l) (limitOf l) in
       Cases.top-map ts i (sign-kind e)
@@ -697,8 +712,8 @@ module _ (strict : Bool) (ts : List Tok) where
 
   -- a length at row k, `]` and `;`
   length-run : (f : ℕ → Tree) (k v : ℕ) (ys : List Tok) → (strict ≡ true → leb v most32 ≡ true) → From ts k (value v ∷ sign RBracket ∷ sign Semicolon ∷ ys)
-      → Gives strict (Parse.lengthAt ts f k) (ok (f v) (k + 1 + 1 + 1))
-  unfolding Parse.lengthAt isMisfit
+      → Gives strict close (Parse.lengthAt ts f k) (ok (f v) (k + 1 + 1 + 1))
+  unfolding Parse.lengthAt isCheck
   length-run f k v ys q e =
       valued-run _ e (λ a. passes (leb v most32) q
       (λ b. Cases.length-yes ts f v k (k + 1) b ▹ want-run _ a (λ h. want-run _ h (λ _. gives refl)))
@@ -826,39 +841,41 @@ module _ (strict : Bool) (ts : List Tok) where
 -- ---- the theorems
 
 -- where the checks count, just what is expected
-strictly : {o o′ : Out} → Gives true o o′ → o ≡ o′
+strictly : {o o′ : Out} → Gives true true o o′ → o ≡ o′
 strictly (gives e) = e
 strictly (checked s c) = absurd (true≢false s)
+strictly (nested s c) = absurd (true≢false s)
 
 module _ (ts : List Tok) where
   module _ (i : ℕ) (t : Tree) (ys : List Tok) (e : drop i ts ≡ yield t ++ ys) where
     pub expr-complete : (d : ℕ) → Is true Add d t → Stop Args (front ys) → Parse.expr ts d i ≡ ok t (i + width t)
-    expr-complete d h s = strictly (expr-ends true ts d t (run true ts h d (λ q. omega arith)) i ys (record { are = e }) s)
+    expr-complete d h s = strictly (expr-ends true true ts d t (run true true ts h d (λ q. omega arith)) i ys (record { are = e }) s)
 
     -- a statement, where no `else` follows
     pub stmt-complete : (d : ℕ) → Is true Stmt d t → Stop Stmt (front ys) → Parse.stmt ts d (Parse.body ts d) i ≡ ok t (i + width t)
-    stmt-complete d h s = strictly (run true ts h d (λ q. omega arith) i ys (record { are = e }) s)
+    stmt-complete d h s = strictly (run true true ts h d (λ q. omega arith) i ys (record { are = e }) s)
 
     pub item-complete : Is true Item 64 t → Stop Item (front ys) → Parse.item ts i ≡ ok t (i + width t)
-    item-complete h s = strictly (run true ts h 64 (λ q. omega arith) i ys (record { are = e }) s refl)
+    item-complete h s = strictly (run true true ts h 64 (λ q. omega arith) i ys (record { are = e }) s refl)
 
     pub map-field-complete : (d : ℕ) → Is true MapField d t → Parse.mapField ts i ≡ ok t (i + width t)
-    map-field-complete d h = strictly (run true ts h d (λ q. omega arith) i ys (record { are = e }) tt)
+    map-field-complete d h = strictly (run true true ts h d (λ q. omega arith) i ys (record { are = e }) tt)
 
     pub event-field-complete : (d : ℕ) → Is true EventField d t → Parse.eventField ts i ≡ ok t (i + width t)
-    event-field-complete d h = strictly (run true ts h d (λ q. omega arith) i ys (record { are = e }) tt)
+    event-field-complete d h = strictly (run true true ts h d (λ q. omega arith) i ys (record { are = e }) tt)
 
     -- a declaration, whatever follows
     pub top-complete : Is true Decl 64 t → Parse.top ts i ≡ ok t (i + width t)
-    top-complete h = strictly (run true ts h 64 (λ q. omega arith) i ys (record { are = e }) tt refl)
+    top-complete h = strictly (run true true ts h 64 (λ q. omega arith) i ys (record { are = e }) tt refl)
 
   -- a program, whatever stands behind its Eof
   pub program-complete : (t : Tree) (ys : List Tok) → ts ≡ yield t ++ ys → Is true Program 64 t → Parse.parse ts ≡ ok t (width t)
-  program-complete t ys e h = strictly (run true ts h 64 (λ q. omega arith) 0 ys (record { are = e }) tt refl refl)
+  program-complete t ys e h = strictly (run true true ts h 64 (λ q. omega arith) 0 ys (record { are = e }) tt refl refl)
 
-  -- the same with the checks and the nesting left aside: the program is given, or refused by one of these
-  pub program-checked : (n : ℕ) (t : Tree) (ys : List Tok) → ts ≡ yield t ++ ys → Is false Program n t → Gives false (Parse.parse ts) (ok t (width t))
-  program-checked n t ys e h = run false ts h 64 (λ q. absurd (true≢false (sym q))) 0 ys (record { are = e }) tt refl refl
+  -- the same with the checks or the nesting left aside or not: the program is given, or refused by what is left aside
+  pub program-given : (strict close : Bool) (n : ℕ) (t : Tree) (ys : List Tok) → ts ≡ yield t ++ ys → Is strict Program n t → (close ≡ true → n ≤ 64)
+      → Gives strict close (Parse.parse ts) (ok t (width t))
+  program-given strict close n t ys e h f = run strict close ts h 64 f 0 ys (record { are = e }) tt refl refl
 
 -- The theorem: every program of the grammar, within the nesting and the checks, is what the parser gives on its tokens.
 pub parse-complete : (t : Tree) → Is true Program 64 t → Parse.parse (yield t) ≡ ok t (width t)

@@ -1,4 +1,6 @@
--- A refusal rests on the rows up to its spot: tables that have these rows alike are refused alike, so no program begins with them.
+-- A refusal rests on the rows up to the lost one: tables that have these rows alike are refused alike, so no program begins with them.
+-- Two refusals stand far behind their row: 31, which is told behind the call's `)`, and 32 of an `if`, at its brace. A table that has the
+-- rows up to the call's `(`, or up to the `if`, is refused too, in one way or another.
 use mathlib.Core.Path.{_≡_, refl, sym, ap, _∙_, subst}
 use mathlib.Core.Bool.{Bool, true, false, not, cond, true≢false}
 use mathlib.Core.List.{List, [], append-nil}
@@ -8,124 +10,241 @@ use native.Mathlib.Omega.{arith}
 use lib.Dec.{eqb, leb, ltb}
 use lib.ListN.{length, getD, take, length-take}
 use lib.Seq.{take-all, getD-take}
-use borrow.Author.Tests.{eqb-true, leb-true, leb-false, ltb-true, ltb-false}
+use borrow.Author.Tests.{eqb-true, leb-true, leb-false, ltb-true, ltb-false, not-true, not-false}
 use Rattle.rules.specs.declared.Syntax.{Syntax}
 use Rattle.rules.specs.declared.Syntax.the-variants.{Wanted, NotType, MaxNegative, OutOfRange, ShiftCount, MapTypeUnknown, NotMapField, MapLacks, NotEventType, NotTopLevel, CallOnOther, TooDeep}
-use Rattle.rules.specs.Kinds.{KeywordElse, KeywordGuard, KeywordKey, KeywordValue, LBrace, RBrace, LParen, RParen, Colon, Dot, Comma, Semicolon, LBracket, RBracket, Equals, Identifier, StringLiteral, Number, Star, Eof}
+use Rattle.rules.specs.Kinds.{KeywordElse, KeywordGuard, KeywordKey, KeywordValue, LBrace, RBrace, LParen, RParen, Colon, Dot, Comma, Semicolon, LBracket, RBracket, Equals, Identifier, StringLiteral, Number, Star, Shr, Shl, Eof}
 use Rattle.rules.specs.Tree.{Tok, sign, kindOf, spellingOf, bitsIn, Tree, none, num, var, group, call, bin, one, decl, ret, plain, assign, thenBody, text, typed, limit, first, shifted, plainField, arrayField, isVariable, mapTypeNumber, maxBits, typeOf, typedBy, limitOf, lacking, yield}
 use Rattle.rules.specs.Nodes.{width}
 use Rattle.rules.specs.Parse
 use Rattle.rules.specs.Parse.{Out, ok, no, P, then, pick, many, isAdd, isShift, isMul, isAssign, isText, isType, isTyped, most32, Lead, number, identifier, paren, other, lead, StmtLead, declaring, returning, branching, expression, stmtLead, FieldLead, typing, keying, limiting, nothing, fieldLead, EventLead, typeLead, bytesLead, noLead, eventLead, TopLead, mapLead, unitLead, eventTop, noTop, topLead, Sort, operand, whole, tokAt, kindAt}
-use Rattle.rules.specs.Grammar.{Program, Is}
-use Rattle.theory_grammar.specs.Spot.{isMisfit, spot}
+use Rattle.theory_grammar.specs.Lost.{isMisfit, isCheck, lost, GoesOn}
 use Rattle.theory_grammar.proofs.Laws.{either-kind}
-use Rattle.theory_grammar.proofs.Leads.{FieldIs, field-is}
-use Rattle.theory_grammar.proofs.Complete.{Checked, Gives, gives, checked, program-checked, parse-complete}
+use Rattle.theory_grammar.proofs.Leads.{LeadIs, lead-is, FieldIs, field-is}
+use Rattle.theory_grammar.proofs.Runs.{All, all-any, loop-all, valued-all}
+use Rattle.theory_grammar.proofs.Complete.{Gives, gives, checked, nested, program-given}
+
+-- ---- what is refused whatever stands there
+
+-- a refusal, and by no check where `why` is none
+abbrev pub Dead : Syntax → Out → Type 0
+Dead why (ok t j) = ⊥
+Dead why (no why′ r′) = isCheck why ≡ false → isCheck why′ ≡ false
+
+pub dead-then : (why : Syntax) (o : Out) (f : Tree → P) → Dead why o → Dead why (then o f)
+unfolding then
+dead-then why (ok t j) f d = absurd d
+dead-then why (no why′ r) f d = d
+
+then-dead : (why : Syntax) (o : Out) (f : Tree → P) → isCheck why ≡ true → ((t : Tree) (j : ℕ) → Dead why (f t j)) → Dead why (then o f)
+unfolding then
+then-dead why (ok t j) f c h = h t j
+then-dead why (no why′ r) f c h = λ e. absurd (true≢false (sym c ∙ e))
+
+want-dead : (why : Syntax) (ts : List Tok) (k : ℕ) (f : P) (i : ℕ) → Dead why (f (i + 1)) → Dead why (Parse.want ts k f i)
+unfolding Parse.want Parse.wantBy isCheck
+want-dead why ts k f i h = go (eqb (kindAt ts i) k)
+  where
+    go : (b : Bool) → Dead why (Parse.wantBy ts b k f i)
+    go true = h
+    go false = λ e. refl
+
+-- a call on something else than a variable is refused, whatever stands in it
+module _ (ts : List Tok) (g : Sort → P) (t : Tree) (w : List ℕ) (m : ℕ) (other : isVariable t ≡ false) where
+  called-dead : (a : Tree) (k : ℕ) → Dead CallOnOther (Parse.called ts t w a m k)
+  unfolding Parse.called isCheck
+  called-dead a k = rw other (λ e. e)
+
+  pub call-dead : (b : Bool) (k : ℕ) → Dead CallOnOther (Parse.callBy ts g b t w m k)
+  unfolding Parse.callBy isCheck
+  call-dead true k = called-dead none (k + 1 + 1)
+  call-dead false k =
+      then-dead CallOnOther (Parse.args ts g k) _ refl (λ a r. want-dead CallOnOther ts RParen (Parse.called ts t w a m) r (called-dead a (r + 1)))
+
+-- a body where none is left
+no-body : (ts : List Tok) (w : List ℕ) (j : ℕ)
+    → Parse.bodies ts zero (Parse.body ts zero) w j ≡ pick (eqb (kindAt ts j) LBrace) (no TooDeep j) (no (Wanted LBrace (kindAt ts j)) j)
+unfolding Parse.bodies Parse.need Parse.needBy Parse.body then
+no-body ts w j = go (eqb (kindAt ts j) LBrace)
+  where
+    go : (b : Bool) → then (Parse.needBy ts b LBrace (Parse.body ts zero) j) (λ b k. Parse.elseBy ts zero (Parse.body ts zero) (eqb (kindAt ts k) KeywordElse) w (thenBody b) k)
+        ≡ pick b (no TooDeep j) (no (Wanted LBrace (kindAt ts j)) j)
+    go true = refl
+    go false = refl
+
+-- an `if` where none is left
+branch-dead : (ts : List Tok) (i : ℕ) → Dead TooDeep (Parse.stmtBy ts zero (Parse.body ts zero) branching i)
+unfolding Parse.stmtBy Parse.named isCheck
+branch-dead ts i =
+    want-dead TooDeep ts KeywordGuard _ (i + 1) (want-dead TooDeep ts LParen _ (i + 1 + 1) (want-dead TooDeep ts Identifier _ (i + 1 + 1 + 1)
+    (want-dead TooDeep ts RParen _ (i + 1 + 1 + 1 + 1) (subst (Dead TooDeep) (sym (no-body ts _ (i + 1 + 1 + 1 + 1 + 1)))
+    (go (eqb (kindAt ts (i + 1 + 1 + 1 + 1 + 1)) LBrace))))))
+  where
+    go : (b : Bool) → Dead TooDeep (pick b (no TooDeep (i + 1 + 1 + 1 + 1 + 1)) (no (Wanted LBrace (kindAt ts (i + 1 + 1 + 1 + 1 + 1))) (i + 1 + 1 + 1 + 1 + 1)))
+    go true = λ e. refl
+    go false = λ e. refl
 
 -- ---- two answers
 
 module _ (ts : List Tok) (n : ℕ) where
   -- an answer that may rest on a row behind the first n
-  abbrev Behind : Out → Type 0
+  abbrev pub Behind : Out → Type 0
   Behind (ok t j) = n ≤ j
-  Behind (no why r) = (why ≡ CallOnOther → ⊥) → n ≤ spot ts why r
+  Behind (no why r) = n ≤ lost ts why r
 
   -- a tree ends at row m or behind
-  abbrev Up : ℕ → Out → Type 0
+  abbrev pub Up : ℕ → Out → Type 0
   Up m (ok t j) = m ≤ j
   Up m (no why r) = Unit {0}
 
-  -- Answers from row i on, of a table and of one with the same first n rows: they are the same, or rest on a row behind these.
-  data Local (i m : ℕ) (o o′ : Out) : Type 0 where
-    same : i < n → o ≡ o′ → Up m o → Local i m o o′
-    behind : Behind o → Up m o → Local i m o o′
+  -- a refusal of which more is known
+  abbrev pub Told : (Syntax → ℕ → Type 0) → Out → Type 0
+  Told L (ok t j) = ⊥
+  Told L (no why r) = L why r
+
+  -- Answers from row i on, of a table and of one with the same first n rows: they are the same, or rest on a row behind these, or both are
+  -- refused. Of refusals that L tells nothing is said: they stand behind the row that is lost.
+  pub data LocalBut (L : Syntax → ℕ → Type 0) (i m : ℕ) (o o′ : Out) : Type 0 where
+    same : i < n → o ≡ o′ → Up m o → LocalBut L i m o o′
+    behind : Behind o → Up m o → LocalBut L i m o o′
+    both : i < n → Told (λ why r. (isMisfit why ≡ false) × Dead why o′) o → LocalBut L i m o o′
+    late : Told L o → LocalBut L i m o o′
+
+  abbrev pub Local : ℕ → ℕ → Out → Out → Type 0
+  Local i m o o′ = LocalBut (λ why r. ⊥) i m o o′
 
   ease-up : (o : Out) (q m : ℕ) → q ≤ m → Up m o → Up q o
   ease-up (ok t j) q m h u = omega arith
   ease-up (no why r) q m h u = tt
 
-  ease : {i j q m : ℕ} {o o′ : Out} → i ≤ j → q ≤ m → Local j m o o′ → Local i q o o′
-  ease {i} {j} {q} {m} {o} h k (same l e u) = same (omega arith) e (ease-up o q m k u)
-  ease {i} {j} {q} {m} {o} h k (behind b u) = behind b (ease-up o q m k u)
+  ease : {L : Syntax → ℕ → Type 0} {i j q m : ℕ} {o o′ : Out} → i ≤ j → q ≤ m → LocalBut L j m o o′ → LocalBut L i q o o′
+  ease {i = i} {j} {q} {m} {o} h k (same l e u) = same (omega arith) e (ease-up o q m k u)
+  ease {i = i} {j} {q} {m} {o} h k (behind b u) = behind b (ease-up o q m k u)
+  ease h k (both l d) = both (omega arith) d
+  ease h k (late p) = late p
+
+  -- nothing is left out
+  sure : {L : Syntax → ℕ → Type 0} {i m : ℕ} {o o′ : Out} → Local i m o o′ → LocalBut L i m o o′
+  sure (same l e u) = same l e u
+  sure (behind b u) = behind b u
+  sure (both l d) = both l d
+  sure {o = ok t j} (late p) = absurd p
+  sure {o = no why r} (late p) = absurd p
+
+  -- what was left out is lost at row i: there the other table is doomed
+  abbrev LostAs : ℕ → Out → Syntax → ℕ → Type 0
+  LostAs i o′ why r = (lost ts why r ≡ i) × (isMisfit why ≡ false) × Dead why o′
+
+  lost-as : (i : ℕ) (o′ : Out) (why why′ : Syntax) (r r′ : ℕ) → why ≡ why′ → r ≡ r′ → LostAs i o′ why′ r′ → LostAs i o′ why r
+  lost-as i o′ why why′ r r′ e f h = subst (λ (x : Syntax). LostAs i o′ x r) (sym e) (subst (λ (x : ℕ). LostAs i o′ why′ x) (sym f) h)
+
+  settle : {L : Syntax → ℕ → Type 0} {i m : ℕ} (o o′ : Out) → ((why : Syntax) (r : ℕ) → L why r → LostAs i o′ why r)
+      → LocalBut L i m o o′ → Local i m o o′
+  settle o o′ h (same l e u) = same l e u
+  settle o o′ h (behind b u) = behind b u
+  settle o o′ h (both l d) = both l d
+  settle {i = i} {m} (ok t j) o′ h (late p) = absurd p
+  settle {i = i} {m} (no why r) o′ h (late p) = go (ltb i n) refl (h why r p)
+    where
+      go : (c : Bool) → ltb i n ≡ c → LostAs i o′ why r → Local i m (no why r) o′
+      go true c x = both (ltb-true i n c) (x .1, x .2)
+      go false c x = behind (omega (arith, ltb-false i n c, x .0)) tt
 
   -- the same answers, written otherwise
-  along : {i m : ℕ} {o o′ a a′ : Out} → o ≡ a → o′ ≡ a′ → Local i m a a′ → Local i m o o′
-  along {i} {m} {o} {o′} {a} {a′} e e′ h = subst (λ (x : Out). Local i m x o′) (sym e) (subst (λ (x : Out). Local i m a x) (sym e′) h)
+  along : {L : Syntax → ℕ → Type 0} {i m : ℕ} {o o′ a a′ : Out} → o ≡ a → o′ ≡ a′ → LocalBut L i m a a′ → LocalBut L i m o o′
+  along {L} {i} {m} {o} {o′} {a} {a′} e e′ h = subst (λ (x : Out). LocalBut L i m x o′) (sym e) (subst (λ (x : Out). LocalBut L i m a x) (sym e′) h)
 
-  ok-local : (i m : ℕ) (t : Tree) (k : ℕ) → i ≤ k → m ≤ k → Local i m (ok t k) (ok t k)
-  ok-local i m t k h l = go (ltb i n) refl
+  pub ok-local : {L : Syntax → ℕ → Type 0} (i m : ℕ) (t : Tree) (k : ℕ) → i ≤ k → m ≤ k → LocalBut L i m (ok t k) (ok t k)
+  ok-local {L} i m t k h l = go (ltb i n) refl
     where
-      go : (c : Bool) → ltb i n ≡ c → Local i m (ok t k) (ok t k)
+      go : (c : Bool) → ltb i n ≡ c → LocalBut L i m (ok t k) (ok t k)
       go true c = same (ltb-true i n c) refl l
       go false c = let z : n ≤ i = ltb-false i n c in behind (omega arith) l
 
-  no-local : (i m : ℕ) (why : Syntax) (r : ℕ) → ((why ≡ CallOnOther → ⊥) → i ≤ spot ts why r) → Local i m (no why r) (no why r)
-  no-local i m why r h = go (ltb i n) refl
+  no-local : {L : Syntax → ℕ → Type 0} (i m : ℕ) (why : Syntax) (r : ℕ) → i ≤ lost ts why r → LocalBut L i m (no why r) (no why r)
+  no-local {L} i m why r h = go (ltb i n) refl
     where
-      go : (c : Bool) → ltb i n ≡ c → Local i m (no why r) (no why r)
+      go : (c : Bool) → ltb i n ≡ c → LocalBut L i m (no why r) (no why r)
       go true c = same (ltb-true i n c) refl tt
-      go false c = behind (λ x. omega (arith, ltb-false i n c, h x)) tt
+      go false c = behind (omega (arith, ltb-false i n c, h)) tt
 
-  then-local : {i m q : ℕ} (o o′ : Out) (f f′ : Tree → P) → Local i m o o′ → ((t : Tree) (j : ℕ) → m ≤ j → Local j q (f t j) (f′ t j))
-      → Local i q (then o f) (then o′ f′)
+  -- one answer and then the next, with what else is known of the tree
+  then-known : {L : Syntax → ℕ → Type 0} {i m q : ℕ} (C : Tree → ℕ → Type 0) (o o′ : Out) (f f′ : Tree → P) → All C o → LocalBut L i m o o′
+      → ((t : Tree) (j : ℕ) → C t j → m ≤ j → LocalBut L j q (f t j) (f′ t j)) → LocalBut L i q (then o f) (then o′ f′)
   unfolding then
-  then-local {i} {m} {q} (ok t j) o′ f f′ (same l e u) h = go (h t j u)
+  then-known {L} {i} {m} {q} C (ok t j) o′ f f′ a (same l e u) h = go (f t j) (h t j a u)
     where
-      go : Local j q (f t j) (f′ t j) → Local i q (f t j) (then o′ f′)
-      go (same x y z) = same l (y ∙ ap (λ (x : Out). then x f′) e) z
-      go (behind b z) = behind b z
-  then-local {i} {m} {q} (ok t j) o′ f f′ (behind b u) h = go (h t j u)
+      go : (x : Out) → LocalBut L j q x (f′ t j) → LocalBut L i q x (then o′ f′)
+      go x (same v y z) = same l (y ∙ ap (λ (x : Out). then x f′) e) z
+      go x (behind b z) = behind b z
+      go x (both v d) = both l (subst (λ (y : Out). Told (λ why r. (isMisfit why ≡ false) × Dead why y) x) (ap (λ (x : Out). then x f′) e) d)
+      go x (late p) = late p
+  then-known {L} {i} {m} {q} C (ok t j) o′ f f′ a (behind b u) h = go (f t j) (h t j a u)
     where
-      go : Local j q (f t j) (f′ t j) → Local i q (f t j) (then o′ f′)
-      go (same x y z) = absurd (omega (arith, b, x))
-      go (behind b z) = behind b z
-  then-local (no why r) o′ f f′ (same l e u) h = same l (ap (λ (x : Out). then x f′) e) tt
-  then-local (no why r) o′ f f′ (behind b u) h = behind b tt
+      go : (x : Out) → LocalBut L j q x (f′ t j) → LocalBut L i q x (then o′ f′)
+      go x (same v y z) = absurd (omega (arith, b, v))
+      go x (behind b z) = behind b z
+      go x (both v d) = absurd (omega (arith, b, v))
+      go x (late p) = late p
+  then-known C (ok t j) o′ f f′ a (both l d) h = absurd d
+  then-known C (ok t j) o′ f f′ a (late p) h = absurd p
+  then-known C (no why r) o′ f f′ a (same l e u) h = same l (ap (λ (x : Out). then x f′) e) tt
+  then-known C (no why r) o′ f f′ a (behind b u) h = behind b tt
+  then-known C (no why r) o′ f f′ a (both l d) h = both l (d .0, dead-then why o′ f′ (d .1))
+  then-known C (no why r) o′ f f′ a (late p) h = late p
+
+  pub then-local : {L : Syntax → ℕ → Type 0} {i m q : ℕ} (o o′ : Out) (f f′ : Tree → P) → LocalBut L i m o o′
+      → ((t : Tree) (j : ℕ) → m ≤ j → LocalBut L j q (f t j) (f′ t j)) → LocalBut L i q (then o f) (then o′ f′)
+  then-local o o′ f f′ h k = then-known (λ t j. Unit {0}) o o′ f f′ (all-any o) h (λ t j a l. k t j l)
 
   -- ---- loops
 
   module _ (test : ℕ → Bool) (step : Tree → P) (test′ : ℕ → Bool) (step′ : Tree → P)
-      (alike : (j : ℕ) → j < n → test j ≡ test′ j) (s : (t : Tree) (j : ℕ) → Local j (j + 1) (step t j) (step′ t j)) where
-    many-past : (f : ℕ) (b : Bool) (t : Tree) (j : ℕ) (o′ : Out) → n ≤ j → Local j j (many test step f b t j) o′
+      (alike : (j : ℕ) → j < n → test j ≡ test′ j) (s : (t : Tree) (j : ℕ) → test j ≡ true → Local j (j + 1) (step t j) (step′ t j)) where
+    many-past : (f : ℕ) (b : Bool) (t : Tree) (j : ℕ) (o′ : Out) → test j ≡ b → n ≤ j → Local j j (many test step f b t j) o′
     unfolding many then
-    many-past zero b t j o′ h = behind h (omega arith)
-    many-past (suc f) false t j o′ h = behind h (omega arith)
-    many-past (suc f) true t j o′ h = go (step t j) (s t j) (λ u k l. many-past f (test k) u k o′ l)
+    many-past zero b t j o′ e h = behind h (omega arith)
+    many-past (suc f) false t j o′ e h = behind h (omega arith)
+    many-past (suc f) true t j o′ e h = go (step t j) (s t j e) (λ u k l. many-past f (test k) u k o′ refl l)
       where
         go : (o : Out) → Local j (j + 1) o (step′ t j) → ((u : Tree) (k : ℕ) → n ≤ k → Local k k (many test step f (test k) u k) o′)
             → Local j j (then o (λ u k. many test step f (test k) u k)) o′
         go (ok u k) (same l e x) r = absurd (omega (arith, h, l))
         go (ok u k) (behind b x) r = ease (omega arith) (omega arith) (r u k b)
+        go (ok u k) (both l d) r = absurd d
+        go (ok u k) (late p) r = absurd p
         go (no why p) (same l e x) r = absurd (omega (arith, h, l))
         go (no why p) (behind b x) r = behind b tt
+        go (no why p) (both l d) r = absurd (omega (arith, h, l))
+        go (no why p) (late x) r = late x
 
     many-local : (f f′ : ℕ) (t : Tree) (j : ℕ) → n ≤ f + j → n ≤ f′ + j → Local j j (many test step f (test j) t j) (many test′ step′ f′ (test′ j) t j)
     unfolding many
     many-local zero f′ t j h h′ = behind (omega arith) (omega arith)
-    many-local (suc f) zero t j h h′ = many-past (suc f) (test j) t j _ (omega arith)
+    many-local (suc f) zero t j h h′ = many-past (suc f) (test j) t j _ refl (omega arith)
     many-local (suc f) (suc f′) t j h h′ =
         go (ltb j n) refl (λ u k l. ease (omega arith) (omega arith) (many-local f f′ u k (omega arith) (omega arith)))
       where
-        turn : (b : Bool) → j < n → ((u : Tree) (k : ℕ) → j + 1 ≤ k → Local k j (many test step f (test k) u k) (many test′ step′ f′ (test′ k) u k))
+        turn : (b : Bool) → test j ≡ b → j < n → ((u : Tree) (k : ℕ) → j + 1 ≤ k → Local k j (many test step f (test k) u k) (many test′ step′ f′ (test′ k) u k))
             → Local j j (many test step (suc f) b t j) (many test′ step′ (suc f′) b t j)
-        turn true l r = then-local (step t j) (step′ t j) _ _ (s t j) r
-        turn false l r = same l refl (omega arith)
+        turn true e l r = then-local (step t j) (step′ t j) _ _ (s t j e) r
+        turn false e l r = same l refl (omega arith)
 
         go : (c : Bool) → ltb j n ≡ c → ((u : Tree) (k : ℕ) → j + 1 ≤ k → Local k j (many test step f (test k) u k) (many test′ step′ f′ (test′ k) u k))
             → Local j j (many test step (suc f) (test j) t j) (many test′ step′ (suc f′) (test′ j) t j)
         go true c r =
             let l : j < n = ltb-true j n c in
-            subst (λ (b : Bool). Local j j (many test step (suc f) (test j) t j) (many test′ step′ (suc f′) b t j)) (alike j l) (turn (test j) l r)
-        go false c r = many-past (suc f) (test j) t j _ (ltb-false j n c)
+            subst (λ (b : Bool). Local j j (many test step (suc f) (test j) t j) (many test′ step′ (suc f′) b t j)) (alike j l) (turn (test j) refl l r)
+        go false c r = many-past (suc f) (test j) t j _ refl (ltb-false j n c)
 
--- 25 about the row two behind the key at row i, whether that is Eof (c) or not
+-- the row that is lost with 25: two behind the key at row i, whether it is Eof (c) or not
 module _ (ts : List Tok) (i : ℕ) where
-  pub type-spot : isTyped (kindAt ts i) ≡ true → kindAt ts (i + 1) ≡ Colon → (c : Bool) → spot ts NotType (cond c (i + 1 + 1) (i + 1 + 1 + 1)) ≡ i + 1 + 1
-  unfolding spot
-  type-spot e f true =
+  pub type-lost : isTyped (kindAt ts i) ≡ true → kindAt ts (i + 1) ≡ Colon → (c : Bool) → lost ts NotType (cond c (i + 1 + 1) (i + 1 + 1 + 1)) ≡ i + 1 + 1
+  unfolding lost
+  type-lost e f true =
       ap (λ (r : ℕ). cond (eqb (kindAt ts r) Colon) (i + 1 + 1 - 1) (i + 1 + 1)) (omega arith)
       ∙ ap (λ (b : Bool). cond b (i + 1 + 1 - 1) (i + 1 + 1)) (either-kind (λ x. eqb x Colon ≡ false) (kindAt ts i) KeywordKey KeywordValue e refl refl)
-  type-spot e f false =
+  type-lost e f false =
       ap (λ (r : ℕ). cond (eqb (kindAt ts r) Colon) (i + 1 + 1 + 1 - 1) (i + 1 + 1 + 1)) (omega arith)
       ∙ ap (λ (x : ℕ). cond (eqb x Colon) (i + 1 + 1 + 1 - 1) (i + 1 + 1 + 1)) f ∙ omega arith
 
@@ -147,159 +266,251 @@ module _ (ts : List Tok) (k : ℕ) (f : P) (i : ℕ) where
       go true = refl
       go false = refl
 
-module _ (ts ts′ : List Tok) (n : ℕ) (fit : n ≤ length ts) (fit′ : n ≤ length ts′) (agree : (i : ℕ) → i < n → tokAt ts i ≡ tokAt ts′ i) where
-  loop-local : (test : ℕ → Bool) (step : Tree → P) (step′ : Tree → P) → ((t : Tree) (j : ℕ) → Local ts n j (j + 1) (step t j) (step′ t j))
+-- ---- rows that open a construct where none is left
+
+module _ (ts : List Tok) where
+  -- any but a body's brace is lost itself, or the row behind it
+  pub deep-row : (o : ℕ) → eqb (kindAt ts o) LBrace ≡ false → o ≤ lost ts TooDeep o
+  unfolding lost
+  deep-row o b = rw b (go (eqb (kindAt ts (o - 1)) Identifier))
+    where
+      go : (c : Bool) → o ≤ cond c (o + 1) o
+      go true = omega arith
+      go false = omega arith
+
+  -- a group's parenthesis or a star, behind no name
+  pub group-row : (o : ℕ) → eqb (kindAt ts o) LBrace ≡ false → eqb (kindAt ts (o - 1)) Identifier ≡ false → lost ts TooDeep o ≡ o
+  unfolding lost
+  group-row o b c = rw (b, c)
+
+  -- an argument list's parenthesis, behind the name at row j
+  pub list-row : (j : ℕ) → kindAt ts j ≡ Identifier → kindAt ts (j + 1) ≡ LParen → lost ts TooDeep (j + 1) ≡ j + 1 + 1
+  unfolding lost
+  list-row j e f =
+      let n : j + 1 - 1 ≡ j = omega arith in
+      rw (f, n, e)
+
+  -- the brace of the `if` at row i
+  pub brace-row : (i : ℕ) → kindAt ts (i + 1 + 1 + 1 + 1 + 1) ≡ LBrace → lost ts TooDeep (i + 1 + 1 + 1 + 1 + 1) ≡ i
+  unfolding lost
+  brace-row i e = rw e (omega arith)
+
+-- ---- the row behind a chain, which is lost where its value is too large
+
+abbrev pub ChainEnd : List Tok → Tree → ℕ → Type 0
+ChainEnd ts c k = lost ts OutOfRange (k - 1) ≡ k
+
+-- a number behind row j, which is no bracket
+number-end : (ts : List Tok) (j : ℕ) → eqb (kindAt ts j) LBracket ≡ false → lost ts OutOfRange (j + 1 + 1 - 1) ≡ j + 1 + 1
+unfolding lost
+number-end ts j b =
+    ap (λ (x : ℕ). cond (eqb (kindAt ts x) LBracket) (j + 1 + 1 - 1) (j + 1 + 1 - 1 + 1)) (omega arith)
+    ∙ ap (λ (x : Bool). cond x (j + 1 + 1 - 1) (j + 1 + 1 - 1 + 1)) b ∙ omega arith
+
+pub chain-end : (ts : List Tok) (j : ℕ) → kindAt ts j ≡ Colon → All (ChainEnd ts) (Parse.chain ts (j + 1))
+unfolding Parse.chain Parse.chainStep Parse.countBy
+chain-end ts j e =
+    valued-all ts (ChainEnd ts) _ (j + 1) (λ f.
+    loop-all ts (ChainEnd ts) (λ r. isShift (kindAt ts r)) (Parse.chainStep ts)
+    (λ c k x b. valued-all ts (ChainEnd ts) _ (k + 1) (λ q. go c k b (leb (bitsIn (tokAt ts (k + 1))) 63)))
+    (first (bitsIn (tokAt ts (j + 1)))) (j + 1 + 1) (number-end ts j (ap (λ (x : ℕ). eqb x LBracket) e)))
+  where
+    go : (c : Tree) (k : ℕ) → isShift (kindAt ts k) ≡ true → (b : Bool) → All (ChainEnd ts) (Parse.countBy ts b c k (bitsIn (tokAt ts (k + 1))) (k + 1 + 1))
+    go c k s true = number-end ts k (either-kind (λ x. eqb x LBracket ≡ false) (kindAt ts k) Shl Shr s refl refl)
+    go c k s false = tt
+
+-- ---- two tables whose first n rows are alike
+
+pub record Alike (ts ts′ : List Tok) (n : ℕ) : Type 0 where
+  pub fit : n ≤ length ts
+  pub fit′ : n ≤ length ts′
+  pub agree : (i : ℕ) → i < n → tokAt ts i ≡ tokAt ts′ i
+
+module _ (ts ts′ : List Tok) (n : ℕ) (agreed : Alike ts ts′ n) where
+  loop-local : (test : ℕ → Bool) (step : Tree → P) (step′ : Tree → P)
+      → ((t : Tree) (j : ℕ) → test (kindAt ts j) ≡ true → Local ts n j (j + 1) (step t j) (step′ t j))
       → (t : Tree) (j : ℕ) → Local ts n j j (Parse.loop ts (λ r. test (kindAt ts r)) step t j) (Parse.loop ts′ (λ r. test (kindAt ts′ r)) step′ t j)
   unfolding Parse.loop
   loop-local test step step′ s t j =
-      many-local ts n (λ r. test (kindAt ts r)) step (λ r. test (kindAt ts′ r)) step′ (λ r l. ap (λ (x : Tok). test (kindOf x)) (agree r l)) s
-      (suc (length ts)) (suc (length ts′)) t j (omega arith) (omega arith)
+      many-local ts n (λ r. test (kindAt ts r)) step (λ r. test (kindAt ts′ r)) step′ (λ r l. ap (λ (x : Tok). test (kindOf x)) (agreed .agree r l)) s
+      (suc (length ts)) (suc (length ts′)) t j (omega (arith, agreed .fit)) (omega (arith, agreed .fit′))
 
   -- ---- a row that is looked at
 
   -- row k, at row i or before
-  look-back : {B : Type 0} (k i m : ℕ) → k ≤ i → (φ : Tok → B) (F F′ : B → Out) → ((b : B) → φ (tokAt ts k) ≡ b → Local ts n i m (F b) (F′ b))
-      → Local ts n i m (F (φ (tokAt ts k))) (F′ (φ (tokAt ts′ k)))
-  look-back k i m q φ F F′ h = go (ltb i n) refl (h (φ (tokAt ts k)) refl)
+  look-back : {L : Syntax → ℕ → Type 0} {B : Type 0} (k i m : ℕ) → k ≤ i → (φ : Tok → B) (F F′ : B → Out)
+      → ((b : B) → φ (tokAt ts k) ≡ b → LocalBut ts n L i m (F b) (F′ b)) → LocalBut ts n L i m (F (φ (tokAt ts k))) (F′ (φ (tokAt ts′ k)))
+  look-back {L} k i m q φ F F′ h = go (ltb i n) refl (F (φ (tokAt ts k))) (h (φ (tokAt ts k)) refl)
     where
-      go : (c : Bool) → ltb i n ≡ c → Local ts n i m (F (φ (tokAt ts k))) (F′ (φ (tokAt ts k))) → Local ts n i m (F (φ (tokAt ts k))) (F′ (φ (tokAt ts′ k)))
-      go true c x = subst (λ (y : Tok). Local ts n i m (F (φ (tokAt ts k))) (F′ (φ y))) (agree k (omega (arith, q, ltb-true i n c))) x
-      go false c (same l e u) = absurd (omega (arith, ltb-false i n c, l))
-      go false c (behind b u) = behind b u
+      go : (c : Bool) → ltb i n ≡ c → (o : Out) → LocalBut ts n L i m o (F′ (φ (tokAt ts k))) → LocalBut ts n L i m o (F′ (φ (tokAt ts′ k)))
+      go true c o x = subst (λ (y : Tok). LocalBut ts n L i m o (F′ (φ y))) (agreed .agree k (omega (arith, q, ltb-true i n c))) x
+      go false c o (same l e u) = absurd (omega (arith, ltb-false i n c, l))
+      go false c o (behind b u) = behind b u
+      go false c o (both l d) = absurd (omega (arith, ltb-false i n c, l))
+      go false c o (late p) = late p
 
-  look : {B : Type 0} (i m : ℕ) (φ : Tok → B) (F F′ : B → Out) → ((b : B) → φ (tokAt ts i) ≡ b → Local ts n i m (F b) (F′ b))
-      → Local ts n i m (F (φ (tokAt ts i))) (F′ (φ (tokAt ts′ i)))
+  look : {L : Syntax → ℕ → Type 0} {B : Type 0} (i m : ℕ) (φ : Tok → B) (F F′ : B → Out) → ((b : B) → φ (tokAt ts i) ≡ b → LocalBut ts n L i m (F b) (F′ b))
+      → LocalBut ts n L i m (F (φ (tokAt ts i))) (F′ (φ (tokAt ts′ i)))
   look i m φ F F′ h = look-back i i m (omega arith) φ F F′ h
 
-  -- 21, at a row of the kind x, where k is wanted
-  wanted : (k i m x : ℕ) → Local ts n i m (no (Wanted k x) i) (no (Wanted k x) i)
-  unfolding spot
-  wanted k i m x = no-local ts n i m (Wanted k x) i (λ c. omega arith)
+  module _ {L : Syntax → ℕ → Type 0} where
+    -- 21, at a row of the kind x, where k is wanted
+    wanted : (k i m x : ℕ) → LocalBut ts n L i m (no (Wanted k x) i) (no (Wanted k x) i)
+    unfolding lost
+    wanted k i m x = no-local ts n i m (Wanted k x) i (omega arith)
 
-  -- a where the row i is of kind k, and 21 where it is not
-  pick-local : (k i m : ℕ) (a a′ : Out) → (kindAt ts i ≡ k → Local ts n i m a a′)
-      → Local ts n i m (pick (eqb (kindAt ts i) k) a (no (Wanted k (kindAt ts i)) i)) (pick (eqb (kindAt ts′ i) k) a′ (no (Wanted k (kindAt ts′ i)) i))
-  pick-local k i m a a′ h =
-      look i m kindOf (λ x. pick (eqb x k) a (no (Wanted k x) i)) (λ x. pick (eqb x k) a′ (no (Wanted k x) i)) (λ x e. go (eqb x k) x refl e)
-    where
-      go : (b : Bool) (x : ℕ) → eqb x k ≡ b → kindAt ts i ≡ x → Local ts n i m (pick b a (no (Wanted k x) i)) (pick b a′ (no (Wanted k x) i))
-      go true x q e = h (e ∙ eqb-true x k q)
-      go false x q e = wanted k i m x
+    -- a where the row i is of kind k, and 21 where it is not
+    pick-local : (k i m : ℕ) (a a′ : Out) → (kindAt ts i ≡ k → LocalBut ts n L i m a a′)
+        → LocalBut ts n L i m (pick (eqb (kindAt ts i) k) a (no (Wanted k (kindAt ts i)) i)) (pick (eqb (kindAt ts′ i) k) a′ (no (Wanted k (kindAt ts′ i)) i))
+    pick-local k i m a a′ h =
+        look i m kindOf (λ x. pick (eqb x k) a (no (Wanted k x) i)) (λ x. pick (eqb x k) a′ (no (Wanted k x) i)) (λ x e. go (eqb x k) x refl e)
+      where
+        go : (b : Bool) (x : ℕ) → eqb x k ≡ b → kindAt ts i ≡ x → LocalBut ts n L i m (pick b a (no (Wanted k x) i)) (pick b a′ (no (Wanted k x) i))
+        go true x q e = h (e ∙ eqb-true x k q)
+        go false x q e = wanted k i m x
 
-  want-known : (k : ℕ) (f f′ : P) (i m : ℕ) → (kindAt ts i ≡ k → Local ts n (i + 1) m (f (i + 1)) (f′ (i + 1)))
-      → Local ts n i m (Parse.want ts k f i) (Parse.want ts′ k f′ i)
-  want-known k f f′ i m h =
-      along ts n (want-pick ts k f i) (want-pick ts′ k f′ i) (pick-local k i m (f (i + 1)) (f′ (i + 1)) (λ e. ease ts n (omega arith) (omega arith) (h e)))
+    -- a row of kind k, and what is read behind it, which may rest on that row alone
+    want-at : (k : ℕ) (f f′ : P) (i m : ℕ) → (kindAt ts i ≡ k → LocalBut ts n L i m (f (i + 1)) (f′ (i + 1)))
+        → LocalBut ts n L i m (Parse.want ts k f i) (Parse.want ts′ k f′ i)
+    want-at k f f′ i m h = along ts n (want-pick ts k f i) (want-pick ts′ k f′ i) (pick-local k i m (f (i + 1)) (f′ (i + 1)) h)
 
-  want-local : (k : ℕ) (f f′ : P) (i m : ℕ) → Local ts n (i + 1) m (f (i + 1)) (f′ (i + 1)) → Local ts n i m (Parse.want ts k f i) (Parse.want ts′ k f′ i)
-  want-local k f f′ i m h = want-known k f f′ i m (λ e. h)
+    want-known : (k : ℕ) (f f′ : P) (i m : ℕ) → (kindAt ts i ≡ k → LocalBut ts n L (i + 1) m (f (i + 1)) (f′ (i + 1)))
+        → LocalBut ts n L i m (Parse.want ts k f i) (Parse.want ts′ k f′ i)
+    want-known k f f′ i m h = want-at k f f′ i m (λ e. ease ts n (omega arith) (omega arith) (h e))
 
-  need-local : (k : ℕ) (f f′ : P) (i m : ℕ) → Local ts n i m (f i) (f′ i) → Local ts n i m (Parse.need ts k f i) (Parse.need ts′ k f′ i)
-  need-local k f f′ i m h = along ts n (need-pick ts k f i) (need-pick ts′ k f′ i) (pick-local k i m (f i) (f′ i) (λ e. h))
+    want-local : (k : ℕ) (f f′ : P) (i m : ℕ) → LocalBut ts n L (i + 1) m (f (i + 1)) (f′ (i + 1))
+        → LocalBut ts n L i m (Parse.want ts k f i) (Parse.want ts′ k f′ i)
+    want-local k f f′ i m h = want-known k f f′ i m (λ e. h)
 
-  named-local : (f f′ : List ℕ → P) (i m : ℕ) → ((w : List ℕ) → Local ts n (i + 1) m (f w (i + 1)) (f′ w (i + 1)))
-      → Local ts n i m (Parse.named ts f i) (Parse.named ts′ f′ i)
-  unfolding Parse.named
-  named-local f f′ i m h =
-      look i m spellingOf (λ w. Parse.want ts Identifier (f w) i) (λ w. Parse.want ts′ Identifier (f′ w) i) (λ w e. want-local Identifier (f w) (f′ w) i m (h w))
+    need-local : (k : ℕ) (f f′ : P) (i m : ℕ) → LocalBut ts n L i m (f i) (f′ i) → LocalBut ts n L i m (Parse.need ts k f i) (Parse.need ts′ k f′ i)
+    need-local k f f′ i m h = along ts n (need-pick ts k f i) (need-pick ts′ k f′ i) (pick-local k i m (f i) (f′ i) (λ e. h))
 
-  quoted-local : (f f′ : List ℕ → P) (i m : ℕ) → ((w : List ℕ) → Local ts n (i + 1) m (f w (i + 1)) (f′ w (i + 1)))
-      → Local ts n i m (Parse.quoted ts f i) (Parse.quoted ts′ f′ i)
-  unfolding Parse.quoted
-  quoted-local f f′ i m h =
-      look i m spellingOf (λ w. Parse.want ts StringLiteral (f w) i) (λ w. Parse.want ts′ StringLiteral (f′ w) i)
-      (λ w e. want-local StringLiteral (f w) (f′ w) i m (h w))
+    -- a name, which what is read behind it may rest on alone
+    named-at : (f f′ : List ℕ → P) (i m : ℕ) → ((w : List ℕ) → kindAt ts i ≡ Identifier → LocalBut ts n L i m (f w (i + 1)) (f′ w (i + 1)))
+        → LocalBut ts n L i m (Parse.named ts f i) (Parse.named ts′ f′ i)
+    unfolding Parse.named
+    named-at f f′ i m h =
+        look i m spellingOf (λ w. Parse.want ts Identifier (f w) i) (λ w. Parse.want ts′ Identifier (f′ w) i) (λ w e. want-at Identifier (f w) (f′ w) i m (h w))
 
-  valued-local : (f f′ : ℕ → P) (i m : ℕ) → ((v : ℕ) → Local ts n i m (f v (i + 1)) (f′ v (i + 1))) → Local ts n i m (Parse.valued ts f i) (Parse.valued ts′ f′ i)
-  unfolding Parse.valued
-  valued-local f f′ i m h =
-      look i m bitsIn (λ v. Parse.want ts Number (f v) i) (λ v. Parse.want ts′ Number (f′ v) i)
-      (λ v e. along ts n (want-pick ts Number (f v) i) (want-pick ts′ Number (f′ v) i) (pick-local Number i m (f v (i + 1)) (f′ v (i + 1)) (λ q. h v)))
+    named-local : (f f′ : List ℕ → P) (i m : ℕ) → ((w : List ℕ) → LocalBut ts n L (i + 1) m (f w (i + 1)) (f′ w (i + 1)))
+        → LocalBut ts n L i m (Parse.named ts f i) (Parse.named ts′ f′ i)
+    named-local f f′ i m h = named-at f f′ i m (λ w e. ease ts n (omega arith) (omega arith) (h w))
 
-  -- a row of kind k, and a tree behind it
-  want-ok : (k : ℕ) (t : Tree) (i m : ℕ) → m ≤ i + 1 → Local ts n i m (Parse.want ts k (ok t) i) (Parse.want ts′ k (ok t) i)
-  want-ok k t i m h = want-local k (ok t) (ok t) i m (ok-local ts n (i + 1) m t (i + 1) (omega arith) h)
+    quoted-local : (f f′ : List ℕ → P) (i m : ℕ) → ((w : List ℕ) → LocalBut ts n L (i + 1) m (f w (i + 1)) (f′ w (i + 1)))
+        → LocalBut ts n L i m (Parse.quoted ts f i) (Parse.quoted ts′ f′ i)
+    unfolding Parse.quoted
+    quoted-local f f′ i m h =
+        look i m spellingOf (λ w. Parse.want ts StringLiteral (f w) i) (λ w. Parse.want ts′ StringLiteral (f′ w) i)
+        (λ w e. want-local StringLiteral (f w) (f′ w) i m (h w))
+
+    valued-local : (f f′ : ℕ → P) (i m : ℕ) → ((v : ℕ) → LocalBut ts n L i m (f v (i + 1)) (f′ v (i + 1)))
+        → LocalBut ts n L i m (Parse.valued ts f i) (Parse.valued ts′ f′ i)
+    unfolding Parse.valued
+    valued-local f f′ i m h =
+        look i m bitsIn (λ v. Parse.want ts Number (f v) i) (λ v. Parse.want ts′ Number (f′ v) i) (λ v e. want-at Number (f v) (f′ v) i m (λ q. h v))
+
+    -- a row of kind k, and a tree behind it
+    want-ok : (k : ℕ) (t : Tree) (i m : ℕ) → m ≤ i + 1 → LocalBut ts n L i m (Parse.want ts k (ok t) i) (Parse.want ts′ k (ok t) i)
+    want-ok k t i m h = want-local k (ok t) (ok t) i m (ok-local ts n (i + 1) m t (i + 1) (omega arith) h)
 
   -- ---- expressions
 
-  called-local : (t : Tree) (w : List ℕ) (a : Tree) (m k q : ℕ) → q ≤ k → Local ts n k q (Parse.called ts t w a m k) (Parse.called ts′ t w a m k)
+  -- what is left open of a call whose method's name is at row m: 31, on anything but a variable
+  abbrev Other : Tree → ℕ → Syntax → ℕ → Type 0
+  Other t m why r = (why ≡ CallOnOther) × (r ≡ m) × (isVariable t ≡ false)
+
+  called-local : (t : Tree) (w : List ℕ) (a : Tree) (m k q : ℕ) → q ≤ k
+      → LocalBut ts n (Other t m) k q (Parse.called ts t w a m k) (Parse.called ts′ t w a m k)
   unfolding Parse.called
-  called-local t w a m k q h = go (isVariable t)
+  called-local t w a m k q h = go (isVariable t) refl
     where
-      go : (b : Bool) → Local ts n k q (pick b (ok (call t w a) k) (no CallOnOther m)) (pick b (ok (call t w a) k) (no CallOnOther m))
-      go true = ok-local ts n k q (call t w a) k (omega arith) h
-      go false = no-local ts n k q CallOnOther m (λ c. absurd (c refl))
+      go : (b : Bool) → isVariable t ≡ b
+          → LocalBut ts n (Other t m) k q (pick b (ok (call t w a) k) (no CallOnOther m)) (pick b (ok (call t w a) k) (no CallOnOther m))
+      go true e = ok-local ts n k q (call t w a) k (omega arith) h
+      go false e = late (refl, refl, e)
 
-  module _ (g g′ : Sort → P) (under : (s : Sort) (o : ℕ) → Local ts n (o + 1) (o + 1) (g s o) (g′ s o)) where
-    atom-by : (l : Lead) (i : ℕ) → Local ts n i (i + 1) (Parse.atomBy ts g l i) (Parse.atomBy ts′ g′ l i)
+  -- what is read behind an opening row o, from row q on, where it is lost there if none is left
+  module _ (g g′ : Sort → P) (under : (s : Sort) (o q : ℕ) → q ≤ lost ts TooDeep o → q ≤ o + 1 → Local ts n q (o + 1) (g s o) (g′ s o)) where
+    atom-by : (l : Lead) (i : ℕ) → LeadIs (kindAt ts i) l → Local ts n i (i + 1) (Parse.atomBy ts g l i) (Parse.atomBy ts′ g′ l i)
     unfolding Parse.atomBy
-    atom-by number i =
+    atom-by number i f =
         look i (i + 1) bitsIn (λ v. ok (num v) (i + 1)) (λ v. ok (num v) (i + 1)) (λ v e. ok-local ts n i (i + 1) (num v) (i + 1) (omega arith) (omega arith))
-    atom-by identifier i =
+    atom-by identifier i f =
         look i (i + 1) spellingOf (λ w. ok (var w) (i + 1)) (λ w. ok (var w) (i + 1)) (λ w e. ok-local ts n i (i + 1) (var w) (i + 1) (omega arith) (omega arith))
-    atom-by paren i =
-        ease ts n (omega arith) (omega arith) (then-local ts n (g whole i) (g′ whole i) _ _ (under whole i)
-        (λ t j l. want-ok RParen (group t) j (i + 1) (omega arith)))
-    atom-by other i = look i (i + 1) kindOf (λ x. no (Wanted Identifier x) i) (λ x. no (Wanted Identifier x) i) (λ x e. wanted Identifier i (i + 1) x)
+    atom-by paren i f =
+        then-local ts n (g whole i) (g′ whole i) _ _ (under whole i i (deep-row ts i (ap (λ (x : ℕ). eqb x LBrace) f)) (omega arith))
+        (λ t j l. want-ok RParen (group t) j (i + 1) (omega arith))
+    atom-by other i f = look i (i + 1) kindOf (λ x. no (Wanted Identifier x) i) (λ x. no (Wanted Identifier x) i) (λ x e. wanted Identifier i (i + 1) x)
 
-    atom-local : (i : ℕ) → Local ts n i (i + 1) (Parse.atom ts g i) (Parse.atom ts′ g′ i)
+    pub atom-local : (i : ℕ) → Local ts n i (i + 1) (Parse.atom ts g i) (Parse.atom ts′ g′ i)
     unfolding Parse.atom
-    atom-local i = look i (i + 1) (λ x. lead (kindOf x)) (λ l. Parse.atomBy ts g l i) (λ l. Parse.atomBy ts′ g′ l i) (λ l e. atom-by l i)
+    atom-local i =
+        look i (i + 1) (λ x. lead (kindOf x)) (λ l. Parse.atomBy ts g l i) (λ l. Parse.atomBy ts′ g′ l i)
+        (λ l e. atom-by l i (subst (LeadIs (kindAt ts i)) e (lead-is (kindAt ts i))))
 
-    arg-step : (a : Tree) (j : ℕ) → Local ts n j (j + 1) (Parse.argStep ts g a j) (Parse.argStep ts′ g′ a j)
+    pub arg-step : (a : Tree) (j : ℕ) → eqb (kindAt ts j) Comma ≡ true → Local ts n j (j + 1) (Parse.argStep ts g a j) (Parse.argStep ts′ g′ a j)
     unfolding Parse.argStep
-    arg-step a j =
-        ease ts n (omega arith) (omega arith) (then-local ts n (g whole j) (g′ whole j) _ _ (under whole j) (λ t k l. ok-local ts n k (j + 1) _ k (omega arith) l))
+    arg-step a j b =
+        then-local ts n (g whole j) (g′ whole j) _ _
+        (under whole j j (deep-row ts j (ap (λ (x : ℕ). eqb x LBrace) (eqb-true (kindAt ts j) Comma b))) (omega arith))
+        (λ t k l. ok-local ts n k (j + 1) _ k (omega arith) l)
 
-    args-local : (o : ℕ) → Local ts n (o + 1) (o + 1) (Parse.args ts g o) (Parse.args ts′ g′ o)
+    args-local : (o : ℕ) → o + 1 ≤ lost ts TooDeep o → Local ts n (o + 1) (o + 1) (Parse.args ts g o) (Parse.args ts′ g′ o)
     unfolding Parse.args
-    args-local o =
-        then-local ts n (g whole o) (g′ whole o) _ _ (under whole o)
+    args-local o h =
+        then-local ts n (g whole o) (g′ whole o) _ _ (under whole o (o + 1) h (omega arith))
         (λ t k l. ease ts n (omega arith) l (loop-local (λ x. eqb x Comma) (Parse.argStep ts g) (Parse.argStep ts′ g′) arg-step (one t) k))
 
-    call-by : (b : Bool) (t : Tree) (w : List ℕ) (m k q : ℕ) → q ≤ k + 1 → Local ts n (k + 1) q (Parse.callBy ts g b t w m k) (Parse.callBy ts′ g′ b t w m k)
+    -- a call whose method's name is at row m, and whose parenthesis at row k
+    call-by : (b : Bool) (t : Tree) (w : List ℕ) (m k q : ℕ) → k + 1 ≤ lost ts TooDeep k → q ≤ k + 1
+        → LocalBut ts n (Other t m) (k + 1) q (Parse.callBy ts g b t w m k) (Parse.callBy ts′ g′ b t w m k)
     unfolding Parse.callBy
-    call-by true t w m k q h = ease ts n (omega arith) (omega arith) (called-local t w none m (k + 1 + 1) q (omega arith))
-    call-by false t w m k q h =
-        then-local ts n (Parse.args ts g k) (Parse.args ts′ g′ k) _ _ (args-local k)
+    call-by true t w m k q d h = ease ts n (omega arith) (omega arith) (called-local t w none m (k + 1 + 1) q (omega arith))
+    call-by false t w m k q d h =
+        then-local ts n (Parse.args ts g k) (Parse.args ts′ g′ k) _ _ (sure ts n (args-local k d))
         (λ a r l. want-local RParen (Parse.called ts t w a m) (Parse.called ts′ t w a m) r q (called-local t w a m (r + 1) q (omega arith)))
 
-    open-by : (b : Bool) (t : Tree) (w : List ℕ) (m k q : ℕ) → q ≤ k → Local ts n k q (Parse.openBy ts g b t w m k) (Parse.openBy ts′ g′ b t w m k)
-    unfolding Parse.openBy
-    open-by true t w m k q h =
-        ease ts n (omega arith) (omega arith)
-        (look (k + 1) q (λ x. eqb (kindOf x) RParen) (λ b. Parse.callBy ts g b t w m k) (λ b. Parse.callBy ts′ g′ b t w m k)
-        (λ b e. call-by b t w m k q (omega arith)))
-    open-by false t w m k q h = ok-local ts n k q _ k (omega arith) h
+    open-by : (b : Bool) (t : Tree) (w : List ℕ) (m q : ℕ) → kindAt ts m ≡ Identifier → eqb (kindAt ts (m + 1)) LParen ≡ b → q ≤ m + 1
+        → Local ts n (m + 1) q (Parse.openBy ts g b t w m (m + 1)) (Parse.openBy ts′ g′ b t w m (m + 1))
+    unfolding Parse.openBy lost isMisfit
+    open-by true t w m q e f h =
+        settle ts n (Parse.callBy ts g (eqb (kindAt ts (m + 1 + 1)) RParen) t w m (m + 1)) (Parse.callBy ts′ g′ (eqb (kindAt ts′ (m + 1 + 1)) RParen) t w m (m + 1))
+        (λ why r x. lost-as ts n (m + 1) (Parse.callBy ts′ g′ (eqb (kindAt ts′ (m + 1 + 1)) RParen) t w m (m + 1)) why CallOnOther r m (x .0) (x .1)
+        (refl, refl, call-dead ts′ g′ t w m (x .2) (eqb (kindAt ts′ (m + 1 + 1)) RParen) (m + 1)))
+        (ease ts n (omega arith) (omega arith)
+        (look (m + 1 + 1) q (λ x. eqb (kindOf x) RParen) (λ b. Parse.callBy ts g b t w m (m + 1)) (λ b. Parse.callBy ts′ g′ b t w m (m + 1))
+        (λ b c. call-by b t w m (m + 1) q (omega (arith, list-row ts m e (eqb-true (kindAt ts (m + 1)) LParen f))) (omega arith))))
+    open-by false t w m q e f h = ok-local ts n (m + 1) q _ (m + 1) (omega arith) h
 
-    post-local : (t : Tree) (j : ℕ) → Local ts n j (j + 1) (Parse.post ts g t j) (Parse.post ts′ g′ t j)
+    pub post-local : (t : Tree) (j : ℕ) → Local ts n j (j + 1) (Parse.post ts g t j) (Parse.post ts′ g′ t j)
     unfolding Parse.post
     post-local t j =
-        ease ts n (omega arith) (omega arith) (named-local _ _ (j + 1) (j + 1)
-        (λ w. look (j + 1 + 1) (j + 1) (λ x. eqb (kindOf x) LParen) (λ b. Parse.openBy ts g b t w (j + 1) (j + 1 + 1))
+        ease ts n (omega arith) (omega arith) (named-at _ _ (j + 1) (j + 1)
+        (λ w e. ease ts n (omega arith) (omega arith) (look (j + 1 + 1) (j + 1) (λ x. eqb (kindOf x) LParen) (λ b. Parse.openBy ts g b t w (j + 1) (j + 1 + 1))
         (λ b. Parse.openBy ts′ g′ b t w (j + 1) (j + 1 + 1))
-        (λ b e. open-by b t w (j + 1) (j + 1 + 1) (j + 1) (omega arith))))
+        (λ b f. open-by b t w (j + 1) (j + 1) e f (omega arith)))))
 
     prim-local : (i : ℕ) → Local ts n i (i + 1) (Parse.prim ts g i) (Parse.prim ts′ g′ i)
     unfolding Parse.prim
     prim-local i =
         then-local ts n (Parse.atom ts g i) (Parse.atom ts′ g′ i) _ _ (atom-local i)
-        (λ t j l. ease ts n (omega arith) l (loop-local (λ x. eqb x Dot) (Parse.post ts g) (Parse.post ts′ g′) post-local t j))
+        (λ t j l. ease ts n (omega arith) l (loop-local (λ x. eqb x Dot) (Parse.post ts g) (Parse.post ts′ g′) (λ u k b. post-local u k) t j))
 
-    unary-by : (b : Bool) (i : ℕ) → Local ts n i (i + 1) (Parse.unaryBy ts g b i) (Parse.unaryBy ts′ g′ b i)
+    unary-by : (b : Bool) (i : ℕ) → eqb (kindAt ts i) Star ≡ b → Local ts n i (i + 1) (Parse.unaryBy ts g b i) (Parse.unaryBy ts′ g′ b i)
     unfolding Parse.unaryBy
-    unary-by true i =
-        ease ts n (omega arith) (omega arith) (then-local ts n (g operand i) (g′ operand i) _ _ (under operand i)
-        (λ t j l. ok-local ts n j (i + 1) _ j (omega arith) l))
-    unary-by false i = prim-local i
+    unary-by true i b =
+        then-local ts n (g operand i) (g′ operand i) _ _
+        (under operand i i (deep-row ts i (ap (λ (x : ℕ). eqb x LBrace) (eqb-true (kindAt ts i) Star b))) (omega arith))
+        (λ t j l. ok-local ts n j (i + 1) _ j (omega arith) l)
+    unary-by false i b = prim-local i
 
-    unary-local : (i : ℕ) → Local ts n i (i + 1) (Parse.unary ts g i) (Parse.unary ts′ g′ i)
+    pub unary-local : (i : ℕ) → Local ts n i (i + 1) (Parse.unary ts g i) (Parse.unary ts′ g′ i)
     unfolding Parse.unary
-    unary-local i = look i (i + 1) (λ x. eqb (kindOf x) Star) (λ b. Parse.unaryBy ts g b i) (λ b. Parse.unaryBy ts′ g′ b i) (λ b e. unary-by b i)
+    unary-local i = look i (i + 1) (λ x. eqb (kindOf x) Star) (λ b. Parse.unaryBy ts g b i) (λ b. Parse.unaryBy ts′ g′ b i) (λ b e. unary-by b i e)
 
     -- operands p, joined by operators `isOp`
     module _ (isOp : ℕ → Bool) (p p′ : P) (s : (i : ℕ) → Local ts n i (i + 1) (p i) (p′ i)) where
-      bin-step : (t : Tree) (j : ℕ) → Local ts n j (j + 1) (Parse.binStep ts g p t j) (Parse.binStep ts′ g′ p′ t j)
+      pub bin-step : (t : Tree) (j : ℕ) → Local ts n j (j + 1) (Parse.binStep ts g p t j) (Parse.binStep ts′ g′ p′ t j)
       unfolding Parse.binStep
       bin-step t j =
           look j (j + 1) kindOf (λ x. then (p (j + 1)) (λ u k. ok (bin x t u) k)) (λ x. then (p′ (j + 1)) (λ u k. ok (bin x t u) k))
@@ -310,13 +521,13 @@ module _ (ts ts′ : List Tok) (n : ℕ) (fit : n ≤ length ts) (fit′ : n ≤
           → Local ts n i (i + 1) (then o (λ t j. Parse.loop ts (λ r. isOp (kindAt ts r)) (Parse.binStep ts g p) t j))
           (then o′ (λ t j. Parse.loop ts′ (λ r. isOp (kindAt ts′ r)) (Parse.binStep ts′ g′ p′) t j))
       ladder i o o′ h =
-          then-local ts n o o′ _ _ h (λ t j l. ease ts n (omega arith) l (loop-local isOp (Parse.binStep ts g p) (Parse.binStep ts′ g′ p′) bin-step t j))
+          then-local ts n o o′ _ _ h (λ t j l. ease ts n (omega arith) l (loop-local isOp (Parse.binStep ts g p) (Parse.binStep ts′ g′ p′) (λ u k b. bin-step u k) t j))
 
-    mul-local : (i : ℕ) → Local ts n i (i + 1) (Parse.mul ts g i) (Parse.mul ts′ g′ i)
+    pub mul-local : (i : ℕ) → Local ts n i (i + 1) (Parse.mul ts g i) (Parse.mul ts′ g′ i)
     unfolding Parse.mul
     mul-local i = ladder isMul (Parse.unary ts g) (Parse.unary ts′ g′) unary-local i (Parse.unary ts g i) (Parse.unary ts′ g′ i) (unary-local i)
 
-    shift-local : (i : ℕ) → Local ts n i (i + 1) (Parse.shift ts g i) (Parse.shift ts′ g′ i)
+    pub shift-local : (i : ℕ) → Local ts n i (i + 1) (Parse.shift ts g i) (Parse.shift ts′ g′ i)
     unfolding Parse.shift
     shift-local i = ladder isShift (Parse.mul ts g) (Parse.mul ts′ g′) mul-local i (Parse.mul ts g i) (Parse.mul ts′ g′ i) (mul-local i)
 
@@ -324,43 +535,39 @@ module _ (ts ts′ : List Tok) (n : ℕ) (fit : n ≤ length ts) (fit′ : n ≤
     unfolding Parse.add
     add-local i = ladder isAdd (Parse.mul ts g) (Parse.mul ts′ g′) mul-local i (Parse.shift ts g i) (Parse.shift ts′ g′ i) (shift-local i)
 
-  too-deep : (o m : ℕ) → Local ts n (o + 1) m (no TooDeep o) (no TooDeep o)
-  unfolding spot
-  too-deep o m = no-local ts n (o + 1) m TooDeep o (λ c. omega arith)
-
-  inner-local : (d : ℕ) (s : Sort) (o : ℕ) → Local ts n (o + 1) (o + 1) (Parse.inner ts d s o) (Parse.inner ts′ d s o)
+  pub inner-local : (d : ℕ) (s : Sort) (o q : ℕ) → q ≤ lost ts TooDeep o → q ≤ o + 1 → Local ts n q (o + 1) (Parse.inner ts d s o) (Parse.inner ts′ d s o)
   unfolding Parse.inner
-  inner-local zero s o = too-deep o (o + 1)
-  inner-local (suc d) operand o = ease ts n (omega arith) (omega arith) (unary-local (Parse.inner ts d) (Parse.inner ts′ d) (inner-local d) (o + 1))
-  inner-local (suc d) whole o = ease ts n (omega arith) (omega arith) (add-local (Parse.inner ts d) (Parse.inner ts′ d) (inner-local d) (o + 1))
+  inner-local zero s o q h l = no-local ts n q (o + 1) TooDeep o h
+  inner-local (suc d) operand o q h l = ease ts n l (omega arith) (unary-local (Parse.inner ts d) (Parse.inner ts′ d) (inner-local d) (o + 1))
+  inner-local (suc d) whole o q h l = ease ts n l (omega arith) (add-local (Parse.inner ts d) (Parse.inner ts′ d) (inner-local d) (o + 1))
 
-  expr-local : (d i : ℕ) → Local ts n i (i + 1) (Parse.expr ts d i) (Parse.expr ts′ d i)
+  pub expr-local : (d i : ℕ) → Local ts n i (i + 1) (Parse.expr ts d i) (Parse.expr ts′ d i)
   unfolding Parse.expr
   expr-local d i = add-local (Parse.inner ts d) (Parse.inner ts′ d) (inner-local d) i
 
   -- ---- lists, up to a row of kind `stop`
 
-  list-local : (stop : ℕ) (p p′ : P) → ((i : ℕ) → Local ts n i (i + 1) (p i) (p′ i)) → (j : ℕ)
+  pub list-local : (stop : ℕ) (p p′ : P) → ((i : ℕ) → Local ts n i (i + 1) (p i) (p′ i)) → (j : ℕ)
       → Local ts n j j (Parse.listTo ts stop p j) (Parse.listTo ts′ stop p′ j)
   unfolding Parse.listTo Parse.listStep
   list-local stop p p′ s j =
       loop-local (λ x. not (eqb x stop)) (Parse.listStep ts p) (Parse.listStep ts′ p′)
-      (λ l k. then-local ts n (p k) (p′ k) _ _ (s k) (λ t r m. ok-local ts n r (k + 1) _ r (omega arith) m)) none j
+      (λ l k b. then-local ts n (p k) (p′ k) _ _ (s k) (λ t r m. ok-local ts n r (k + 1) _ r (omega arith) m)) none j
 
   braced-local : (p p′ : P) (f f′ : List ℕ → Tree → P) → ((i : ℕ) → Local ts n i (i + 1) (p i) (p′ i)) → (i : ℕ)
-      → ((w : List ℕ) (l : Tree) (k : ℕ) → i + 1 ≤ k → Local ts n k (i + 1) (f w l k) (f′ w l k))
+      → ((w : List ℕ) (l : Tree) (k : ℕ) → i + 1 ≤ k → Local ts n k (i + 1) (f w l (k + 1)) (f′ w l (k + 1)))
       → Local ts n i (i + 1) (Parse.braced ts p f i) (Parse.braced ts′ p′ f′ i)
   unfolding Parse.braced
   braced-local p p′ f f′ s i h =
       ease ts n (omega arith) (omega arith) (named-local _ _ (i + 1) (i + 1) (λ w. want-local LBrace _ _ (i + 1 + 1) (i + 1)
       (then-local ts n (Parse.listTo ts RBrace p (i + 1 + 1 + 1)) (Parse.listTo ts′ RBrace p′ (i + 1 + 1 + 1)) _ _ (list-local RBrace p p′ s (i + 1 + 1 + 1))
-      (λ l k m. ease ts n (omega arith) (omega arith) (h w l (k + 1) (omega arith))))))
+      (λ l k m. h w l k (omega arith)))))
 
   -- ---- statements, over what is read behind a brace
 
   module _ (d : ℕ) (p p′ : P) (under : (o : ℕ) → Local ts n (o + 1) (o + 1) (p o) (p′ o)) where
     -- a body at its brace
-    body-at : (i : ℕ) → Local ts n i (i + 1) (Parse.need ts LBrace p i) (Parse.need ts′ LBrace p′ i)
+    pub body-at : (i : ℕ) → Local ts n i (i + 1) (Parse.need ts LBrace p i) (Parse.need ts′ LBrace p′ i)
     body-at i = need-local LBrace p p′ i (i + 1) (ease ts n (omega arith) (omega arith) (under i))
 
     else-by : (c : Bool) (w : List ℕ) (b : Tree) (k q : ℕ) → q ≤ k → Local ts n k q (Parse.elseBy ts d p c w b k) (Parse.elseBy ts′ d p′ c w b k)
@@ -378,6 +585,37 @@ module _ (ts ts′ : List Tok) (n : ℕ) (fit : n ≤ length ts) (fit′ : n ≤
         (λ b k l. look k q (λ x. eqb (kindOf x) KeywordElse) (λ c. Parse.elseBy ts d p c w (thenBody b) k) (λ c. Parse.elseBy ts′ d p′ c w (thenBody b) k)
         (λ c e. else-by c w (thenBody b) k q (omega arith)))
 
+  -- an `if` at row i, over what is read behind its parentheses
+  branch-by : {L : Syntax → ℕ → Type 0} (d : ℕ) (p p′ : P) (i : ℕ)
+      → ((w : List ℕ) → LocalBut ts n L (i + 1 + 1 + 1 + 1 + 1) (i + 1) (Parse.bodies ts d p w (i + 1 + 1 + 1 + 1 + 1)) (Parse.bodies ts′ d p′ w (i + 1 + 1 + 1 + 1 + 1)))
+      → LocalBut ts n L i (i + 1) (Parse.stmtBy ts d p branching i) (Parse.stmtBy ts′ d p′ branching i)
+  unfolding Parse.stmtBy
+  branch-by d p p′ i h =
+      ease ts n (omega arith) (omega arith) (want-local KeywordGuard _ _ (i + 1) (i + 1) (want-local LParen _ _ (i + 1 + 1) (i + 1)
+      (named-local _ _ (i + 1 + 1 + 1) (i + 1) (λ w. want-local RParen _ _ (i + 1 + 1 + 1 + 1) (i + 1) (h w)))))
+
+  -- an `if` where none is left
+  module _ (i : ℕ) where
+    abbrev Brace : Syntax → ℕ → Type 0
+    Brace why r = (why ≡ TooDeep) × (r ≡ i + 1 + 1 + 1 + 1 + 1) × (kindAt ts (i + 1 + 1 + 1 + 1 + 1) ≡ LBrace)
+
+    bodies-none : (w : List ℕ) → LocalBut ts n Brace (i + 1 + 1 + 1 + 1 + 1) (i + 1) (Parse.bodies ts zero (Parse.body ts zero) w (i + 1 + 1 + 1 + 1 + 1))
+        (Parse.bodies ts′ zero (Parse.body ts′ zero) w (i + 1 + 1 + 1 + 1 + 1))
+    bodies-none w =
+        along ts n (no-body ts w (i + 1 + 1 + 1 + 1 + 1)) (no-body ts′ w (i + 1 + 1 + 1 + 1 + 1))
+        (pick-local LBrace (i + 1 + 1 + 1 + 1 + 1) (i + 1) _ _ (λ e. late (refl, refl, e)))
+
+    branch-none : Local ts n i (i + 1) (Parse.stmtBy ts zero (Parse.body ts zero) branching i) (Parse.stmtBy ts′ zero (Parse.body ts′ zero) branching i)
+    unfolding isMisfit
+    branch-none =
+        settle ts n (Parse.stmtBy ts zero (Parse.body ts zero) branching i) (Parse.stmtBy ts′ zero (Parse.body ts′ zero) branching i)
+        (λ why r x. lost-as ts n i (Parse.stmtBy ts′ zero (Parse.body ts′ zero) branching i) why TooDeep r (i + 1 + 1 + 1 + 1 + 1) (x .0) (x .1)
+        (brace-row ts i (x .2), refl, branch-dead ts′ i))
+        (branch-by zero (Parse.body ts zero) (Parse.body ts′ zero) i bodies-none)
+
+  -- statements, over their ifs
+  module _ (d : ℕ) (p p′ : P)
+      (branch : (i : ℕ) → Local ts n i (i + 1) (Parse.stmtBy ts d p branching i) (Parse.stmtBy ts′ d p′ branching i)) where
     assign-by : (c : Bool) (t : Tree) (j q : ℕ) → q ≤ j → Local ts n j q (Parse.assignBy ts d p c t j) (Parse.assignBy ts′ d p′ c t j)
     unfolding Parse.assignBy
     assign-by true t j q h =
@@ -400,28 +638,32 @@ module _ (ts ts′ : List Tok) (n : ℕ) (fit : n ≤ length ts) (fit′ : n ≤
         ease ts n (omega arith) (omega arith)
         (then-local ts n (Parse.expr ts d (i + 1)) (Parse.expr ts′ d (i + 1)) _ _ (expr-local d (i + 1))
         (λ t k l. want-ok Semicolon (ret t) k (i + 1) (omega arith)))
-    stmt-by branching i =
-        ease ts n (omega arith) (omega arith) (want-local KeywordGuard _ _ (i + 1) (i + 1) (want-local LParen _ _ (i + 1 + 1) (i + 1)
-        (named-local _ _ (i + 1 + 1 + 1) (i + 1)
-        (λ w. want-local RParen _ _ (i + 1 + 1 + 1 + 1) (i + 1) (bodies-local w (i + 1 + 1 + 1 + 1 + 1) (i + 1) (omega arith))))))
+    stmt-by branching i = branch i
     stmt-by expression i =
         then-local ts n (Parse.expr ts d i) (Parse.expr ts′ d i) _ _ (expr-local d i)
         (λ t j l. look j (i + 1) (λ x. isAssign (kindOf x)) (λ c. Parse.assignBy ts d p c t j) (λ c. Parse.assignBy ts′ d p′ c t j)
         (λ c e. assign-by c t j (i + 1) l))
 
-    stmt-over : (i : ℕ) → Local ts n i (i + 1) (Parse.stmt ts d p i) (Parse.stmt ts′ d p′ i)
+    pub stmt-over : (i : ℕ) → Local ts n i (i + 1) (Parse.stmt ts d p i) (Parse.stmt ts′ d p′ i)
     unfolding Parse.stmt
     stmt-over i = look i (i + 1) (λ x. stmtLead (kindOf x)) (λ l. Parse.stmtBy ts d p l i) (λ l. Parse.stmtBy ts′ d p′ l i) (λ l e. stmt-by l i)
 
-  body-local : (d o : ℕ) → Local ts n (o + 1) (o + 1) (Parse.body ts d o) (Parse.body ts′ d o)
+  -- the statements of a body whose brace is at row o
+  pub body-over : (d : ℕ)
+      → ((i : ℕ) → Local ts n i (i + 1) (Parse.stmtBy ts d (Parse.body ts d) branching i) (Parse.stmtBy ts′ d (Parse.body ts′ d) branching i))
+      → (o : ℕ) → Local ts n (o + 1) (o + 1) (Parse.body ts (suc d) o) (Parse.body ts′ (suc d) o)
   unfolding Parse.body
-  body-local zero o = too-deep o (o + 1)
-  body-local (suc d) o =
+  body-over d branch o =
       then-local ts n (Parse.listTo ts RBrace (Parse.stmt ts d (Parse.body ts d)) (o + 1))
       (Parse.listTo ts′ RBrace (Parse.stmt ts′ d (Parse.body ts′ d)) (o + 1)) _ _
-      (list-local RBrace (Parse.stmt ts d (Parse.body ts d)) (Parse.stmt ts′ d (Parse.body ts′ d)) (stmt-over d (Parse.body ts d) (Parse.body ts′ d) (body-local d))
-      (o + 1))
+      (list-local RBrace (Parse.stmt ts d (Parse.body ts d)) (Parse.stmt ts′ d (Parse.body ts′ d)) (stmt-over d (Parse.body ts d) (Parse.body ts′ d) branch) (o + 1))
       (λ l j m. ok-local ts n j (o + 1) l (j + 1) (omega arith) (omega arith))
+
+  pub branch-local : (d i : ℕ) → Local ts n i (i + 1) (Parse.stmtBy ts d (Parse.body ts d) branching i) (Parse.stmtBy ts′ d (Parse.body ts′ d) branching i)
+  branch-local zero i = branch-none i
+  branch-local (suc d) i =
+      branch-by (suc d) (Parse.body ts (suc d)) (Parse.body ts′ (suc d)) i
+      (λ w. bodies-local (suc d) (Parse.body ts (suc d)) (Parse.body ts′ (suc d)) (body-over d (branch-local d)) w (i + 1 + 1 + 1 + 1 + 1) (i + 1) (omega arith))
 
   -- ---- units
 
@@ -431,24 +673,25 @@ module _ (ts ts′ : List Tok) (n : ℕ) (fit : n ≤ length ts) (fit′ : n ≤
       look i (i + 1) kindOf (λ x. Parse.quoted ts (λ w. Parse.want ts Semicolon (ok (text x w))) (i + 1))
       (λ x. Parse.quoted ts′ (λ w. Parse.want ts′ Semicolon (ok (text x w))) (i + 1))
       (λ x e. ease ts n (omega arith) (omega arith) (quoted-local _ _ (i + 1) (i + 1) (λ w. want-ok Semicolon (text x w) (i + 1 + 1) (i + 1) (omega arith))))
-  item-by false i = stmt-over 64 (Parse.body ts 64) (Parse.body ts′ 64) (body-local 64) i
+  item-by false i = stmt-over 64 (Parse.body ts 64) (Parse.body ts′ 64) (branch-local 64) i
 
-  item-local : (i : ℕ) → Local ts n i (i + 1) (Parse.item ts i) (Parse.item ts′ i)
+  pub item-local : (i : ℕ) → Local ts n i (i + 1) (Parse.item ts i) (Parse.item ts′ i)
   unfolding Parse.item
   item-local i = look i (i + 1) (λ x. isText (kindOf x)) (λ c. Parse.itemBy ts c i) (λ c. Parse.itemBy ts′ c i) (λ c e. item-by c i)
 
   unit-local : (i : ℕ) → Local ts n i (i + 1) (Parse.unitAt ts i) (Parse.unitAt ts′ i)
   unfolding Parse.unitAt
-  unit-local i = braced-local (Parse.item ts) (Parse.item ts′) _ _ item-local i (λ w l k h. ok-local ts n k (i + 1) _ k (omega arith) h)
+  unit-local i = braced-local (Parse.item ts) (Parse.item ts′) _ _ item-local i (λ w l k h. ok-local ts n k (i + 1) _ (k + 1) (omega arith) (omega arith))
 
   -- ---- maps
 
-  type-by : (b : Bool) (w : List ℕ) (j q : ℕ) → q ≤ j → Local ts n j q (Parse.typeBy ts b w j) (Parse.typeBy ts′ b w j)
-  unfolding Parse.typeBy spot
-  type-by true w j q h = no-local ts n j q MapTypeUnknown j (λ c. omega arith)
-  type-by false w j q h = want-ok Semicolon _ j q (omega arith)
+  -- behind the name at row j
+  type-by : (b : Bool) (w : List ℕ) (j q : ℕ) → q ≤ j → Local ts n j q (Parse.typeBy ts b w (j + 1)) (Parse.typeBy ts′ b w (j + 1))
+  unfolding Parse.typeBy lost
+  type-by true w j q h = no-local ts n j q MapTypeUnknown (j + 1) (omega arith)
+  type-by false w j q h = ease ts n (omega arith) (omega arith) (want-ok Semicolon _ (j + 1) q (omega arith))
 
-  key-by : (b : Bool) (k j q : ℕ) → spot ts NotType (cond (eqb (kindAt ts j) Eof) j (j + 1)) ≡ j → q ≤ j + 1 + 1
+  key-by : (b : Bool) (k j q : ℕ) → lost ts NotType (cond (eqb (kindAt ts j) Eof) j (j + 1)) ≡ j → q ≤ j + 1 + 1
       → Local ts n j q (Parse.keyBy ts b k j) (Parse.keyBy ts′ b k j)
   unfolding Parse.keyBy
   key-by true k j q s h =
@@ -456,14 +699,14 @@ module _ (ts ts′ : List Tok) (n : ℕ) (fit : n ≤ length ts) (fit′ : n ≤
       (λ x e. ease ts n (omega arith) (omega arith) (want-ok Semicolon (typed k x) (j + 1) q h))
   key-by false k j q s h =
       look j q kindOf (λ x. no NotType (cond (eqb x Eof) j (j + 1))) (λ x. no NotType (cond (eqb x Eof) j (j + 1)))
-      (λ x e. no-local ts n j q NotType (cond (eqb x Eof) j (j + 1)) (λ c. omega (arith, subst (λ (y : ℕ). spot ts NotType (cond (eqb y Eof) j (j + 1)) ≡ j) e s)))
+      (λ x e. no-local ts n j q NotType (cond (eqb x Eof) j (j + 1)) (omega (arith, subst (λ (y : ℕ). lost ts NotType (cond (eqb y Eof) j (j + 1)) ≡ j) e s)))
 
   count-by : (b : Bool) (c : Tree) (k v q : ℕ) → q ≤ k + 1 + 1 → Local ts n (k + 1) q (Parse.countBy ts b c k v (k + 1 + 1)) (Parse.countBy ts′ b c k v (k + 1 + 1))
-  unfolding Parse.countBy spot
+  unfolding Parse.countBy lost
   count-by true c k v q h =
       look-back k (k + 1) q (omega arith) kindOf (λ x. ok (shifted x c v) (k + 1 + 1)) (λ x. ok (shifted x c v) (k + 1 + 1))
       (λ x e. ok-local ts n (k + 1) q (shifted x c v) (k + 1 + 1) (omega arith) h)
-  count-by false c k v q h = no-local ts n (k + 1) q ShiftCount (k + 1) (λ x. omega arith)
+  count-by false c k v q h = no-local ts n (k + 1) q ShiftCount (k + 1) (omega arith)
 
   chain-step : (c : Tree) (k : ℕ) → Local ts n k (k + 1) (Parse.chainStep ts c k) (Parse.chainStep ts′ c k)
   unfolding Parse.chainStep
@@ -474,41 +717,43 @@ module _ (ts ts′ : List Tok) (n : ℕ) (fit : n ≤ length ts) (fit′ : n ≤
   unfolding Parse.chain
   chain-local j =
       valued-local _ _ j (j + 1) (λ v. ease ts n (omega arith) (omega arith)
-      (loop-local isShift (Parse.chainStep ts) (Parse.chainStep ts′) chain-step (first v) (j + 1)))
+      (loop-local isShift (Parse.chainStep ts) (Parse.chainStep ts′) (λ c k b. chain-step c k) (first v) (j + 1)))
 
-  limit-by : (a b : Bool) (c : Tree) (k q : ℕ) → 1 ≤ k → q ≤ k → Local ts n k q (Parse.limitBy ts a b c k) (Parse.limitBy ts′ a b c k)
-  unfolding Parse.limitBy spot
-  limit-by true b c k q l h = no-local ts n k q MaxNegative k (λ x. omega arith)
-  limit-by false true c k q l h = no-local ts n k q OutOfRange (k - 1) (λ x. omega arith)
+  -- the end of a chain at row k: its last number stands in front, behind a colon or a shift
+  limit-by : (a b : Bool) (c : Tree) (k q : ℕ) → lost ts OutOfRange (k - 1) ≡ k → q ≤ k → Local ts n k q (Parse.limitBy ts a b c k) (Parse.limitBy ts′ a b c k)
+  unfolding Parse.limitBy lost
+  limit-by true b c k q l h = no-local ts n k q MaxNegative k (omega arith)
+  limit-by false true c k q l h = no-local ts n k q OutOfRange (k - 1) (omega arith)
   limit-by false false c k q l h = want-ok Semicolon (limit c) k q (omega arith)
 
   field-by : (l : FieldLead) (i : ℕ) → FieldIs (kindAt ts i) l → Local ts n i (i + 1) (Parse.mapFieldBy ts l i) (Parse.mapFieldBy ts′ l i)
-  unfolding Parse.mapFieldBy spot
+  unfolding Parse.mapFieldBy lost
   field-by typing i f =
       ease ts n (omega arith) (omega arith) (want-local Colon _ _ (i + 1) (i + 1) (want-local Dot _ _ (i + 1 + 1) (i + 1)
-      (named-local _ _ (i + 1 + 1 + 1) (i + 1) (λ w. type-by (eqb (mapTypeNumber w) 0) w (i + 1 + 1 + 1 + 1) (i + 1) (omega arith)))))
+      (named-at _ _ (i + 1 + 1 + 1) (i + 1) (λ w e. type-by (eqb (mapTypeNumber w) 0) w (i + 1 + 1 + 1) (i + 1) (omega arith)))))
   field-by keying i f =
       look i (i + 1) kindOf (λ k. Parse.want ts Colon (λ j. Parse.keyBy ts (isType (kindAt ts j)) k j) (i + 1))
       (λ k. Parse.want ts′ Colon (λ j. Parse.keyBy ts′ (isType (kindAt ts′ j)) k j) (i + 1))
       (λ k e. ease ts n (omega arith) (omega arith) (want-known Colon _ _ (i + 1) (i + 1)
       (λ c. look (i + 1 + 1) (i + 1) (λ x. isType (kindOf x)) (λ b. Parse.keyBy ts b k (i + 1 + 1)) (λ b. Parse.keyBy ts′ b k (i + 1 + 1))
-      (λ b t. key-by b k (i + 1 + 1) (i + 1) (type-spot ts i f c (eqb (kindAt ts (i + 1 + 1)) Eof)) (omega arith)))))
+      (λ b t. key-by b k (i + 1 + 1) (i + 1) (type-lost ts i f c (eqb (kindAt ts (i + 1 + 1)) Eof)) (omega arith)))))
   field-by limiting i f =
-      ease ts n (omega arith) (omega arith) (want-local Colon _ _ (i + 1) (i + 1)
-      (then-local ts n (Parse.chain ts (i + 1 + 1)) (Parse.chain ts′ (i + 1 + 1)) _ _ (chain-local (i + 1 + 1))
-      (λ c k l. limit-by (leb (2 ^ 63) (maxBits c)) (not (leb (maxBits c) most32)) c k (i + 1) (omega arith) (omega arith))))
-  field-by nothing i f = no-local ts n i (i + 1) NotMapField i (λ c. omega arith)
+      ease ts n (omega arith) (omega arith) (want-known Colon _ _ (i + 1) (i + 1)
+      (λ e. then-known ts n (ChainEnd ts) (Parse.chain ts (i + 1 + 1)) (Parse.chain ts′ (i + 1 + 1)) _ _ (chain-end ts (i + 1) e) (chain-local (i + 1 + 1))
+      (λ c k x l. limit-by (leb (2 ^ 63) (maxBits c)) (not (leb (maxBits c) most32)) c k (i + 1) x (omega arith))))
+  field-by nothing i f = no-local ts n i (i + 1) NotMapField i (omega arith)
 
-  map-field-local : (i : ℕ) → Local ts n i (i + 1) (Parse.mapField ts i) (Parse.mapField ts′ i)
+  pub map-field-local : (i : ℕ) → Local ts n i (i + 1) (Parse.mapField ts i) (Parse.mapField ts′ i)
   unfolding Parse.mapField
   map-field-local i =
       look i (i + 1) (λ x. fieldLead (kindOf x)) (λ l. Parse.mapFieldBy ts l i) (λ l. Parse.mapFieldBy ts′ l i)
       (λ l e. field-by l i (subst (FieldIs (kindAt ts i)) e (field-is (kindAt ts i))))
 
-  map-end : (f : ℕ) (w : List ℕ) (l : Tree) (k q : ℕ) → q ≤ k → Local ts n k q (Parse.mapEnd ts f w l k) (Parse.mapEnd ts′ f w l k)
-  unfolding Parse.mapEnd spot
-  map-end zero w l k q h = ok-local ts n k q _ k (omega arith) h
-  map-end (suc f) w l k q h = no-local ts n k q (MapLacks (suc f)) k (λ c. omega arith)
+  -- behind the brace at row k
+  map-end : (f : ℕ) (w : List ℕ) (l : Tree) (k q : ℕ) → q ≤ k → Local ts n k q (Parse.mapEnd ts f w l (k + 1)) (Parse.mapEnd ts′ f w l (k + 1))
+  unfolding Parse.mapEnd lost
+  map-end zero w l k q h = ok-local ts n k q _ (k + 1) (omega arith) (omega arith)
+  map-end (suc f) w l k q h = no-local ts n k q (MapLacks (suc f)) (k + 1) (omega arith)
 
   map-local : (i : ℕ) → Local ts n i (i + 1) (Parse.mapAt ts i) (Parse.mapAt ts′ i)
   unfolding Parse.mapAt
@@ -519,10 +764,14 @@ module _ (ts ts′ : List Tok) (n : ℕ) (fit : n ≤ length ts) (fit′ : n ≤
   -- ---- events
 
   length-by : (b : Bool) (f : ℕ → Tree) (v k q : ℕ) → q ≤ k → Local ts n k q (Parse.lengthBy ts b f v k (k + 1)) (Parse.lengthBy ts′ b f v k (k + 1))
-  unfolding Parse.lengthBy spot
+  unfolding Parse.lengthBy lost
   length-by true f v k q h =
       ease ts n (omega arith) (omega arith) (want-local RBracket _ _ (k + 1) q (want-ok Semicolon (f v) (k + 1 + 1) q (omega arith)))
-  length-by false f v k q h = no-local ts n k q OutOfRange k (λ c. omega arith)
+  length-by false f v k q h = no-local ts n k q OutOfRange k (go (eqb (kindAt ts (k - 1)) LBracket))
+    where
+      go : (c : Bool) → k ≤ cond c k (k + 1)
+      go true = omega arith
+      go false = omega arith
 
   length-local : (f : ℕ → Tree) (k q : ℕ) → q ≤ k → Local ts n k q (Parse.lengthAt ts f k) (Parse.lengthAt ts′ f k)
   unfolding Parse.lengthAt
@@ -540,15 +789,15 @@ module _ (ts ts′ : List Tok) (n : ℕ) (fit : n ≤ length ts) (fit′ : n ≤
       (λ x e. want-ok Semicolon (plainField w x) (j + 1) q (omega arith))
 
   event-by : (l : EventLead) (w : List ℕ) (j q : ℕ) → q ≤ j → Local ts n j q (Parse.eventTypeBy ts l w j) (Parse.eventTypeBy ts′ l w j)
-  unfolding Parse.eventTypeBy spot
+  unfolding Parse.eventTypeBy lost
   event-by typeLead w j q h =
       ease ts n (omega arith) (omega arith)
       (look (j + 1) q (λ x. eqb (kindOf x) LBracket) (λ c. Parse.arrayBy ts c w j) (λ c. Parse.arrayBy ts′ c w j) (λ c e. array-by c w j q h))
   event-by bytesLead w j q h =
       ease ts n (omega arith) (omega arith) (want-local LBracket _ _ (j + 1) q (length-local _ (j + 1 + 1) q (omega arith)))
-  event-by noLead w j q h = no-local ts n j q NotEventType j (λ c. omega arith)
+  event-by noLead w j q h = no-local ts n j q NotEventType j (omega arith)
 
-  event-field-local : (i : ℕ) → Local ts n i (i + 1) (Parse.eventField ts i) (Parse.eventField ts′ i)
+  pub event-field-local : (i : ℕ) → Local ts n i (i + 1) (Parse.eventField ts i) (Parse.eventField ts′ i)
   unfolding Parse.eventField
   event-field-local i =
       named-local _ _ i (i + 1) (λ w. want-local Colon _ _ (i + 1) (i + 1)
@@ -557,18 +806,18 @@ module _ (ts ts′ : List Tok) (n : ℕ) (fit : n ≤ length ts) (fit′ : n ≤
 
   event-local : (i : ℕ) → Local ts n i (i + 1) (Parse.eventAt ts i) (Parse.eventAt ts′ i)
   unfolding Parse.eventAt
-  event-local i = braced-local (Parse.eventField ts) (Parse.eventField ts′) _ _ event-field-local i (λ w l k h. ok-local ts n k (i + 1) _ k (omega arith) h)
+  event-local i = braced-local (Parse.eventField ts) (Parse.eventField ts′) _ _ event-field-local i (λ w l k h. ok-local ts n k (i + 1) _ (k + 1) (omega arith) (omega arith))
 
   -- ---- programs
 
   top-by : (l : TopLead) (i : ℕ) → Local ts n i (i + 1) (Parse.topBy ts l i) (Parse.topBy ts′ l i)
-  unfolding Parse.topBy spot
+  unfolding Parse.topBy lost
   top-by mapLead i = map-local i
   top-by unitLead i = unit-local i
   top-by eventTop i = event-local i
-  top-by noTop i = no-local ts n i (i + 1) NotTopLevel i (λ c. omega arith)
+  top-by noTop i = no-local ts n i (i + 1) NotTopLevel i (omega arith)
 
-  top-local : (i : ℕ) → Local ts n i (i + 1) (Parse.top ts i) (Parse.top ts′ i)
+  pub top-local : (i : ℕ) → Local ts n i (i + 1) (Parse.top ts i) (Parse.top ts′ i)
   unfolding Parse.top
   top-local i = look i (i + 1) (λ x. topLead (kindOf x)) (λ l. Parse.topBy ts l i) (λ l. Parse.topBy ts′ l i) (λ l e. top-by l i)
 
@@ -578,59 +827,74 @@ module _ (ts ts′ : List Tok) (n : ℕ) (fit : n ≤ length ts) (fit′ : n ≤
       then-local ts n (Parse.listTo ts Eof (Parse.top ts) 0) (Parse.listTo ts′ Eof (Parse.top ts′) 0) _ _ (list-local Eof (Parse.top ts) (Parse.top ts′) top-local 0)
       (λ l j h. ok-local ts n j 0 _ (j + 1) (omega arith) (omega arith))
 
+-- ---- what is read of a table is read of one that has the rows up to its end alike
+
+module _ (ts : List Tok) (n i m : ℕ) (o o′ : Out) (t : Tree) (j : ℕ) (e : o ≡ ok t j) where
+  pub kept : Local ts n i m o o′ → j < n → o′ ≡ ok t j
+  kept (same l q u) h = sym q ∙ e
+  kept (behind b u) h = let x : n ≤ j = subst (Behind ts n) e b in absurd (omega arith)
+  kept (both l d) h = absurd (subst (Told ts n (λ why r. (isMisfit why ≡ false) × Dead why o′)) e d)
+  kept (late x) h = absurd (subst (Told ts n (λ why r. ⊥)) e x)
+
+  pub later : Local ts n i m o o′ → m ≤ j
+  later (same l q u) = subst (Up ts n m) e u
+  later (behind b u) = subst (Up ts n m) e u
+  later (both l d) = absurd (subst (Told ts n (λ why r. (isMisfit why ≡ false) × Dead why o′)) e d)
+  later (late x) = absurd (subst (Told ts n (λ why r. ⊥)) e x)
+
 -- ---- the same first rows
 
-module _ (ts ts′ : List Tok) (n : ℕ) (e : take n ts′ ≡ take n ts) where
-  alike-rows : (i : ℕ) → i < n → tokAt ts i ≡ tokAt ts′ i
-  alike-rows i h = sym (getD-take n ts i (sign Eof) h) ∙ ap (λ (l : List Tok). getD l i (sign Eof)) (sym e) ∙ getD-take n ts′ i (sign Eof) h
-
-  -- either both tables have n rows, or they are the same
-  alike-long : (n ≤ length ts × n ≤ length ts′) ⊎ (ts′ ≡ ts)
-  alike-long = go (leb n (length ts)) (leb n (length ts′)) refl refl
-    where
-      long : min n (length ts′) ≡ min n (length ts)
-      long = sym (length-take n ts′) ∙ ap length e ∙ length-take n ts
-
-      go : (a b : Bool) → leb n (length ts) ≡ a → leb n (length ts′) ≡ b → (n ≤ length ts × n ≤ length ts′) ⊎ (ts′ ≡ ts)
-      go true true a b = inl (leb-true n (length ts) a, leb-true n (length ts′) b)
-      go true false a b = absurd (omega (arith, long, leb-true n (length ts) a, leb-false n (length ts′) b))
-      go false true a b = absurd (omega (arith, long, leb-false n (length ts) a, leb-true n (length ts′) b))
-      go false false a b =
-          let h : length ts < n = leb-false n (length ts) a in
-          let h′ : length ts′ < n = leb-false n (length ts′) b in
-          inr (sym (take-all n ts′ (omega arith)) ∙ e ∙ take-all n ts (omega arith))
-
--- The theorem: a refusal but 31 rests on the rows up to its spot. A table that has them too is refused with the same, at the same row.
-pub settled : (ts ts′ : List Tok) (why : Syntax) (r : ℕ) → Parse.parse ts ≡ no why r → (why ≡ CallOnOther → ⊥)
-    → take (spot ts why r + 1) ts′ ≡ take (spot ts why r + 1) ts → Parse.parse ts′ ≡ no why r
-settled ts ts′ why r f c e = go (alike-long ts ts′ (spot ts why r + 1) e)
+-- either both tables have n rows, or they are the same
+pub alike : (ts ts′ : List Tok) (n : ℕ) → take n ts′ ≡ take n ts → Alike ts ts′ n ⊎ (ts′ ≡ ts)
+alike ts ts′ n e = go (leb n (length ts)) (leb n (length ts′)) refl refl
   where
-    told : Local ts (spot ts why r + 1) 0 0 (no why r) (Parse.parse ts′) → Parse.parse ts′ ≡ no why r
-    told (same l q u) = sym q
-    told (behind b u) = absurd (omega (arith, b c))
+    long : min n (length ts′) ≡ min n (length ts)
+    long = sym (length-take n ts′) ∙ ap length e ∙ length-take n ts
 
-    go : (spot ts why r + 1 ≤ length ts × spot ts why r + 1 ≤ length ts′) ⊎ (ts′ ≡ ts) → Parse.parse ts′ ≡ no why r
+    rows : (i : ℕ) → i < n → tokAt ts i ≡ tokAt ts′ i
+    rows i h = sym (getD-take n ts i (sign Eof) h) ∙ ap (λ (l : List Tok). getD l i (sign Eof)) (sym e) ∙ getD-take n ts′ i (sign Eof) h
+
+    go : (a b : Bool) → leb n (length ts) ≡ a → leb n (length ts′) ≡ b → Alike ts ts′ n ⊎ (ts′ ≡ ts)
+    go true true a b = inl (record { fit = leb-true n (length ts) a; fit′ = leb-true n (length ts′) b; agree = rows })
+    go true false a b = absurd (omega (arith, long, leb-true n (length ts) a, leb-false n (length ts′) b))
+    go false true a b = absurd (omega (arith, long, leb-false n (length ts) a, leb-true n (length ts′) b))
+    go false false a b =
+        let h : length ts < n = leb-false n (length ts) a in
+        let h′ : length ts′ < n = leb-false n (length ts′) b in
+        inr (sym (take-all n ts′ (omega arith)) ∙ e ∙ take-all n ts (omega arith))
+
+-- The theorem: a refusal rests on the rows up to the lost one. A table that has them too is refused with the same, at the same row; or, where it
+-- is 31 or 32 of an `if`, it is refused in some way, of an `if` by no check.
+pub settled : (ts ts′ : List Tok) (why : Syntax) (r : ℕ) → Parse.parse ts ≡ no why r → take (lost ts why r + 1) ts′ ≡ take (lost ts why r + 1) ts
+    → (Parse.parse ts′ ≡ no why r) ⊎ ((isMisfit why ≡ false) × Dead why (Parse.parse ts′))
+settled ts ts′ why r f e = go (alike ts ts′ (lost ts why r + 1) e)
+  where
+    told : Local ts (lost ts why r + 1) 0 0 (no why r) (Parse.parse ts′) → (Parse.parse ts′ ≡ no why r) ⊎ ((isMisfit why ≡ false) × Dead why (Parse.parse ts′))
+    told (same l q u) = inl (sym q)
+    told (behind b u) = absurd (omega (arith, b))
+    told (both l d) = inr d
+    told (late p) = absurd p
+
+    go : Alike ts ts′ (lost ts why r + 1) ⊎ (ts′ ≡ ts)
+        → (Parse.parse ts′ ≡ no why r) ⊎ ((isMisfit why ≡ false) × Dead why (Parse.parse ts′))
     go (inl h) =
-        told (subst (λ (o : Out). Local ts (spot ts why r + 1) 0 0 o (Parse.parse ts′)) f
-        (parse-local ts ts′ (spot ts why r + 1) (h .0) (h .1) (alike-rows ts ts′ (spot ts why r + 1) e)))
-    go (inr q) = ap Parse.parse q ∙ f
+        told (subst (λ (o : Out). Local ts (lost ts why r + 1) 0 0 o (Parse.parse ts′)) f (parse-local ts ts′ (lost ts why r + 1) h))
+    go (inr q) = inl (ap Parse.parse q ∙ f)
 
--- So no program begins with the rows up to there.
-pub none-goes-on : (ts : List Tok) (why : Syntax) (r : ℕ) → Parse.parse ts ≡ no why r → (why ≡ CallOnOther → ⊥)
-    → (t : Tree) → Is true Program 64 t → take (spot ts why r + 1) (yield t) ≡ take (spot ts why r + 1) ts → ⊥
-none-goes-on ts why r f c t h e =
-    let a : Parse.parse (yield t) ≡ no why r = settled ts (yield t) why r f c e in
-    let b : Parse.parse (yield t) ≡ ok t (width t) = parse-complete t h in
-    let z : _≡_ {A = ℕ} 0 1 = cc in
-    absurd (omega arith)
-
--- Where it is 21, 22, 23, 25 or 30, none does with the checks and the nesting left aside.
-pub none-at-all : (ts : List Tok) (why : Syntax) (r : ℕ) → Parse.parse ts ≡ no why r → isMisfit why ≡ true
-    → (n : ℕ) (t : Tree) → Is false Program n t → take (spot ts why r + 1) (yield t) ≡ take (spot ts why r + 1) ts → ⊥
-unfolding isMisfit
-none-at-all ts why r f m n t h e =
-    go (settled ts (yield t) why r f (λ q. true≢false (sym m ∙ ap isMisfit q)) e) (program-checked (yield t) n t [] (sym (append-nil (yield t))) h)
+-- So no program begins with the rows up to there: of 24, 26 to 29 and 31 none within the checks and the nesting, of 32 none within the
+-- nesting, and of the others none at all.
+pub none-goes-on : (ts : List Tok) (why : Syntax) (r : ℕ) → Parse.parse ts ≡ no why r → (n : ℕ) → (isMisfit why ≡ false → n ≡ 64)
+    → GoesOn (isCheck why) n ts (lost ts why r + 1) → ⊥
+none-goes-on ts why r f n d g =
+    go (Parse.parse (yield (g .tree))) (settled ts (yield (g .tree)) why r f (g .begins))
+    (program-given (yield (g .tree)) (isCheck why) (not (isMisfit why)) n (g .tree) [] (sym (append-nil (yield (g .tree)))) (g .is)
+    (λ e. omega (arith, d (not-true (isMisfit why) e))))
   where
-    go : Parse.parse (yield t) ≡ no why r → Gives false (Parse.parse (yield t)) (ok t (width t)) → ⊥
-    go a (gives b) = let z : _≡_ {A = ℕ} 0 1 = cc in omega arith
-    go a (checked s c) = true≢false (sym m ∙ subst Checked a c)
+    go : (o : Out) → (o ≡ no why r) ⊎ ((isMisfit why ≡ false) × Dead why o) → Gives (isCheck why) (not (isMisfit why)) o (ok (g .tree) (width (g .tree))) → ⊥
+    go (ok u j) (inl e) h = let z : _≡_ {A = ℕ} 0 1 = cc in omega arith
+    go (ok u j) (inr x) h = x .1
+    go (no why′ r′) s (gives e) = let z : _≡_ {A = ℕ} 0 1 = cc in omega arith
+    go (no why′ r′) (inl e) (checked a c) = let q : why′ ≡ why = cc in true≢false (sym c ∙ ap isCheck q ∙ a)
+    go (no why′ r′) (inr x) (checked a c) = true≢false (sym c ∙ x .1 a)
+    go (no why′ r′) (inl e) (nested a c) = let q : why′ ≡ why = cc in true≢false (sym (not-false (isMisfit why) a) ∙ ap isMisfit (sym q) ∙ c .0)
+    go (no why′ r′) (inr x) (nested a c) = true≢false (sym (not-false (isMisfit why) a) ∙ x .0)

@@ -1,38 +1,40 @@
--- Where the refusals 21, 22, 23, 25 and 30 stand: at the first row with which no program goes on (25 one row behind it, as 01 says).
-use mathlib.Core.Path.{_≡_}
+-- Where every refusal of the parser stands: by which row a program is lost, and that it is the first such row.
+use mathlib.Core.Path.{_≡_, sym, ap, _∙_, subst}
 use mathlib.Core.Bool.{true, false}
 use mathlib.Core.List.{List}
+use mathlib.Core.Logic.{_⊎_, inl, inr}
 use Prim.Native.Nat.{ℕ, _+_}
-use lib.ListN.{take}
+use native.Mathlib.Omega.{arith}
 use Rattle.rules.specs.declared.Syntax.{Syntax}
-use Rattle.rules.specs.Tree.{Tok, Tree, yield}
+use Rattle.rules.specs.declared.Syntax.the-variants.{CallOnOther}
+use Rattle.rules.specs.Tree.{Tok, yield}
+use Rattle.rules.specs.Nodes.{width}
 use Rattle.rules.specs.Parse
-use Rattle.rules.specs.Parse.{no}
-use Rattle.rules.specs.Grammar.{Program, Is}
+use Rattle.rules.specs.Parse.{ok, no}
 use Rattle.theory_grammar.specs.Tokens.{Proper}
-use Rattle.theory_grammar.specs.Spot.{isMisfit, place, spot}
-use Rattle.theory_grammar.proofs.Local.{none-at-all}
-use Rattle.theory_grammar.proofs.GoesOn.{GoesOn, some-goes-on}
+use Rattle.theory_grammar.specs.Lost.{isMisfit, isCheck, LostAt, own, around, GoesOn, First}
+use Rattle.theory_grammar.proofs.Complete.{parse-complete}
+use Rattle.theory_grammar.proofs.Local.{Dead, Alike, alike, none-goes-on}
+use Rattle.theory_grammar.proofs.GoesOn.{Lost, some-goes-on}
 
--- A refusal at row r is about the first row with which no program goes on: some program begins with the rows in front of it (and so
--- with any fewer), and none with these and the row itself.
---
--- A program here is one of the grammar with the checks of 24, 26 to 29 and 31 left aside, for these refuse late: `1.f(` is doomed at
--- its parenthesis, since only a variable has methods, and is refused with 31 behind its `)`; so in front of a refusal 21 there may
--- stand a call that no program within the checks has. In the same way an `if` that is nested 65 deep is refused with 32 only at its
--- brace; so the program that begins with the rows in front may be nested 65 deep, one more than the parser goes. That none begins with
--- the row too holds of programs of any nesting, and all the more of those within the checks.
-pub record First (ts : List Tok) (why : Syntax) (r : ℕ) : Type 0 where
-  -- the row that the refusal is about, and where a refusal about it stands: there, or for 25 one row on, except at Eof
-  pub row : ℕ
-  pub stands : r ≡ place ts why row
-  -- the rows in front of it begin a program
-  pub goes : GoesOn ts 65 row
-  -- and with the row itself they begin none
-  pub stops : (n : ℕ) (t : Tree) → Is false Program n t → take (row + 1) (yield t) ≡ take (row + 1) ts → ⊥
+-- no program within the checks begins with the rows up to one that dooms
+none-behind : (ts : List Tok) (why : Syntax) (r s : ℕ) → Parse.parse ts ≡ no why r
+    → ((ts′ : List Tok) → Alike ts ts′ (s + 1) → Dead CallOnOther (Parse.parse ts′)) → GoesOn true 64 ts (s + 1) → ⊥
+none-behind ts why r s e doom g = go (alike ts (yield (g .tree)) (s + 1) (g .begins)) (parse-complete (g .tree) (g .is))
+  where
+    go : Alike ts (yield (g .tree)) (s + 1) ⊎ (yield (g .tree) ≡ ts) → Parse.parse (yield (g .tree)) ≡ ok (g .tree) (width (g .tree)) → ⊥
+    go (inl a) q = subst (Dead CallOnOther) q (doom (yield (g .tree)) a)
+    go (inr x) q = let y : Parse.parse ts ≡ ok (g .tree) (width (g .tree)) = ap Parse.parse (sym x) ∙ q in let z : _≡_ {A = ℕ} 0 1 = cc in omega arith
 
--- The theorem: what is refused with 21, 22, 23, 25 or 30 is refused at the first row with which no program goes on.
-pub refused-first : (ts : List Tok) (why : Syntax) (r : ℕ) → Proper ts → Parse.parse ts ≡ no why r → isMisfit why ≡ true → First ts why r
-refused-first ts why r p e m =
-    let h : GoesOn ts 65 (spot ts why r) × (r ≡ place ts why (spot ts why r)) = some-goes-on ts why r p e m in
-    record { row = spot ts why r; stands = h .1; goes = h .0; stops = none-at-all ts why r e m }
+-- The theorem: what is refused, with any of 21 to 32, is refused for the first row with which no program goes on.
+pub refused-first : (ts : List Tok) (why : Syntax) (r : ℕ) → Proper ts → Parse.parse ts ≡ no why r → First ts why r
+unfolding isMisfit isCheck
+refused-first ts why r p e =
+    let h : Lost ts why r = some-goes-on ts why r p e in
+    record { row = h .row; at = h .at; goes = h .goes; stops = go h (h .at) }
+  where
+    go : (h : Lost ts why r) → LostAt ts why r (h .row) → (n : ℕ) → (isMisfit why ≡ false → n ≡ 64) → GoesOn (isCheck why) n ts (h .row + 1) → ⊥
+    go h (own q) n d g = none-goes-on ts why r e n d (subst (λ (s : ℕ). GoesOn (isCheck why) n ts (s + 1)) q g)
+    go h (around q l o) n d g =
+        none-behind ts why r (h .row) e (h .dooms q)
+        (subst (λ (m : ℕ). GoesOn true m ts (h .row + 1)) (d (ap isMisfit q)) (subst (λ (y : Syntax). GoesOn (isCheck y) n ts (h .row + 1)) q g))

@@ -119,6 +119,15 @@ All C (no why r) = Unit {0}
 pub all-ok : (C : Tree → ℕ → Type 0) (o : Out) (t : Tree) (j : ℕ) → All C o → o ≡ ok t j → C t j
 all-ok C o t j h e = subst (λ (x : Out). All C x) e h
 
+-- nothing need be known
+pub all-any : (o : Out) → All (λ t j. Unit {0}) o
+all-any (ok t j) = tt
+all-any (no why r) = tt
+
+pub all-both : (C D : Tree → ℕ → Type 0) (o : Out) → All C o → All D o → All (λ t j. C t j × D t j) o
+all-both C D (ok t j) a b = (a, b)
+all-both C D (no why r) a b = tt
+
 module _ (C D : Tree → ℕ → Type 0) where
   pub then-all : (o : Out) (f : Tree → P) → All C o → ((t : Tree) (j : ℕ) → C t j → All D (f t j)) → All D (then o f)
   unfolding then

@@ -1,6 +1,6 @@
 -- The tokens of a table: what their kinds are, that they are given as such, and that a well-formed table with no refused ending has one
 -- Eof, its last row. So the parse call accepts exactly the programs of the grammar, and refuses at the first row with which none goes on.
-use mathlib.Core.Path.{_≡_, refl, sym, ap, _∙_, subst}
+use mathlib.Core.Path.{_≡_, refl, sym, _∙_, subst}
 use mathlib.Core.Bool.{Bool, true, false, not, cond, _&&_, true≢false, and-eq-true-iff}
 use mathlib.Core.List.{List, [], _∷_, map}
 use mathlib.Core.Logic.{_↔_}
@@ -8,7 +8,7 @@ use Prim.Native.Nat.{ℕ, zero, suc, _*_, _<_}
 use native.Mathlib.Nat.{le-of-suc-le-suc}
 use native.Mathlib.Omega.{arith}
 use lib.Dec.{eqb, leb}
-use lib.ListN.{length, drop, length-map}
+use lib.ListN.{length, length-map}
 use borrow.Author.Tests.{eqb-true, eqb-false, not-true}
 use Rattle.rules.specs.declared.Ending.the-variants.{None}
 use Rattle.rules.specs.declared.Syntax.{Syntax}
@@ -20,10 +20,11 @@ use Rattle.rules.specs.Tree.{Tok, sign, name, string, value, kindOf, tokOf, Tre
 use Rattle.rules.specs.Parse.{ok, no, tokAt, kindAt}
 use Rattle.rules.specs.Calls.{tokens, reading}
 use Rattle.rules.specs.Grammar.{Program, Is}
-use Rattle.theory_grammar.specs.Spot.{isMisfit}
+use Rattle.laws.proofs.Rows.{rows-length}
+use Rattle.theory_grammar.specs.Lost.{First}
 use Rattle.theory_grammar.specs.Tokens.{isProper, Proper, Whole}
 use Rattle.theory_grammar.proofs.Same.{accepts-exactly}
-use Rattle.theory_grammar.proofs.Place.{First, refused-first}
+use Rattle.theory_grammar.proofs.Place.{refused-first}
 
 -- ---- one row
 
@@ -95,11 +96,6 @@ module _ (t : List ℕ) where
       let h : (not (isEof r) ≡ true) × (eofLast n (q ∷ rs) ≡ true) = and-eq-true-iff (not (isEof r)) (eofLast n (q ∷ rs)) .0 e in
       whole-cons r (q ∷ rs) (not-true (isEof r) (h .0)) (tokens-whole n (q ∷ rs) (h .1))
 
-pub rows-length : (n : ℕ) (ws : List ℕ) → length (rowsIn n ws) ≡ n
-unfolding rowsIn
-rows-length zero ws = refl
-rows-length (suc n) ws = ap suc (rows-length n (drop 8 ws))
-
 pub tokens-length : (t : List ℕ) (n : ℕ) (ws : List ℕ) → length (tokens t (rowsIn n ws)) ≡ n
 unfolding tokens
 tokens-length t n ws = length-map (rowsIn n ws) (tokOf t) ∙ rows-length n ws
@@ -123,7 +119,7 @@ module _ (t ws : List ℕ) (tbl : Table) (good : wellFormed ws tbl ≡ true) (fi
       subst (λ (n : ℕ). (reading t ws tbl ≡ ok p n) ↔ (Is true Program 64 p × (tokens t (rowsIn (tbl .count) ws) ≡ yield p))) (tokens-length t (tbl .count) ws)
       (accepts-exactly (tokens t (rowsIn (tbl .count) ws)) p table-whole)
 
-  -- The theorem: what is refused with 21, 22, 23, 25 or 30 is refused at the first row of the table with which no program goes on.
-  pub refuses-first : (why : Syntax) (r : ℕ) → reading t ws tbl ≡ no why r → isMisfit why ≡ true → First (tokens t (rowsIn (tbl .count) ws)) why r
+  -- The theorem: what is refused, with any of 21 to 32, is refused for the first row of the table with which no program goes on.
+  pub refuses-first : (why : Syntax) (r : ℕ) → reading t ws tbl ≡ no why r → First (tokens t (rowsIn (tbl .count) ws)) why r
   unfolding reading
-  refuses-first why r e m = refused-first (tokens t (rowsIn (tbl .count) ws)) why r (table-whole .proper) e m
+  refuses-first why r e = refused-first (tokens t (rowsIn (tbl .count) ws)) why r (table-whole .proper) e

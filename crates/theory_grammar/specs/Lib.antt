@@ -1,4 +1,5 @@
 -- The words in which the theorems on the grammar are stated.
 pub mod Tokens
-pub mod Spot
+pub mod Lost
 pub mod Order
+pub mod Loops

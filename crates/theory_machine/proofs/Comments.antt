@@ -13,7 +13,8 @@ use Rattle.rules.specs.Text.{front, notNewline}
 use Rattle.rules.specs.Lex.{Piece, comment, refused, Item, known, end, lineComment, beforeClose, blockComment}
 use Rattle.theory_machine.specs.Machine.{St, line, block, star, on, go, spot, step, finish}
 use Rattle.theory_machine.specs.Items.{cleared, itemFirst, itemGap, itemMove, itemLast, firstBytes}
-use Rattle.theory_machine.proofs.Runs.{front-in, front-le, run-class}
+use Rattle.laws.proofs.Fronts.{front-in, front-le}
+use Rattle.theory_machine.proofs.Runs.{run-class}
 
 -- ---- to newline or end
 

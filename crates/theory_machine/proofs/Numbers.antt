@@ -12,7 +12,8 @@ use Rattle.rules.specs.Lex
 use Rattle.rules.specs.Lex.{Piece, Item, known, isDigit, isHexDigit, digitValue, spelt, largest, numberOf, decimal}
 use Rattle.theory_machine.specs.Machine.{St, zer, hex0, dec, hex, on, go, spot, number, numberEnd, step, finish}
 use Rattle.theory_machine.specs.Items.{itemFirst, itemMove, itemLast, firstBytes}
-use Rattle.theory_machine.proofs.Runs.{branch, front-in, front-out, gathered, run-class}
+use Rattle.laws.proofs.Fronts.{front-in, front-out}
+use Rattle.theory_machine.proofs.Runs.{branch, gathered, run-class}
 
 -- ---- a number whose digits spell v ends
 

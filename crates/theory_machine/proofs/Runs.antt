@@ -1,5 +1,5 @@
 -- Two tests taken alike, and the law of a run: a state that takes each byte of a class gathers what the page counts and takes at once.
-use Prim.Native.Nat.{ℕ, suc, _+_, _≤_}
+use Prim.Native.Nat.{ℕ, suc, _+_}
 use native.Mathlib.Nat.{add-zero}
 use native.Mathlib.Omega.{arith}
 use mathlib.Core.Bool.{Bool, true, false, cond}
@@ -10,6 +10,7 @@ use lib.Dec.{ltb, leb·suc-suc}
 use borrow.Author.Tests.{lt-ltb}
 use Rattle.rules.specs.Text.{front}
 use Rattle.rules.specs.Lex.{Item}
+use Rattle.laws.proofs.Fronts.{front-in, front-out}
 use Rattle.theory_machine.specs.Machine.{St, on, go, step, finish}
 use Rattle.theory_machine.specs.Items.{itemFirst, itemMove, itemLast, firstBytes}
 
@@ -18,23 +19,6 @@ pub branch : {A B : Type 0} (P : A → B → Type 0) (t : Bool) {x y : A} {x′ 
     P (cond t x y) (cond t x′ y′)
 branch P true f g = f refl
 branch P false f g = g refl
-
-pub front-in : (p : ℕ → Bool) (b : ℕ) (s : List ℕ) → p b ≡ true → front p (b ∷ s) ≡ suc (front p s)
-unfolding front
-front-in p b s e = rw (front, e)
-
-pub front-out : (p : ℕ → Bool) (b : ℕ) (s : List ℕ) → p b ≡ false → front p (b ∷ s) ≡ 0
-unfolding front
-front-out p b s e = rw (front, e)
-
-pub front-le : (p : ℕ → Bool) (s : List ℕ) → front p s ≤ length s
-unfolding front
-front-le p [] = omega arith
-front-le p (b ∷ s) = by (p b) refl (front-le p s)
-  where
-    by : (t : Bool) → p b ≡ t → front p s ≤ length s → front p (b ∷ s) ≤ suc (length s)
-    by true e h = rw (front-in p b s e) (omega arith)
-    by false e h = rw (front-out p b s e) (omega arith)
 
 unfoldable pub gathered : {A : Type 0} → (A → ℕ → A) → A → List ℕ → A
 gathered next a [] = a

@@ -9,6 +9,7 @@ use Rattle.rules.specs.declared.Lexical.the-variants.{NoRowBegins, LoneSign}
 use Rattle.rules.specs.Kinds
 use Rattle.rules.specs.Kinds.{sameBytes, signs, kindIn, SlashEquals, Slash, MinusEquals, Minus}
 use Rattle.rules.specs.Lex.{Item, known, isLone, maybeTwo, single, sign}
+use Rattle.laws.proofs.Tests.{neither}
 use Rattle.theory_machine.specs.Machine.{St, slash, minus, two, over, bad, on, go, back, mark, here, spot, tok, oneSign, twoSign, step, finish}
 use Rattle.theory_machine.specs.Items.{itemFirst, itemMove, itemLast, firstBytes}
 use Rattle.theory_machine.proofs.Runs.{branch}
@@ -90,11 +91,7 @@ minus-steps k b false e = rw (step, kindIn, not-equals b e)
 
 lone-not : (b : ℕ) → maybeTwo b ≡ false → isLone b ≡ false
 unfolding maybeTwo
-lone-not b e = right ((((eqb b 43 || eqb b 45) || eqb b 42) || eqb b 47) || eqb b 37) (isLone b) e
-  where
-    right : (p q : Bool) → (p || q) ≡ false → q ≡ false
-    right true q h = absurd (true≢false h)
-    right false q h = h
+lone-not b e = neither ((((eqb b 43 || eqb b 45) || eqb b 42) || eqb b 47) || eqb b 37) (isLone b) e .1
 
 one-same : (r : ℕ → St → Item) (b : ℕ) (s : List ℕ) → maybeTwo b ≡ false →
     itemFirst r 0 (cond (eqb (oneSign b) Kinds.Eof) (bad NoRowBegins here) (over (tok (oneSign b)))) ≡ known (sign (b ∷ s))

@@ -45,7 +45,7 @@ decided-late (refused-spans why p d a b c) = b
 pub row-decided : {least late m kind n bits d : ℕ} → Spans least late m (known (row kind n bits d)) → d ≤ n
 row-decided (row-spans kind n bits d r) = r .behind
 
-spot-le : (x : Spot) (k : ℕ) → spot x k ≤ k
+pub spot-le : (x : Spot) (k : ℕ) → spot x k ≤ k
 unfolding spot
 spot-le mark k = omega arith
 spot-le opened k = omega arith

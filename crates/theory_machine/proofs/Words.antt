@@ -11,7 +11,8 @@ use Rattle.rules.specs.Lex
 use Rattle.rules.specs.Lex.{row, Item, known, isLetter, isWord}
 use Rattle.theory_machine.specs.Machine.{St, name, on, go, word, step, finish}
 use Rattle.theory_machine.specs.Items.{itemMove, itemLast, firstBytes}
-use Rattle.theory_machine.proofs.Runs.{front-in, gathered, run-class}
+use Rattle.laws.proofs.Fronts.{front-in}
+use Rattle.theory_machine.proofs.Runs.{gathered, run-class}
 
 abbrev behind : List ℕ → ℕ → List ℕ
 behind w b = w ++ b ∷ []

@@ -7,7 +7,7 @@ use lib.Dec.{eqb, leb}
 use Rattle.rules.specs.declared.Cursor.{Cursor}
 use Rattle.rules.specs.declared.Lexical.{Lexical}
 use Rattle.rules.specs.declared.Lexical.the-variants.{NoRowBegins, LoneSign, NoHexDigit, OpenComment, OpenString, BadEscape, NumberTooLarge}
-use Rattle.rules.specs.Text.{isBlank, placeAt}
+use Rattle.rules.specs.Text.{isBlank, placeAt, byte}
 use Rattle.rules.specs.Kinds
 use Rattle.rules.specs.Kinds.{Identifier, StringLiteral, Number, SlashEquals, Slash, MinusEquals, Minus, reserved, signs, kindIn}
 use Rattle.rules.specs.Rows.{bitsOf, rowAt, eofRow}
@@ -80,12 +80,12 @@ twoSign b x = kindIn signs Kinds.Eof (b ∷ x ∷ [])
 unfoldable pub begin : ℕ → First
 begin b =
     cond (isBlank b) clear
-    (cond (eqb b 47) (go slash)
+    (cond (eqb b (byte "/")) (go slash)
     (cond (isLetter b) (go (name (b ∷ [])))
-    (cond (eqb b 48) (go (zer false))
-    (cond (isDigit b) (go (dec false (b - 48)))
-    (cond (eqb b 45) (go minus)
-    (cond (eqb b 34) (go str)
+    (cond (eqb b (byte "0")) (go (zer false))
+    (cond (isDigit b) (go (dec false (b - byte "0")))
+    (cond (eqb b (byte "-")) (go minus)
+    (cond (eqb b (byte "\"")) (go str)
     (cond (maybeTwo b) (go (two b))
     (cond (eqb (oneSign b) Kinds.Eof) (bad NoRowBegins here)
     (over (tok (oneSign b)))))))))))
@@ -94,20 +94,20 @@ begin b =
 unfoldable pub step : St → ℕ → ℕ → Move
 step gap k b = fresh
 step slash k b =
-    cond (eqb b 47) (on (go line)) (cond (eqb b 42) (on (go block)) (cond (eqb b 61) (on (over (tok SlashEquals))) (back (tok Slash))))
-step line k b = cond (eqb b 10) (on clear) (on (go line))
-step block k b = cond (eqb b 42) (on (go star)) (on (go block))
-step star k b = cond (eqb b 47) (on clear) (cond (eqb b 42) (on (go star)) (on (go block)))
+    cond (eqb b (byte "/")) (on (go line)) (cond (eqb b (byte "*")) (on (go block)) (cond (eqb b (byte "=")) (on (over (tok SlashEquals))) (back (tok Slash))))
+step line k b = cond (eqb b (byte "\n")) (on clear) (on (go line))
+step block k b = cond (eqb b (byte "*")) (on (go star)) (on (go block))
+step star k b = cond (eqb b (byte "/")) (on clear) (cond (eqb b (byte "*")) (on (go star)) (on (go block)))
 step minus k b =
-    cond (eqb b 48) (on (go (zer true)))
-    (cond (isDigit b) (on (go (dec true (b - 48)))) (cond (eqb b 61) (on (over (tok MinusEquals))) (back (tok Minus))))
+    cond (eqb b (byte "0")) (on (go (zer true)))
+    (cond (isDigit b) (on (go (dec true (b - byte "0")))) (cond (eqb b (byte "=")) (on (over (tok MinusEquals))) (back (tok Minus))))
 step str k b =
-    cond (eqb b 34) (on (over (tok StringLiteral))) (cond (eqb b 10) (on (bad OpenString here)) (cond (eqb b 92) (on (go esc)) (on (go str))))
+    cond (eqb b (byte "\"")) (on (over (tok StringLiteral))) (cond (eqb b (byte "\n")) (on (bad OpenString here)) (cond (eqb b (byte "\\")) (on (go esc)) (on (go str))))
 step esc k b = cond (isEscape b) (on (go str)) (on (bad BadEscape before))
 step (two x) k b =
     cond (eqb (twoSign x b) Kinds.Eof) (cond (isLone x) (on (bad LoneSign mark)) (back (tok (oneSign x)))) (on (over (tok (twoSign x b))))
 step (name w) k b = cond (isWord b) (on (go (name (w ++ b ∷ [])))) (back (word w))
-step (zer n) k b = cond (eqb b 120) (on (go (hex0 n))) (cond (isDigit b) (on (go (dec n (b - 48)))) (number n 0))
+step (zer n) k b = cond (eqb b (byte "x")) (on (go (hex0 n))) (cond (isDigit b) (on (go (dec n (b - byte "0")))) (number n 0))
 step (hex0 n) k b = cond (isHexDigit b) (on (go (hex n (digitValue b)))) (on (bad NoHexDigit here))
 step (dec n v) k b = cond (isDigit b) (on (go (dec n (v * 10 + digitValue b)))) (number n v)
 step (hex n v) k b = cond (isHexDigit b) (on (go (hex n (v * 16 + digitValue b)))) (number n v)

@@ -2,24 +2,19 @@
 
 use super::message;
 use super::source::Source;
-use super::{troubled, Outcome};
+use super::Outcome;
 use spoonharbor::{Document, NodeKind, Refusal, Tree};
-use std::ffi::OsStr;
 use std::io::{self, Write};
 
-/// Checks one file.
-pub fn check(file: &OsStr, out: &mut impl Write) -> io::Result<Outcome> {
-    let source = match Source::read(file) {
-        Ok(source) => source,
-        Err(trouble) => return Ok(troubled(&trouble)),
-    };
+/// Checks one text.
+pub fn check(source: &Source, out: &mut impl Write) -> io::Result<Outcome> {
     match parsed(&source.bytes) {
         Ok(tree) => {
-            writeln!(out, "{}: ok, {}", source.name, told(&source, &tree))?;
+            writeln!(out, "{}: ok, {}", source.name, told(source, &tree))?;
             Ok(Outcome::Fine)
         }
         Err(refusal) => {
-            message::refused(&source, &refusal, out)?;
+            message::refused(source, &refusal, out)?;
             Ok(Outcome::Refused)
         }
     }

@@ -55,7 +55,7 @@ fn is_hex_without_digits(text: &[u8], offset: usize) -> bool {
         .ok()
         .and_then(|document| document.rows().next_back())
         .map_or(0, |row| row.end);
-    last_end <= start && &text[start..offset] == b"0x"
+    last_end <= start && text.get(start..offset) == Some(b"0x")
 }
 
 /// A line of the source as it is shown, and what stands below it before the caret.
@@ -67,6 +67,7 @@ struct SourceLine {
 impl SourceLine {
     /// The line that the byte at `offset` stands on; a part of it if it is long.
     fn around(text: &[u8], offset: usize) -> SourceLine {
+        let offset = offset.min(text.len());
         let begin = text[..offset]
             .iter()
             .rposition(|&byte| byte == b'\n')
@@ -131,6 +132,11 @@ mod tests {
         assert_eq!((line.shown.as_str(), line.before_caret.as_str()), ("", ""));
         let line = SourceLine::around(b"ab\n", 3);
         assert_eq!((line.shown.as_str(), line.before_caret.as_str()), ("", ""));
+        let line = SourceLine::around(b"ab", 99);
+        assert_eq!(
+            (line.shown.as_str(), line.before_caret.as_str()),
+            ("ab", "  ")
+        );
         let line = SourceLine::around(b"ab\n", 2);
         assert_eq!(
             (line.shown.as_str(), line.before_caret.as_str()),

@@ -19,7 +19,7 @@ pub fn print(document: &Document, out: &mut impl Write) -> io::Result<Result<(),
 
 /// The kind, and what it does not say itself.
 fn told(document: &Document, row: &Row) -> String {
-    let spelling = &document.text()[row.span()];
+    let spelling = document.text().get(row.span()).unwrap_or_default();
     match row.kind {
         Kind::Number => format!("{} {spelling} = {}", row.kind, row.value),
         Kind::Identifier | Kind::StringLiteral => {

@@ -16,7 +16,9 @@ pub fn print(document: &Document, out: &mut impl Write) -> io::Result<Result<(),
     let spelt = Spelt::new(document);
     let mut waiting = vec![(tree.root(), 0)];
     while let Some((index, depth)) = waiting.pop() {
-        let node = &tree.nodes()[index];
+        let Some(node) = tree.nodes().get(index) else {
+            continue;
+        };
         writeln!(out, "{}{}", indentation(depth), spelt.node(node))?;
         let children = tree.children(index);
         waiting.extend(children.into_iter().rev().map(|child| (child, depth + 1)));
@@ -47,7 +49,8 @@ impl<'a> Spelt<'a> {
 
     /// The part of the text that a row spells; nothing that would not show.
     fn row(&self, row: usize) -> String {
-        let spelling = &self.document.text()[self.rows[row].span()];
+        let span = self.rows.get(row).map_or(0..0, Row::span);
+        let spelling = self.document.text().get(span).unwrap_or_default();
         spelling.replace(
             |letter: char| letter.is_ascii_control() && letter != '\t',
             "?",
@@ -57,8 +60,9 @@ impl<'a> Spelt<'a> {
     /// What the node is, its name and facts, and its place.
     fn node(&self, node: &Node) -> String {
         let name = node.name.map_or(String::new(), |row| self.row(row));
-        let row = &self.rows[node.place];
-        format!("{}  {}:{}", self.told(node, &name), row.line, row.column)
+        let place = self.rows.get(node.place).map(Row::place);
+        let place = place.map_or(String::new(), |at| format!("  {}:{}", at.line, at.column));
+        format!("{}{place}", self.told(node, &name))
     }
 
     fn told(&self, node: &Node, name: &str) -> String {
@@ -81,7 +85,7 @@ impl<'a> Spelt<'a> {
             NodeKind::Else => "else".to_string(),
             NodeKind::Section => format!("section {name}"),
             NodeKind::License => format!("license {name}"),
-            NodeKind::Unit { kind, license } => {
+            NodeKind::Unit { kind, license, .. } => {
                 let license = license.map_or("none".to_string(), |row| self.row(row));
                 format!("unit {name}: kind {}, license {license}", kind.name())
             }
@@ -92,6 +96,7 @@ impl<'a> Spelt<'a> {
                 key,
                 value,
                 max,
+                ..
             } => {
                 let word = |given: Option<Type>| given.map_or("none", Type::word);
                 format!(
@@ -102,6 +107,7 @@ impl<'a> Spelt<'a> {
                 )
             }
             NodeKind::Program => "program".to_string(),
+            _ => "another node".to_string(),
         }
     }
 }

@@ -13,7 +13,7 @@ use Rattle.rules.specs.Text.{over}
 use Rattle.rules.specs.Rows.{rowsIn, wellFormed}
 use Rattle.rules.specs.Scan.{roomOf}
 use Rattle.rules.specs.Edit.{restart, newLength}
-use Rattle.scan_place.proofs.Places.{roomy-less}
+use Rattle.laws.proofs.Places.{roomy-less}
 use Rattle.rows.proofs.Inside.{fine}
 use Rattle.edit.specs.Job.{sensibleAt, Ready}
 use Rattle.edit.proofs.Jobs.{room-begin}

@@ -6,7 +6,6 @@ use native.Mathlib.Omega.{arith}
 use borrow.Author.Needs.{needs}
 use Rattle.rules.specs.Rows.{Row}
 use Rattle.rules.specs.Scan.{laid}
-use Rattle.edit.specs.Job.{isShortSight}
 use Rattle.edit.proofs.Jobs.{ahead, over-tail, met-rows, met-ending, met-meets}
 use Rattle.edit.proofs.fill_tail.Statement.{statement}
 use Rattle.edit.proofs.fill_tail.Tie as tie
@@ -55,7 +54,6 @@ returns-2 c =
     (o .fill-over .ensures .0 ∙ q .0, o .fill-over .ensures .1 ∙ q .1)
 
 returns-3 : tie.Need-returns-3
-unfolding isShortSight
 returns-3 c =
     let s = c .before .before .before .before .before in
     let z = rw (c .enum-told2 .given .1) at (s .pre .long) in

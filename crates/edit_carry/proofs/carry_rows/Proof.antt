@@ -7,7 +7,8 @@ use lib.ListN.{length, take, drop, length-take, length-drop}
 use Rattle.rules.specs.Rows.{Row, rowWords}
 use Rattle.rules.specs.Edit.{carryRow}
 use Rattle.rows.specs.Shape.{asRow, rowNo}
-use Rattle.edit_carry.proofs.Carried.{carried-step, row-from, carried, carried-none, carried-length}
+use Rattle.laws.proofs.Rows.{row-from}
+use Rattle.edit_carry.proofs.Carried.{carried-step, carried, carried-none, carried-length}
 use Rattle.edit_carry.proofs.carry_rows.Statement.{statement}
 use Rattle.edit_carry.proofs.carry_rows.Tie as tie
 

@@ -7,7 +7,7 @@ use native.Mathlib.Numerals.{add-one}
 use native.Mathlib.Omega.{arith}
 use lib.ListN.{set, getD, length, length-set}
 use lib.Seq.{paste, paste-zero, paste-suc}
-use Rattle.edit_carry.proofs.Words.{rows-words}
+use Rattle.laws.proofs.Rows.{rows-words}
 use Rattle.edit_carry.proofs.copy_rows.Statement.{statement}
 use Rattle.edit_carry.proofs.copy_rows.Tie as tie
 

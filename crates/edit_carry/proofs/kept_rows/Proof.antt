@@ -6,7 +6,7 @@ use native.Mathlib.Omega.{arith}
 use lib.ListN.{length}
 use Rattle.rules.specs.Rows.{rowsIn}
 use Rattle.rules.specs.Edit.{kept}
-use Rattle.edit_carry.proofs.Words.{rest, row-end}
+use Rattle.laws.proofs.Rows.{end-word, rest}
 use Rattle.edit_carry.proofs.Kept.{kept-more, kept-stop, kept-none}
 use Rattle.edit_carry.proofs.kept_rows.Statement.{statement}
 use Rattle.edit_carry.proofs.kept_rows.Tie as tie
@@ -36,7 +36,7 @@ returns : tie.Need-returns Inv-loop μ-loop
 returns c =
     let l = c .before .before .before .loop in
     let s = c .before .before .before .before in
-    let e = kept-stop (s .args .a) (s .args .old .now) (s .args .count) (l .i) (omega arith) (rw (row-end (s .args .old .now) (l .i)) at (c .if1 .taken)) in
+    let e = kept-stop (s .args .a) (s .args .old .now) (s .args .count) (l .i) (omega arith) (rw (← end-word (s .args .old .now) (l .i)) at (c .if1 .taken)) in
     omega (arith, e, l .inv .1)
 
 add-i : tie.Need-add-i Inv-loop μ-loop
@@ -49,7 +49,7 @@ loop-again : tie.Need-loop-again Inv-loop μ-loop
 loop-again c =
     let l = c .before .before .before .loop in
     let s = c .before .before .before .before in
-    let e = kept-more (s .args .a) (s .args .old .now) (s .args .count) (l .i) (omega arith) (rw (row-end (s .args .old .now) (l .i)) at (c .if1 .left)) in
+    let e = kept-more (s .args .a) (s .args .old .now) (s .args .count) (l .i) (omega arith) (rw (← end-word (s .args .old .now) (l .i)) at (c .if1 .left)) in
     (omega arith, omega (arith, e, l .inv .1))
 
 returns-2 : tie.Need-returns-2 Inv-loop μ-loop

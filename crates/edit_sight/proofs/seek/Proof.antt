@@ -2,7 +2,8 @@
 use Prim.Native.Nat.{ℕ, _-_, _≤_, _<_}
 use native.Mathlib.Omega.{arith}
 use Rattle.rows.specs.Shape.{rowNo}
-use Rattle.edit_sight.proofs.Olds.{row-start, below-step}
+use Rattle.laws.proofs.Rows.{start-word}
+use Rattle.edit_sight.proofs.Olds.{below-step}
 use Rattle.edit_sight.proofs.seek.Statement.{statement}
 use Rattle.edit_sight.proofs.seek.Tie as tie
 
@@ -38,7 +39,7 @@ returns c =
       low = l .inv .0;
       high = l .inv .1;
       below = l .inv .2;
-      stop = λ h. omega (arith, c .if1 .taken, c .before .wide .ensures, row-start (s .args .old .now) (l .i));
+      stop = λ h. omega (arith, c .if1 .taken, c .before .wide .ensures, start-word (s .args .old .now) (l .i));
     }
 
 add-i : tie.Need-add-i Inv-loop μ-loop
@@ -51,7 +52,7 @@ loop-again : tie.Need-loop-again Inv-loop μ-loop
 loop-again c =
     let l = c .before .before .before .before .loop in
     let s = c .before .before .before .before .before .before in
-    let e = row-start (s .args .old .now) (l .i) in
+    let e = start-word (s .args .old .now) (l .i) in
     (omega arith, omega arith, below-step (s .args .old .now) (s .args .row) (s .args .target) (l .i) (l .inv .2) (omega (arith, c .if1 .left, c .before .wide .ensures, e)))
 
 returns-2 : tie.Need-returns-2 Inv-loop μ-loop

@@ -1,7 +1,7 @@
 -- `sight::starts` meets its contract.
 use borrow.Author.Tests.{lt-ltb, le-ltb}
 use borrow.Author.Needs.{needs}
-use Rattle.edit_sight.proofs.Olds.{row-start}
+use Rattle.laws.proofs.Rows.{start-word}
 use Rattle.edit_sight.proofs.starts.Statement.{statement}
 use Rattle.edit_sight.proofs.starts.Tie as tie
 
@@ -23,7 +23,7 @@ wide-requires c κs = search needs
 returns : tie.Need-returns
 returns c =
     let s = c .before .before .before .before in
-    rw (c .wide .ensures, row-start (s .args .old .now) (s .args .i), lt-ltb (s .args .i) (s .args .count) (c .before .before .if1 .taken))
+    rw (c .wide .ensures, ← start-word (s .args .old .now) (s .args .i), lt-ltb (s .args .i) (s .args .count) (c .before .before .if1 .taken))
 
 returns-2 : tie.Need-returns-2
 returns-2 c =

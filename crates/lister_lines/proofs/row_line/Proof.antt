@@ -1,18 +1,22 @@
--- `row_line` is safe: a row has five words in front.
-use mathlib.Core.Path.{sym}
+-- `row_line` writes the number, five words, the value and a newline.
+use mathlib.Core.Path.{sym, ap}
+use native.Mathlib.Omega.{arith}
 use lib.Seq.{length-take-le}
+use Rattle.rules.specs.Rows.{rowIn, valueBits}
 use borrow.Author.Needs.{needs}
+use Rattle.lister_lines.specs.Lines.{spaced, rowLine}
+use Rattle.lister_lines.proofs.Adding.{adds-then, adds-same}
+use Rattle.lister_lines.proofs.Lists.{front-five}
 use Rattle.lister_lines.proofs.row_line.Statement.{statement}
 use Rattle.lister_lines.proofs.row_line.Tie as tie
-
-returns : tie.Need-returns
-returns c = search needs
 
 number-requires : tie.Need-number-requires
 number-requires c κs = search needs
 
 slice-aggregate-words : tie.Need-slice-aggregate-words
-slice-aggregate-words c = sym (length-take-le 5 (c .before .before .before .before .before .before .args .row .now) (search needs))
+slice-aggregate-words c =
+    let s = c .before .before .before .before .before .before .before .before in
+    sym (length-take-le 5 (s .args .row .now) (omega (arith, s .pre)))
 
 words-requires : tie.Need-words-requires
 words-requires c κs = search needs
@@ -29,14 +33,24 @@ value-requires c κs = search needs
 put-requires : tie.Need-put-requires
 put-requires c κs = search needs
 
-returns-2 : tie.Need-returns-2
-returns-2 c = search needs
+same-length : tie.Need-same-length
+same-length c = search needs
+
+returns : tie.Need-returns
+unfolding rowLine rowIn valueBits
+returns c =
+    let ended = c .before .before in
+    let valued = ended .before .before .before .before in
+    let placed = valued .before .before .before .before .before .before in
+    let numbered = placed .before .before .before .before .before in
+    let s = numbered .before .before .before .before in
+    let five = adds-same (ap spaced (front-five (s .args .row .now) (omega (arith, s .pre)))) (placed .words .ensures) in
+    adds-then (adds-then (adds-then (numbered .number .ensures) five) (valued .value .ensures)) (ended .put .ensures)
 
 pub row-line-spec : {M : Type 1} → statement M
 row-line-spec =
     tie.close
     (tie.spec
-    returns
     number-requires
     slice-aggregate-words
     words-requires
@@ -44,4 +58,5 @@ row-line-spec =
     shared-slice-read-value-2
     value-requires
     put-requires
-    returns-2)
+    same-length
+    returns)

@@ -1,7 +1,7 @@
 -- `fits_section` meets its contract: the whole text, or as much of it as the spelling is long.
 use mathlib.Core.Path.{sym, _∙_}
 use lib.Seq.{length-take-le}
-use Rattle.laws.proofs.Spellings.{same-says}
+use Rattle.laws.proofs.Spelled.{same-says}
 use Rattle.methods.proofs.Spellings.{long-enough, fits-whole, fits-front, fits-short}
 use borrow.Author.Needs.{needs}
 use Rattle.methods.proofs.fits_section.Statement.{statement}

@@ -3,7 +3,7 @@ use mathlib.Core.Path.{_≡_, sym, _∙_}
 use borrow.Author.Needs.{needs}
 use Rattle.rules.specs.declared.Judged.the-variants as verdict
 use Rattle.rules.specs.Calls.{judged, nodeRoom}
-use Rattle.rows.proofs.Judging.{judged-fine}
+use Rattle.laws.proofs.Calls.{judged-fine}
 use Rattle.rows.proofs.Inside.{fine}
 use Rattle.parse.proofs.Tables.{asks-whole}
 use Rattle.parse.proofs.Whole.{whole-refused, whole-ending, whole-tight, whole-read}

@@ -1,11 +1,12 @@
 -- `parse::twice` meets its contract: the first pass, into no memory, says what the second will answer.
-use mathlib.Core.Path.{_≡_, subst}
+use mathlib.Core.Path.{_≡_, ap, subst, _∙_}
 use mathlib.Core.List.{List}
 use Prim.Native.Nat.{ℕ, _≤_}
 use native.Mathlib.Omega.{arith}
 use lib.ListN.{length}
 use lib.Seq.{length-take-le}
-use Rattle.rules.specs.Calls.{nodeRoom}
+use Rattle.rules.specs.Rows.{rowPlace}
+use Rattle.rules.specs.Calls.{nodeRoom, placeOfRow}
 use borrow.Author.Needs.{needs}
 use Rattle.rules.specs.Parse.{no}
 use Rattle.parse_nodes.specs.Post.{Met}
@@ -55,10 +56,13 @@ cast-t15 c =
 enum-known-why : tie.Need-enum-known-why
 enum-known-why c = search needs
 
-place-of-requires : tie.Need-place-of-requires
-place-of-requires c κs =
+row-at-requires : tie.Need-row-at-requires
+row-at-requires c κs =
     let a = c .before .before .before .before .before .before .before .before .before .before .args in
     refused-in (a .text .now) (a .rows .now) (a .count) (a .nodes .now) (c .before .before .before .before .before .before .before .before .before .before .pre) (c .before .why .given .0 .0) (c .before .why .given .0 .1 .0) (stopped (c .before))
+
+row-place-requires : tie.Need-row-place-requires
+row-place-requires c κs = search needs
 
 same-length : tie.Need-same-length
 same-length c = search needs
@@ -75,9 +79,12 @@ same-length-2 : tie.Need-same-length-2
 same-length-2 c = search needs
 
 returns-2 : tie.Need-returns-2
+unfolding placeOfRow
 returns-2 c =
-    let a = c .before .before .before .before .before .before .before .before .before .before .before .args in
-    final-no (a .rows .now) (readingOf (a .text .now) (a .rows .now) (a .count)) (a .nodes .now) _ (c .before .before .why .given .0 .0) (c .before .before .why .given .0 .1 .0) _ (stopped (c .before .before)) (c .place-of .ensures) (none-written (c .before .before .before .before .before .before .program .last .1 .1 .1 .0) (a .nodes .now) (c .before .before .before .before .before .before .program .kept .1 .1 .1 .0))
+    let w = c .before .before .before in
+    let a = w .before .before .before .before .before .before .before .before .before .args in
+    let p = w .before .before .before .before .program in
+    final-no (a .rows .now) (readingOf (a .text .now) (a .rows .now) (a .count)) (a .nodes .now) _ (w .why .given .0 .0) (w .why .given .0 .1 .0) _ (stopped w) (c .row-place .ensures ∙ ap rowPlace (c .before .row-at .ensures)) (none-written (p .last .1 .1 .1 .0) (a .nodes .now) (p .kept .1 .1 .1 .0))
 
 pub twice-spec : {M : Type 1} → statement M
 twice-spec =
@@ -90,7 +97,8 @@ twice-spec =
     program-requires-2
     cast-t15
     enum-known-why
-    place-of-requires
+    row-at-requires
+    row-place-requires
     same-length
     returns
     same-length-2

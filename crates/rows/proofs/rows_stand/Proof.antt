@@ -5,8 +5,9 @@ use Prim.Native.Nat.{_-_, _≤_}
 use native.Mathlib.Omega.{arith}
 use borrow.Author.Needs.{needs}
 use borrow.Author.Tests.{not-true, not-false}
-use Rattle.rows.specs.Shape.{asRow, stands, allBelow}
-use Rattle.rows.proofs.Lists.{below-not, below-one}
+use Rattle.laws.specs.Tests.{allBelow}
+use Rattle.rows.specs.Shape.{asRow, stands}
+use Rattle.laws.proofs.Tests.{below-not, below-one}
 use Rattle.rows.proofs.Tables.{Leads, leads-first, leads-next, stands-led}
 use Rattle.rows.proofs.rows_stand.Statement.{statement}
 use Rattle.rows.proofs.rows_stand.Tie as tie
@@ -21,7 +22,6 @@ no-row-requires : tie.Need-no-row-requires Inv-loop μ-loop
 no-row-requires c κs = search needs
 
 loop-holds : tie.Need-loop-holds Inv-loop μ-loop
-unfolding allBelow
 loop-holds c = (omega arith, (refl, rw (c .no-row .ensures) (leads-first (c .before .before .args .rows .now))))
 
 row-at-requires : tie.Need-row-at-requires Inv-loop μ-loop

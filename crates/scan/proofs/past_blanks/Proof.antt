@@ -3,7 +3,7 @@ use Prim.Native.Nat.{_-_, _<_}
 use native.Mathlib.Omega.{arith}
 use lib.ListN.{length, getD}
 use borrow.Author.Needs.{needs}
-use Rattle.scan_place.proofs.Places.{roomy-less}
+use Rattle.laws.proofs.Places.{roomy-less}
 use Rattle.scan.proofs.Blanks.{mark-on, mark-off, Blanked, blanked-start, blanked-until, blanked-end, blanked-off, blanked-on}
 use Rattle.scan.proofs.past_blanks.Statement.{statement}
 use Rattle.scan.proofs.past_blanks.Tie as tie

@@ -4,7 +4,7 @@ use native.Mathlib.Omega.{arith}
 use borrow.Author.Tests.{le-ltb, lt-ltb}
 use Rattle.rules.specs.Scan.{roomOf}
 use Rattle.scan.specs.Answer.{rowOf}
-use Rattle.scan.proofs.Lent.{row-back}
+use Rattle.scan.proofs.Laid.{row-back}
 use borrow.Author.Needs.{needs}
 use Rattle.scan.proofs.put_behind.Statement.{statement}
 use Rattle.scan.proofs.put_behind.Tie as tie

@@ -8,7 +8,7 @@ use lib.ListN.{length, take, getD}
 use lib.Seq.{take-suc}
 use Rattle.rules.specs.declared.Cursor.{Cursor}
 use Rattle.rules.specs.Text.{over, moved, Roomy}
-use Rattle.scan_place.proofs.Places.{over-append, over-one, roomy-less, roomy-step}
+use Rattle.laws.proofs.Places.{over-append, over-one, roomy-less, roomy-step}
 use Rattle.scan_place.proofs.pass.Statement.{statement}
 use Rattle.scan_place.proofs.pass.Tie as tie
 

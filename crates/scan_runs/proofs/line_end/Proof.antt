@@ -5,7 +5,7 @@ use native.Mathlib.Omega.{arith}
 use lib.ListN.{length, drop}
 use borrow.Author.Tests.{eq-eqb, ne-eqb}
 use Rattle.rules.specs.Text.{front, notNewline}
-use Rattle.scan_place.proofs.Places.{front-on, front-off, front-end}
+use Rattle.laws.proofs.Fronts.{front-on, front-off, front-end}
 use Rattle.scan_runs.proofs.line_end.Statement.{statement}
 use Rattle.scan_runs.proofs.line_end.Tie as tie
 

@@ -6,7 +6,7 @@ use lib.ListN.{length, drop}
 use borrow.Author.Tests.{not-true, not-false}
 use Rattle.rules.specs.Text.{front}
 use Rattle.rules.specs.Lex.{isWord}
-use Rattle.scan_place.proofs.Places.{front-on, front-off, front-end}
+use Rattle.laws.proofs.Fronts.{front-on, front-off, front-end}
 use Rattle.scan_runs.proofs.word_end.Statement.{statement}
 use Rattle.scan_runs.proofs.word_end.Tie as tie
 

@@ -7,7 +7,7 @@ use native.Mathlib.Omega.{arith}
 use lib.ListN.{getD}
 use Rattle.rules.specs.Kinds.{Identifier, reserved, kindIn}
 use Rattle.scan_words.specs.Entries.{lastByte, entryOf}
-use Rattle.laws.proofs.Spellings.{same-says}
+use Rattle.laws.proofs.Spelled.{same-says}
 use Rattle.scan_words.proofs.Entries.{kinds, entry-right, padded-spelling, padded-length, no-bytes, past-last, in-table, of-entry}
 use Rattle.scan_words.proofs.kind_in.Statement.{statement}
 use Rattle.scan_words.proofs.kind_in.Tie as tie

@@ -6,8 +6,9 @@ use Prim.Native.Nat.{ℕ}
 use lib.ListN.{length, getD, take}
 use Rattle.rules.specs.Kinds.{reserved, sameBytes}
 use Rattle.scan_words.specs.Entries.{spellingAt, Spellings}
-use Rattle.laws.proofs.Tables.{allBelow, below}
-use Rattle.laws.proofs.Spellings.{same-eq}
+use Rattle.laws.specs.Tests.{allBelow}
+use Rattle.laws.proofs.Tests.{below}
+use Rattle.laws.proofs.Spelled.{same-eq}
 use Rattle.scan_words.proofs.spellings.Statement.{statement}
 use Rattle.scan_words.proofs.spellings.Tie as tie
 

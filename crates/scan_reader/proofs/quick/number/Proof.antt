@@ -7,7 +7,7 @@ use native.Mathlib.Omega.{arith}
 use lib.ListN.{length-drop, drop, getD}
 use borrow.Author.Needs.{needs}
 use Rattle.rules.specs.Text.{notNewline}
-use Rattle.scan_place.proofs.Places.{front-le}
+use Rattle.laws.proofs.Fronts.{front-le}
 use Rattle.scan_reader.proofs.Briefs.{nothing-told, opening, opening-front, number-behind, number-front, number-untold, number-told}
 use Rattle.scan_reader.proofs.quick.number.Statement.{statement}
 use Rattle.scan_reader.proofs.quick.number.Tie as tie

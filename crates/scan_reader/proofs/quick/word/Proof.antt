@@ -6,7 +6,7 @@ use lib.ListN.{length-drop, drop}
 use borrow.Author.Tests.{not-true, not-false}
 use borrow.Author.Needs.{needs}
 use Rattle.rules.specs.Text.{notNewline}
-use Rattle.scan_place.proofs.Places.{front-le}
+use Rattle.laws.proofs.Fronts.{front-le}
 use Rattle.scan_reader.proofs.Items.{word-front}
 use Rattle.scan_reader.proofs.Briefs.{nothing-told, word-untold, word-told}
 use Rattle.scan_reader.proofs.quick.word.Statement.{statement}

@@ -5,7 +5,7 @@ use native.Mathlib.Omega.{arith}
 use lib.ListN.{length, drop, getD}
 use Rattle.rules.specs.Text.{front}
 use Rattle.rules.specs.Lex.{isWord}
-use Rattle.scan_place.proofs.Places.{front-on, front-off, front-end}
+use Rattle.laws.proofs.Fronts.{front-on, front-off, front-end}
 use Rattle.scan_reader.proofs.Briefs.{mark-word, mark-other}
 use Rattle.scan_reader.proofs.quick.word_end.Statement.{statement}
 use Rattle.scan_reader.proofs.quick.word_end.Tie as tie

@@ -10,7 +10,8 @@ use Rattle.rules.specs.Text.{isBlank}
 use Rattle.rules.specs.Kinds.{signs, kindIn, sameBytes}
 use Rattle.rules.specs.Lex.{isLetter, isDigit, maybeTwo}
 use Rattle.scan_words.specs.Class.{classOf, markOf, Classes}
-use Rattle.laws.proofs.Tables.{allBelow, below}
+use Rattle.laws.specs.Tests.{allBelow}
+use Rattle.laws.proofs.Tests.{below}
 use Rattle.scan_words.proofs.classes.table.Statement.{statement}
 use Rattle.scan_words.proofs.classes.table.Tie as tie
 

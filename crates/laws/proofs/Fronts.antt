@@ -1,0 +1,128 @@
+-- Laws of the front of a list, the bytes that meet a test: how long it is, at an index of a text, of two lists joined, and in a line.
+use mathlib.Core.Path.{_≡_, refl, sym, ap, _∙_}
+use mathlib.Core.Bool.{Bool, true, false, true≢false}
+use mathlib.Core.List.{List, [], _∷_, _++_}
+use Prim.Native.Nat.{ℕ, zero, suc, _+_, _≤_, _<_}
+use native.Mathlib.Nat.{zero-add}
+use native.Mathlib.Decide.{decLt}
+use native.Mathlib.Numerals.{add-one}
+use native.Mathlib.Omega.{arith}
+use lib.ListN.{length, drop, getD, drop-of-length-le, List·getD-eq-default}
+use lib.Seq.{drop-cons, drop-drop}
+use borrow.Author.Tests.{ne-eqb}
+use Rattle.rules.specs.Text.{front, notNewline}
+
+-- ---- byte by byte
+
+module _ (p : ℕ → Bool) where
+  pub front-in : (b : ℕ) (s : List ℕ) → p b ≡ true → front p (b ∷ s) ≡ suc (front p s)
+  unfolding front
+  front-in b s e = rw (front, e)
+
+  pub front-out : (b : ℕ) (s : List ℕ) → p b ≡ false → front p (b ∷ s) ≡ 0
+  unfolding front
+  front-out b s e = rw (front, e)
+
+  pub front-le : (s : List ℕ) → front p s ≤ length s
+  unfolding front
+  front-le [] = omega arith
+  front-le (b ∷ s) = by (p b) refl (front-le s)
+    where
+      by : (q : Bool) → p b ≡ q → front p s ≤ length s → front p (b ∷ s) ≤ suc (length s)
+      by true e h = rw (front-in b s e) (omega arith)
+      by false e h = rw (front-out b s e) (omega arith)
+
+  -- a test that every byte meets has the whole list for its front
+  pub front-each : (s : List ℕ) → ((k : ℕ) → k < length s → p (getD s k 0) ≡ true) → front p s ≡ length s
+  unfolding front
+  front-each [] h = refl
+  front-each (b ∷ s) h = front-in b s (h 0 (omega arith)) ∙ ap suc (front-each s (λ k l. h (suc k) (omega arith)))
+
+-- a narrower test has a shorter front
+pub front-mono : (p q : ℕ → Bool) → ((b : ℕ) → p b ≡ true → q b ≡ true) → (s : List ℕ) → front p s ≤ front q s
+unfolding front
+front-mono p q h [] = omega arith
+front-mono p q h (b ∷ s) = by (p b) refl (front-mono p q h s)
+  where
+    by : (x : Bool) → p b ≡ x → front p s ≤ front q s → front p (b ∷ s) ≤ front q (b ∷ s)
+    by true e r = rw (front-in p b s e, front-in q b s (h b e)) (omega arith)
+    by false e r = rw (front-out p b s e) (omega arith)
+
+-- ---- at an index of a text
+
+-- an index at which something other than 0 is read lies inside
+pub inside : (t : List ℕ) (i b : ℕ) → getD t i 0 ≡ b → 0 < b → i < length t
+inside t i b e h = pick (decLt i (length t))
+  where
+    pick : Dec (i < length t) → i < length t
+    pick (yes p) = p
+    pick (no p) = omega (arith, List·getD-eq-default t 0 {n = i} (omega arith))
+
+module _ (p : ℕ → Bool) (t : List ℕ) (i : ℕ) where
+  pub front-on : i < length t → p (getD t i 0) ≡ true → front p (drop i t) ≡ 1 + front p (drop (i + 1) t)
+  front-on h e = rw (drop-cons t i 0 h, add-one i) (front-in p _ _ e ∙ omega arith)
+
+  pub front-off : i < length t → p (getD t i 0) ≡ false → front p (drop i t) ≡ 0
+  front-off h e = rw (drop-cons t i 0 h) (front-out p _ _ e)
+
+  pub front-end : length t ≤ i → front p (drop i t) ≡ 0
+  unfolding front
+  front-end h = rw (drop-of-length-le t h)
+
+-- ---- two lists joined
+
+module _ (p : ℕ → Bool) where
+  -- every byte of the first meets the test
+  pub front-join : (u v : List ℕ) → front p u ≡ length u → front p (u ++ v) ≡ length u + front p v
+  front-join [] v h = omega arith
+  front-join (b ∷ u) v h = by (p b) refl (front-join u v)
+    where
+      by : (q : Bool) → p b ≡ q → (front p u ≡ length u → front p (u ++ v) ≡ length u + front p v) → front p (b ∷ (u ++ v)) ≡ suc (length u) + front p v
+      by true e ih =
+          let y : front p (b ∷ u) ≡ suc (front p u) = front-in p b u e in
+          let k : front p (u ++ v) ≡ length u + front p v = ih (omega arith) in
+          front-in p b (u ++ v) e ∙ omega arith
+      by false e ih = let y : front p (b ∷ u) ≡ 0 = front-out p b u e in omega arith
+
+  -- one does not
+  pub front-stop : (u v : List ℕ) → front p u < length u → front p (u ++ v) ≡ front p u
+  front-stop [] v h = absurd (none h)
+    where
+      none : front p [] < 0 → ⊥
+      none k = omega arith
+  front-stop (b ∷ u) v h = by (p b) refl (front-stop u v)
+    where
+      by : (q : Bool) → p b ≡ q → (front p u < length u → front p (u ++ v) ≡ front p u) → front p (b ∷ (u ++ v)) ≡ front p (b ∷ u)
+      by true e ih =
+          let y : front p (b ∷ u) ≡ suc (front p u) = front-in p b u e in
+          front-in p b (u ++ v) e ∙ ap suc (ih (omega arith)) ∙ sym y
+      by false e ih = front-out p b (u ++ v) e ∙ sym (front-out p b u e)
+
+-- what is left of a front behind n of its bytes
+pub front-drop : (p : ℕ → Bool) (n : ℕ) (s : List ℕ) → n ≤ front p s → front p s ≡ n + front p (drop n s)
+unfolding front
+front-drop p zero s h = sym (zero-add _)
+front-drop p (suc n) [] h = omega arith
+front-drop p (suc n) (b ∷ s) h = by (p b) refl (front-drop p n s)
+  where
+    by : (q : Bool) → p b ≡ q → (n ≤ front p s → front p s ≡ n + front p (drop n s)) → front p (b ∷ s) ≡ suc n + front p (drop n s)
+    by true e r =
+        let y : front p (b ∷ s) ≡ suc (front p s) = front-in p b s e in
+        let k : front p s ≡ n + front p (drop n s) = r (omega arith) in
+        omega arith
+    by false e r = let y : front p (b ∷ s) ≡ 0 = front-out p b s e in omega arith
+
+-- a front goes on over a byte that meets the test
+pub front-more : (p : ℕ → Bool) (t : List ℕ) (a n : ℕ) → n ≤ front p (drop a t) → a + n < length t → p (getD t (a + n) 0) ≡ true → n + 1 ≤ front p (drop a t)
+front-more p t a n h i e =
+    let d : front p (drop a t) ≡ n + front p (drop (a + n) t) = rw (← drop-drop n a t) (front-drop p n (drop a t) h) in
+    omega (arith, front-on p t (a + n) i e)
+
+-- ---- in a line: a test that no newline meets
+
+module _ (p : ℕ → Bool) (h : p 10 ≡ false) where
+  pub met-in-line : (b : ℕ) → p b ≡ true → notNewline b ≡ true
+  met-in-line b e = rw (ne-eqb b 10 (λ (z : b ≡ 10). true≢false (sym (rw z at e) ∙ h)))
+
+  pub front-in-line : (s : List ℕ) → front p s ≤ front notNewline s
+  front-in-line s = front-mono p notNewline met-in-line s
