@@ -1,7 +1,6 @@
-// The kinds of rows, `TokenKind` numbered in source order; 16 to 20 are never made.
+// The kinds of rows: `TokenKind` numbered in source order.
 ghost use mathlib.Core.Path.{_≡_};
-ghost use mathlib.Core.List.{[], _∷_};
-ghost use Rattle.rules.specs.Kinds.{KeywordUnit, KeywordSection, KeywordLicense, KeywordReturn, KeywordReg, KeywordImm, KeywordMap, KeywordType, KeywordKey, KeywordValue, KeywordMax, KeywordIf, KeywordElse, KeywordGuard, KeywordHeap, KeywordEvent, TypeU32, TypeU64, TypeI32, TypeI64, LBrace, RBrace, LParen, RParen, Colon, Dot, Comma, Semicolon, LBracket, RBracket, Equals, PlusEquals, MinusEquals, StarEquals, SlashEquals, PercentEquals, Plus, Minus, Star, Slash, Percent, Shr, Shl, Identifier, StringLiteral, Number, KeywordBytes, Eof, firstUnmade, lastUnmade};
+ghost use Rattle.rules.specs.Kinds.{rowKinds};
 
 pub const UNIT: u32 = 0;
 
@@ -99,16 +98,17 @@ pub const BYTES: u32 = 51;
 
 pub const EOF: u32 = 52;
 
+// No kind from the first to the last of these is made.
 pub const FIRST_UNMADE: u32 = 16;
 
 pub const LAST_UNMADE: u32 = 20;
 
 // How many kinds are numbered.
-pub const KINDS: usize = 53;
+pub const KINDS: usize = EOF as usize + 1;
 
-// All of them, which are the definitions' in the same order, and the two between which no kind is made.
+// All of them are the definitions'.
 pub fn all() -> [u32; 50]
-    ensures { λ r. ⌜ r ≡ KeywordUnit ∷ KeywordSection ∷ KeywordLicense ∷ KeywordReturn ∷ KeywordReg ∷ KeywordImm ∷ KeywordMap ∷ KeywordType ∷ KeywordKey ∷ KeywordValue ∷ KeywordMax ∷ KeywordIf ∷ KeywordElse ∷ KeywordGuard ∷ KeywordHeap ∷ KeywordEvent ∷ TypeU32 ∷ TypeU64 ∷ TypeI32 ∷ TypeI64 ∷ LBrace ∷ RBrace ∷ LParen ∷ RParen ∷ Colon ∷ Dot ∷ Comma ∷ Semicolon ∷ LBracket ∷ RBracket ∷ Equals ∷ PlusEquals ∷ MinusEquals ∷ StarEquals ∷ SlashEquals ∷ PercentEquals ∷ Plus ∷ Minus ∷ Star ∷ Slash ∷ Percent ∷ Shr ∷ Shl ∷ Identifier ∷ StringLiteral ∷ Number ∷ KeywordBytes ∷ Eof ∷ firstUnmade ∷ lastUnmade ∷ [] ⌝ }
+    ensures { λ r. ⌜ r ≡ rowKinds ⌝ }
 {
     [
         UNIT,

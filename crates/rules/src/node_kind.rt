@@ -1,7 +1,6 @@
 // The kinds of nodes.
 ghost use mathlib.Core.Path.{_≡_};
-ghost use mathlib.Core.List.{[], _∷_};
-ghost use Rattle.rules.specs.Nodes.{NodeVariable, NodeNumber, NodeDereference, NodeAdd, NodeSub, NodeMul, NodeDiv, NodeMod, NodeShl, NodeShr, NodeCall, NodeField, NodeExpression, NodeAssign, NodeAddAssign, NodeReg, NodeImm, NodeHeap, NodeReturn, NodeIf, NodeThen, NodeElse, NodeSection, NodeLicense, NodeUnit, NodeEventField, NodeEvent, NodeMap, NodeProgram};
+ghost use Rattle.rules.specs.Nodes.{nodeKinds};
 
 pub const VARIABLE: u32 = 1;
 
@@ -61,9 +60,9 @@ pub const MAP: u32 = 28;
 
 pub const PROGRAM: u32 = 29;
 
-// All of them, which are the definitions' in the same order.
+// All of them are the definitions'.
 pub fn all() -> [u32; 29]
-    ensures { λ r. ⌜ r ≡ NodeVariable ∷ NodeNumber ∷ NodeDereference ∷ NodeAdd ∷ NodeSub ∷ NodeMul ∷ NodeDiv ∷ NodeMod ∷ NodeShl ∷ NodeShr ∷ NodeCall ∷ NodeField ∷ NodeExpression ∷ NodeAssign ∷ NodeAddAssign ∷ NodeReg ∷ NodeImm ∷ NodeHeap ∷ NodeReturn ∷ NodeIf ∷ NodeThen ∷ NodeElse ∷ NodeSection ∷ NodeLicense ∷ NodeUnit ∷ NodeEventField ∷ NodeEvent ∷ NodeMap ∷ NodeProgram ∷ [] ⌝ }
+    ensures { λ r. ⌜ r ≡ nodeKinds ⌝ }
 {
     [
         VARIABLE,
