@@ -91,7 +91,10 @@ fn twice(text: &[u8], rows: &[u32], count: usize, nodes: &mut [u32]) -> Parsed
             program(text, rows, count, nodes);
             Parsed::Nodes(t.node as u32)
         }
-        Got::Refused(why, r) => Parsed::Refused(Reason::Syntax(why), shape::row_place(shape::row_at(rows, r))),
+        Got::Refused(why, r) => Parsed::Refused(
+            Reason::Syntax(why),
+            shape::row_place(shape::row_at(rows, r)),
+        ),
     }
 }
 

@@ -6,12 +6,12 @@ use call::words_compared;
 use change::BYTES;
 use change::WORDS;
 use libc::STDIN_FILENO;
-use rules::Table;
 use replay_input::input::LOST;
 use replay_input::input::count;
 use replay_input::input::letter;
 use replay_input::lines;
 use replay_input::told::table_of;
+use rules::Table;
 use tally::RESTARTS;
 use tally::Tally;
 

@@ -1,12 +1,12 @@
 // What the calls tell, and what the sample expects of them, as six words: number, offset, line, column, row count, text length.
 use crate::part::number;
 use refusals::outer_number;
-use rules::Cursor;
-use rules::Restart;
-use rules::Told;
 use replay_input::told::at_place;
 use replay_input::told::ending_words;
 use replay_input::told::table_of;
+use rules::Cursor;
+use rules::Restart;
+use rules::Told;
 
 // The sample's next so many numbers, at most six, over the first of these: the place behind them.
 pub fn words_read(sample: &[u8], at: usize, words: &mut [u32; 6], size: usize) -> usize {

@@ -72,7 +72,10 @@ fn first_compared(sample: &[u8], tally: Tally, text: &[u8; 4096], size: u64) -> 
 // The sample's next case.
 fn case_compared(sample: &[u8], tally: Tally) -> Tally {
     let mut text = [0u8; 4096];
-    let size = replay_input::input::count(sample, replay_input::input::letter(sample, tally.at, b'T'));
+    let size = replay_input::input::count(
+        sample,
+        replay_input::input::letter(sample, tally.at, b'T'),
+    );
     let next = text::bytes(sample, size.next, &mut text, size.value);
     if next == LOST {
         return tally.moved(LOST);
@@ -115,7 +118,10 @@ fn cases(sample: &[u8], at: usize, size: u64) -> Run {
 
 // Runs the cases of a sample and writes what agreed.
 fn replay(sample: &[u8]) {
-    let size = replay_input::input::count(sample, replay_input::header(sample, b"spoonharbor-sample"));
+    let size = replay_input::input::count(
+        sample,
+        replay_input::header(sample, b"spoonharbor-sample"),
+    );
     let run = cases(sample, size.next, size.value);
     lines::two(b"cases ", run.read, b" of ", size.value);
     lines::one(
