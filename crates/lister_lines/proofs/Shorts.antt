@@ -1,6 +1,6 @@
 -- How long lines of u32 words may be.
-use mathlib.Core.Path.{_≡_, refl, sym, ap, _∙_}
-use mathlib.Core.List.{List, [], _∷_, _++_}
+use mathlib.Core.Path.{_≡_, refl}
+use mathlib.Core.List.{List, [], _∷_}
 use Prim.Native.Nat.{ℕ, zero, suc, _+_, _-_, _*_, _^_, _≤_, _<_, zero-le, suc-le-suc}
 use native.Mathlib.Omega.{arith}
 use mathlib.Core.Bool.{Bool, true, false}
@@ -9,7 +9,8 @@ use lib.ListN.{length, take, drop, getD, length-append}
 use borrow.Author.Tests.{ltb-true, ltb-false}
 use Rattle.rules.specs.declared.Cursor.{Cursor}
 use Rattle.rules.specs.Rows.{rowIn, valueBits}
-use Rattle.lister_lines.specs.Lines.{bytes, decimal, signed, spaced, heading, rowLine, nodeLine, refusalLine, lines, listedRows, listedNodes, mostLines}
+use Rattle.rules.specs.Text.{bytes}
+use Rattle.lister_lines.specs.Lines.{decimal, signed, spaced, heading, rowLine, nodeLine, refusalLine, lines, listedRows, listedNodes, mostLines}
 use Rattle.lister_lines.specs.Adds.{mostOfRows, mostOfNodes, mostOfRefusal}
 use Rattle.lister_lines.proofs.Decimals.{decimal-short, signed-low, signed-high}
 

@@ -13,7 +13,8 @@ use Rattle.rules.specs.Sets
 use Rattle.rules.specs.Text
 use Rattle.rules.specs.Tree
 use Rattle.lister_lines.specs.Lines
-use Rattle.lister_lines.specs.Lines.{bytes, listed}
+use Rattle.rules.specs.Text.{bytes}
+use Rattle.lister_lines.specs.Lines.{listed}
 
 pub record Case : Type 0 where
   pub text : List ℕ

@@ -2,8 +2,6 @@
 use mathlib.Core.Bool.{true, false, cond}
 use mathlib.Core.List.{List, [], _∷_, _++_}
 use Prim.Native.Nat.{ℕ, zero, suc, _+_, _-_, _*_, _/_, _%_, _^_}
-use Prim.Native.Char.{code}
-use Prim.Native.String.{String, [] as []ˢ, _∷_ as _∷ˢ_}
 use lib.Dec.{ltb}
 use lib.ListN.{length, take, drop, replicate}
 use Rattle.rules.specs.declared.Cursor.{Cursor}
@@ -12,24 +10,20 @@ use Rattle.rules.specs.declared.Told.the-variants as told
 use Rattle.rules.specs.declared.Table.{Table}
 use Rattle.rules.specs.declared.Parsed.{Parsed}
 use Rattle.rules.specs.declared.Parsed.the-variants as parsed
-use Rattle.rules.specs.Text.{startPlace}
-use Rattle.rules.specs.Rows.{Row, rowIn, valueBits}
+use Rattle.rules.specs.Text.{byte, bytes, startPlace}
+use Rattle.rules.specs.Rows.{rowIn, valueBits}
 use Rattle.rules.specs.Scan.{scanTold, scanLeaves}
 use Rattle.rules.specs.Refusals.{outerNumber, reasonNumber}
 use Rattle.rules.specs.Calls.{parseTold, parseLeaves}
 
 -- ---- numbers
 
--- the bytes of a quoted text
-abbrev pub bytes : String → List ℕ
-bytes []ˢ = []
-bytes (c ∷ˢ s) = code c ∷ bytes s
-
 -- a digit, 0 to 9
 abbrev pub digit : ℕ → List ℕ
-digit d = (code "0" + d) ∷ []
+digit d = (byte "0" + d) ∷ []
 
--- A number below ten is its digit; any other is its tenth, and behind it the digit that is left. No number has more than k + 1 digits.
+-- A number below ten is its digit; any other is its tenth, and behind it the digit that is left. At most k + 1 digits are written, so with k = n
+-- all of them are: theorems `decimal-one` and `decimal-more`.
 unfoldable pub digits : ℕ → ℕ → List ℕ
 digits zero n = digit n
 digits (suc k) n = elim (ltb n 10) [ true ↦ digit n | false ↦ digits k (n / 10) ++ digit (n % 10) ]

@@ -3,7 +3,8 @@
 ghost use mathlib.Core.List.{[], _∷_, _++_};
 ghost use Prim.Native.Nat.{_+_, _*_, _^_};
 ghost use Rattle.lister_lines.specs.Adds.{Adds};
-ghost use Rattle.lister_lines.specs.Lines.{decimal, signed, spaced, bytes as Lines·bytes};
+ghost use Rattle.rules.specs.Text.{bytes as Text·bytes};
+ghost use Rattle.lister_lines.specs.Lines.{decimal, signed, spaced};
 
 // A byte.
 pub fn put(out: &mut [u8], at: usize, byte: u8) -> usize
@@ -61,7 +62,7 @@ pub fn words(out: &mut [u8], at: usize, list: &[u32]) -> usize
 
 // A blank, then a value given by its two's complement words.
 pub fn value(out: &mut [u8], at: usize, low: u32, high: u32) -> usize
-    ensures { λ r. ⌜ Adds (Lines·bytes " " ++ signed (high * 2 ^ 32 + low)) (now (out .entry)) at (now (out .exit)) r ⌝ }
+    ensures { λ r. ⌜ Adds (Text·bytes " " ++ signed (high * 2 ^ 32 + low)) (now (out .entry)) at (now (out .exit)) r ⌝ }
 {
     let behind = put(out, at, b' ');
     let bits = (high as u64) * 4294967296 + low as u64;

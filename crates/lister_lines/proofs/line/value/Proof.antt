@@ -1,10 +1,11 @@
 -- `line::value` writes a blank and a signed number.
 use Prim.Native.Nat.{ℕ}
-use mathlib.Core.Path.{_≡_, sym, ap, _∙_}
+use mathlib.Core.Path.{sym, ap, _∙_}
 use mathlib.Core.List.{_++_}
 use native.Mathlib.Omega.{arith}
 use borrow.Author.Needs.{needs}
-use Rattle.lister_lines.specs.Lines.{bytes, decimal}
+use Rattle.rules.specs.Text.{bytes}
+use Rattle.lister_lines.specs.Lines.{decimal}
 use Rattle.lister_lines.proofs.Adding.{adds-then, adds-same}
 use Rattle.lister_lines.proofs.Decimals.{signed-low, signed-high, negated}
 use Rattle.lister_lines.proofs.line.value.Statement.{statement}
