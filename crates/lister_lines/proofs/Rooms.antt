@@ -1,6 +1,6 @@
 -- The room of 2,000 rows and 2,000 nodes: no more are ever told, and what is listed of them.
 use mathlib.Core.Path.{_≡_, refl, sym, ap, _∙_}
-use mathlib.Core.Bool.{Bool, true, false, cond, not}
+use mathlib.Core.Bool.{Bool, true, false, cond}
 use mathlib.Core.List.{List, _++_}
 use Prim.Native.Nat.{ℕ, _*_, _≤_, _<_}
 use native.Mathlib.Omega.{arith}
@@ -21,7 +21,7 @@ use Rattle.rules.specs.declared.Reason.the-variants as reason
 use Rattle.rules.specs.declared.Table.{Table}
 use Rattle.rules.specs.declared.Told.{Told}
 use Rattle.rules.specs.declared.Told.the-variants as tells
-use Rattle.rules.specs.Text.{mostBytes, valid, startPlace}
+use Rattle.rules.specs.Text.{startPlace, textJudged}
 use Rattle.rules.specs.Nodes.{size}
 use Rattle.rules.specs.Parse.{Out, ok, no}
 use Rattle.rules.specs.Rows.{Row}
@@ -59,12 +59,11 @@ told-few n m rows e = by (leb (length rows) m) refl
 
 pub scan-few : (t : List ℕ) (m : ℕ) → countOf (scanTold t m) ≤ m
 unfolding scanTold countOf
-scan-few t m = by (ltb mostBytes (length t)) (not (valid t)) refl refl
+scan-few t m = by (textJudged t) refl
   where
-    by : (b c : Bool) → ltb mostBytes (length t) ≡ b → not (valid t) ≡ c → countOf (scanTold t m) ≤ m
-    by true c p q = rw p (omega arith)
-    by false true p q = rw (p, q) (omega arith)
-    by false false p q = rw (p, q) (told-few (length t) m (readRows (scan t)) (readEnding (scan t)))
+    by : (v : Judged) → textJudged t ≡ v → countOf (scanTold t m) ≤ m
+    by verdict.Fine q = rw (scanTold, q) (told-few (length t) m (readRows (scan t)) (readEnding (scan t)))
+    by (verdict.Refused why p) q = rw (scanTold, q) (omega arith)
 
 -- ---- no more nodes
 

@@ -43,7 +43,7 @@ fn refusal_line(out: &mut [u8], at: usize, number: u32, place: Cursor) -> usize
     ensures { λ _. ⌜ length (refusalLine number place) ≤ mostOfRefusal ⌝ }
 {
     let named = bytes(out, at, b"refused");
-    let told = [number, place.offset.0, place.column.0, place.column.0];
+    let told = [number, place.offset.0, place.line.0, place.column.0];
     let placed = words(out, named, &told);
     put(out, placed, b'\n')
 }

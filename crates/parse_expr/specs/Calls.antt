@@ -5,7 +5,7 @@ use mathlib.Core.List.{List}
 use Prim.Native.Nat.{ℕ, _+_, _*_}
 use lib.Seq.{sets}
 use Rattle.rules.specs.declared.Syntax.the-variants.{CallOnOther}
-use Rattle.rules.specs.Nodes.{node, nodeWords}
+use Rattle.rules.specs.Nodes.{NodeCall, node, nodeWords}
 use Rattle.parse_nodes.specs.Post.{stateAt}
 use Rattle.parse_nodes.specs.declared.At.{At}
 use Rattle.parse_nodes.specs.declared.Got.{Got}
@@ -14,5 +14,5 @@ use Rattle.parse_nodes.specs.declared.Got.the-variants.{Done, Refused}
 -- variable: what s stands behind is one
 abbrev pub CallEnd : (variable : Bool) → At → ℕ → ℕ → ℕ → List ℕ → List ℕ → Got → Type 0
 CallEnd true s k count next m m′ r =
-    (r ≡ Done (stateAt next (k + 1) (s .place))) × (m′ ≡ sets m (8 * k) (nodeWords (node 11 (s .place) (s .row + 1) (count + 1))))
+    (r ≡ Done (stateAt next (k + 1) (s .place))) × (m′ ≡ sets m (8 * k) (nodeWords (node NodeCall (s .place) (s .row + 1) (count + 1))))
 CallEnd false s k count next m m′ r = r ≡ Refused CallOnOther (s .row + 1)

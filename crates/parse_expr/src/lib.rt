@@ -25,7 +25,7 @@ ghost use mathlib.Core.Path.{_≡_};
 ghost use Prim.Native.Nat.{_+_, _*_, _≤_, _<_};
 ghost use lib.ListN.{length};
 ghost use lib.Seq.{sets};
-ghost use Rattle.rules.specs.Nodes.{binaryNode, node, nodeWords};
+ghost use Rattle.rules.specs.Nodes.{NodeField, binaryNode, node, nodeWords};
 ghost use Rattle.rules.specs.Parse.{isAdd, isShift, isMul, inner, atom, prim, unary, mul, shift, add, args, post};
 ghost use Rattle.parse_nodes.specs.Post.{kindWord, stateAt, Answers, Onward, Asks, AsksAt, AsksOpen};
 ghost use Rattle.parse_expr.specs.Calls.{CallEnd};
@@ -89,7 +89,7 @@ fn call_end(nodes: &mut [u32], s: At, m: usize, count: u32, next: usize) -> Got
 // The state behind a field of what s stands behind, at the dot.
 fn field_end(nodes: &mut [u32], s: At) -> At
     requires { ⌜ (s .row ≤ 65535) × (s .node ≤ 65537) ⌝ }
-    ensures { λ r. ⌜ (r ≡ stateAt (s .row + 1 + 1) (s .node + 1) (s .row + 1)) × (now (nodes .exit) ≡ sets (now (nodes .entry)) (8 * s .node) (nodeWords (node 12 (s .row + 1) (s .row + 1) 1))) ⌝ }
+    ensures { λ r. ⌜ (r ≡ stateAt (s .row + 1 + 1) (s .node + 1) (s .row + 1)) × (now (nodes .exit) ≡ sets (now (nodes .entry)) (8 * s .node) (nodeWords (node NodeField (s .row + 1) (s .row + 1) 1))) ⌝ }
 {
     let name = s.row + 1;
     let n = s.node;

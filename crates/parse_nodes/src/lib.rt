@@ -10,7 +10,7 @@ ghost use mathlib.Core.Bool.{true};
 ghost use Prim.Native.Nat.{_+_, _*_, _≤_};
 ghost use lib.ListN.{length, set};
 ghost use lib.Seq.{sets};
-ghost use Rattle.rules.specs.Nodes.{node, factNode, nodeWords, missing};
+ghost use Rattle.rules.specs.Nodes.{NodeVariable, NodeNumber, node, factNode, nodeWords, missing};
 ghost use Rattle.parse_nodes.specs.Post.{kindWord, stateAt, listAt};
 
 // Where the parser stands: the next row, the next node, the place of what was read, whether that is a variable, and how many things
@@ -159,7 +159,7 @@ pub fn ended(nodes: &mut [u32], t: At, kind: u32, place: usize, children: u32) -
 // The state behind a variable at a row.
 pub fn variable(nodes: &mut [u32], row: usize, n: usize) -> At
     requires { ⌜ (row ≤ 65537) × (n ≤ 65537) ⌝ }
-    ensures { λ r. ⌜ (r ≡ record { row = row + 1; node = n + 1; place = row; variable = true; things = 0 }) × (now (nodes .exit) ≡ sets (now (nodes .entry)) (8 * n) (nodeWords (node 1 row row 0))) ⌝ }
+    ensures { λ r. ⌜ (r ≡ record { row = row + 1; node = n + 1; place = row; variable = true; things = 0 }) × (now (nodes .exit) ≡ sets (now (nodes .entry)) (8 * n) (nodeWords (node NodeVariable row row 0))) ⌝ }
 {
     close(nodes, n, node_kind::VARIABLE, row, row as u32, 0);
     At {
@@ -174,7 +174,7 @@ pub fn variable(nodes: &mut [u32], row: usize, n: usize) -> At
 // The state behind a number at a row, with its value's words.
 pub fn number(nodes: &mut [u32], row: usize, n: usize, low: u32, high: u32) -> At
     requires { ⌜ (row ≤ 65537) × (n ≤ 65537) ⌝ }
-    ensures { λ r. ⌜ (r ≡ stateAt (row + 1) (n + 1) row) × (now (nodes .exit) ≡ sets (now (nodes .entry)) (8 * n) (nodeWords (factNode 2 row missing 0 low high 0 0))) ⌝ }
+    ensures { λ r. ⌜ (r ≡ stateAt (row + 1) (n + 1) row) × (now (nodes .exit) ≡ sets (now (nodes .entry)) (8 * n) (nodeWords (factNode NodeNumber row missing 0 low high 0 0))) ⌝ }
 {
     store(
         nodes,

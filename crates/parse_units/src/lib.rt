@@ -23,7 +23,7 @@ ghost use lib.ListN.{length, take, drop};
 ghost use lib.Seq.{sets};
 ghost use Rattle.rules.specs.Sets.{fromSection};
 ghost use Rattle.rules.specs.Tree.{sectionText};
-ghost use Rattle.rules.specs.Nodes.{factNode, nodeWords};
+ghost use Rattle.rules.specs.Nodes.{NodeUnit, factNode, nodeWords};
 ghost use Rattle.parse_nodes.specs.Post.{stateAt, Asks, AsksOpen};
 ghost use Rattle.parse_nodes.specs.Names.{Spans};
 ghost use Rattle.parse_units.specs.Contents.{unset, firstOf, spelt, AsksItem, AsksString, AsksText, AsksQuoted, Texted, ItemMet, ItemsMet, UnitMet};
@@ -212,7 +212,7 @@ fn kind_or_unknown(kind: u32) -> u32
 // The node of the unit whose word is at a row, over its contents, and the state behind it.
 fn unit_node(nodes: &mut [u32], row: usize, u: Contents) -> At
     requires { ⌜ (row < 65537) × ((u .at .row ≤ 65537) × (u .at .node ≤ 65537)) ⌝ }
-    ensures { λ r. ⌜ (r ≡ stateAt (u .at .row + 1) (u .at .node + 1) row) × (now (nodes .exit) ≡ sets (now (nodes .entry)) (8 * u .at .node) (nodeWords (factNode 25 row (row + 1) (u .at .things) (cond (eqb (u .kind) unset) 10 (u .kind)) (u .licence) 0 0))) ⌝ }
+    ensures { λ r. ⌜ (r ≡ stateAt (u .at .row + 1) (u .at .node + 1) row) × (now (nodes .exit) ≡ sets (now (nodes .entry)) (8 * u .at .node) (nodeWords (factNode NodeUnit row (row + 1) (u .at .things) (cond (eqb (u .kind) unset) 10 (u .kind)) (u .licence) 0 0))) ⌝ }
 {
     let here = u.at;
     let n = here.node;
