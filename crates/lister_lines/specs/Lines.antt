@@ -13,7 +13,7 @@ use Rattle.rules.specs.declared.Table.{Table}
 use Rattle.rules.specs.declared.Parsed.{Parsed}
 use Rattle.rules.specs.declared.Parsed.the-variants as parsed
 use Rattle.rules.specs.Text.{startPlace}
-use Rattle.rules.specs.Rows.{Row, rowIn, valueBits}
+use Rattle.rules.specs.Rows.{rowIn, valueBits}
 use Rattle.rules.specs.Scan.{scanTold, scanLeaves}
 use Rattle.rules.specs.Refusals.{outerNumber, reasonNumber}
 use Rattle.rules.specs.Calls.{parseTold, parseLeaves}
@@ -29,7 +29,8 @@ bytes (c ∷ˢ s) = code c ∷ bytes s
 abbrev pub digit : ℕ → List ℕ
 digit d = (code "0" + d) ∷ []
 
--- A number below ten is its digit; any other is its tenth, and behind it the digit that is left. No number has more than k + 1 digits.
+-- A number below ten is its digit; any other is its tenth, and behind it the digit that is left. At most k + 1 digits are written, so with k = n
+-- all of them are: theorems `decimal-one` and `decimal-more`.
 unfoldable pub digits : ℕ → ℕ → List ℕ
 digits zero n = digit n
 digits (suc k) n = elim (ltb n 10) [ true ↦ digit n | false ↦ digits k (n / 10) ++ digit (n % 10) ]

@@ -1,12 +1,9 @@
 -- `list_tree` writes the nodes of a parse, or its refusal.
-use Prim.Native.Nat.{_≤_}
-use mathlib.Core.Path.{_≡_, sym, ap, _∙_}
-use mathlib.Core.List.{List}
+use mathlib.Core.Path.{sym, ap, _∙_}
 use native.Mathlib.Omega.{arith}
 use lib.ListN.{length}
 use Prim.Native.Nat.{ℕ}
 use borrow.Author.Needs.{needs}
-use Rattle.lister_lines.specs.Adds.{mostOfNodes}
 use Rattle.lister_lines.specs.Lines.{room, refusalLine}
 use Rattle.lister_lines.proofs.Adding.{adds-same}
 use Rattle.lister_lines.proofs.Rooms.{room-length, tree-nodes, tree-refused, tree-few}

@@ -1,8 +1,8 @@
 -- `node_lines` writes lines: after i turns those of the first i nodes are written.
 use Prim.Native.Nat.{ℕ, _≤_, _+_, _-_, _*_}
-use mathlib.Core.Path.{_≡_, refl, sym, ap, _∙_}
+use mathlib.Core.Path.{_≡_, sym, ap, _∙_}
 use native.Mathlib.Omega.{arith}
-use lib.ListN.{length, take, drop, length-take, length-drop}
+use lib.ListN.{length, take, drop}
 use borrow.Author.Needs.{needs}
 use Rattle.lister_lines.specs.Adds.{Adds}
 use Rattle.lister_lines.specs.Lines.{nodeLine, lines}
