@@ -11,7 +11,7 @@ use borrow.Author.Tests.{eqb-true, leb-true, eq-eqb, not-true}
 use Rattle.rules.specs.Kinds.{Spelt, Identifier, reserved, sameBytes, kindIn}
 use Rattle.scan_words.specs.Entries.{noEntry, spellingAt, lastByte, framed, entryIn, entryOf, Spellings}
 use Rattle.laws.specs.Tests.{allBelow}
-use Rattle.laws.proofs.Tests.{both-true, below}
+use Rattle.laws.proofs.Tests.{both-true, neither, below}
 use Rattle.laws.proofs.Spelled.{same-eq}
 
 abbrev pub lengths : List ℕ
@@ -77,15 +77,11 @@ not-framed e w h = pick (sameBytes (e .spelling) w) refl
     pick true q = let z : true ≡ false = sym (same-framed e w q) ∙ h in z
     pick false q = refl
 
-either-false : (p q : Bool) → (p || q) ≡ false → (p ≡ false) × (q ≡ false)
-either-false true q h = (h, cc)
-either-false false q h = (refl, h)
-
 none-left : (es : List Spelt) (d : ℕ) (w : List ℕ) → clash es (getD w 0 0) (lastByte w) ≡ false → kindIn es d w ≡ d
 unfolding clash kindIn
 none-left [] d w h = refl
 none-left (e ∷ es) d w h =
-    let b = either-false (framed e (getD w 0 0) (lastByte w)) (clash es (getD w 0 0) (lastByte w)) h in
+    let b = neither (framed e (getD w 0 0) (lastByte w)) (clash es (getD w 0 0) (lastByte w)) h in
     rw (kindIn, not-framed e w (b .0)) (none-left es d w (b .1))
 
 -- what the number says of the kind: behind the last entry, or that entry's where the word is its spelling
