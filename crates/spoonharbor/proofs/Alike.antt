@@ -21,7 +21,7 @@ use Rattle.rules.specs.Rows.{Row, rowsIn, endingFits, rowsFit, wellFormed}
 use Rattle.rules.specs.Scan.{told}
 use Rattle.rules.specs.Edit.{Seen, sees, over′, met, short, meets, windowPlace, seenRows, seenEnding, seen, carryEnding, newRows, newEnding, newLength, sensible, windowShort, editTold, editLeaves, restartTold}
 use Rattle.rules.specs.Calls.{judged, spellingJudged, reading, endingTold, endingLeaves, parseTold, parseLeaves}
-use Rattle.spoonharbor.specs.Layout.{words, endingWords, toldWords, parsedWords, isEnding, lexicalOf, lengthOf, tableOf}
+use Rattle.answers.specs.Layout.{words, endingWords, toldWords, parsedWords, isEnding, lexicalOf, lengthOf, tableOf}
 use Rattle.spoonharbor.specs.Alike.{EndsAlike, both-none, both-refused, Alike}
 
 -- ---- a table and the one that its words tell

@@ -20,7 +20,7 @@ use Rattle.theory_edits.specs.Change.{Change, oldText, newText, a, oldRows, Win
 use Rattle.theory_edits.specs.Demand3.{Given, Due, tells, leaves, SaysSeven, IsFresh}
 use Rattle.theory_edits.proofs.WellFormed.{Scans, says-1, says-2, says-4, says-rows, scan-says, scan-scanned, scan-valid, scanned-rows, scanned-well-formed}
 use Rattle.theory_edits.proofs.Demand3.{demand-3}
-use Rattle.spoonharbor.specs.Layout.{words, toldWords, restartWords, parsedWords, isEnding, tableOf, spellingWords}
+use Rattle.answers.specs.Layout.{words, toldWords, restartWords, parsedWords, isEnding, tableOf, spellingWords}
 use Rattle.spoonharbor.specs.Alike.{OuterGiven, outerTells, outerLeaves, OuterSeven, OuterFresh}
 use Rattle.spoonharbor.proofs.Alike.{told-alike, alike-well-formed, alike-edit-told, alike-edit-leaves, alike-restart, alike-spelling, alike-parse-told, alike-parse-leaves}
 

@@ -33,7 +33,7 @@ use Rattle.spoonharbor.proofs.spoonharbor_scan.Kinds as of-outer-scan
 use Rattle.spoonharbor.proofs.spoonharbor_scan.Reads.{Post as OuterScanPost}
 use Rattle.laws.proofs.Valid.{text-fine}
 use Rattle.laws.proofs.Calls.{judged-unformed}
-use Rattle.spoonharbor.specs.Layout.{toldWords, parsedWords, isEnding, tableOf}
+use Rattle.answers.specs.Layout.{toldWords, parsedWords, isEnding, tableOf}
 use Rattle.spoonharbor.specs.Alike.{outerTells, outerLeaves, OuterFresh}
 use Rattle.spoonharbor.specs.OuterParse.{OuterLent, OuterAnswer, outer-1, outer-2, outer-3, outer-ending, outer-5, outer-nodes, outer-syntax}
 use Rattle.spoonharbor.proofs.Alike.{no-table}

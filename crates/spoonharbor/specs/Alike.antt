@@ -14,7 +14,7 @@ use Rattle.rules.specs.Refusals.{lexicalNumber}
 use Rattle.rules.specs.Scan.{roomOf, scanTold, scanLeaves}
 use Rattle.rules.specs.Edit.{editTold, editLeaves}
 use Rattle.theory_edits.specs.Change.{Change, oldText, newText, a, b, n, starts, Window}
-use Rattle.spoonharbor.specs.Layout.{words, toldWords, isEnding, tableOf}
+use Rattle.answers.specs.Layout.{words, toldWords, isEnding, tableOf}
 
 -- both none, or both refused with one number at one place
 pub data EndsAlike : Ending → Ending → Type 0 where

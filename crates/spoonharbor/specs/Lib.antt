@@ -1,5 +1,4 @@
--- The words of the outer face, tables that they do not tell apart, what its calls answer in them, and the version.
-pub mod Layout
+-- Tables that the words of the outer face do not tell apart, what its calls answer, and the version.
 pub mod Alike
 pub mod OuterParse
 pub mod Version

@@ -16,7 +16,7 @@ use Rattle.rules.specs.Tree.{Tree}
 use Rattle.rules.specs.Nodes.{size, treeWords}
 use Rattle.rules.specs.Calls.{nodeRoom}
 use Rattle.theory_calls.specs.Demand2.{rowsOf, Readable, ScansFully, ProgramOf, RefusedRow}
-use Rattle.spoonharbor.specs.Layout.{words, nowhere, toldWords}
+use Rattle.answers.specs.Layout.{words, nowhere, toldWords}
 
 -- The rows `ws` and the table's words `table` are what `spoonharbor_scan` of the text t, lent the row memory `lent`, left and told.
 pub record OuterLent (t lent ws table : List ℕ) : Type 0 where

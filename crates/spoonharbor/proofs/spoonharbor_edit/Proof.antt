@@ -1,6 +1,6 @@
--- `console::spoonharbor_edit` meets its contract: the answer's words and the new table are those of the call's.
+-- `spoonharbor::spoonharbor_edit` meets its contract: the answer's words and the new table are those of the call's.
 use mathlib.Core.Path.{ap, _∙_}
-use Rattle.spoonharbor.specs.Layout.{toldWords}
+use Rattle.answers.specs.Layout.{toldWords}
 use borrow.Author.Needs.{needs}
 use Rattle.spoonharbor.proofs.spoonharbor_edit.Statement.{statement}
 use Rattle.spoonharbor.proofs.spoonharbor_edit.Tie as tie

@@ -1,6 +1,6 @@
--- `console::spoonharbor_parse` meets its contract: the answer's words and the nodes are those of the call's.
+-- `spoonharbor::spoonharbor_parse` meets its contract: the answer's words and the nodes are those of the call's.
 use mathlib.Core.Path.{ap, _∙_}
-use Rattle.spoonharbor.specs.Layout.{parsedWords}
+use Rattle.answers.specs.Layout.{parsedWords}
 use borrow.Author.Needs.{needs}
 use Rattle.spoonharbor.proofs.spoonharbor_parse.Statement.{statement}
 use Rattle.spoonharbor.proofs.spoonharbor_parse.Tie as tie

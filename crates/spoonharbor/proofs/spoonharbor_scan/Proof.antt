@@ -1,6 +1,6 @@
--- `console::spoonharbor_scan` meets its contract: the answer's words and the rows are those of the call's.
+-- `spoonharbor::spoonharbor_scan` meets its contract: the answer's words and the rows are those of the call's.
 use mathlib.Core.Path.{ap, _∙_}
-use Rattle.spoonharbor.specs.Layout.{toldWords}
+use Rattle.answers.specs.Layout.{toldWords}
 use borrow.Author.Needs.{needs}
 use Rattle.spoonharbor.proofs.spoonharbor_scan.Statement.{statement}
 use Rattle.spoonharbor.proofs.spoonharbor_scan.Tie as tie

@@ -1,6 +1,6 @@
--- `console::spoonharbor_set_size` meets its contract: the answer's words are those of the call's.
+-- `spoonharbor::spoonharbor_set_size` meets its contract: the answer's words are those of the call's.
 use mathlib.Core.Path.{ap, _∙_}
-use Rattle.spoonharbor.specs.Layout.{askedWords}
+use Rattle.answers.specs.Layout.{askedWords}
 use borrow.Author.Needs.{needs}
 use Rattle.spoonharbor.proofs.spoonharbor_set_size.Statement.{statement}
 use Rattle.spoonharbor.proofs.spoonharbor_set_size.Tie as tie

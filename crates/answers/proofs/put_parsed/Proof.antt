@@ -1,8 +1,8 @@
--- `console::put_parsed` meets its contract: the arms are the cases of the definition.
+-- `answers::put_parsed` meets its contract: the arms are the cases of the definition.
 use mathlib.Core.Path.{_∙_}
 use borrow.Author.Needs.{needs}
-use Rattle.spoonharbor.proofs.put_parsed.Statement.{statement}
-use Rattle.spoonharbor.proofs.put_parsed.Tie as tie
+use Rattle.answers.proofs.put_parsed.Statement.{statement}
+use Rattle.answers.proofs.put_parsed.Tie as tie
 
 enum-known-parsed : tie.Need-enum-known-parsed
 enum-known-parsed c = search needs

@@ -1,8 +1,8 @@
--- `console::put_asked` meets its contract: the arms are the cases of the definition.
+-- `answers::put_asked` meets its contract: the arms are the cases of the definition.
 use mathlib.Core.Path.{_∙_}
 use borrow.Author.Needs.{needs}
-use Rattle.spoonharbor.proofs.put_asked.Statement.{statement}
-use Rattle.spoonharbor.proofs.put_asked.Tie as tie
+use Rattle.answers.proofs.put_asked.Statement.{statement}
+use Rattle.answers.proofs.put_asked.Tie as tie
 
 enum-known-asked : tie.Need-enum-known-asked
 enum-known-asked c = search needs

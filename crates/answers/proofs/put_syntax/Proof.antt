@@ -1,8 +1,8 @@
--- `console::put_syntax` meets its contract: the number and the two words told.
+-- `answers::put_syntax` meets its contract: the number and the two words told.
 use mathlib.Core.Path.{_∙_}
 use borrow.Author.Needs.{needs}
-use Rattle.spoonharbor.proofs.put_syntax.Statement.{statement}
-use Rattle.spoonharbor.proofs.put_syntax.Tie as tie
+use Rattle.answers.proofs.put_syntax.Statement.{statement}
+use Rattle.answers.proofs.put_syntax.Tie as tie
 
 syntax-number-requires : tie.Need-syntax-number-requires
 syntax-number-requires c κs = search needs

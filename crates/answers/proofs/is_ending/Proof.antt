@@ -1,8 +1,8 @@
--- `console::is_ending` meets its contract: each test is the definition's.
+-- `answers::is_ending` meets its contract: each test is the definition's.
 use borrow.Author.Tests.{ne-eqb, lt-leb, le-leb}
-use Rattle.spoonharbor.specs.Layout.{isEnding}
-use Rattle.spoonharbor.proofs.is_ending.Statement.{statement}
-use Rattle.spoonharbor.proofs.is_ending.Tie as tie
+use Rattle.answers.specs.Layout.{isEnding}
+use Rattle.answers.proofs.is_ending.Statement.{statement}
+use Rattle.answers.proofs.is_ending.Tie as tie
 
 returns : tie.Need-returns
 unfolding isEnding

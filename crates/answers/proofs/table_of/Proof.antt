@@ -1,8 +1,8 @@
--- `console::table_of` meets its contract: number 0 is no ending.
+-- `answers::table_of` meets its contract: number 0 is no ending.
 use borrow.Author.Tests.{ne-eqb}
 use borrow.Author.Needs.{needs}
-use Rattle.spoonharbor.proofs.table_of.Statement.{statement}
-use Rattle.spoonharbor.proofs.table_of.Tie as tie
+use Rattle.answers.proofs.table_of.Statement.{statement}
+use Rattle.answers.proofs.table_of.Tie as tie
 
 element-copy-out-number : tie.Need-element-copy-out-number
 element-copy-out-number c = search needs

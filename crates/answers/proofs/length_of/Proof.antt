@@ -1,9 +1,9 @@
--- `console::length_of` meets its contract: the test is the definition's.
+-- `answers::length_of` meets its contract: the test is the definition's.
 use mathlib.Core.Path.{sym, _∙_}
-use Rattle.spoonharbor.specs.Layout.{lengthOf}
+use Rattle.answers.specs.Layout.{lengthOf}
 use borrow.Author.Needs.{needs}
-use Rattle.spoonharbor.proofs.length_of.Statement.{statement}
-use Rattle.spoonharbor.proofs.length_of.Tie as tie
+use Rattle.answers.proofs.length_of.Statement.{statement}
+use Rattle.answers.proofs.length_of.Tie as tie
 
 element-copy-out-is-ending : tie.Need-element-copy-out-is-ending
 element-copy-out-is-ending c = search needs

@@ -1,8 +1,8 @@
--- `console::put_told` meets its contract: the arms are the cases of the definition.
+-- `answers::put_told` meets its contract: the arms are the cases of the definition.
 use mathlib.Core.Path.{_∙_}
 use borrow.Author.Needs.{needs}
-use Rattle.spoonharbor.proofs.put_told.Statement.{statement}
-use Rattle.spoonharbor.proofs.put_told.Tie as tie
+use Rattle.answers.proofs.put_told.Statement.{statement}
+use Rattle.answers.proofs.put_told.Tie as tie
 
 enum-known-told : tie.Need-enum-known-told
 enum-known-told c = search needs

@@ -1,8 +1,8 @@
--- `console::put_outer` meets its contract: the words of the number at the start.
+-- `answers::put_outer` meets its contract: the words of the number at the start.
 use mathlib.Core.Path.{_∙_}
 use borrow.Author.Needs.{needs}
-use Rattle.spoonharbor.proofs.put_outer.Statement.{statement}
-use Rattle.spoonharbor.proofs.put_outer.Tie as tie
+use Rattle.answers.proofs.put_outer.Statement.{statement}
+use Rattle.answers.proofs.put_outer.Tie as tie
 
 outer-number-requires : tie.Need-outer-number-requires
 outer-number-requires c κs = search needs

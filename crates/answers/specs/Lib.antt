@@ -1,0 +1,2 @@
+-- The words in which the outer face answers.
+pub mod Layout
