@@ -66,15 +66,12 @@ impl Document {
         Refusal::from_words(&self.table)
     }
 
-    /// The part of the text that a row spells; empty for Eof. A row that is not there is 3.
+    /// The part of the text that a row spells; empty for Eof. A row that is not there is 3. The rows are the document's own, so
+    /// nothing is tested anew: the answer is that of [`lent::spelling`], in a time that does not grow with the text.
     pub fn spelling(&self, row: usize) -> Result<&str, Refusal> {
-        let row = u32::try_from(row).map_err(|_| at_start(Reason::NotWellFormed))?;
-        let answer = lent::spelling(self.text.as_bytes(), self.row_words(), &self.table, row);
-        if let Some(refusal) = Refusal::from_words(&answer) {
-            return Err(refusal);
-        }
-        let part = answer[lent::FIRST] as usize..answer[lent::SECOND] as usize;
-        self.text.get(part).ok_or(at_start(Reason::NotWellFormed))
+        self.row(row)
+            .and_then(|row| self.text.get(row.span()))
+            .ok_or(at_start(Reason::NotWellFormed))
     }
 
     /// The program's tree, or the first refusal: that of the rows (11 to 15), or one of 21 to 32.

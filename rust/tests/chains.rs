@@ -4,6 +4,7 @@ use compare::answer::{answer, Answer};
 use compare::deep::on_deep_stack;
 use compare::generate::random::Random;
 use compare::generate::{damage, random_text, short, spelling};
+use spoonharbor::lent;
 use spoonharbor::{Document, Refusal, Row, LONGEST_TEXT};
 
 /// Holds a document's rows and refusal against the original's reading of its text.
@@ -203,4 +204,27 @@ fn documents_reach_the_limit() {
         assert_eq!(document, Document::open(document.text()).unwrap());
     }
     assert!(refused > 0);
+}
+
+/// A document hands out the spellings that the library's own call tells, of every row and of the one behind the last.
+#[test]
+fn spellings_are_the_library_s() {
+    let mut random = Random::new(11);
+    for _ in 0..2_000 {
+        let text = random_text(&mut random);
+        let Ok(document) = Document::open(text.clone()) else {
+            continue;
+        };
+        let mut rows = vec![0; (text.len() + 1) * lent::ROW_WORDS];
+        let table = lent::scan(&text, &mut rows);
+        for row in 0..=document.rows().len() {
+            let told = lent::spelling(&text, &rows, &table, row as u32);
+            let part = match told[lent::NUMBER] {
+                0 => Some(&text[told[lent::FIRST] as usize..told[lent::SECOND] as usize]),
+                _ => None,
+            };
+            let spelt = document.spelling(row).ok().map(str::as_bytes);
+            assert_eq!(spelt, part, "row {row} of {text:?}");
+        }
+    }
 }
