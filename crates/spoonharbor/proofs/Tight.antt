@@ -12,6 +12,7 @@ use Rattle.spoonharbor.proofs.spoonharbor_restart
 use Rattle.spoonharbor.proofs.spoonharbor_allows
 use Rattle.spoonharbor.proofs.spoonharbor_set_size
 use Rattle.spoonharbor.proofs.spoonharbor_section_kind
+use Rattle.spoonharbor.proofs.spoonharbor_version
 
 pub outer-scan-tight : Tight spoonharbor_scan.Kinds.ps spoonharbor_scan.Kinds.r spoonharbor_scan.Reads.Asked spoonharbor_scan.Reads.Learnt
 outer-scan-tight κs a = (tt, λ r₁ r₂ m₁ m₂ p q. (refl, refl ▸ alike (p .1) (q .1) ▸ alike (p .0) (q .0) ▸ refl))
@@ -39,3 +40,6 @@ outer-set-size-tight κs a = (tt, λ r₁ r₂ m₁ m₂ p q. (refl, refl ▸ al
 
 pub outer-section-kind-tight : Tight spoonharbor_section_kind.Kinds.ps spoonharbor_section_kind.Kinds.r spoonharbor_section_kind.Reads.Asked spoonharbor_section_kind.Reads.Learnt
 outer-section-kind-tight κs a = (tt, λ r₁ r₂ m₁ m₂ p q. (alike p q, refl))
+
+pub outer-version-tight : Tight spoonharbor_version.Kinds.ps spoonharbor_version.Kinds.r spoonharbor_version.Reads.Asked spoonharbor_version.Reads.Learnt
+outer-version-tight κs a = (tt, λ r₁ r₂ m₁ m₂ p q. (alike p q, refl))
