@@ -147,15 +147,23 @@ unfoldable pub readTold : List ℕ → ℕ → ℕ → ℕ → Read → Loaded
 readTold ws room count length nothing = loaded.Refused NoTable
 readTold ws room count length (reads e) = rowsTold ws room (record { count = count; length = length; ending = e })
 
--- "when reading, 42 for under 512, 41 for block 0, 44, 42, 41 for the first other bad block, 43, then 4"
+-- "41 for the first other bad block, 43, then 4"
+unfoldable pub blocksTold : List ℕ → ℕ → Loaded
+blocksTold file room =
+    cond (ltb (soundIn file) (blocksFor rowBytes (countSaid file))) (loaded.Refused (BadBlock (1 + soundIn file)))
+    (readTold (rowWordsIn file) room (countSaid file) (lengthSaid file) (endingIn file))
+
+-- "44, 42" in front of it
+unfoldable pub saidTold : List ℕ → ℕ → Loaded
+saidTold file room =
+    cond (not (eqb (formSaid file) formNumber)) (loaded.Refused OtherForm)
+    (cond (not (eqb (length file) (fileLength rowBytes (countSaid file)))) (loaded.Refused WrongLength) (blocksTold file room))
+
+-- "when reading, 42 for under 512, 41 for block 0" in front of that
 unfoldable pub loadTold : List ℕ → ℕ → Loaded
 loadTold file room =
     cond (ltb (length file) blockBytes) (loaded.Refused WrongLength)
-    (cond (not (sound 0 0 saidBytes (take blockBytes file))) (loaded.Refused (BadBlock 0))
-    (cond (not (eqb (formSaid file) formNumber)) (loaded.Refused OtherForm)
-    (cond (not (eqb (length file) (fileLength rowBytes (countSaid file)))) (loaded.Refused WrongLength)
-    (cond (ltb (soundIn file) (blocksFor rowBytes (countSaid file))) (loaded.Refused (BadBlock (1 + soundIn file)))
-    (readTold (rowWordsIn file) room (countSaid file) (lengthSaid file) (endingIn file))))))
+    (cond (not (sound 0 0 saidBytes (take blockBytes file))) (loaded.Refused (BadBlock 0)) (saidTold file room))
 
 -- the rows, and then what was there
 unfoldable pub loadLeaves : List ℕ → List ℕ → List ℕ
