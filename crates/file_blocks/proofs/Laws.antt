@@ -1,0 +1,244 @@
+-- Laws of numbers where they stand in bytes, of one more byte, word or row, and of bytes written one behind the other.
+use mathlib.Core.Path.{_≡_, refl, sym, ap, _∙_}
+use mathlib.Core.Bool.{Bool, true, false, _&&_, and-false}
+use mathlib.Core.List.{List, [], _∷_, _++_, append-assoc, append-nil}
+use Prim.Native.Nat.{ℕ, zero, suc, _+_, _-_, _*_, _/_, _%_, _≤_, _<_, max}
+use native.Mathlib.Nat.{not-suc-le-zero, le-of-suc-le-suc}
+use native.Mathlib.Numerals.{add-one}
+use native.Mathlib.Omega.{arith}
+use lib.ListN.{length, take, drop, getD, set, replicate, length-append, length-take, length-drop, length-replicate, replicate-append-replicate, take-append-drop, drop-of-length-le}
+use lib.Seq.{take-suc, drop-cons, drop-drop, getD-drop, sets-eq, set-at, take-at, drop-at, length-take-le, drop-append-add}
+use lib.Dec.{eqb}
+use borrow.Author.Tests.{eqb-true, eq-eqb, ne-eqb}
+use Rattle.laws.proofs.Tests.{same-bool, both-true, true-both}
+use Rattle.rules.specs.Rows.{Row, rowIn}
+use Rattle.file_rules.specs.Bytes.{little, number, numberAt, bytesOf, wordsIn}
+use Rattle.file_rules.specs.Blocks.{sumFrom, check, checked, block, zeros, sound}
+use Rattle.file_blocks.specs.Standing.{rowFrom, rowsFrom, standsOn, stand}
+use Rattle.theory_files.proofs.Said.{words-at}
+use Rattle.theory_files.proofs.Numbers.{words-length, little-length, bytes-length, bytes-append}
+
+-- ---- numbers where they stand
+
+number-moved : (n a j : ℕ) (s : List ℕ) → numberAt n j (drop a s) ≡ numberAt n (a + j) s
+unfolding numberAt
+number-moved n a j s = rw drop-drop
+
+module _ (s : List ℕ) (at : ℕ) where
+  pub half-is : at + 2 ≤ length s → numberAt 2 at s ≡ getD s at 0 + 256 * getD s (at + 1) 0
+  unfolding numberAt number
+  half-is h =
+      let e : at + 1 ≡ suc at = omega arith in
+      rw (e, drop-cons s at 0 (omega arith), drop-cons s (suc at) 0 (omega arith)) (omega arith)
+
+  pub word-is : at + 4 ≤ length s
+      → numberAt 4 at s ≡ getD s at 0 + 256 * (getD s (at + 1) 0 + 256 * (getD s (at + 2) 0 + 256 * getD s (at + 3) 0))
+  unfolding numberAt number
+  word-is h =
+      let e : at + 1 ≡ suc at = omega arith in
+      let f : at + 2 ≡ suc (suc at) = omega arith in
+      let g : at + 3 ≡ suc (suc (suc at)) = omega arith in
+      rw (e, f, g, drop-cons s at 0 (omega arith), drop-cons s (suc at) 0 (omega arith), drop-cons s (suc (suc at)) 0 (omega arith), drop-cons s (suc (suc (suc at))) 0 (omega arith))
+      (omega arith)
+
+  module _ (x : ℕ) where
+    pub half-put : at + 2 ≤ length s → set (set s at (x % 256)) (at + 1) (x / 256 % 256) ≡ (take at s ++ little 2 x) ++ drop (at + 2) s
+    unfolding little
+    half-put h =
+        let e : at + 1 ≡ suc at = omega arith in
+        rw e (sets-eq (little 2 x) s at (omega arith))
+
+    pub word-put : at + 4 ≤ length s
+        → set (set (set (set s at (x % 256)) (at + 1) (x / 256 % 256)) (at + 2) (x / 256 / 256 % 256)) (at + 3) (x / 256 / 256 / 256 % 256)
+        ≡ (take at s ++ little 4 x) ++ drop (at + 4) s
+    unfolding little
+    word-put h =
+        let e : at + 1 ≡ suc at = omega arith in
+        let f : at + 2 ≡ suc (suc at) = omega arith in
+        let g : at + 3 ≡ suc (suc (suc at)) = omega arith in
+        rw (e, f, g) (sets-eq (little 4 x) s at (omega arith))
+
+-- ---- one byte more
+
+sum-snoc : (p : ℕ) (s : List ℕ) (b : ℕ) → sumFrom p (s ++ (b ∷ [])) ≡ sumFrom p s + b * (p + length s)
+unfolding sumFrom
+sum-snoc p [] b = let e : p + 0 ≡ p = omega arith in rw e (omega arith)
+sum-snoc p (x ∷ s) b = let e : p + suc (length s) ≡ suc p + length s = omega arith in rw (sum-snoc (suc p) s b, e) (omega arith)
+
+pub check-more : (s : List ℕ) (i : ℕ) → i < length s → check (take (i + 1) s) ≡ check (take i s) + getD s i 0 * (i + 1)
+unfolding check
+check-more s i h =
+    let e : 1 + length (take i s) ≡ suc i = omega (arith, length-take-le i s (omega arith)) in
+    rw (add-one i, take-suc s i 0 h, sum-snoc 1 (take i s) (getD s i 0), e)
+
+zeros-snoc : (s : List ℕ) (b : ℕ) → zeros (s ++ (b ∷ [])) ≡ (eqb b 0 && zeros s)
+unfolding zeros
+zeros-snoc [] b = refl
+zeros-snoc (x ∷ s) b = rw (zeros-snoc s b) (swap (eqb x 0) (eqb b 0) (zeros s))
+  where
+    swap : (p q r : Bool) → (p && (q && r)) ≡ (q && (p && r))
+    swap true true r = refl
+    swap true false r = refl
+    swap false true r = refl
+    swap false false r = refl
+
+-- the larger of two is zero if both are
+pub larger-zero : (a b : ℕ) → eqb (max a b) 0 ≡ (eqb b 0 && eqb a 0)
+larger-zero a b =
+    same-bool (eqb (max a b) 0) (eqb b 0 && eqb a 0)
+    (λ e. let h = eqb-true (max a b) 0 e in true-both {p = eqb b 0} {q = eqb a 0} (eq-eqb b 0 (omega arith)) (eq-eqb a 0 (omega arith)))
+    (λ e. let h = both-true (eqb b 0) (eqb a 0) e in let x = eqb-true b 0 (h .0) in let y = eqb-true a 0 (h .1) in eq-eqb (max a b) 0 (omega arith))
+
+pub filler-more : (s : List ℕ) (from i most : ℕ) → from ≤ i → i < length s → eqb most 0 ≡ zeros (take (i - from) (drop from s))
+    → eqb (max most (getD s i 0)) 0 ≡ zeros (take (i + 1 - from) (drop from s))
+filler-more s from i most h l e =
+    let f : i + 1 - from ≡ suc (i - from) = omega arith in
+    let g : from + (i - from) ≡ i = omega arith in
+    rw (f, take-suc (drop from s) (i - from) 0 (omega (arith, length-drop from s)), zeros-snoc (take (i - from) (drop from s)) (getD (drop from s) (i - from) 0), getD-drop, g, larger-zero most (getD s i 0), e)
+
+-- ---- whether a block is sound
+
+pub sound-last : (k n size : ℕ) (b : List ℕ) → numberAt 2 0 b ≡ k → numberAt 2 2 b ≡ n → zeros (take (504 - size) (drop (4 + size) b)) ≡ true
+    → sound k n size b ≡ eqb (numberAt 4 508 b) (check (take 508 b))
+unfolding sound
+sound-last k n size b e f g = rw (eq-eqb _ k e, eq-eqb _ n f, g)
+
+-- ---- one row more
+
+pub row-words : (s : List ℕ) (at : ℕ) → rowFrom (drop at s) ≡ record {
+  kind = numberAt 4 at s;
+  start = numberAt 4 (at + 4) s;
+  end = numberAt 4 (at + 8) s;
+  line = numberAt 4 (at + 12) s;
+  column = numberAt 4 (at + 16) s;
+  low = numberAt 4 (at + 20) s;
+  high = numberAt 4 (at + 24) s;
+  spare = numberAt 4 (at + 28) s;
+}
+unfolding rowFrom rowIn
+row-words s at = rw (word 0 (omega arith), word 1 (omega arith), word 2 (omega arith), word 3 (omega arith), word 4 (omega arith), word 5 (omega arith), word 6 (omega arith), word 7 (omega arith), zero-on)
+  where
+    zero-on : at + 0 ≡ at
+    zero-on = omega arith
+
+    word : (i : ℕ) → i < 8 → getD (wordsIn 8 (drop at s)) i 0 ≡ numberAt 4 (at + 4 * i) s
+    word i h = words-at 8 (drop at s) i h ∙ number-moved 4 at (4 * i) s
+
+pub rows-more : (n i : ℕ) (s : List ℕ) → i < n → rowsFrom (n - i) (drop (4 + 32 * i) s) ≡ rowFrom (drop (4 + 32 * i) s) ∷ rowsFrom (n - (i + 1)) (drop (4 + 32 * (i + 1)) s)
+unfolding rowsFrom
+rows-more n i s h =
+    let e : n - i ≡ suc (n - (i + 1)) = omega arith in
+    let f : 4 + 32 * i + 32 ≡ 4 + 32 * (i + 1) = omega arith in
+    rw (e, drop-drop, f)
+
+-- row i, read as q, behind the last
+module _ (n i : ℕ) (s : List ℕ) (last q : Row) (h : i < n) (e : q ≡ rowFrom (drop (4 + 32 * i) s)) where
+  pub stand-not : standsOn last q ≡ false → stand last (rowsFrom (n - i) (drop (4 + 32 * i) s)) ≡ false
+  unfolding stand
+  stand-not f = rw (rows-more n i s h, ← e, f)
+
+  pub stand-more : standsOn last q ≡ true → stand last (rowsFrom (n - i) (drop (4 + 32 * i) s)) ≡ stand q (rowsFrom (n - (i + 1)) (drop (4 + 32 * (i + 1)) s))
+  unfolding stand
+  stand-more f = rw (rows-more n i s h, ← e, f)
+
+-- ---- one word more
+
+pub words-snoc : (i : ℕ) (s : List ℕ) → wordsIn (suc i) s ≡ wordsIn i s ++ (numberAt 4 (4 * i) s ∷ [])
+unfolding wordsIn numberAt
+words-snoc zero s = refl
+words-snoc (suc i) s =
+    let e : 4 * suc i ≡ 4 + 4 * i = omega arith in
+    rw (e, ← drop-drop (4 * i) 4 s) (ap (λ (l : List ℕ). number (take 4 s) ∷ l) (words-snoc i (drop 4 s)))
+
+pub taken-more : (i : ℕ) (s ws : List ℕ) (v : ℕ) → i < length ws → v ≡ numberAt 4 (4 + 4 * i) s
+    → set (wordsIn i (drop 4 s) ++ drop i ws) i v ≡ wordsIn (i + 1) (drop 4 s) ++ drop (i + 1) ws
+taken-more i s ws v h e =
+    rw (drop-cons ws i 0 h, set-at (wordsIn i (drop 4 s)) (getD ws i 0) (drop (suc i) ws) v i (words-length i (drop 4 s)), add-one i, words-snoc i (drop 4 s), append-assoc, e)
+    (ap (λ (x : ℕ). wordsIn i (drop 4 s) ++ (x ∷ drop (suc i) ws)) (sym (number-moved 4 4 (4 * i) s)))
+
+-- ---- written one behind the other
+
+-- v over what stands behind xs
+pub onto : (xs ys v : List ℕ) (a b : ℕ) → length xs ≡ a → a + length v ≡ b → (take a (xs ++ ys) ++ v) ++ drop b (xs ++ ys) ≡ (xs ++ v) ++ drop (length v) ys
+onto xs ys v a b e f = rw (take-at xs ys a e, ← f, ← e) (ap (λ (l : List ℕ). (xs ++ v) ++ l) (drop-append-add xs ys (length v)))
+
+-- ---- what is written, one part behind the other
+
+pub put-length : (s v : List ℕ) (at b : ℕ) → at + length v ≡ b → b ≤ length s → length ((take at s ++ v) ++ drop b s) ≡ length s
+put-length s v at b e h = rw (length-append, length-append, length-take, length-drop) (omega arith)
+
+bytes-one : (w : ℕ) → bytesOf (w ∷ []) ≡ little 4 w
+unfolding bytesOf
+bytes-one w = append-nil (little 4 w)
+
+-- no word yet
+pub words-none : (b₀ ws : List ℕ) → (take 4 b₀ ++ bytesOf (take 0 ws)) ++ drop (4 + 4 * 0) b₀ ≡ b₀
+unfolding bytesOf
+words-none b₀ ws = rw append-nil (take-append-drop 4 b₀)
+
+-- one word more of a content
+module _ (b₀ ws b : List ℕ) (i : ℕ) (h : i < length ws) (l : 4 + 4 * length ws ≤ length b₀) where
+  pub words-more : b ≡ (take 4 b₀ ++ bytesOf (take i ws)) ++ drop (4 + 4 * i) b₀
+      → (take (4 + 4 * i) b ++ little 4 (getD ws i 0)) ++ drop (4 + 4 * i + 4) b ≡ (take 4 b₀ ++ bytesOf (take (i + 1) ws)) ++ drop (4 + 4 * (i + 1)) b₀
+  words-more e =
+      let xs : List ℕ = take 4 b₀ ++ bytesOf (take i ws) in
+      let w : List ℕ = little 4 (getD ws i 0) in
+      let n : length w ≡ 4 = little-length 4 (getD ws i 0) in
+      let m : length xs ≡ 4 + 4 * i = rw (length-append, bytes-length, length-take) (omega (arith, length-take i ws)) in
+      let f : 4 + 4 * i + 4 ≡ 4 + 4 * (i + 1) = omega arith in
+      let g : bytesOf (take (i + 1) ws) ≡ bytesOf (take i ws) ++ w = rw (add-one i, take-suc ws i 0 h, bytes-append (take i ws) (getD ws i 0 ∷ [])) one-word in
+      rw e (onto xs (drop (4 + 4 * i) b₀) w (4 + 4 * i) (4 + 4 * i + 4) m (omega arith) ∙ rw (n, drop-drop, f, g) (simp append-assoc))
+    where
+      one-word : bytesOf (take i ws) ++ bytesOf (getD ws i 0 ∷ []) ≡ bytesOf (take i ws) ++ little 4 (getD ws i 0)
+      one-word = ap (λ (z : List ℕ). bytesOf (take i ws) ++ z) (bytes-one (getD ws i 0))
+
+zeros-one : (n : ℕ) → replicate {A = ℕ} (n + 1) 0 ≡ replicate n 0 ++ (0 ∷ [])
+zeros-one n = sym (replicate-append-replicate {A = ℕ} n 1 0)
+
+-- no byte yet
+pub filler-none : (b₀ : List ℕ) (from : ℕ) → (take from b₀ ++ replicate (from - from) 0) ++ drop from b₀ ≡ b₀
+filler-none b₀ from =
+    let e : from - from ≡ 0 = omega arith in
+    rw (e, append-nil (take from b₀)) (take-append-drop from b₀)
+
+-- one byte more of filler
+pub filler-put : (b₀ b : List ℕ) (from i : ℕ) → from ≤ i → i < length b₀ → b ≡ (take from b₀ ++ replicate (i - from) 0) ++ drop i b₀
+    → set b i 0 ≡ (take from b₀ ++ replicate (i + 1 - from) 0) ++ drop (i + 1) b₀
+filler-put b₀ b from i h l e =
+    let xs : List ℕ = take from b₀ ++ replicate (i - from) 0 in
+    let m : length xs ≡ i = rw (length-append, length-take, length-replicate) (omega arith) in
+    let f : i + 1 - from ≡ (i - from) + 1 = omega arith in
+    rw (e, drop-cons b₀ i 0 l, set-at xs (getD b₀ i 0) (drop (suc i) b₀) 0 i m, f, zeros-one (i - from), add-one i) (simp append-assoc)
+
+-- the five parts of a block, each over what stood there
+module _ (k n : ℕ) (ws b₀ b₁ b₂ b₃ b₄ b₅ : List ℕ) (whole : length b₀ ≡ 512) (few : 4 * length ws ≤ 504) where
+  pub block-put : b₁ ≡ (take 0 b₀ ++ little 2 k) ++ drop 2 b₀
+      → b₂ ≡ (take 2 b₁ ++ little 2 n) ++ drop 4 b₁
+      → b₃ ≡ (take 4 b₂ ++ bytesOf ws) ++ drop (4 + 4 * length ws) b₂
+      → b₄ ≡ (take (4 + 4 * length ws) b₃ ++ replicate (508 - (4 + 4 * length ws)) 0) ++ drop 508 b₃
+      → (sum : ℕ) → sum ≡ check (take 508 b₄) → b₅ ≡ (take 508 b₄ ++ little 4 sum) ++ drop 512 b₄
+      → b₅ ≡ block k n (bytesOf ws)
+  unfolding block checked
+  block-put e₁ e₂ e₃ e₄ sum e e₅ =
+      let x : List ℕ = little 2 k in
+      let y : List ℕ = little 2 n in
+      let c : List ℕ = bytesOf ws in
+      let z : List ℕ = replicate (508 - (4 + 4 * length ws)) 0 in
+      let lx : length x ≡ 2 = little-length 2 k in
+      let ly : length y ≡ 2 = little-length 2 n in
+      let lc : length c ≡ 4 * length ws = bytes-length ws in
+      let lz : length z ≡ 508 - (4 + 4 * length ws) = length-replicate (508 - (4 + 4 * length ws)) 0 in
+      let r₁ : List ℕ = drop 2 b₀ in
+      let r₂ : List ℕ = drop (length y) r₁ in
+      let r₃ : List ℕ = drop (length c) r₂ in
+      let r₄ : List ℕ = drop (length z) r₃ in
+      let f₂ : b₂ ≡ (x ++ y) ++ r₂ = e₂ ∙ rw e₁ (onto x r₁ y 2 4 lx (omega arith)) in
+      let l₂ : length (x ++ y) ≡ 4 = length-append x y ∙ omega arith in
+      let f₃ : b₃ ≡ ((x ++ y) ++ c) ++ r₃ = e₃ ∙ rw f₂ (onto (x ++ y) r₂ c 4 (4 + 4 * length ws) l₂ (omega arith)) in
+      let l₃ : length ((x ++ y) ++ c) ≡ 4 + 4 * length ws = length-append (x ++ y) c ∙ omega arith in
+      let f₄ : b₄ ≡ (((x ++ y) ++ c) ++ z) ++ r₄ = e₄ ∙ rw f₃ (onto ((x ++ y) ++ c) r₃ z (4 + 4 * length ws) 508 l₃ (omega arith)) in
+      let l₄ : length (((x ++ y) ++ c) ++ z) ≡ 508 = length-append ((x ++ y) ++ c) z ∙ omega arith in
+      let t₄ : take 508 b₄ ≡ (x ++ y) ++ (c ++ z) = ap (take 508) f₄ ∙ take-at (((x ++ y) ++ c) ++ z) r₄ 508 l₄ ∙ append-assoc (x ++ y) c z in
+      let d₄ : drop 512 b₄ ≡ [] = drop-of-length-le b₄ {i = 512} (omega (arith, ap length f₄, length-append (((x ++ y) ++ c) ++ z) r₄, length-drop (length z) r₃, length-drop (length c) r₂, length-drop (length y) r₁, length-drop 2 b₀)) in
+      let g : 508 - (4 + 4 * length ws) ≡ 504 - length c = omega arith in
+      e₅ ∙ rw (e, d₄, t₄, append-nil, g)

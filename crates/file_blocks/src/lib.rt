@@ -1,0 +1,221 @@
+// One block of a stored table: its numbers, its check, whether it is sound, its rows, and the writing of it.
+use file_rules::form;
+use rows::shape;
+use rows::shape::Row;
+use rules::kind;
+use rules::row;
+ghost use mathlib.Core.Path.{_≡_};
+ghost use mathlib.Core.List.{_++_};
+ghost use Prim.Native.Nat.{_+_, _-_, _*_, _≤_, max};
+ghost use lib.ListN.{length, take, drop, replicate};
+ghost use Rattle.rules.specs.Rows.{rowFits};
+ghost use Rattle.rows.specs.Shape.{LengthTable, asRow};
+ghost use Rattle.file_rules.specs.Bytes.{little, numberAt, bytesOf, wordsIn};
+ghost use Rattle.file_rules.specs.Blocks.{check, block, zeros, sound};
+ghost use Rattle.file_blocks.specs.Standing.{rowFrom, rowsFrom, standsOn, stand};
+
+// ---- numbers
+
+// A byte as a word, in which sums of bytes times places fit.
+fn wide(b: u8) -> u32
+    ensures { λ r. ⌜ (r ≡ b) × (r ≤ 255) ⌝ }
+{
+    b as u32
+}
+
+// The number in two bytes.
+fn half_at(bytes: &[u8], at: usize) -> u32
+    requires { ⌜ at + 2 ≤ length (now bytes) ⌝ }
+    ensures { λ r. ⌜ r ≡ numberAt 2 at (now (bytes .entry)) ⌝ }
+{
+    wide(bytes[at]) + 256 * wide(bytes[at + 1])
+}
+
+// The number in four bytes.
+pub fn word_at(bytes: &[u8], at: usize) -> u32
+    requires { ⌜ at + 4 ≤ length (now bytes) ⌝ }
+    ensures { λ r. ⌜ r ≡ numberAt 4 at (now (bytes .entry)) ⌝ }
+{
+    wide(bytes[at])
+        + 256 * (wide(bytes[at + 1]) + 256 * (wide(bytes[at + 2]) + 256 * wide(bytes[at + 3])))
+}
+
+// A number into two bytes.
+fn put_half(bytes: &mut [u8], at: usize, x: u32)
+    requires { ⌜ at + 2 ≤ length (now bytes) ⌝ }
+    ensures { λ _. ⌜ now (bytes .exit) ≡ (take at (now (bytes .entry)) ++ little 2 x) ++ drop (at + 2) (now (bytes .entry)) ⌝ }
+{
+    bytes[at] = (x % 256) as u8;
+    bytes[at + 1] = (x / 256 % 256) as u8;
+}
+
+// A number into four bytes.
+fn put_word(bytes: &mut [u8], at: usize, x: u32)
+    requires { ⌜ at + 4 ≤ length (now bytes) ⌝ }
+    ensures { λ _. ⌜ now (bytes .exit) ≡ (take at (now (bytes .entry)) ++ little 4 x) ++ drop (at + 4) (now (bytes .entry)) ⌝ }
+{
+    bytes[at] = (x % 256) as u8;
+    bytes[at + 1] = (x / 256 % 256) as u8;
+    bytes[at + 2] = (x / 256 / 256 % 256) as u8;
+    bytes[at + 3] = (x / 256 / 256 / 256 % 256) as u8;
+}
+
+// ---- whether a block is sound
+
+// The check of a block: each byte in front of it times its place, counted from 1.
+fn check_of(bytes: &[u8]) -> u32
+    requires { ⌜ 508 ≤ length (now bytes) ⌝ }
+    ensures { λ r. ⌜ r ≡ check (take 508 (now (bytes .entry))) ⌝ }
+{
+    let mut sum: u32 = 0;
+    let mut place: u32 = 0;
+    let mut i = 0;
+    while i < form::CHECKED {
+        place += 1;
+        sum += wide(bytes[i]) * place;
+        i += 1;
+    }
+    sum
+}
+
+// The larger of two bytes.
+fn larger(a: u8, b: u8) -> u8
+    ensures { λ r. ⌜ r ≡ max a b ⌝ }
+{
+    if a < b { b } else { a }
+}
+
+// Whether all bytes from one on to the check are zero.
+fn is_filler(bytes: &[u8], from: usize) -> bool
+    requires { ⌜ (from ≤ 508) × (508 ≤ length (now bytes)) ⌝ }
+    ensures { λ r. ⌜ r ≡ zeros (take (508 - from) (drop from (now (bytes .entry)))) ⌝ }
+{
+    let mut most = 0;
+    let mut i = from;
+    while i < form::CHECKED {
+        most = larger(most, bytes[i]);
+        i += 1;
+    }
+    most == 0
+}
+
+// Whether a block is sound: block k of n rows, with so many bytes of content.
+pub fn is_sound(bytes: &[u8], k: u32, n: u32, size: usize) -> bool
+    requires { ⌜ (length (now bytes) ≡ 512) × (size ≤ 504) ⌝ }
+    ensures { λ r. ⌜ r ≡ sound k n size (now (bytes .entry)) ⌝ }
+{
+    if half_at(bytes, 0) != k {
+        return false;
+    }
+    if half_at(bytes, 2) != n {
+        return false;
+    }
+    if !is_filler(bytes, form::CONTENT + size) {
+        return false;
+    }
+    word_at(bytes, form::CHECKED) == check_of(bytes)
+}
+
+// ---- rows
+
+// The row whose bytes start at one.
+fn row_at(bytes: &[u8], at: usize) -> Row
+    requires { ⌜ at + 32 ≤ length (now bytes) ⌝ }
+    ensures { λ r. ⌜ asRow r ≡ rowFrom (drop at (now (bytes .entry))) ⌝ }
+{
+    Row {
+        kind: word_at(bytes, at),
+        start: word_at(bytes, at + form::WORD * row::START),
+        end: word_at(bytes, at + form::WORD * row::END),
+        line: word_at(bytes, at + form::WORD * row::LINE),
+        column: word_at(bytes, at + form::WORD * row::COLUMN),
+        low: word_at(bytes, at + form::WORD * row::LOW),
+        high: word_at(bytes, at + form::WORD * row::HIGH),
+        spare: word_at(bytes, at + form::WORD * row::SPARE),
+    }
+}
+
+// Row i of a block.
+pub fn row_in(bytes: &[u8], i: usize) -> Row
+    requires { ⌜ 4 + 32 * i + 32 ≤ length (now bytes) ⌝ }
+    ensures { λ r. ⌜ asRow r ≡ rowFrom (drop (4 + 32 * i) (now (bytes .entry))) ⌝ }
+{
+    row_at(bytes, form::CONTENT + form::ROW * i)
+}
+
+// Whether row q fits behind row r, and is not Eof.
+fn stands_on(lengths: &[u32; kind::KINDS], r: Row, q: Row) -> bool
+    requires { ⌜ LengthTable (now lengths) ⌝ }
+    ensures { λ b. ⌜ b ≡ standsOn (asRow r) (asRow q) ⌝ }
+{
+    ((q.kind != kind::EOF) & shape::row_fits(lengths, q)) & shape::row_follows(r, q)
+}
+
+// Whether the first n rows of a block fit behind a row and one behind the other, none of them Eof.
+pub fn rows_stand(lengths: &[u32; kind::KINDS], bytes: &[u8], n: usize, before: Row) -> bool
+    requires { ⌜ (4 + 32 * n ≤ length (now bytes)) × LengthTable (now lengths) ⌝ }
+    ensures { λ r. ⌜ r ≡ stand (asRow before) (rowsFrom n (drop 4 (now (bytes .entry)))) ⌝ }
+{
+    let mut last = before;
+    let mut i = 0;
+    while i < n {
+        let r = row_in(bytes, i);
+        if !stands_on(lengths, last, r) {
+            return false;
+        }
+        last = r;
+        i += 1;
+    }
+    true
+}
+
+// The first n words of a block's content into the first lent words.
+pub fn take_words(bytes: &[u8], n: usize, words: &mut [u32])
+    requires { ⌜ (4 + 4 * n ≤ length (now bytes)) × (n ≤ length (now words)) ⌝ }
+    ensures { λ _. ⌜ now (words .exit) ≡ wordsIn n (drop 4 (now (bytes .entry))) ++ drop n (now (words .entry)) ⌝ }
+{
+    let mut i = 0;
+    while i < n {
+        words[i] = word_at(bytes, form::CONTENT + form::WORD * i);
+        i += 1;
+    }
+}
+
+// ---- a block written
+
+// Words for a content.
+fn put_words(bytes: &mut [u8], words: &[u32])
+    requires { ⌜ 4 + 4 * length (now words) ≤ length (now bytes) ⌝ }
+    ensures { λ _. ⌜ now (bytes .exit) ≡ (take 4 (now (bytes .entry)) ++ bytesOf (now (words .entry))) ++ drop (4 + 4 * length (now (words .entry))) (now (bytes .entry)) ⌝ }
+{
+    let mut i = 0;
+    while i < words.len() {
+        put_word(bytes, form::CONTENT + form::WORD * i, words[i]);
+        i += 1;
+    }
+}
+
+// Zeros from a byte on to the check.
+fn put_filler(bytes: &mut [u8], from: usize)
+    requires { ⌜ (from ≤ 508) × (508 ≤ length (now bytes)) ⌝ }
+    ensures { λ _. ⌜ now (bytes .exit) ≡ (take from (now (bytes .entry)) ++ replicate (508 - from) 0) ++ drop 508 (now (bytes .entry)) ⌝ }
+{
+    let mut i = from;
+    while i < form::CHECKED {
+        bytes[i] = 0;
+        i += 1;
+    }
+}
+
+// Block k of n rows, with some words for content.
+pub fn put_block(bytes: &mut [u8], k: u32, n: u32, words: &[u32])
+    requires { ⌜ (length (now bytes) ≡ 512) × (4 * length (now words) ≤ 504) ⌝ }
+    ensures { λ _. ⌜ now (bytes .exit) ≡ block k n (bytesOf (now (words .entry))) ⌝ }
+{
+    put_half(bytes, 0, k);
+    put_half(bytes, 2, n);
+    put_words(bytes, words);
+    put_filler(bytes, form::CONTENT + form::WORD * words.len());
+    let sum = check_of(bytes);
+    put_word(bytes, form::CHECKED, sum);
+}
