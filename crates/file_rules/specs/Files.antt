@@ -17,6 +17,8 @@ use Rattle.rules.specs.Scan.{roomOf}
 use Rattle.rules.specs.Refusals.{outerNumber, lexicalNumber}
 use Rattle.file_rules.specs.declared.Fault.{Fault}
 use Rattle.file_rules.specs.declared.Fault.the-variants.{Outer, TooManyRows, BadBlock, WrongLength, NoTable, OtherForm}
+use Rattle.file_rules.specs.declared.EndingRead.{EndingRead}
+use Rattle.file_rules.specs.declared.EndingRead.the-variants.{Ends, Nothing}
 use Rattle.file_rules.specs.declared.Stored.{Stored}
 use Rattle.file_rules.specs.declared.Stored.the-variants as stored
 use Rattle.file_rules.specs.declared.Loaded.{Loaded}
@@ -96,20 +98,15 @@ storeLeaves ws t file =
 abbrev pub reasons : List Lexical
 reasons = NoRowBegins ∷ LoneSign ∷ NoHexDigit ∷ OpenComment ∷ OpenString ∷ BadEscape ∷ NumberTooLarge ∷ []
 
--- an ending, or what is none
-pub data Read : Type 0 where
-  reads : Ending → Read
-  nothing : Read
-
-unfoldable pub readRefused : List Lexical → ℕ → Cursor → Read
-readRefused [] number p = nothing
-readRefused (why ∷ more) number p = cond (eqb number (lexicalNumber why)) (reads (ending.Refused why p)) (readRefused more number p)
+unfoldable pub readRefused : List Lexical → ℕ → Cursor → EndingRead
+readRefused [] number p = Nothing
+readRefused (why ∷ more) number p = cond (eqb number (lexicalNumber why)) (Ends (ending.Refused why p)) (readRefused more number p)
 
 -- none has number 0, and then offset, line and column are 0
-unfoldable pub readEnding : ℕ → Cursor → Read
+unfoldable pub readEnding : ℕ → Cursor → EndingRead
 readEnding number p =
     cond (eqb number 0)
-    (cond (eqb (p .offset .0) 0 && (eqb (p .line .0) 0 && eqb (p .column .0) 0)) (reads ending.None) nothing)
+    (cond (eqb (p .offset .0) 0 && (eqb (p .line .0) 0 && eqb (p .column .0) 0)) (Ends ending.None) Nothing)
     (readRefused reasons number p)
 
 -- word i of what block 0 says
@@ -125,7 +122,7 @@ lengthSaid file = saidAt 1 file
 abbrev pub countSaid : List ℕ → ℕ
 countSaid file = saidAt 2 file
 
-unfoldable pub endingIn : List ℕ → Read
+unfoldable pub endingIn : List ℕ → EndingRead
 endingIn file = readEnding (saidAt 3 file) (place (saidAt 4 file) (saidAt 5 file) (saidAt 6 file))
 
 -- what stands behind block 0: the words of all rows, and how many blocks are sound before one is not
@@ -143,9 +140,9 @@ rowsTold ws room t =
     (cond (not (wellFormed ws t)) (loaded.Refused NoTable)
     (cond (ltb room (t .count)) (loaded.Refused (Outer NoRowRoom)) (loaded.Rows t)))
 
-unfoldable pub readTold : List ℕ → ℕ → ℕ → ℕ → Read → Loaded
-readTold ws room count length nothing = loaded.Refused NoTable
-readTold ws room count length (reads e) = rowsTold ws room (record { count = count; length = length; ending = e })
+unfoldable pub readTold : List ℕ → ℕ → ℕ → ℕ → EndingRead → Loaded
+readTold ws room count length Nothing = loaded.Refused NoTable
+readTold ws room count length (Ends e) = rowsTold ws room (record { count = count; length = length; ending = e })
 
 -- "41 for the first other bad block, 43, then 4"
 unfoldable pub blocksTold : List ℕ → ℕ → Loaded

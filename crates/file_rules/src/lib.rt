@@ -1,6 +1,7 @@
 // The plain data that the definitions and the code of stored tables share: what a call over a file tells, and the names of numbers.
 pub mod form;
 
+use rules::Ending;
 use rules::Outer;
 use rules::Table;
 
@@ -24,4 +25,10 @@ pub enum Stored {
 pub enum Loaded {
     Rows(Table),
     Refused(Fault),
+}
+
+// The ending that block 0 tells, or that it tells none that there is.
+pub enum EndingRead {
+    Ends(Ending),
+    Nothing,
 }

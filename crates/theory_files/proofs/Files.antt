@@ -28,7 +28,9 @@ use Rattle.file_rules.specs.declared.Stored.the-variants as stored
 use Rattle.file_rules.specs.declared.Loaded.the-variants as loaded
 use Rattle.file_rules.specs.Bytes.{bytesOf, wordsIn}
 use Rattle.file_rules.specs.Blocks.{block, contentOf, sound, soundFrom, bodyFrom, blocksFor, blocksFrom, fileLength, fileOf}
-use Rattle.file_rules.specs.Files.{Read, reads, nothing, mostRows, rowBytes, saidAt, said, endingSaid, reasons, readRefused, readEnding, endingIn, countSaid, lengthSaid, formSaid, rowWordsIn, soundIn, rowsTold, loadTold, loadLeaves, storeTold, storeLeaves, encode}
+use Rattle.file_rules.specs.declared.EndingRead.{EndingRead}
+use Rattle.file_rules.specs.declared.EndingRead.the-variants.{Ends, Nothing}
+use Rattle.file_rules.specs.Files.{mostRows, rowBytes, saidAt, said, endingSaid, reasons, readRefused, readEnding, endingIn, countSaid, lengthSaid, formSaid, rowWordsIn, soundIn, rowsTold, loadTold, loadLeaves, storeTold, storeLeaves, encode}
 use Rattle.theory_files.specs.Bounds.{Below, none, some, Bytes, Words}
 use Rattle.theory_files.specs.Told.{Numbered, none, refused, SaidAlike}
 use Rattle.theory_files.proofs.Numbers.{below-take, below-drop, below-append, bytes-length, bytes-bytes, bytes-take, bytes-append, words-bytes, bytes-words, words-length}
@@ -212,8 +214,8 @@ module _ (ws : List ℕ) (t : Table) (well : wellFormed ws t ≡ true) (few : t 
 
   -- ---- what was written is read
 
-  module _ (e : Ending) (back : readEnding (getD (said t) 3 0) (place (getD (said t) 4 0) (getD (said t) 5 0) (getD (said t) 6 0)) ≡ reads e) (room : ℕ) where
-    ending-is : endingIn (encode ws t) ≡ reads e
+  module _ (e : Ending) (back : readEnding (getD (said t) 3 0) (place (getD (said t) 4 0) (getD (said t) 5 0) (getD (said t) 6 0)) ≡ Ends e) (room : ℕ) where
+    ending-is : endingIn (encode ws t) ≡ Ends e
     unfolding endingIn
     ending-is = rw (said-is 3 (omega arith), said-is 4 (omega arith), said-is 5 (omega arith), said-is 6 (omega arith)) back
 
@@ -224,7 +226,7 @@ module _ (ws : List ℕ) (t : Table) (well : wellFormed ws t ≡ true) (few : t 
         ∙ told-rows (rowWordsIn (encode ws t)) room (countSaid (encode ws t)) (lengthSaid (encode ws t)) (endingIn (encode ws t)) e ending-is
         ∙ rw (rows-are, count-is, said-is 1 (omega arith))
 
-numbered-back : (e : Ending) → Numbered e → readEnding (getD (endingSaid e) 0 0) (place (getD (endingSaid e) 1 0) (getD (endingSaid e) 2 0) (getD (endingSaid e) 3 0)) ≡ reads e
+numbered-back : (e : Ending) → Numbered e → readEnding (getD (endingSaid e) 0 0) (place (getD (endingSaid e) 1 0) (getD (endingSaid e) 2 0) (getD (endingSaid e) 3 0)) ≡ Ends e
 unfolding readEnding
 numbered-back None none = refl
 numbered-back (Refused why p) (refused f) = f
@@ -263,7 +265,7 @@ all-reasons NumberTooLarge = there (there (there (there (there (there here)))))
 -- the first reason of a number
 record First (rs : List Lexical) (n : ℕ) (p : Cursor) : Type 0 where
   why : Lexical
-  read : readRefused rs n p ≡ reads (Refused why p)
+  read : readRefused rs n p ≡ Ends (Refused why p)
   number-is : n ≡ lexicalNumber why
 
 first-behind : (w : Lexical) (rs : List Lexical) (why : Lexical) (p : Cursor) → First rs (lexicalNumber why) p
@@ -279,7 +281,7 @@ first-of (w ∷ rs) why p (there a) = first-behind w rs why p (first-of rs why p
 
 record Back (e : Ending) : Type 0 where
   how : Ending
-  read : readEnding (getD (endingSaid e) 0 0) (place (getD (endingSaid e) 1 0) (getD (endingSaid e) 2 0) (getD (endingSaid e) 3 0)) ≡ reads how
+  read : readEnding (getD (endingSaid e) 0 0) (place (getD (endingSaid e) 1 0) (getD (endingSaid e) 2 0) (getD (endingSaid e) 3 0)) ≡ Ends how
   alike : SaidAlike how e
   fits : (n : ℕ) (rs : List Row) → endingFits n rs how ≡ endingFits n rs e
 

@@ -26,7 +26,9 @@ use Rattle.file_rules.specs.declared.Loaded.{Loaded}
 use Rattle.file_rules.specs.declared.Loaded.the-variants as loaded
 use Rattle.file_rules.specs.Bytes.{number, numberAt, wordsIn}
 use Rattle.file_rules.specs.Blocks.{contentOf, sound, blocksFor, fileLength}
-use Rattle.file_rules.specs.Files.{Read, reads, nothing, mostRows, rowBytes, saidAt, said, endingSaid, reasons, readRefused, readEnding, endingIn, countSaid, lengthSaid, formSaid, rowWordsIn, soundIn, rowsTold, readTold, blocksTold, saidTold, loadTold}
+use Rattle.file_rules.specs.declared.EndingRead.{EndingRead}
+use Rattle.file_rules.specs.declared.EndingRead.the-variants.{Ends, Nothing}
+use Rattle.file_rules.specs.Files.{mostRows, rowBytes, saidAt, said, endingSaid, reasons, readRefused, readEnding, endingIn, countSaid, lengthSaid, formSaid, rowWordsIn, soundIn, rowsTold, readTold, blocksTold, saidTold, loadTold}
 
 -- ---- words where they stand
 
@@ -58,13 +60,13 @@ said-front file g e i h = sym (content-word file i h) ∙ ap (λ (x : List ℕ).
 
 -- ---- the ending that is told
 
-refused-said : (rs : List Lexical) (n : ℕ) (p : Cursor) (e : Ending) → readRefused rs n p ≡ reads e → endingSaid e ≡ n ∷ p .offset .0 ∷ p .line .0 ∷ p .column .0 ∷ []
+refused-said : (rs : List Lexical) (n : ℕ) (p : Cursor) (e : Ending) → readRefused rs n p ≡ Ends e → endingSaid e ≡ n ∷ p .offset .0 ∷ p .line .0 ∷ p .column .0 ∷ []
 unfolding readRefused
 refused-said [] n p e q = absurd (let z : _≡_ {A = ℕ} 0 1 = cc in omega arith)
 refused-said (why ∷ rs) n p e q = go (eqb n (lexicalNumber why)) refl q (refused-said rs n p e)
   where
-    go : (b : Bool) → eqb n (lexicalNumber why) ≡ b → cond b (reads (Refused why p)) (readRefused rs n p) ≡ reads e
-        → (readRefused rs n p ≡ reads e → endingSaid e ≡ n ∷ p .offset .0 ∷ p .line .0 ∷ p .column .0 ∷ [])
+    go : (b : Bool) → eqb n (lexicalNumber why) ≡ b → cond b (Ends (Refused why p)) (readRefused rs n p) ≡ Ends e
+        → (readRefused rs n p ≡ Ends e → endingSaid e ≡ n ∷ p .offset .0 ∷ p .line .0 ∷ p .column .0 ∷ [])
         → endingSaid e ≡ n ∷ p .offset .0 ∷ p .line .0 ∷ p .column .0 ∷ []
     go true f q r =
         let g : Refused why p ≡ e = cc in
@@ -72,14 +74,14 @@ refused-said (why ∷ rs) n p e q = go (eqb n (lexicalNumber why)) refl q (refus
     go false f q r = r q
 
 -- an ending that is read says the words that it was read from
-pub ending-said : (n : ℕ) (p : Cursor) (e : Ending) → readEnding n p ≡ reads e → endingSaid e ≡ n ∷ p .offset .0 ∷ p .line .0 ∷ p .column .0 ∷ []
+pub ending-said : (n : ℕ) (p : Cursor) (e : Ending) → readEnding n p ≡ Ends e → endingSaid e ≡ n ∷ p .offset .0 ∷ p .line .0 ∷ p .column .0 ∷ []
 unfolding readEnding
 ending-said n p e q = go (eqb n 0) refl q
   where
     zero-place : Bool
     zero-place = eqb (p .offset .0) 0 && (eqb (p .line .0) 0 && eqb (p .column .0) 0)
 
-    bare : n ≡ 0 → (b : Bool) → zero-place ≡ b → cond b (reads None) nothing ≡ reads e → endingSaid e ≡ n ∷ p .offset .0 ∷ p .line .0 ∷ p .column .0 ∷ []
+    bare : n ≡ 0 → (b : Bool) → zero-place ≡ b → cond b (Ends None) Nothing ≡ Ends e → endingSaid e ≡ n ∷ p .offset .0 ∷ p .line .0 ∷ p .column .0 ∷ []
     bare z true f q =
         let x = both-true (eqb (p .offset .0) 0) (eqb (p .line .0) 0 && eqb (p .column .0) 0) f in
         let y = both-true (eqb (p .line .0) 0) (eqb (p .column .0) 0) (x .1) in
@@ -87,7 +89,7 @@ ending-said n p e q = go (eqb n 0) refl q
         rw (← g, z, eqb-true (p .offset .0) 0 (x .0), eqb-true (p .line .0) 0 (y .0), eqb-true (p .column .0) 0 (y .1))
     bare z false f q = absurd (let z : _≡_ {A = ℕ} 0 1 = cc in omega arith)
 
-    go : (b : Bool) → eqb n 0 ≡ b → cond b (cond zero-place (reads None) nothing) (readRefused reasons n p) ≡ reads e → endingSaid e ≡ n ∷ p .offset .0 ∷ p .line .0 ∷ p .column .0 ∷ []
+    go : (b : Bool) → eqb n 0 ≡ b → cond b (cond zero-place (Ends None) Nothing) (readRefused reasons n p) ≡ Ends e → endingSaid e ≡ n ∷ p .offset .0 ∷ p .line .0 ∷ p .column .0 ∷ []
     go true f q = bare (eqb-true n 0 f) zero-place refl q
     go false f q = refused-said reasons n p e q
 
@@ -105,7 +107,7 @@ pub record Reads (file : List ℕ) (room : ℕ) (t : Table) : Type 0 where
   pub frame : Framed file
   pub count : t .count ≡ countSaid file
   pub size : t .length ≡ lengthSaid file
-  pub ending : endingIn file ≡ reads (t .ending)
+  pub ending : endingIn file ≡ Ends (t .ending)
   pub few : t .count ≤ mostRows
   pub well : wellFormed (rowWordsIn file) t ≡ true
   pub room-is : t .count ≤ room
@@ -142,13 +144,13 @@ last-of ws room u t q =
 
 record Said (file : List ℕ) (room : ℕ) (t : Table) : Type 0 where
   how : Ending
-  ending : endingIn file ≡ reads how
+  ending : endingIn file ≡ Ends how
   last : Last (rowWordsIn file) room (record { count = countSaid file; length = lengthSaid file; ending = how }) t
 
-said-of : (file : List ℕ) (room : ℕ) (t : Table) (e : Read) → endingIn file ≡ e → readTold (rowWordsIn file) room (countSaid file) (lengthSaid file) e ≡ loaded.Rows t → Said file room t
+said-of : (file : List ℕ) (room : ℕ) (t : Table) (e : EndingRead) → endingIn file ≡ e → readTold (rowWordsIn file) room (countSaid file) (lengthSaid file) e ≡ loaded.Rows t → Said file room t
 unfolding readTold
-said-of file room t nothing f q = absurd (let z : _≡_ {A = ℕ} 0 1 = cc in omega arith)
-said-of file room t (reads e) f q =
+said-of file room t Nothing f q = absurd (let z : _≡_ {A = ℕ} 0 1 = cc in omega arith)
+said-of file room t (Ends e) f q =
     record { how = e; ending = f; last = last-of (rowWordsIn file) room (record { count = countSaid file; length = lengthSaid file; ending = e }) t q }
 
 pub reads-of : (file : List ℕ) (room : ℕ) (t : Table) → loadTold file room ≡ loaded.Rows t → Reads file room t
@@ -179,7 +181,7 @@ reads-of file room t q =
       frame = frame;
       count = n;
       size = ap (λ (x : Table). x .length) (sym (l .same));
-      ending = s .ending ∙ ap (λ (x : Table). reads (x .ending)) (l .same);
+      ending = s .ending ∙ ap (λ (x : Table). Ends (x .ending)) (l .same);
       few = rw n (l .few);
       well = rw (l .same) at (l .well);
       room-is = rw n (l .room-is);
@@ -223,11 +225,11 @@ module _ (file : List ℕ) (room : ℕ) where
   told-read h = rw (le-ltb (soundIn file) (blocksFor rowBytes (countSaid file)) h)
 
 module _ (ws : List ℕ) (room count size : ℕ) where
-  pub told-nothing : (e : Read) → e ≡ nothing → readTold ws room count size e ≡ loaded.Refused NoTable
+  pub told-nothing : (e : EndingRead) → e ≡ Nothing → readTold ws room count size e ≡ loaded.Refused NoTable
   unfolding readTold
   told-nothing e f = rw f
 
-  pub told-rows : (e : Read) (how : Ending) → e ≡ reads how → readTold ws room count size e ≡ rowsTold ws room (record { count = count; length = size; ending = how })
+  pub told-rows : (e : EndingRead) (how : Ending) → e ≡ Ends how → readTold ws room count size e ≡ rowsTold ws room (record { count = count; length = size; ending = how })
   unfolding readTold
   told-rows e how f = rw f
 

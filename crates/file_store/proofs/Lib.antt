@@ -1,0 +1,3 @@
+-- What the proofs of this crate use, and how tight the call's contract is.
+pub mod Going
+pub mod Tight

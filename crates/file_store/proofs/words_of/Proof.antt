@@ -1,0 +1,31 @@
+-- `words_of` meets its contract, by cases of the ending.
+use mathlib.Core.Path.{sym, ap}
+use Rattle.rules.specs.declared.Ending.{Ending}
+use mathlib.Core.List.{_∷_}
+use Rattle.file_rules.specs.Files.{endingSaid}
+use borrow.Author.Needs.{needs}
+use Rattle.file_store.proofs.words_of.Statement.{statement}
+use Rattle.file_store.proofs.words_of.Tie as tie
+
+enum-told : tie.Need-enum-told
+enum-told c = search needs
+
+enum-known-ending : tie.Need-enum-known-ending
+enum-known-ending c = search needs
+
+lexical-number-requires : tie.Need-lexical-number-requires
+lexical-number-requires c κs = search needs
+
+returns : tie.Need-returns
+returns c =
+    let t = c .before .before .args .table in
+    rw (c .enum-told .given .1)
+
+returns-2 : tie.Need-returns-2
+returns-2 c =
+    let t = c .before .before .before .before .args .table in
+    rw (c .before .before .ending .given .1, c .lexical-number .ensures)
+
+pub words-of-spec : {M : Type 1} → statement M
+words-of-spec =
+    tie.close (tie.spec enum-told enum-known-ending lexical-number-requires returns returns-2)

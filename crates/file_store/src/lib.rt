@@ -1,0 +1,100 @@
+// A table into a file of form 1: 3, 40, then 4, or the one file that the table has.
+use file_blocks::put_block;
+use file_rules::Fault;
+use file_rules::Stored;
+use file_rules::form;
+use refusals::lexical_number;
+use rows::well_formed;
+use rules::Ending;
+use rules::Outer;
+use rules::Table;
+use rules::row;
+ghost use mathlib.Core.Path.{_≡_};
+ghost use mathlib.Core.List.{_++_};
+ghost use Prim.Native.Nat.{_+_, _*_, _≤_, min};
+ghost use lib.ListN.{length, take, drop};
+ghost use Rattle.file_rules.specs.Bytes.{bytesOf};
+ghost use Rattle.file_rules.specs.Blocks.{blocksFor, blocksFrom, fileLength};
+ghost use Rattle.file_rules.specs.Files.{rowBytes, mostRows, said, encode, storeTold, storeLeaves};
+
+// How many of n rows stand in the next block.
+pub fn rows_here(n: usize) -> usize
+    ensures { λ r. ⌜ r ≡ min 15 n ⌝ }
+{
+    if n < form::ROWS { n } else { form::ROWS }
+}
+
+// How long the file of n rows is.
+pub fn length_for(n: u32) -> usize
+    ensures { λ r. ⌜ r ≡ fileLength rowBytes n ⌝ }
+{
+    form::BLOCK * (1 + (n as usize + (form::ROWS - 1)) / form::ROWS)
+}
+
+// What block 0 says of a table.
+fn words_of(table: Table) -> [u32; 7]
+    ensures { λ r. ⌜ r ≡ said table ⌝ }
+{
+    let ending = table.ending;
+    match ending {
+        Ending::None => [form::NUMBER, table.length, table.count, 0, 0, 0, 0],
+        Ending::Refused(why, p) => [
+            form::NUMBER,
+            table.length,
+            table.count,
+            lexical_number(why),
+            p.offset.0,
+            p.line.0,
+            p.column.0,
+        ],
+    }
+}
+
+// The blocks of so many rows, behind block 0.
+fn put_rows(rows: &[u32], count: usize, file: &mut [u8])
+    requires { ⌜ ((8 * count ≤ length (now rows)) × (count ≤ mostRows)) × (fileLength rowBytes count ≤ length (now file)) ⌝ }
+    ensures { λ _. ⌜ now (file .exit) ≡ (take 512 (now (file .entry)) ++ blocksFrom rowBytes (blocksFor rowBytes count) 1 count (bytesOf (now (rows .entry)))) ++ drop (fileLength rowBytes count) (now (file .entry)) ⌝ }
+{
+    let mut done = 0;
+    let mut k: u32 = 1;
+    let mut at = form::BLOCK;
+    while done < count {
+        let end = at + form::BLOCK;
+        let n = rows_here(count - done);
+        let from = done * row::WORDS;
+        let to = from + n * row::WORDS;
+        put_block(&mut file[at..end], k, n as u32, &rows[from..to]);
+        done += n;
+        k += 1;
+        at = end;
+    }
+}
+
+// The file of a table that is well formed, where there is room for it.
+fn put_file(rows: &[u32], table: Table, file: &mut [u8])
+    requires { ⌜ ((8 * table .count ≤ length (now rows)) × (table .count ≤ mostRows)) × (fileLength rowBytes (table .count) ≤ length (now file)) ⌝ }
+    ensures { λ _. ⌜ now (file .exit) ≡ encode (now (rows .entry)) table ++ drop (fileLength rowBytes (table .count)) (now (file .entry)) ⌝ }
+{
+    let words = words_of(table);
+    put_block(&mut file[0..form::BLOCK], 0, 0, &words);
+    put_rows(rows, table.count as usize, file);
+}
+
+// Store a table: so many bytes of the lent file are written, or none and why.
+pub fn store(rows: &[u32], table: Table, file: &mut [u8]) -> Stored
+    ensures { λ r. ⌜ (r ≡ storeTold (now (rows .entry)) table (length (now (file .entry)))) × (now (file .exit) ≡ storeLeaves (now (rows .entry)) table (now (file .entry))) ⌝ }
+{
+    if !well_formed(rows, table) {
+        return Stored::Refused(Fault::Outer(Outer::NotWellFormed));
+    }
+    let count = table.count;
+    if form::MOST_ROWS < count {
+        return Stored::Refused(Fault::TooManyRows);
+    }
+    let length = length_for(count);
+    if file.len() < length {
+        return Stored::Refused(Fault::Outer(Outer::NoRowRoom));
+    }
+    put_file(rows, table, file);
+    Stored::Bytes(length as u32)
+}
