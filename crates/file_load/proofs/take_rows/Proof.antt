@@ -1,0 +1,122 @@
+-- `take_rows` meets its contract: at the loop's head the words of the rows in front are taken.
+use mathlib.Core.Path.{_≡_}
+use Prim.Native.Nat.{_+_, _*_, _-_, _≤_}
+use native.Mathlib.Omega.{arith}
+use lib.ListN.{length, take, drop}
+use Rattle.file_load.proofs.Taking.{Taking, taking-start, taking-end, taking-next, room-left, here-length, from-fits, tail-fits}
+use Rattle.file_load.proofs.take_rows.Statement.{statement}
+use Rattle.file_load.proofs.take_rows.Tie as tie
+
+abbrev Inv-loop : tie.InvT-loop
+Inv-loop file count rows₀ all done₀ at₀ rows done at = Taking file count rows₀ rows done at
+
+abbrev μ-loop : tie.MeasureT-loop
+μ-loop file count rows₀ all done₀ at₀ rows done at = count - done
+
+loop-holds : tie.Need-loop-holds Inv-loop μ-loop
+loop-holds c = let s = c .before .before in taking-start (s .args .file .now) (s .args .count) (s .args .rows .now) (s .pre .0)
+
+-- there is one block more
+room : (c : tie.In-loop Inv-loop μ-loop) → c .before .loop .at + 512 ≤ length (c .before .before .before .before .args .file .now)
+room c =
+    let l = c .before .loop in
+    let s = c .before .before .before .before in
+    room-left (s .args .file .now) (s .args .count) (s .args .rows .now) (s .pre .0) (l .rows) (l .done) (l .at) (l .inv) (omega arith)
+
+add-end : tie.Need-add-end Inv-loop μ-loop
+add-end c = omega (arith, room c)
+
+sub-rows-here : tie.Need-sub-rows-here Inv-loop μ-loop
+sub-rows-here c = omega arith
+
+rows-here-requires : tie.Need-rows-here-requires Inv-loop μ-loop
+rows-here-requires c κs = tt
+
+mul-from : tie.Need-mul-from Inv-loop μ-loop
+mul-from c = omega arith
+
+sub-take-words : tie.Need-sub-take-words Inv-loop μ-loop
+sub-take-words c = omega arith
+
+part-take-words-start : tie.Need-part-take-words-start Inv-loop μ-loop
+part-take-words-start c = omega arith
+
+part-take-words-end : tie.Need-part-take-words-end Inv-loop μ-loop
+part-take-words-end c = omega (arith, room (c .before))
+
+mul-take-words : tie.Need-mul-take-words Inv-loop μ-loop
+mul-take-words c = omega (arith, c .before .rows-here .ensures)
+
+mul-take-words-2 : tie.Need-mul-take-words-2 Inv-loop μ-loop
+mul-take-words-2 c = omega arith
+
+sub-take-words-2 : tie.Need-sub-take-words-2 Inv-loop μ-loop
+sub-take-words-2 c =
+    let l = c .before .before .before .loop in
+    let s = c .before .before .before .before .before .before in
+    from-fits (s .args .file .now) (s .args .count) (s .args .rows .now) (s .pre .0) (l .rows) (l .done) (l .at) (l .inv) (omega arith) (c .before .rows-here .result) (c .before .rows-here .ensures) (s .pre .1)
+
+part-take-words-start-2 : tie.Need-part-take-words-start-2 Inv-loop μ-loop
+part-take-words-start-2 c =
+    let l = c .before .before .before .loop in
+    let s = c .before .before .before .before .before .before in
+    from-fits (s .args .file .now) (s .args .count) (s .args .rows .now) (s .pre .0) (l .rows) (l .done) (l .at) (l .inv) (omega arith) (c .before .rows-here .result) (c .before .rows-here .ensures) (s .pre .1)
+
+part-take-words-end-2 : tie.Need-part-take-words-end-2 Inv-loop μ-loop
+part-take-words-end-2 c = omega arith
+
+take-words-requires : tie.Need-take-words-requires Inv-loop μ-loop
+take-words-requires c κs =
+    let r = c .before .before in
+    let l = r .before .before .loop in
+    let s = r .before .before .before .before .before in
+    (omega (arith, r .rows-here .ensures, here-length (s .args .file .now) (s .args .count) (s .args .rows .now) (s .pre .0) (l .rows) (l .done) (l .at) (l .inv) (omega arith)), tail-fits (s .args .file .now) (s .args .count) (s .args .rows .now) (s .pre .0) (l .rows) (l .done) (l .at) (l .inv) (omega arith) (r .rows-here .result) (r .rows-here .ensures) (s .pre .1))
+
+add-done : tie.Need-add-done Inv-loop μ-loop
+add-done c = omega (arith, c .before .before .before .before .before .rows-here .ensures)
+
+loop-less : tie.Need-loop-less Inv-loop μ-loop
+loop-less c = omega (arith, c .before .before .before .before .before .rows-here .ensures)
+
+loop-again : tie.Need-loop-again Inv-loop μ-loop
+loop-again c =
+    let t = c .before .before in
+    let r = t .before .before .before in
+    let l = r .before .before .loop in
+    let s = r .before .before .before .before .before in
+    taking-next (s .args .file .now) (s .args .count) (s .args .rows .now) (s .pre .0) (l .rows) (l .done) (l .at) (l .inv) (omega arith) (r .rows-here .result) (r .rows-here .ensures) (s .pre .1) (t .take-words .last .1 .1 .0) (t .take-words .ensures)
+
+same-length : tie.Need-same-length Inv-loop μ-loop
+same-length c = c .before .loop .inv .same-length
+
+returns : tie.Need-returns Inv-loop μ-loop
+returns c =
+    let l = c .before .loop in
+    let s = c .before .before .before .before in
+    taking-end (s .args .file .now) (s .args .count) (s .args .rows .now) (s .pre .0) (l .rows) (l .done) (l .at) (l .inv) (omega arith)
+
+pub take-rows-spec : {M : Type 1} → statement M
+take-rows-spec =
+    tie.close
+    (tie.spec
+    Inv-loop
+    μ-loop
+    loop-holds
+    add-end
+    sub-rows-here
+    rows-here-requires
+    mul-from
+    sub-take-words
+    part-take-words-start
+    part-take-words-end
+    mul-take-words
+    mul-take-words-2
+    sub-take-words-2
+    part-take-words-start-2
+    part-take-words-end-2
+    take-words-requires
+    add-done
+    loop-less
+    loop-again
+    same-length
+    returns)

@@ -1,0 +1,51 @@
+-- What is known of a file whose blocks are judged, and what the judging of them tells.
+use mathlib.Core.Path.{_≡_}
+use mathlib.Core.Bool.{Bool, true, cond}
+use mathlib.Core.List.{List, [], _∷_}
+use Prim.Native.Nat.{ℕ, _+_, _-_}
+use lib.ListN.{length}
+use lib.Dec.{ltb}
+use Rattle.rules.specs.declared.Cursor.{Cursor}
+use Rattle.rules.specs.declared.Ending.{Ending}
+use Rattle.rules.specs.declared.Ending.the-variants as ending
+use Rattle.rules.specs.Rows.{Row, rowIn, rowsIn}
+use Rattle.file_rules.specs.declared.EndingRead.{EndingRead}
+use Rattle.file_rules.specs.declared.EndingRead.the-variants.{Ends, Nothing}
+use Rattle.file_rules.specs.Blocks.{blocksFor, fileLength}
+use Rattle.file_rules.specs.Files.{rowBytes, reasons, readRefused, countSaid, rowWordsIn, soundIn}
+use Rattle.file_blocks.specs.Standing.{stand}
+use Rattle.file_load.specs.declared.Blocks.{Blocks}
+use Rattle.file_load.specs.declared.Blocks.the-variants.{Bad, Sound}
+
+-- the file is as long as block 0 says, and says so many rows
+pub record Framed (count : ℕ) (file : List ℕ) : Type 0 where
+  pub count-is : count ≡ countSaid file
+  pub whole : length file ≡ fileLength rowBytes count
+
+abbrev pub refusedRead : ℕ → Cursor → EndingRead
+refusedRead number p = readRefused reasons number p
+
+-- the last of some rows, or the row before them
+unfoldable pub lastOf : Row → List Row → Row
+lastOf r [] = r
+lastOf r (q ∷ qs) = lastOf q qs
+
+-- all rows must stand one behind the other, but the last where the ending is none
+abbrev pub plainBy : Ending → ℕ → ℕ
+plainBy ending.None count = count - 1
+plainBy (ending.Refused why p) count = count
+
+abbrev pub plainRows : EndingRead → ℕ → ℕ
+plainRows Nothing count = 0
+plainRows (Ends e) count = plainBy e count
+
+-- the first n rows of a file stand
+unfoldable pub standUpto : ℕ → List ℕ → Bool
+standUpto n file = stand (rowIn []) (rowsIn n (rowWordsIn file))
+
+unfoldable pub standing : Ending → List ℕ → Bool
+standing e file = standUpto (plainBy e (countSaid file)) file
+
+-- the first block that is not sound, or whether n rows stand
+unfoldable pub blocksJudged : ℕ → List ℕ → Blocks
+blocksJudged n file = cond (ltb (soundIn file) (blocksFor rowBytes (countSaid file))) (Bad (1 + soundIn file)) (Sound (standUpto n file))

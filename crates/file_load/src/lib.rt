@@ -1,0 +1,349 @@
+// A file of form 1 into a table: 42, 41, 44, 42, 41, 43, then 4, or the table and its rows.
+use file_blocks::is_sound;
+use file_blocks::row_in;
+use file_blocks::rows_stand;
+use file_blocks::take_words;
+use file_blocks::word_at;
+use file_rules::EndingRead;
+use file_rules::Fault;
+use file_rules::Loaded;
+use file_rules::form;
+use file_store::length_for;
+use file_store::rows_here;
+use refusals::lexical_number;
+use rows::shape;
+use rows::shape::Row;
+use rules::Column;
+use rules::Cursor;
+use rules::Ending;
+use rules::Lexical;
+use rules::Line;
+use rules::Offset;
+use rules::Outer;
+use rules::Table;
+use rules::kind;
+use rules::limit;
+use rules::row;
+ghost use mathlib.Core.Path.{_≡_};
+ghost use mathlib.Core.Bool.{true};
+ghost use mathlib.Core.List.{_++_};
+ghost use Prim.Native.Nat.{_+_, _*_, _≤_, _<_};
+ghost use lib.ListN.{length, drop};
+ghost use Rattle.rules.specs.Rows.{wellFormed};
+ghost use Rattle.rules.specs.Scan.{roomOf};
+ghost use Rattle.rows.specs.Shape.{asRow, rowNo, closes, breaks};
+ghost use Rattle.file_rules.specs.Blocks.{fileLength};
+ghost use Rattle.file_rules.specs.Files.{rowBytes, mostRows, readEnding, endingIn, countSaid, rowWordsIn, rowsTold, blocksTold, saidTold, loadTold, loadLeaves};
+ghost use Rattle.file_blocks.specs.Standing.{rowsFrom};
+ghost use Rattle.file_load.specs.Judged.{Framed, lastOf, plainRows, blocksJudged, refusedRead, standing};
+
+// What the blocks behind block 0 tell: the number of the first that is not sound, or whether so many rows stand.
+pub enum Blocks {
+    Bad(u32),
+    Sound(bool),
+}
+
+// ---- block 0
+
+// The ending of a number that is not 0, at a place.
+fn read_refused(number: u32, p: Cursor) -> EndingRead
+    ensures { λ r. ⌜ r ≡ refusedRead number p ⌝ }
+{
+    if number == lexical_number(Lexical::NoRowBegins) {
+        return EndingRead::Ends(Ending::Refused(Lexical::NoRowBegins, p));
+    }
+    if number == lexical_number(Lexical::LoneSign) {
+        return EndingRead::Ends(Ending::Refused(Lexical::LoneSign, p));
+    }
+    if number == lexical_number(Lexical::NoHexDigit) {
+        return EndingRead::Ends(Ending::Refused(Lexical::NoHexDigit, p));
+    }
+    if number == lexical_number(Lexical::OpenComment) {
+        return EndingRead::Ends(Ending::Refused(Lexical::OpenComment, p));
+    }
+    if number == lexical_number(Lexical::OpenString) {
+        return EndingRead::Ends(Ending::Refused(Lexical::OpenString, p));
+    }
+    if number == lexical_number(Lexical::BadEscape) {
+        return EndingRead::Ends(Ending::Refused(Lexical::BadEscape, p));
+    }
+    if number == lexical_number(Lexical::NumberTooLarge) {
+        return EndingRead::Ends(Ending::Refused(Lexical::NumberTooLarge, p));
+    }
+    EndingRead::Nothing
+}
+
+// The ending of a number and a place: none has number 0, and then the place is zero.
+fn read_ending(number: u32, p: Cursor) -> EndingRead
+    ensures { λ r. ⌜ r ≡ readEnding number p ⌝ }
+{
+    if number != 0 {
+        return read_refused(number, p);
+    }
+    if p.offset.0 != 0 {
+        return EndingRead::Nothing;
+    }
+    if p.line.0 != 0 {
+        return EndingRead::Nothing;
+    }
+    if p.column.0 != 0 {
+        return EndingRead::Nothing;
+    }
+    EndingRead::Ends(Ending::None)
+}
+
+// The ending that block 0 tells.
+fn ending_in(file: &[u8]) -> EndingRead
+    requires { ⌜ 512 ≤ length (now file) ⌝ }
+    ensures { λ r. ⌜ r ≡ endingIn (now (file .entry)) ⌝ }
+{
+    let number = word_at(file, 16);
+    let offset = word_at(file, 20);
+    let line = word_at(file, 24);
+    let column = word_at(file, 28);
+    read_ending(
+        number,
+        Cursor {
+            offset: Offset(offset),
+            line: Line(line),
+            column: Column(column),
+        },
+    )
+}
+
+// ---- the blocks behind it
+
+// How many rows must stand one behind the other: all, but the last where the ending is none.
+fn plain_rows(read: EndingRead, count: u32) -> u32
+    ensures { λ r. ⌜ (r ≡ plainRows read count) × (r ≤ count) ⌝ }
+{
+    match read {
+        EndingRead::Nothing => 0,
+        EndingRead::Ends(ending) => match ending {
+            Ending::None => {
+                if count == 0 {
+                    return 0;
+                }
+                count - 1
+            }
+            Ending::Refused(_, _) => count,
+        },
+    }
+}
+
+// The last of n rows of a block, or the row before them.
+fn last_of(bytes: &[u8], n: usize, before: Row) -> Row
+    requires { ⌜ 4 + 32 * n ≤ length (now bytes) ⌝ }
+    ensures { λ r. ⌜ asRow r ≡ lastOf (asRow before) (rowsFrom n (drop 4 (now (bytes .entry)))) ⌝ }
+{
+    if n == 0 {
+        return before;
+    }
+    row_in(bytes, n - 1)
+}
+
+// Whether the blocks behind block 0 are sound, and whether so many of their rows stand.
+fn judge_blocks(file: &[u8], count: u32, plain: u32) -> Blocks
+    requires { ⌜ Framed count (now file) × (plain ≤ count) ⌝ }
+    ensures { λ r. ⌜ r ≡ blocksJudged plain (now (file .entry)) ⌝ }
+{
+    let lengths = shape::LENGTHS;
+    let mut last = shape::no_row();
+    let mut stand = true;
+    let mut left = count as usize;
+    let mut more = plain as usize;
+    let mut k: u32 = 1;
+    let mut at = form::BLOCK;
+    while 0 < left {
+        let end = at + form::BLOCK;
+        let block = &file[at..end];
+        let n = rows_here(left);
+        if !is_sound(block, k, n as u32, form::ROW * n) {
+            return Blocks::Bad(k);
+        }
+        let m = rows_here(more);
+        stand = stand & rows_stand(&lengths, block, m, last);
+        last = last_of(block, m, last);
+        left -= n;
+        more -= m;
+        k += 1;
+        at = end;
+    }
+    Blocks::Sound(stand)
+}
+
+// ---- the table
+
+// Row i of the file.
+fn row_of(file: &[u8], count: u32, i: usize) -> Row
+    requires { ⌜ Framed count (now file) × (i < count) ⌝ }
+    ensures { λ r. ⌜ asRow r ≡ rowNo (rowWordsIn (now (file .entry))) i ⌝ }
+{
+    let at = form::BLOCK * (1 + i / form::ROWS);
+    let end = at + form::BLOCK;
+    row_in(&file[at..end], i % form::ROWS)
+}
+
+// Whether the last row closes the table: it is Eof, at the text's length, and fits behind the row before it.
+fn last_closes(file: &[u8], count: u32, size: u32, i: usize) -> bool
+    requires { ⌜ Framed count (now file) × (i < count) ⌝ }
+    ensures { λ r. ⌜ r ≡ closes (rowWordsIn (now (file .entry))) size i ⌝ }
+{
+    let lengths = shape::LENGTHS;
+    let r = row_of(file, count, i);
+    if r.kind != kind::EOF {
+        return false;
+    }
+    if r.start != size {
+        return false;
+    }
+    if !shape::row_fits(&lengths, r) {
+        return false;
+    }
+    if i == 0 {
+        return true;
+    }
+    shape::row_follows(row_of(file, count, i - 1), r)
+}
+
+// Whether a refused ending's place fits behind the last row, within the text's length.
+fn place_breaks(file: &[u8], count: u32, size: u32, p: Cursor) -> bool
+    requires { ⌜ Framed count (now file) ⌝ }
+    ensures { λ r. ⌜ r ≡ breaks (rowWordsIn (now (file .entry))) size count p ⌝ }
+{
+    let offset = p.offset.0;
+    if size < offset {
+        return false;
+    }
+    if !shape::place_fits(p) {
+        return false;
+    }
+    if count == 0 {
+        return true;
+    }
+    let r = row_of(file, count, count as usize - 1);
+    shape::place_behind(r, p)
+}
+
+// Whether a table is well formed, of which it is known whether its plain rows stand.
+fn table_fits(file: &[u8], table: Table, stand: bool) -> bool
+    requires { ⌜ Framed (table .count) (now file) × (stand ≡ standing (table .ending) (now file)) ⌝ }
+    ensures { λ r. ⌜ r ≡ wellFormed (rowWordsIn (now (file .entry))) table ⌝ }
+{
+    let count = table.count;
+    let size = table.length;
+    if limit::MOST_BYTES_U32 < size {
+        return false;
+    }
+    if !stand {
+        return false;
+    }
+    let ending = table.ending;
+    match ending {
+        Ending::None => {
+            if count == 0 {
+                return false;
+            }
+            last_closes(file, count, size, count as usize - 1)
+        }
+        Ending::Refused(_, p) => place_breaks(file, count, size, p),
+    }
+}
+
+// What is told of sound blocks: 43, then 4, or the table.
+fn told_rows(file: &[u8], table: Table, stand: bool, room: usize) -> Loaded
+    requires { ⌜ Framed (table .count) (now file) × (stand ≡ standing (table .ending) (now file)) ⌝ }
+    ensures { λ r. ⌜ r ≡ rowsTold (rowWordsIn (now (file .entry))) room table ⌝ }
+{
+    let count = table.count;
+    if form::MOST_ROWS < count {
+        return Loaded::Refused(Fault::NoTable);
+    }
+    if !table_fits(file, table, stand) {
+        return Loaded::Refused(Fault::NoTable);
+    }
+    if room < count as usize {
+        return Loaded::Refused(Fault::Outer(Outer::NoRowRoom));
+    }
+    Loaded::Rows(table)
+}
+
+// What is told of the blocks behind block 0: 41, then 43 and 4.
+fn told_blocks(file: &[u8], count: u32, room: usize) -> Loaded
+    requires { ⌜ Framed count (now file) ⌝ }
+    ensures { λ r. ⌜ r ≡ blocksTold (now (file .entry)) room ⌝ }
+{
+    let read = ending_in(file);
+    let plain = plain_rows(read, count);
+    match judge_blocks(file, count, plain) {
+        Blocks::Bad(k) => Loaded::Refused(Fault::BadBlock(k)),
+        Blocks::Sound(stand) => match read {
+            EndingRead::Nothing => Loaded::Refused(Fault::NoTable),
+            EndingRead::Ends(ending) => {
+                let length = word_at(file, 8);
+                told_rows(
+                    file,
+                    Table {
+                        count,
+                        length,
+                        ending,
+                    },
+                    stand,
+                    room,
+                )
+            }
+        },
+    }
+}
+
+// What is told of a file: 42 for one that is short, 41 for block 0, 44, 42, and then the blocks behind it.
+fn told(file: &[u8], room: usize) -> Loaded
+    ensures { λ r. ⌜ r ≡ loadTold (now (file .entry)) room ⌝ }
+{
+    if file.len() < form::BLOCK {
+        return Loaded::Refused(Fault::WrongLength);
+    }
+    if !is_sound(&file[0..form::BLOCK], 0, 0, form::SAID) {
+        return Loaded::Refused(Fault::BadBlock(0));
+    }
+    if word_at(file, 4) != form::NUMBER {
+        return Loaded::Refused(Fault::OtherForm);
+    }
+    let count = word_at(file, 12);
+    if file.len() != length_for(count) {
+        return Loaded::Refused(Fault::WrongLength);
+    }
+    told_blocks(file, count, room)
+}
+
+// The words of all rows into the first lent words.
+fn take_rows(file: &[u8], count: u32, rows: &mut [u32])
+    requires { ⌜ Framed count (now file) × (8 * count ≤ length (now rows)) ⌝ }
+    ensures { λ _. ⌜ now (rows .exit) ≡ rowWordsIn (now (file .entry)) ++ drop (8 * count) (now (rows .entry)) ⌝ }
+{
+    let all = count as usize;
+    let mut done = 0;
+    let mut at = form::BLOCK;
+    while done < all {
+        let end = at + form::BLOCK;
+        let n = rows_here(all - done);
+        let from = done * row::WORDS;
+        take_words(&file[at..end], n * row::WORDS, &mut rows[from..]);
+        done += n;
+        at = end;
+    }
+}
+
+// Read a file: the rows of its table are written into the lent words, or nothing is and why.
+pub fn load(file: &[u8], rows: &mut [u32]) -> Loaded
+    ensures { λ r. ⌜ (r ≡ loadTold (now (file .entry)) (roomOf (now (rows .entry)))) × (now (rows .exit) ≡ loadLeaves (now (file .entry)) (now (rows .entry))) ⌝ }
+{
+    let answer = told(file, rows.len() / row::WORDS);
+    match answer {
+        Loaded::Refused(why) => Loaded::Refused(why),
+        Loaded::Rows(table) => {
+            take_rows(file, table.count, rows);
+            Loaded::Rows(table)
+        }
+    }
+}
