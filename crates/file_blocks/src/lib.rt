@@ -68,11 +68,11 @@ fn check_of(bytes: &[u8]) -> u32
     ensures { λ r. ⌜ r ≡ check (take 508 (now (bytes .entry))) ⌝ }
 {
     let mut sum: u32 = 0;
-    let mut place: u32 = 0;
+    let mut place: u32 = 1;
     let mut i = 0;
     while i < form::CHECKED {
-        place += 1;
         sum += wide(bytes[i]) * place;
+        place += 1;
         i += 1;
     }
     sum

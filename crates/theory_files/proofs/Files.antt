@@ -9,7 +9,7 @@ use native.Mathlib.Omega.{arith}
 use lib.ListN.{length, take, drop, getD, set, length-append, length-take, length-drop, length-set, take-append-drop}
 use lib.Seq.{take-nil, take-at, drop-at, take-all, take-add, take-set-lt, take-set-le, drop-set-add, getD-take, getD-drop}
 use lib.Dec.{eqb, leb, ltb}
-use borrow.Author.Tests.{eqb-true, eq-eqb, ne-eqb, leb-true, le-leb, ltb-true, ltb-false}
+use borrow.Author.Tests.{eqb-true, eq-eqb, ne-eqb, leb-true, le-leb, ltb-true, ltb-false, not-false}
 use Rattle.laws.proofs.Tests.{both-true}
 use Rattle.rules.specs.declared.Cursor.{Cursor}
 use Rattle.rules.specs.declared.Lexical.{Lexical}
@@ -22,8 +22,9 @@ use Rattle.rules.specs.Rows.{Row, rowIn, rowsIn, every, isEof, placeFits, endsB
 use Rattle.rules.specs.Scan.{roomOf}
 use Rattle.rules.specs.Refusals.{lexicalNumber}
 use Rattle.file_rules.specs.declared.Fault.{Fault}
-use Rattle.file_rules.specs.declared.Fault.the-variants.{Outer, BadBlock}
-use Rattle.rules.specs.declared.Outer.the-variants.{NoRowRoom}
+use Rattle.file_rules.specs.declared.Fault.the-variants.{Outer, TooManyRows, BadBlock}
+use Rattle.rules.specs.declared.Outer.the-variants.{NotWellFormed, NoRowRoom}
+use Rattle.file_rules.specs.declared.Stored.{Stored}
 use Rattle.file_rules.specs.declared.Stored.the-variants as stored
 use Rattle.file_rules.specs.declared.Loaded.the-variants as loaded
 use Rattle.file_rules.specs.Bytes.{bytesOf, wordsIn}
@@ -480,3 +481,36 @@ load-written file ws t e = rw (loadLeaves, e)
 pub load-untouched : (file ws : List ℕ) (why : Fault) → loadTold file (roomOf ws) ≡ loaded.Refused why → loadLeaves file ws ≡ ws
 unfolding loadLeaves
 load-untouched file ws why e = rw (loadLeaves, e)
+
+-- ---- a writing and then a reading
+
+-- what is known where a table was stored
+pub record IsStored (ws : List ℕ) (t : Table) (n : ℕ) : Type 0 where
+  pub well : wellFormed ws t ≡ true
+  pub few : t .count ≤ mostRows
+  pub size : fileLength rowBytes (t .count) ≡ n
+
+stored-past : (b : Bool) (why : Fault) (y : Stored) (n : ℕ) → cond b (stored.Refused why) y ≡ stored.Bytes n → (b ≡ false) × (y ≡ stored.Bytes n)
+stored-past true why y n e = absurd (let z : _≡_ {A = ℕ} 0 1 = cc in omega arith)
+stored-past false why y n e = (refl, e)
+
+pub stored-of : (ws : List ℕ) (t : Table) (room n : ℕ) → storeTold ws t room ≡ stored.Bytes n → IsStored ws t n
+unfolding storeTold
+stored-of ws t room n e =
+    let size = fileLength rowBytes (t .count) in
+    let last = cond (ltb room size) (stored.Refused (Outer NoRowRoom)) (stored.Bytes size) in
+    let a = stored-past (not (wellFormed ws t)) (Outer NotWellFormed) (cond (ltb mostRows (t .count)) (stored.Refused TooManyRows) last) n e in
+    let b = stored-past (ltb mostRows (t .count)) TooManyRows last n (a .1) in
+    let c = stored-past (ltb room size) (Outer NoRowRoom) (stored.Bytes size) n (b .1) in
+    record { well = not-false (wellFormed ws t) (a .0); few = ltb-false mostRows (t .count) (b .0); size = bytes-same (c .1) }
+  where
+    bytes-same : stored.Bytes (fileLength rowBytes (t .count)) ≡ stored.Bytes n → fileLength rowBytes (t .count) ≡ n
+    bytes-same q = cc
+
+-- What a writer leaves, as many bytes as it tells, reads as the table that was written.
+pub stored-loaded : (ws : List ℕ) (t : Table) (file : List ℕ) (n : ℕ) → storeTold ws t (length file) ≡ stored.Bytes n → Words ws → Numbered (t .ending)
+    → (room : ℕ) → t .count ≤ room → loadTold (take n (storeLeaves ws t file)) room ≡ loaded.Rows t
+stored-loaded ws t file n e words numbered room h =
+    let s = stored-of ws t (length file) n e in
+    let l : length (encode ws t) ≡ n = encode-length ws t (s .well) (s .few) words ∙ s .size in
+    rw (store-written ws t file n e, take-at (encode ws t) (drop n file) n l) (stored-read ws t (s .well) (s .few) words numbered room h)

@@ -10,7 +10,7 @@ use Rattle.file_blocks.proofs.check_of.Statement.{statement}
 use Rattle.file_blocks.proofs.check_of.Tie as tie
 
 abbrev Inv-loop : tie.InvT-loop
-Inv-loop bytes sum₀ place₀ i₀ sum place i = (i ≤ 508) × ((place ≡ i) × ((sum ≡ check (take i bytes)) × (sum ≤ 129540 * i)))
+Inv-loop bytes sum₀ place₀ i₀ sum place i = (i ≤ 508) × ((place ≡ i + 1) × ((sum ≡ check (take i bytes)) × (sum ≤ 129540 * i)))
 
 abbrev μ-loop : tie.MeasureT-loop
 μ-loop bytes sum₀ place₀ i₀ sum place i = 508 - i
@@ -29,10 +29,10 @@ wide-requires : tie.Need-wide-requires Inv-loop μ-loop
 wide-requires c κs = tt
 
 -- a byte times its place
-product : (c : tie.After-wide Inv-loop μ-loop) → c .wide .result * (c .before .before .before .loop .place + 1) ≤ 255 * 508
+product : (c : tie.After-wide Inv-loop μ-loop) → c .wide .result * c .before .before .before .loop .place ≤ 255 * 508
 product c =
     let l = c .before .before .before .loop in
-    let f : l .place + 1 ≤ 508 = omega arith in
+    let f : l .place ≤ 508 = omega arith in
     mul-le-mul (c .wide .ensures .1) f
 
 mul-sum : tie.Need-mul-sum Inv-loop μ-loop
@@ -67,11 +67,11 @@ check-of-spec =
     Inv-loop
     μ-loop
     loop-holds
-    add-place
     shared-slice-read-wide
     wide-requires
     mul-sum
     add-sum
+    add-place
     add-i
     loop-less
     loop-again
