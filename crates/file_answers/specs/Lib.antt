@@ -1,0 +1,2 @@
+-- The words in which the calls over files answer.
+pub mod Layout
