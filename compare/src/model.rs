@@ -1,9 +1,10 @@
-//! LANGUAGE.md written down a second time, as plain Rust: scan, tables, edit and parse.
+//! LANGUAGE.md written down a second time, as plain Rust: scan, tables, edit, parse and stored tables.
 //!
 //! The original has no room, no tables from outside and no edit, and its tree leaves words out; here every answer and every
 //! written word is said. It is slow and short, and takes nothing from the crates that it is held against.
 
 pub mod edit;
+pub mod file;
 pub mod lex;
 pub mod parse;
 pub mod scan;
