@@ -126,6 +126,20 @@ static void open_comment(void) {
     print_rows();
 }
 
+/* The table as a file, read back, and with one of its bytes changed. */
+static void store_and_load(void) {
+    static uint8_t file[SH_FILE_ROOM(9)];
+    static uint32_t rows[9 * SH_ROW_WORDS];
+    uint32_t stored[SH_WORDS], loaded[SH_WORDS];
+    spoonharbor_store(opened->rows, ROW_ROOM, opened->table, file, sizeof file, stored);
+    printf("stored: %" PRIu32 " blocks, %" PRIu32 " bytes\n", stored[SH_COUNT], stored[SH_LENGTH]);
+    spoonharbor_load(file, stored[SH_LENGTH], rows, 9 * SH_ROW_WORDS, loaded);
+    printf("loaded: %" PRIu32 " rows, number %" PRIu32 "\n", loaded[SH_COUNT], loaded[SH_NUMBER]);
+    file[600] ^= 1;
+    spoonharbor_load(file, stored[SH_LENGTH], rows, 9 * SH_ROW_WORDS, loaded);
+    printf("changed: %" PRIu32 " in block %" PRIu32 "\n", loaded[SH_NUMBER], loaded[SH_FIRST]);
+}
+
 int main(void) {
     if (spoonharbor_version() != SPOONHARBOR_VERSION) {
         fprintf(stderr, "the archive is another version's than the header\n");
@@ -134,6 +148,7 @@ int main(void) {
     open_text("unit u{\n x+=-1;\n}\n");
     print_rows();
     print_nodes();
+    store_and_load();
 
     printf("replace 13 to 14 by 12: %" PRIu32 "\n", replace(13, 14, "12"));
     print_rows();

@@ -59,6 +59,23 @@ extern "C" {
         answer: *mut Words,
     );
 
+    pub fn spoonharbor_store(
+        rows: *const u32,
+        row_words: usize,
+        table: *const Words,
+        file: *mut u8,
+        file_room: usize,
+        answer: *mut Words,
+    );
+
+    pub fn spoonharbor_load(
+        file: *const u8,
+        file_length: usize,
+        rows: *mut u32,
+        row_words: usize,
+        answer: *mut Words,
+    );
+
     pub fn spoonharbor_allows(kind: u32, method: u32, answer: *mut Words);
 
     pub fn spoonharbor_set_size(kind: u32, answer: *mut Words);

@@ -154,6 +154,39 @@ pub fn restart(old: &[u32], table: &Words, a: u32) -> Words {
     answer
 }
 
+/// Store a table as a file: how many bytes of it are written, and how many blocks. Refusals 3, 40, 4 leave the file untouched.
+pub fn store(rows: &[u32], table: &Words, file: &mut [u8]) -> Words {
+    let mut answer = [0; 8];
+    // SAFETY: `rows` and `table` are lent for reading, `file` and `answer` for writing, with their own lengths.
+    unsafe {
+        ffi::spoonharbor_store(
+            rows.as_ptr(),
+            rows.len(),
+            table,
+            file.as_mut_ptr(),
+            file.len(),
+            &mut answer,
+        );
+    }
+    answer
+}
+
+/// Read a stored table into rows: told as a scan tells it. Refusals 42, 41 (its block at [`FIRST`]), 44, 42, 41, 43, 4 leave the rows untouched.
+pub fn load(file: &[u8], rows: &mut [u32]) -> Words {
+    let mut answer = [0; 8];
+    // SAFETY: `file` is lent for reading, `rows` and `answer` for writing, with their own lengths.
+    unsafe {
+        ffi::spoonharbor_load(
+            file.as_ptr(),
+            file.len(),
+            rows.as_mut_ptr(),
+            rows.len(),
+            &mut answer,
+        );
+    }
+    answer
+}
+
 /// At [`FIRST`] 1 if a program kind (0 to 10) allows a context method (0 to 15), else 0. Refusal 3.
 pub fn allows(kind: u32, method: u32) -> Words {
     let mut answer = [0; 8];

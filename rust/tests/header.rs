@@ -387,7 +387,7 @@ fn every_call_is_declared() {
         include_str!("../../crates/spoonharbor/src/lib.rt"),
         "pub extern \"C\" fn ",
     );
-    assert_eq!(exported.len(), 10);
+    assert_eq!(exported.len(), 12);
     let called = names_behind(include_str!("../src/ffi.rs"), "pub fn ");
     assert_eq!(called, exported);
     let code = code();

@@ -1,5 +1,5 @@
 -- The contract of each call of the outer face asks nothing, and determines what the call gives back, all eight words of its answer, and every word lent for
--- rows or nodes. Texts, windows, tables and the rows that are read are lent as `&`, and shared memory cannot change.
+-- rows or nodes and every byte lent for a file. Texts, windows, tables and the rows that are read are lent as `&`, and shared memory cannot change.
 use mathlib.Core.Path.{refl}
 use Rattle.laws.specs.Tight.{Tight}
 use Rattle.laws.proofs.Tight.{alike, _▸_}
@@ -13,6 +13,8 @@ use Rattle.spoonharbor.proofs.spoonharbor_allows
 use Rattle.spoonharbor.proofs.spoonharbor_set_size
 use Rattle.spoonharbor.proofs.spoonharbor_section_kind
 use Rattle.spoonharbor.proofs.spoonharbor_version
+use Rattle.spoonharbor.proofs.spoonharbor_store
+use Rattle.spoonharbor.proofs.spoonharbor_load
 
 pub outer-scan-tight : Tight spoonharbor_scan.Kinds.ps spoonharbor_scan.Kinds.r spoonharbor_scan.Reads.Asked spoonharbor_scan.Reads.Learnt
 outer-scan-tight κs a = (tt, λ r₁ r₂ m₁ m₂ p q. (refl, refl ▸ alike (p .1) (q .1) ▸ alike (p .0) (q .0) ▸ refl))
@@ -43,3 +45,9 @@ outer-section-kind-tight κs a = (tt, λ r₁ r₂ m₁ m₂ p q. (alike p q, re
 
 pub outer-version-tight : Tight spoonharbor_version.Kinds.ps spoonharbor_version.Kinds.r spoonharbor_version.Reads.Asked spoonharbor_version.Reads.Learnt
 outer-version-tight κs a = (tt, λ r₁ r₂ m₁ m₂ p q. (alike p q, refl))
+
+pub outer-store-tight : Tight spoonharbor_store.Kinds.ps spoonharbor_store.Kinds.r spoonharbor_store.Reads.Asked spoonharbor_store.Reads.Learnt
+outer-store-tight κs a = (tt, λ r₁ r₂ m₁ m₂ p q. (refl, refl ▸ refl ▸ alike (p .1) (q .1) ▸ alike (p .0) (q .0) ▸ refl))
+
+pub outer-load-tight : Tight spoonharbor_load.Kinds.ps spoonharbor_load.Kinds.r spoonharbor_load.Reads.Asked spoonharbor_load.Reads.Learnt
+outer-load-tight κs a = (tt, λ r₁ r₂ m₁ m₂ p q. (refl, refl ▸ alike (p .1) (q .1) ▸ alike (p .0) (q .0) ▸ refl))

@@ -7,18 +7,22 @@ use answers::put_parsed;
 use answers::put_restart;
 use answers::put_told;
 use answers::table_of;
+use file_answers::put_loaded;
+use file_answers::put_stored;
 use refusals::outer_number;
 use rules::Judged;
 use rules::row;
 ghost use mathlib.Core.Path.{_≡_};
 ghost use mathlib.Core.Bool.{cond};
-ghost use lib.ListN.{getD};
+ghost use lib.ListN.{getD, length};
 ghost use Rattle.rules.specs.Rows.{wellFormed};
 ghost use Rattle.rules.specs.Scan.{scanTold, scanLeaves, roomOf};
 ghost use Rattle.rules.specs.Edit.{editTold, editLeaves, restartTold};
 ghost use Rattle.rules.specs.Sets.{fromSection};
 ghost use Rattle.rules.specs.Calls.{memberAsked, sizeAsked, parseTold, parseLeaves, nodeRoom};
 ghost use Rattle.answers.specs.Layout.{toldWords, askedWords, restartWords, parsedWords, tableOf, spellingWords};
+ghost use Rattle.file_rules.specs.Files.{storeTold, storeLeaves, loadTold, loadLeaves};
+ghost use Rattle.file_answers.specs.Layout.{storedWords, loadedWords};
 ghost use Rattle.spoonharbor.specs.Version.{version};
 
 // The library's version: major, minor and patch in a byte each.
@@ -144,4 +148,25 @@ pub extern "C" fn spoonharbor_section_kind(text: &[u8]) -> u32
     ensures { λ r. ⌜ r ≡ fromSection (now (text .entry)) ⌝ }
 {
     methods::section_kind(text)
+}
+
+// A table into a lent file, and its blocks and bytes or the refusal into the answer.
+#[no_mangle]
+pub extern "C" fn spoonharbor_store(
+    rows: &[u32],
+    table: &[u32; 8],
+    file: &mut [u8],
+    answer: &mut [u32; 8],
+)
+    ensures { λ _. ⌜ (now (answer .exit) ≡ storedWords (storeTold (now (rows .entry)) (tableOf (now (table .entry))) (length (now (file .entry))))) × (now (file .exit) ≡ storeLeaves (now (rows .entry)) (tableOf (now (table .entry))) (now (file .entry))) ⌝ }
+{
+    put_stored(answer, file_store::store(rows, table_of(table), file));
+}
+
+// The rows of a file into lent words, and its table or the refusal into the answer.
+#[no_mangle]
+pub extern "C" fn spoonharbor_load(file: &[u8], rows: &mut [u32], answer: &mut [u32; 8])
+    ensures { λ _. ⌜ (now (answer .exit) ≡ loadedWords (loadTold (now (file .entry)) (roomOf (now (rows .entry))))) × (now (rows .exit) ≡ loadLeaves (now (file .entry)) (now (rows .entry))) ⌝ }
+{
+    put_loaded(answer, file_load::load(file, rows));
 }
