@@ -16,6 +16,7 @@ use Rattle.rules.specs.Edit.{restart, newLength}
 use Rattle.laws.proofs.Places.{roomy-less}
 use Rattle.rows.proofs.Inside.{fine}
 use Rattle.edit.specs.Job.{sensibleAt, Ready}
+use Rattle.edit.proofs.Facts.{ends-rise}
 use Rattle.edit.proofs.Jobs.{room-begin}
 use Rattle.edit.proofs.Calls.{restart-by, kept-lent, sensible-by, ready-by, edit-3, edit-6, edit-1, edit-2, edit-rest}
 use Rattle.edit.proofs.edit.Statement.{statement}
@@ -81,7 +82,8 @@ cast-kept-rows c = search needs
 kept-rows-requires : tie.Need-kept-rows-requires
 kept-rows-requires c κs =
     let a = c .before .before .before .before .before .before .args in
-    fine (a .old .now) (a .table) (formed (c .before)) .lent
+    let f = fine (a .old .now) (a .table) (formed (c .before)) in
+    (f .lent, ends-rise f)
 
 place-behind-requires : tie.Need-place-behind-requires
 place-behind-requires c κs =
