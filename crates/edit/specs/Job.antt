@@ -35,11 +35,23 @@ use Rattle.edit.specs.declared.Tail.the-variants.{Rows, Full}
 unfoldable pub sensibleAt : (len a b n begin start size : ℕ) → Bool
 sensibleAt len a b n begin start size = (leb a b && leb b len) && (eqb start begin && leb (start + size) (newLength len a b n))
 
+-- an edit's kept rows, and the place behind them
+abbrev pub jobOf : List ℕ → Table → (a b n : ℕ) → Job
+jobOf ws t a b n =
+    let rows : List Row = rowsIn (t .count) ws in
+    record { table = t; a = a; b = b; n = n; kept = length (kept a rows); begin = restart rows a }
+
 abbrev pub oldRows : List ℕ → Job → List Row
 oldRows ws j = rowsIn (j .table .count) ws
 
 abbrev pub sizeAfter : Job → ℕ
 sizeAfter j = newLength (j .table .length) (j .a) (j .b) (j .n)
+
+-- 3 does not hold
+pub record Tested (ws : List ℕ) (j : Job) : Type 0 where
+  pub fine : wellFormed ws (j .table) ≡ true
+  pub kept : j .kept ≡ length (kept (j .a) (oldRows ws j))
+  pub begin : j .begin ≡ restart (oldRows ws j) (j .a)
 
 -- 3, 6 and 1 do not hold
 pub record Ready (ws : List ℕ) (j : Job) (w : List ℕ) : Type 0 where

@@ -24,17 +24,19 @@ use scan_place::pass;
 use scan_place::valid_bytes;
 use scan_reader::Spot;
 ghost use mathlib.Core.Path.{_≡_};
+ghost use mathlib.Core.Bool.{true};
 ghost use mathlib.Core.List.{_++_};
 ghost use Prim.Native.Nat.{_+_, _*_, _≤_};
 ghost use lib.ListN.{length};
 ghost use Rattle.rules.specs.Text.{startPlace};
 ghost use Rattle.rules.specs.declared.Told.the-variants as tells;
+ghost use Rattle.rules.specs.Rows.{wellFormed};
 ghost use Rattle.rules.specs.Scan.{roomOf, laid, told};
 ghost use Rattle.rules.specs.Edit.{newLength, kept, editTold, editLeaves, restartTold};
 ghost use Rattle.scan_reader.specs.Read.{Ahead};
 ghost use Rattle.edit_sight.specs.Sight.{startOf};
 ghost use Rattle.scan.specs.Writing.{written, wroteOf, leaves};
-ghost use Rattle.edit.specs.Job.{sensibleAt, oldRows, Ready, jobRows, jobEnding, isShortSight, isAt, tailTold, tailOf, rowsBefore, rowsBehind, endingBehind, FewBehind, behindOf, Follows, Meets, Seeing, TellsFit, tellOf, rereadTold, rereadLeaves};
+ghost use Rattle.edit.specs.Job.{sensibleAt, jobOf, oldRows, Tested, Ready, jobRows, jobEnding, isShortSight, isAt, tailTold, tailOf, rowsBefore, rowsBehind, endingBehind, FewBehind, behindOf, Follows, Meets, Seeing, TellsFit, tellOf, rereadTold, rereadLeaves};
 
 // An edit of a table: old bytes a to b become n new ones, so many rows are kept, and reading restarts at a place.
 pub struct Job {
@@ -60,7 +62,7 @@ fn refused(why: Outer) -> Told
 }
 
 // How long the new text is.
-fn new_length(length: u32, a: u32, b: u32, n: u32) -> u64
+pub fn new_length(length: u32, a: u32, b: u32, n: u32) -> u64
     requires { ⌜ (a ≤ b) × (b ≤ length) ⌝ }
     ensures { λ r. ⌜ r ≡ newLength length a b n ⌝ }
 {
@@ -281,6 +283,43 @@ fn reread(old: &[u32], job: Job, window: &[u8], new: &mut [u32]) -> Told
     fill(old, job, window, whole, seen, size as u32, new)
 }
 
+// The job of an edit of a tested table: so many rows are kept, and reading restarts behind them.
+pub fn job_of(old: &[u32], table: Table, a: u32, b: u32, n: u32) -> Job
+    requires { ⌜ wellFormed (now old) table ≡ true ⌝ }
+    ensures { λ r. ⌜ r ≡ jobOf (now (old .entry)) table a b n ⌝ }
+{
+    let kept = kept_rows(old, table.count as usize, a);
+    let begin = place_behind(old, kept);
+    Job {
+        table,
+        a,
+        b,
+        n,
+        kept,
+        begin,
+    }
+}
+
+// The edit of a tested table.
+pub fn edit_tested(old: &[u32], job: Job, start: u32, window: &[u8], new: &mut [u32]) -> Told
+    requires { ⌜ Tested (now old) job ⌝ }
+    ensures { λ r. ⌜ (r ≡ editTold (now (old .entry)) (job .table) (job .a) (job .b) (job .n) start (now (window .entry)) (roomOf (now (new .entry)))) × (now (new .exit) ≡ editLeaves (now (old .entry)) (job .table) (job .a) (job .b) (job .n) start (now (window .entry)) (now (new .entry))) ⌝ }
+{
+    let begin = job.begin;
+    let length = job.table.length;
+    if !sensible(length, job.a, job.b, job.n, begin.offset.0, start, window.len()) {
+        return refused(Outer::EditNotSensible);
+    }
+    if limit::MOST_BYTES_U64 < new_length(length, job.a, job.b, job.n) {
+        return refused(Outer::TextTooLong);
+    }
+    let valid = valid_bytes(window);
+    if valid < window.len() {
+        return Told::Refused(Outer::BadByte, pass(window, begin, valid), 0);
+    }
+    reread(old, job, window, new)
+}
+
 // The edit: old bytes a to b become n new ones, and the window, from offset `start` of the new text on, shows enough of it.
 pub fn edit(
     old: &[u32],
@@ -297,28 +336,7 @@ pub fn edit(
     if !well_formed(old, table) {
         return refused(Outer::NotWellFormed);
     }
-    let kept = kept_rows(old, table.count as usize, a);
-    let begin = place_behind(old, kept);
-    let length = table.length;
-    if !sensible(length, a, b, n, begin.offset.0, start, window.len()) {
-        return refused(Outer::EditNotSensible);
-    }
-    if limit::MOST_BYTES_U64 < new_length(length, a, b, n) {
-        return refused(Outer::TextTooLong);
-    }
-    let valid = valid_bytes(window);
-    if valid < window.len() {
-        return Told::Refused(Outer::BadByte, pass(window, begin, valid), 0);
-    }
-    let job = Job {
-        table,
-        a,
-        b,
-        n,
-        kept,
-        begin,
-    };
-    reread(old, job, window, new)
+    edit_tested(old, job_of(old, table, a, b, n), start, window, new)
 }
 
 // Where the window of an edit at a must start.
