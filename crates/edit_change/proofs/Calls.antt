@@ -60,7 +60,8 @@ module _ (ws : List ℕ) (t : Table) (a b n : ℕ) (text : List ℕ) (m : ℕ) (
     unfolding changeTold changeLeaves
     other-length e = rw (f, e) (refl, refl)
 
-    outside : eqb (length text) (newLength (t .length) a b n) ≡ true → (leb a b && leb b (t .length)) ≡ false → Changed (Refused EditNotSensible startPlace 0) new
+    outside : eqb (length text) (newLength (t .length) a b n) ≡ true → (leb a b && leb b (t .length)) ≡ false
+        → Changed (Refused EditNotSensible startPlace 0) new
     unfolding changeTold changeLeaves editTold editLeaves sensible
     outside e h = rw (f, e, h) (refl, refl)
 
@@ -76,7 +77,8 @@ module _ (ws : List ℕ) (t : Table) (a b n : ℕ) (text : List ℕ) (m : ℕ) (
       pub start-inside : changeStart ws t a ≤ length text
       start-inside = omega (arith, restart-le a (rowsIn (t .count) ws), reaches (t .length) a b n (length text) s)
 
-      pub change-edit : (x : Told) (ys : List ℕ) → Edited ws t a b n (changeStart ws t a) (drop (changeStart ws t a) text) m new x ys → Changed x ys
+      pub change-edit : (x : Told) (ys : List ℕ) → Edited ws t a b n (changeStart ws t a) (drop (changeStart ws t a) text) m new x ys
+          → Changed x ys
       unfolding changeTold changeLeaves changeWindow
       change-edit x ys e = rw (f, eq-eqb (length text) (newLength (t .length) a b n) (s .same)) e
 
@@ -86,7 +88,9 @@ module _ (ws : List ℕ) (t : Table) (a b n : ℕ) (text : List ℕ) (m : ℕ) (
 
         -- the edit by the job, lent the text's tail
         abbrev tailEdited : Job → Told → List ℕ → Type 0
-        tailEdited i = Edited ws (i .table) (i .a) (i .b) (i .n) (i .begin .offset .0) (take (length text - i .begin .offset .0) (drop (i .begin .offset .0) text)) m new
+        tailEdited i =
+            let k : ℕ = i .begin .offset .0 in
+            Edited ws (i .table) (i .a) (i .b) (i .n) k (take (length text - k) (drop k text)) m new
 
         pub change-job : (x : Told) (ys : List ℕ) → tailEdited j x ys → Changed x ys
         change-job x ys e =

@@ -47,8 +47,9 @@ module _ (c : Change) (ws : List ℕ) (table : Table) (s : Scanned (oldText c) w
       rw (scanned-well-formed s, same-length)
       (ap (λ (k : ℕ). editLeaves ws table (a c) (b c) (n c) k (drop k (newText c)) new) same-start)
 
-  -- Old bytes a to b of a valid text became n new ones. The call, lent the words and the table that a scan of the old text left and told, and the
-  -- new text, whatever it is, tells and leaves exactly what a scan of the new text does, in every room: its rows and its ending, or its refusal 1, 2 or 4.
+  -- Old bytes a to b of a valid text became n new ones. The call is lent the words and the table that a scan of the old text left and told,
+  -- and the new text, whatever it is. Then it tells and leaves exactly what a scan of the new text does, in every room: its rows and its
+  -- ending, or its refusal 1, 2 or 4.
   pub change-fresh : valid (oldText c) ≡ true → IsFresh c ws table
   change-fresh v =
       let f : demand3.IsFresh c ws table window

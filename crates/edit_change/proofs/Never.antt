@@ -53,8 +53,10 @@ told-no i m rows e = by (leb (length rows) m)
     by true = no-rows
     by false = no-4
 
--- the order of the refusals, where each test may answer as it will, but a sensible change whose text is as long as it says has no short window
-ordered : (formed same sense long good short : Bool) → (same ≡ true → sense ≡ true → short ≡ false) → (bad : Cursor) {x : Told} → NotSeven x
+-- the order of the refusals: each test may answer as it will, but the window of a sensible change, with a text as long as it says, is not
+-- short
+ordered : (formed same sense long good short : Bool) → (same ≡ true → sense ≡ true → short ≡ false) → (bad : Cursor) {x : Told}
+    → NotSeven x
     → NotSeven (cond (not formed) (Refused NotWellFormed startPlace 0)
     (cond (not same) (Refused EditNotSensible startPlace 0)
     (cond (not formed) (Refused NotWellFormed startPlace 0)
@@ -90,7 +92,8 @@ module _ (rows : List Row) (e : Ending) (len a b n : ℕ) (text : List ℕ) (f :
   pub whole-suffices : windowShort rows e len a b n (drop from text) ≡ false
   unfolding windowShort
   whole-suffices =
-      rw (stops, le-ltb (length text) (a + n) reaches-new, eq-eqb (length text) (newLength len a b n) (f .same)) (seen-whole (drop from text))
+      rw (stops, le-ltb (length text) (a + n) reaches-new, eq-eqb (length text) (newLength len a b n) (f .same))
+      (seen-whole (drop from text))
 
 -- ---- the theorem
 
@@ -110,14 +113,18 @@ module _ (ws : List ℕ) (t : Table) (a b n : ℕ) (text : List ℕ) where
   fits e s =
       let x = both-true _ _ s in
       let y = both-true (leb a b) (leb b (t .length)) (x .0) in
-      record { order = leb-true a b (y .0); inside = leb-true b (t .length) (y .1); same = eqb-true (length text) (newLength (t .length) a b n) e }
+      record {
+        order = leb-true a b (y .0);
+        inside = leb-true b (t .length) (y .1);
+        same = eqb-true (length text) (newLength (t .length) a b n) e;
+      }
 
   -- Whatever it is lent, a change does not say 7.
   pub never-short : (m : ℕ) → NotSeven (changeTold ws t a b n text m)
   unfolding changeTold editTold changeWindow
   never-short m =
-      ordered (wellFormed ws t) (eqb (length text) (newLength (t .length) a b n)) senses (ltb mostBytes (newLength (t .length) a b n)) (valid shown)
-      (windowShort rows (t .ending) (t .length) a b n shown)
+      ordered (wellFormed ws t) (eqb (length text) (newLength (t .length) a b n)) senses
+      (ltb mostBytes (newLength (t .length) a b n)) (valid shown) (windowShort rows (t .ending) (t .length) a b n shown)
       (λ e s. whole-suffices rows (t .ending) (t .length) a b n text (fits e s))
       (over (restart rows a) (take (validBytes shown) shown))
       (told-no (newLength (t .length) a b n) m (newRows rows (t .ending) a b n shown (ends rows (t .length) a b n shown))

@@ -78,7 +78,8 @@ module _ (ws : List ℕ) {t u : Table} (s : Alike t u) (a b n : ℕ) (text : Lis
       ap (λ (w : Bool). firstLeft new w (t .length) (ys (changeStart ws t a))) (alike-well-formed ws s)
       ∙ ap (λ (k : ℕ). firstLeft new (wellFormed ws u) k (ys (changeStart ws t a))) (s .size)
       ∙ ap (λ (k : ℕ). firstLeft new (wellFormed ws u) (u .length) (ys k)) alike-start
-      ∙ ap (firstLeft new (wellFormed ws u) (u .length)) (alike-edit-leaves ws s a b n (changeStart ws u a) (drop (changeStart ws u a) text) new)
+      ∙ ap (firstLeft new (wellFormed ws u) (u .length))
+      (alike-edit-leaves ws s a b n (changeStart ws u a) (drop (changeStart ws u a) text) new)
 
 -- lent the words in which a table was told, it answers and leaves as the call over that table does
 module _ (ws : List ℕ) (table : Table) (a b n : ℕ) (text : List ℕ) where
@@ -86,7 +87,8 @@ module _ (ws : List ℕ) (table : Table) (a b n : ℕ) (text : List ℕ) where
       → toldWords (changeTold ws (tableOf (toldWords (Rows table))) a b n text room) ≡ toldWords (changeTold ws table a b n text room)
   outer-change-tells room = alike-told ws (told-alike table) a b n text room
 
-  pub outer-change-leaves : (new : List ℕ) → changeLeaves ws (tableOf (toldWords (Rows table))) a b n text new ≡ changeLeaves ws table a b n text new
+  pub outer-change-leaves : (new : List ℕ)
+      → changeLeaves ws (tableOf (toldWords (Rows table))) a b n text new ≡ changeLeaves ws table a b n text new
   outer-change-leaves new = alike-leaves ws (told-alike table) a b n text new
 
 -- ---- the theorems
@@ -103,11 +105,14 @@ module _ (c : Change) (ws answer : List ℕ) (g : OuterTable (oldText c) ws answ
       change-fresh c ws (scanned.tableOf (oldText c)) (rw (g .scanned .left) (scan-scanned (oldText c) (g .lent) _ tells-rows))
       (scan-valid (oldText c) (roomOf (g .lent)) _ tells-rows)
 
-  -- `spoonharbor_change`, lent what `spoonharbor_scan` of the old text left and told, and the new text, tells and leaves what `spoonharbor_scan` of the new
-  -- text does, for every lent memory.
+  -- `spoonharbor_change`, lent what `spoonharbor_scan` of the old text left and told, and the new text, tells and leaves what
+  -- `spoonharbor_scan` of the new text does, for every lent memory. So the next change and the parse may be lent it.
   pub outer-change : (new : List ℕ) → OuterLent (newText c) new (outerLeaves c ws answer new) (outerTells c ws answer new)
   outer-change new = record {
-    told = rw table-words (outer-change-tells ws (scanned.tableOf (oldText c)) _ _ _ (newText c) (roomOf new) ∙ ap (λ (x : Told). toldWords x) (fresh .told (roomOf new)));
+    told =
+        rw table-words
+        (outer-change-tells ws (scanned.tableOf (oldText c)) _ _ _ (newText c) (roomOf new)
+        ∙ ap (λ (x : Told). toldWords x) (fresh .told (roomOf new)));
     left = rw table-words (outer-change-leaves ws (scanned.tableOf (oldText c)) _ _ _ (newText c) new ∙ fresh .left new);
   }
 
@@ -140,8 +145,8 @@ no-number (Refused outer.WindowShort p k) h e = h .never p k refl
 -- ---- the call's own contract: `Post` is what it promises of the arguments x, the answer r and the lent memory at exit e
 
 module _ (κs : Lfts 5) (x : Dens κs of-change.ps) (r : Unit {0}) (e : AtExit (endedOf 5 of-change.ps of-change.r) κs) where
-  -- Lent the rows and words that a scan of a change's old text left and told, the change's numbers and its new text, it leaves and tells what a scan of
-  -- the new text does.
+  -- Lent the rows and words that a scan of a change's old text left and told, the change's numbers and its new text, it leaves and tells
+  -- what a scan of the new text does.
   pub outer-change-call : ChangePost κs x r e → (c : Change) → OuterTable (oldText c) (x .0 .now) (x .1 .0 .now)
       → x .1 .1 .0 ≡ a c → x .1 .1 .1 .0 ≡ b c → x .1 .1 .1 .1 .0 ≡ n c → x .1 .1 .1 .1 .1 .0 .now ≡ newText c
       → OuterLent (newText c) (x .1 .1 .1 .1 .1 .1 .0 .now) (e .1 .1 .1 .1 .1 .1 .0 .now) (e .1 .1 .1 .1 .1 .1 .1 .0 .now)

@@ -37,8 +37,8 @@ fitting c =
 within : (c : tie.After-job-of) → c .job-of .result .begin .offset .0 ≤ length (at-job c .args .text .now)
 within c =
     let a = at-job c .args in
-    job-inside (a .old .now) (a .table) (a .a) (a .b) (a .n) (a .text .now) (roomOf (a .new .now)) (a .new .now) (formed (c .before .before .before)) (fitting (c .before))
-    (c .job-of .result) (c .job-of .ensures)
+    job-inside (a .old .now) (a .table) (a .a) (a .b) (a .n) (a .text .now) (roomOf (a .new .now)) (a .new .now)
+    (formed (c .before .before .before)) (fitting (c .before)) (c .job-of .result) (c .job-of .ensures)
 
 well-formed-requires : tie.Need-well-formed-requires
 well-formed-requires c κs = search needs
@@ -97,8 +97,9 @@ returns-3 c =
     let r = c .before .before in
     let k = r .before .before .before in
     let a = at-job k .args in
-    change-job (a .old .now) (a .table) (a .a) (a .b) (a .n) (a .text .now) (roomOf (a .new .now)) (a .new .now) (formed (k .before .before .before)) (fitting (k .before))
-    (k .job-of .result) (k .job-of .ensures) (r .edit-tested .result) (r .edit-tested .last .1 .1 .1 .1 .0) (r .edit-tested .ensures)
+    change-job (a .old .now) (a .table) (a .a) (a .b) (a .n) (a .text .now) (roomOf (a .new .now)) (a .new .now)
+    (formed (k .before .before .before)) (fitting (k .before)) (k .job-of .result) (k .job-of .ensures)
+    (r .edit-tested .result) (r .edit-tested .last .1 .1 .1 .1 .0) (r .edit-tested .ensures)
 
 pub change-spec : {M : Type 1} → statement M
 change-spec =

@@ -18,7 +18,9 @@ same-length : tie.Need-same-length
 same-length c = search needs
 
 returns : tie.Need-returns
-returns c = rw (← c .before .before .before .before .before .table-of .ensures) (c .put-told .ensures ∙ ap toldWords (c .before .before .before .change .ensures .0), c .before .before .before .change .ensures .1)
+returns c =
+    let k = c .before .before .before in
+    rw (← k .before .before .table-of .ensures) (c .put-told .ensures ∙ ap toldWords (k .change .ensures .0), k .change .ensures .1)
 
 pub spoonharbor-change-spec : {M : Type 1} → statement M
 spoonharbor-change-spec =
