@@ -66,8 +66,8 @@ static uint32_t change(uint32_t a, uint32_t b, const char *with) {
     return open_spare();
 }
 
-/* Bytes a to b become `with`, by a part of the new text. The window starts at the restart place; as long as it is short it shows four times as much behind the new
- * bytes, up to the text's end, where it is never short. */
+/* Bytes a to b become `with`, by a part of the new text. The window starts at the restart place; as long as it is short it shows four times
+ * as much behind the new bytes, up to the text's end, where it is never short. */
 static uint32_t replace(uint32_t a, uint32_t b, const char *with) {
     uint32_t n = (uint32_t)strlen(with);
     uint32_t restart[SH_WORDS];

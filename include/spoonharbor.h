@@ -283,16 +283,16 @@ void spoonharbor_spelling(const uint8_t *text, size_t text_length, const uint32_
 void spoonharbor_parse(const uint8_t *text, size_t text_length, const uint32_t *rows, size_t row_words, const uint32_t table[SH_WORDS],
                        uint32_t *nodes, size_t node_words, uint32_t answer[SH_WORDS]);
 
-/* Old bytes a to b (b not included) became n new ones, and the text is all of the new text. The new table is that of a fresh scan of it. One call
- * suffices: it finds the restart place itself, and never says 7. Refusals in this order: 3, 6 (a > b, b past the old text, or the text is not as
- * long as the change makes it), 1, 2 (of the bytes from the restart place on), which leave the new rows untouched, then 4 or 11 to 15 as a scan
- * gives them. The text before the restart place is taken to be the old one's. */
+/* Old bytes a to b (b not included) became n new ones, and the text is all of the new text. The new table is that of a fresh scan of it. One
+ * call suffices: it finds the restart place itself, and never says 7. Refusals in this order: 3, 6 (a > b, b past the old text, or the text
+ * is not as long as the change makes it), 1, 2 (of the bytes from the restart place on), which leave the new rows untouched, then 4 or 11
+ * to 15 as a scan gives them. The text before the restart place is taken to be the old one's. */
 void spoonharbor_change(const uint32_t *old_rows, size_t old_words, const uint32_t table[SH_WORDS], uint32_t a, uint32_t b, uint32_t n,
                         const uint8_t *text, size_t text_length, uint32_t *new_rows, size_t new_words, uint32_t answer[SH_WORDS]);
 
-/* The same for whoever does not hold the whole new text. Old bytes a to b became n new ones. The window is a part of the new text that starts at the restart place (offset
- * `start`). The new table is that of a fresh scan of the new text, or 7: show a longer window. Refusals in this order: 3, 6, 1, 2, 7,
- * which leave the new rows untouched, then 4 or 11 to 15 as a scan gives them.
+/* The same for whoever does not hold the whole new text. The window is a part of it that starts at the restart place (offset `start`). The
+ * new table is that of a fresh scan of the new text, or 7: show a longer window. Refusals in this order: 3, 6, 1, 2, 7, which leave the new
+ * rows untouched, then 4 or 11 to 15 as a scan gives them.
  *
  * How long a window: it must show all new bytes, and some way behind them (256 bytes mostly suffice). As long as the answer is 7, show
  * four times as much behind the new bytes, up to the text's end: a window to the text's end is never 7. Each call costs a pass over the

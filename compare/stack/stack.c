@@ -78,7 +78,8 @@ static void report(const char *what) {
     size_t by_change = used_by(change) - empty;
     if (answer[SH_NUMBER] != 0) exit(1);
     size_t by_test = used_by(well_formed) - empty;
-    printf("%s: scan %zu, parse %zu, edit %zu, change %zu, table test %zu bytes of stack\n", what, by_scan, by_parse, by_edit, by_change, by_test);
+    printf("%s: scan %zu, parse %zu, edit %zu, change %zu, table test %zu bytes of stack\n", what, by_scan, by_parse, by_edit, by_change,
+           by_test);
 }
 
 int main(void) {

@@ -138,8 +138,8 @@ pub fn change(old: &[u32], table: &Words, change: Change, text: &[u8], new: &mut
     answer
 }
 
-/// The same by a part of the new text, for whoever does not hold all of it. The window is a part of the new text that starts at the restart place, whose offset
-/// is `start`. 7: show a longer window.
+/// The same by a part of the new text, for whoever does not hold all of it. The window is a part that starts at the restart
+/// place, whose offset is `start`. 7: show a longer window.
 pub fn edit(
     old: &[u32],
     table: &Words,

@@ -55,7 +55,7 @@ pub enum Tail {
 }
 
 // A refusal that wrote nothing.
-fn refused(why: Outer) -> Told
+pub fn refused(why: Outer) -> Told
     ensures { λ r. ⌜ r ≡ tells.Refused why startPlace 0 ⌝ }
 {
     Told::Refused(why, Cursor::start(), 0)

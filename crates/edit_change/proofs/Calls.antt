@@ -2,7 +2,7 @@
 use mathlib.Core.Path.{_≡_, refl, sym, subst, _∙_}
 use mathlib.Core.Bool.{Bool, true, false, _&&_, true≢false}
 use mathlib.Core.List.{List}
-use Prim.Native.Nat.{ℕ, _-_, _≤_}
+use Prim.Native.Nat.{ℕ, _+_, _-_, _≤_}
 use native.Mathlib.Omega.{arith}
 use lib.ListN.{length, take, drop}
 use lib.Dec.{eqb, leb}
@@ -41,7 +41,8 @@ module _ (len a b n size : ℕ) where
       let y = both-true (leb a b) (leb b len) (x .0) in
       record { order = leb-true a b (y .0); inside = leb-true b len (y .1); same = eqb-true size (newLength len a b n) (x .1) }
 
-  pub reaches : Fits → a ≤ size
+  -- the new text reaches over the new bytes
+  pub reaches : Fits → a + n ≤ size
   unfolding newLength
   reaches f = omega (arith, f .order, f .inside, f .same)
 

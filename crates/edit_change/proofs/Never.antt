@@ -1,12 +1,12 @@
 -- A change never says 7: its window ends the text. The theorem is `never-short`, for all arguments.
 use Prim.Native.Nat.{ℕ, _+_, _≤_}
 use native.Mathlib.Omega.{arith}
-use mathlib.Core.Bool.{Bool, true, false, cond, not, true≢false}
+use mathlib.Core.Bool.{Bool, true, false, cond, not, _&&_, true≢false}
 use mathlib.Core.List.{List}
 use mathlib.Core.Path.{_≡_, refl, ap, _∙_}
 use lib.ListN.{length, take, drop, length-drop}
 use lib.Dec.{eqb, leb, ltb}
-use borrow.Author.Tests.{le-ltb, eq-eqb, eqb-true, leb-true}
+use borrow.Author.Tests.{le-ltb, eq-eqb}
 use Rattle.rules.specs.declared.Cursor.{Cursor}
 use Rattle.rules.specs.declared.Ending.{Ending}
 use Rattle.rules.specs.declared.Outer.the-variants.{TextTooLong, BadByte, NotWellFormed, NoRowRoom, EditNotSensible, WindowShort}
@@ -17,13 +17,13 @@ use Rattle.rules.specs.Text.{mostBytes, validBytes, valid, startPlace, over}
 use Rattle.rules.specs.Rows.{Row, rowsIn, wellFormed}
 use Rattle.rules.specs.Scan.{told}
 use Rattle.rules.specs.Edit.{isShort, seen, restart, newLength, sensible, ends, windowShort, newRows, newEnding, editTold}
-use Rattle.laws.proofs.Tests.{both-true}
+use Rattle.laws.proofs.Tests.{both-true, true-both}
 use Rattle.theory_edits.proofs.Kept.{restart-le}
 use Rattle.theory_edits.proofs.LookItem.{same-look}
 use Rattle.theory_edits.proofs.Short as window
-use Rattle.edit_change.specs.Change.{changeStart, changeWindow, changeTold}
+use Rattle.edit_change.specs.Change.{changeStart, changeWindow, changeTold, fitsChange}
 use Rattle.edit_change.specs.Fresh.{NotSeven}
-use Rattle.edit_change.proofs.Calls.{Fits, reaches}
+use Rattle.edit_change.proofs.Calls.{Fits, fits-by, reaches}
 
 -- ---- what is told is no 7
 
@@ -85,14 +85,14 @@ module _ (rows : List Row) (e : Ending) (len a b n : ℕ) (text : List ℕ) (f :
   unfolding seen
   seen-whole w = ap isShort (same-look _ _ true w _) ∙ window.never-short _ _ w _ 0 _
 
-  reaches-new : a + n ≤ length text
-  unfolding newLength
-  reaches-new = omega (arith, f .order, f .inside, f .same)
-
   pub whole-suffices : windowShort rows e len a b n (drop from text) ≡ false
   unfolding windowShort
   whole-suffices =
-      rw (stops, le-ltb (length text) (a + n) reaches-new, eq-eqb (length text) (newLength len a b n) (f .same))
+      rw (
+        stops,
+        le-ltb (length text) (a + n) (reaches len a b n (length text) f),
+        eq-eqb (length text) (newLength len a b n) (f .same),
+      )
       (seen-whole (drop from text))
 
 -- ---- the theorem
@@ -109,15 +109,8 @@ module _ (ws : List ℕ) (t : Table) (a b n : ℕ) (text : List ℕ) where
 
   fits : eqb (length text) (newLength (t .length) a b n) ≡ true → senses ≡ true
       → Fits (t .length) a b n (length text)
-  unfolding sensible
-  fits e s =
-      let x = both-true _ _ s in
-      let y = both-true (leb a b) (leb b (t .length)) (x .0) in
-      record {
-        order = leb-true a b (y .0);
-        inside = leb-true b (t .length) (y .1);
-        same = eqb-true (length text) (newLength (t .length) a b n) e;
-      }
+  unfolding sensible fitsChange
+  fits e s = fits-by (t .length) a b n (length text) (true-both (both-true (leb a b && leb b (t .length)) _ s .0) e)
 
   -- Whatever it is lent, a change does not say 7.
   pub never-short : (m : ℕ) → NotSeven (changeTold ws t a b n text m)

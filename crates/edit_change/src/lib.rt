@@ -2,24 +2,14 @@
 use edit::edit_tested;
 use edit::job_of;
 use edit::new_length;
+use edit::refused;
 use rows::well_formed;
-use rules::Cursor;
 use rules::Outer;
 use rules::Table;
 use rules::Told;
 ghost use mathlib.Core.Path.{_≡_};
-ghost use lib.ListN.{length};
-ghost use Rattle.rules.specs.Text.{startPlace};
-ghost use Rattle.rules.specs.declared.Told.the-variants as tells;
 ghost use Rattle.rules.specs.Scan.{roomOf};
 ghost use Rattle.edit_change.specs.Change.{changeTold, changeLeaves, fitsChange};
-
-// A refusal that wrote nothing.
-fn refused(why: Outer) -> Told
-    ensures { λ r. ⌜ r ≡ tells.Refused why startPlace 0 ⌝ }
-{
-    Told::Refused(why, Cursor::start(), 0)
-}
 
 // Whether a new text of so many bytes is what a change makes of an old one of `length` bytes.
 fn fits(length: u32, a: u32, b: u32, n: u32, size: usize) -> bool

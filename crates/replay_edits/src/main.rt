@@ -1,7 +1,7 @@
 // Holds the edit call against a stored sample of edits: reads the sample on standard input, scans each old text, asks where the window
-// of its edit starts, makes the calls, and writes how many agree with what is expected in answer, rows and memory. Where a call writes rows, its
-// edit is made as a change too, of which the same is expected. `cargo run --release --offline --bin edits` in compare/ writes `stdin`, which says
-// at its head where each expectation comes from.
+// of its edit starts, makes the calls, and writes how many agree with what is expected in answer, rows and memory. Where a call writes
+// rows, its edit is made as a change too, of which the same is expected. `cargo run --release --offline --bin edits` in compare/ writes
+// `stdin`, which says at its head where each expectation comes from.
 use call::calls_compared;
 use call::words_compared;
 use change::BYTES;

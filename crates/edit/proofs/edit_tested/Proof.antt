@@ -61,7 +61,8 @@ new-length-requires : tie.Need-new-length-requires
 new-length-requires c κs =
     let a = at-size c .args in
     let j = a .job in
-    let x = sensible-by (j .table .length) (j .a) (j .b) (j .n) (j .begin .offset .0) (a .start) (length (a .window .now)) (is-sensible c) in
+    let x = sensible-by (j .table .length) (j .a) (j .b) (j .n) (j .begin .offset .0) (a .start) (length (a .window .now))
+    (is-sensible c) in
     (x .order, x .inside)
 
 refused-requires-2 : tie.Need-refused-requires-2
