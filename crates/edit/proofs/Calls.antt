@@ -124,7 +124,8 @@ module _ (ws : List ℕ) (t : Table) (a b n : ℕ) where
       → record { table = t; a = a; b = b; n = n; kept = k; begin = p } ≡ jobOf ws t a b n
   job-by k e p f = rw (e, f)
 
-  pub edit-3 : (start : ℕ) (w : List ℕ) (m : ℕ) (new : List ℕ) → wellFormed ws t ≡ false → Edited ws t a b n start w m new (Refused NotWellFormed startPlace 0) new
+  pub edit-3 : (start : ℕ) (w : List ℕ) (m : ℕ) (new : List ℕ) → wellFormed ws t ≡ false
+      → Edited ws t a b n start w m new (Refused NotWellFormed startPlace 0) new
   unfolding editTold editLeaves
   edit-3 start w m new e = rw e (refl, refl)
 
@@ -158,7 +159,8 @@ module _ {ws : List ℕ} {j : Job} (t : Tested ws j) (start : ℕ) (w : List ℕ
     edit-1 m new h = rw (t .fine, senses-by, s, lt-ltb mostBytes (sizeAfter j) h) (refl, refl)
 
     module _ (h : sizeAfter j ≤ mostBytes) where
-      pub edit-2 : (m : ℕ) (new : List ℕ) → validBytes w < length w → JobEdited m new (Refused BadByte (over (j .begin) (take (validBytes w) w)) 0) new
+      pub edit-2 : (m : ℕ) (new : List ℕ) → validBytes w < length w
+          → JobEdited m new (Refused BadByte (over (j .begin) (take (validBytes w) w)) 0) new
       unfolding editTold editLeaves
       edit-2 m new l = rw (t .fine, senses-by, s, le-ltb mostBytes (sizeAfter j) h, is-bad w l, ← t .begin) (refl, refl)
 

@@ -49,7 +49,8 @@ returns-2 c =
     let r = c .before .before in
     let k = r .before .before in
     let a = at-job k .args in
-    edited-by (a .old .now) (a .table) (a .a) (a .b) (a .n) (k .job-of .result) (k .job-of .ensures) (a .start) (a .window .now) (roomOf (a .new .now)) (a .new .now)
+    edited-by (a .old .now) (a .table) (a .a) (a .b) (a .n) (k .job-of .result) (k .job-of .ensures)
+    (a .start) (a .window .now) (roomOf (a .new .now)) (a .new .now)
     (r .edit-tested .result) (r .edit-tested .last .1 .1 .1 .1 .0) (r .edit-tested .ensures)
 
 pub edit-spec : {M : Type 1} → statement M

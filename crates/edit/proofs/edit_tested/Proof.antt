@@ -60,7 +60,9 @@ returns c =
 new-length-requires : tie.Need-new-length-requires
 new-length-requires c κs =
     let a = at-size c .args in
-    let x = sensible-by (a .job .table .length) (a .job .a) (a .job .b) (a .job .n) (a .job .begin .offset .0) (a .start) (length (a .window .now)) (is-sensible c) in
+    let j = a .job in
+    let x = sensible-by (j .table .length) (j .a) (j .b) (j .n) (j .begin .offset .0) (a .start) (length (a .window .now))
+    (is-sensible c) in
     (x .order, x .inside)
 
 refused-requires-2 : tie.Need-refused-requires-2
@@ -80,16 +82,20 @@ valid-bytes-requires c κs = search needs
 pass-requires : tie.Need-pass-requires
 pass-requires c κs =
     let v = c .before in
-    let a = at-valid v .args in
-    (omega (arith, c .if3 .taken), roomy-less (2 ^ 31 + length (a .window .now)) (v .valid-bytes .result) (a .job .begin) (omega (arith, c .if3 .taken)) (room-begin (ready (v .before))))
+    let a = at-valid v .args in (
+      omega (arith, c .if3 .taken),
+      roomy-less (2 ^ 31 + length (a .window .now)) (v .valid-bytes .result) (a .job .begin) (omega (arith, c .if3 .taken))
+          (room-begin (ready (v .before))),
+    )
 
 returns-3 : tie.Need-returns-3
 returns-3 c =
     let v = c .before .before in
     let s = at-valid v in
-    let q = edit-2 (s .pre) (s .args .start) (s .args .window .now) (is-sensible (v .before .before .before)) (fits (v .before)) (roomOf (s .args .new .now)) (s .args .new .now)
-    (omega (arith, c .before .if3 .taken, v .valid-bytes .ensures)) in
-    (ap (λ (z : Cursor). tells.Refused outers.BadByte z 0) (c .pass .ensures ∙ ap (λ (z : ℕ). over (s .args .job .begin) (take z (s .args .window .now))) (v .valid-bytes .ensures)) ∙ q .0, q .1)
+    let q = edit-2 (s .pre) (s .args .start) (s .args .window .now) (is-sensible (v .before .before .before)) (fits (v .before))
+    (roomOf (s .args .new .now)) (s .args .new .now) (omega (arith, c .before .if3 .taken, v .valid-bytes .ensures)) in
+    let e = c .pass .ensures ∙ ap (λ (z : ℕ). over (s .args .job .begin) (take z (s .args .window .now))) (v .valid-bytes .ensures) in
+    (ap (λ (z : Cursor). tells.Refused outers.BadByte z 0) e ∙ q .0, q .1)
 
 reread-requires : tie.Need-reread-requires
 reread-requires c κs = ready (c .before .before .before)
@@ -102,8 +108,9 @@ returns-4 c =
     let r = c .before .before in
     let v = r .before .before .before in
     let s = at-valid v in
-    edit-rest (s .pre) (s .args .start) (s .args .window .now) (is-sensible (v .before .before .before)) (fits (v .before)) (roomOf (s .args .new .now)) (s .args .new .now)
-    (omega (arith, r .before .before .if3 .left, v .valid-bytes .ensures)) (r .reread .result) (r .reread .last .1 .1 .1 .0) (r .reread .ensures)
+    edit-rest (s .pre) (s .args .start) (s .args .window .now) (is-sensible (v .before .before .before)) (fits (v .before))
+    (roomOf (s .args .new .now)) (s .args .new .now) (omega (arith, r .before .before .if3 .left, v .valid-bytes .ensures))
+    (r .reread .result) (r .reread .last .1 .1 .1 .0) (r .reread .ensures)
 
 pub edit-tested-spec : {M : Type 1} → statement M
 edit-tested-spec =
