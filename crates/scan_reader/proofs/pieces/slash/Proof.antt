@@ -1,54 +1,44 @@
--- `reader::pieces::slash` meets its contract: the byte behind it decides.
-use mathlib.Core.Path.{sym, ap, _∙_}
 use borrow.Author.Needs.{needs}
-use Rattle.scan_reader.specs.Settled.{settled}
-use Rattle.scan_reader.proofs.Signs.{opening-line, slash-doubles, slash-line, slash-block, slash-sign}
 use Rattle.scan_reader.proofs.pieces.slash.Statement.{statement}
 use Rattle.scan_reader.proofs.pieces.slash.Tie as tie
+use Rattle.scan_reader.proofs.pieces.slash.Reads as reads
+use Rattle.scan_reader.proofs.pieces.slash.Lts as lts
+use Rattle.scan_reader.proofs.pieces.block_comment.Reads as block-comment-reads
+use Rattle.scan_reader.proofs.pieces.line_comment.Reads as line-comment-reads
+use Rattle.scan_reader.proofs.pieces.sign.Reads as sign-reads
+use Rattle.scan_runs.proofs.peek.Reads as peek-reads
 
+-- src/pieces.rt:150:27
 add-peek : tie.Need-add-peek
 add-peek c = search needs
 
+-- src/pieces.rt:150:9
 peek-requires : tie.Need-peek-requires
 peek-requires c κs = search needs
 
+-- src/pieces.rt:152:9
 line-comment-requires : tie.Need-line-comment-requires
 line-comment-requires c κs = search needs
 
+-- src/pieces.rt:152:9
 returns : tie.Need-returns
-returns c =
-    let k = c .before .before in
-    let s = k .before .before in
-    c .line-comment .ensures
-    ∙ ap (settled (s .args .whole) (s .args .text .now) (s .args .s))
-    (sym (slash-line (s .args .text .now) (s .args .s) (sym (k .peek .ensures) ∙ c .before .if1 .taken)))
+returns c = ?
 
+-- src/pieces.rt:155:9
 block-comment-requires : tie.Need-block-comment-requires
-block-comment-requires c κs =
-    let k = c .before .before in
-    let s = k .before .before in
-    opening-line (s .args .text .now) (s .args .s) (s .pre) (sym (k .peek .ensures) ∙ c .if2 .taken)
+block-comment-requires c κs = ?
 
+-- src/pieces.rt:155:9
 returns-2 : tie.Need-returns-2
-returns-2 c =
-    let k = c .before .before .before in
-    let s = k .before .before in
-    c .block-comment .ensures
-    ∙ ap (settled (s .args .whole) (s .args .text .now) (s .args .s))
-    (sym (slash-block (s .args .text .now) (s .args .s) (sym (k .peek .ensures) ∙ c .before .if2 .taken)))
+returns-2 c = ?
 
+-- src/pieces.rt:157:5
 sign-requires : tie.Need-sign-requires
-sign-requires c κs =
-    let s = c .before .before .before .before in
-    slash-doubles (s .args .text .now) (s .args .s) (s .pre)
+sign-requires c κs = ?
 
+-- src/pieces.rt:146:1
 returns-3 : tie.Need-returns-3
-returns-3 c =
-    let k = c .before .before .before in
-    let s = k .before .before in
-    c .sign .ensures
-    ∙ ap (settled (s .args .whole) (s .args .text .now) (s .args .s))
-    (sym (slash-sign (s .args .text .now) (s .args .s) (λ e. c .before .before .if1 .left (k .peek .ensures ∙ e)) (λ e. c .before .if2 .left (k .peek .ensures ∙ e))))
+returns-3 c = ?
 
 pub slash-spec : {M : Type 1} → statement M
 slash-spec =

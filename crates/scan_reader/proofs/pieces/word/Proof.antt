@@ -1,73 +1,54 @@
--- `reader::pieces::word` meets its contract: the run of word bytes, and its kind.
-use mathlib.Core.Path.{sym, ap, _∙_}
-use Prim.Native.Nat.{ℕ, _-_}
-use native.Mathlib.Omega.{arith}
-use borrow.Author.Tests.{not-true, not-false}
 use borrow.Author.Needs.{needs}
-use Rattle.rules.specs.Lex.{row}
-use Rattle.scan_reader.specs.Read.{pieceRead}
-use Rattle.scan_reader.proofs.Moves.{line-inside}
-use Rattle.scan_reader.proofs.Items.{word-line, word-unknown, word-row}
 use Rattle.scan_reader.proofs.pieces.word.Statement.{statement}
 use Rattle.scan_reader.proofs.pieces.word.Tie as tie
+use Rattle.scan_reader.proofs.pieces.word.Reads as reads
+use Rattle.scan_reader.proofs.pieces.word.Lts as lts
+use Rattle.scan_reader.proofs.pieces.told.Reads as told-reads
+use Rattle.scan_runs.proofs.read_word.Reads as read-word-reads
+use Rattle.scan_runs.proofs.shown.Reads as shown-reads
+use Rattle.scan_words.proofs.slots.kind_in.Reads as kind-in-reads
 
-word-end-requires : tie.Need-word-end-requires
-word-end-requires c κs = search needs
+-- src/pieces.rt:48:9
+read-word-requires : tie.Need-read-word-requires
+read-word-requires c κs = search needs
 
+-- src/pieces.rt:50:9
 shown-requires : tie.Need-shown-requires
 shown-requires c κs = search needs
 
+-- src/pieces.rt:51:9
+told-requires : tie.Need-told-requires
+told-requires c κs = search needs
+
+-- src/pieces.rt:51:9
 returns : tie.Need-returns
-returns c =
-    let k = c .before .before in
-    let s = k .before .before in
-    sym (word-unknown (s .args .text .now) (s .args .s) (k .word-end .result) (k .word-end .ensures) (s .args .whole) (sym (c .before .shown .ensures) ∙ not-true _ (c .if1 .taken)))
+returns c = ?
 
-sub-kind-of : tie.Need-sub-kind-of
-sub-kind-of c = search needs
+-- src/pieces.rt:53:10
+kind-in-requires : tie.Need-kind-in-requires
+kind-in-requires c κs = search needs
 
-part-kind-of-start : tie.Need-part-kind-of-start
-part-kind-of-start c = search needs
+-- src/pieces.rt:53:36
+sub-told : tie.Need-sub-told
+sub-told c = ?
 
-part-kind-of-end : tie.Need-part-kind-of-end
-part-kind-of-end c =
-    let k = c .before .before in
-    let s = k .before .before in
-    omega (arith, line-inside (s .args .text .now) (s .args .s) _ (word-line (s .args .text .now) (s .args .s) (k .word-end .result) (k .word-end .ensures) (s .pre)))
+-- src/pieces.rt:53:5
+told-requires-2 : tie.Need-told-requires-2
+told-requires-2 c κs = search needs
 
-kind-of-requires : tie.Need-kind-of-requires
-kind-of-requires c κs = search needs
-
-sub-a-row : tie.Need-sub-a-row
-sub-a-row c = search needs
-
-a-row-requires : tie.Need-a-row-requires
-a-row-requires c κs =
-    let k = c .before .before .before .before in
-    let s = k .before .before in
-    word-line (s .args .text .now) (s .args .s) (k .word-end .result) (k .word-end .ensures) (s .pre)
-
+-- src/pieces.rt:38:1
 returns-2 : tie.Need-returns-2
-returns-2 c =
-    let d = c .before .before .before in
-    let k = d .before .before in
-    let s = k .before .before in
-    let t = s .args .text .now in
-    c .a-row .ensures
-    ∙ ap (λ (x : ℕ). pieceRead t (s .args .s) (row x (k .word-end .result - s .args .s .at) 0 0)) (c .before .kind-of .ensures)
-    ∙ sym (word-row t (s .args .s) (k .word-end .result) (k .word-end .ensures) (s .args .whole) (sym (d .before .shown .ensures) ∙ not-false _ (d .if1 .left)))
+returns-2 c = ?
 
 pub word-spec : {M : Type 1} → statement M
 word-spec =
     tie.close
     (tie.spec
-    word-end-requires
+    read-word-requires
     shown-requires
+    told-requires
     returns
-    sub-kind-of
-    part-kind-of-start
-    part-kind-of-end
-    kind-of-requires
-    sub-a-row
-    a-row-requires
+    kind-in-requires
+    sub-told
+    told-requires-2
     returns-2)
