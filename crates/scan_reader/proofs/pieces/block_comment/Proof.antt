@@ -1,50 +1,55 @@
+-- `reader::pieces::block_comment` meets its contract: closed by its two bytes, or open.
+use mathlib.Core.Path.{sym, _∙_}
+use Rattle.scan_reader.specs.Brief.{refusalCode}
+use Rattle.scan_reader.proofs.Settled.{block-closed, block-open, block-short}
 use borrow.Author.Needs.{needs}
 use Rattle.scan_reader.proofs.pieces.block_comment.Statement.{statement}
 use Rattle.scan_reader.proofs.pieces.block_comment.Tie as tie
-use Rattle.scan_reader.proofs.pieces.block_comment.Reads as reads
-use Rattle.scan_reader.proofs.pieces.block_comment.Lts as lts
-use Rattle.scan_reader.proofs.pieces.told.Reads as told-reads
-use Rattle.scan_runs.proofs.body_end.Reads as body-end-reads
 
--- src/pieces.rt:135:30
 add-body-end : tie.Need-add-body-end
 add-body-end c = search needs
 
--- src/pieces.rt:135:9
 body-end-requires : tie.Need-body-end-requires
 body-end-requires c κs = search needs
 
--- src/pieces.rt:137:35
 add-told : tie.Need-add-told
 add-told c = search needs
 
--- src/pieces.rt:137:35
 sub-told : tie.Need-sub-told
 sub-told c = search needs
 
--- src/pieces.rt:137:9
 told-requires : tie.Need-told-requires
 told-requires c κs = search needs
 
--- src/pieces.rt:137:9
 returns : tie.Need-returns
-returns c = ?
+returns c =
+    let k = c .before .before in
+    let s = k .before .before in
+    c .told .ensures
+    ∙ sym (block-closed (s .args .whole) (s .args .text .now) (s .args .at) (s .pre .0) (s .pre .1) (k .body-end .result) (k .body-end .ensures) (c .before .if1 .taken))
 
--- src/pieces.rt:140:9
 told-requires-2 : tie.Need-told-requires-2
 told-requires-2 c κs = search needs
 
--- src/pieces.rt:140:9
 returns-2 : tie.Need-returns-2
-returns-2 c = ?
+unfolding refusalCode
+returns-2 c =
+    let k = c .before .before .before in
+    let s = k .before .before in
+    c .told2 .ensures
+    ∙ sym (block-open (s .args .whole) (s .args .text .now) (s .args .at) (s .pre .0) (s .pre .1) (k .body-end .result) (k .body-end .ensures) (c .before .before .if1 .left)
+    (c .before .if2 .taken))
 
--- src/pieces.rt:142:5
 told-requires-3 : tie.Need-told-requires-3
 told-requires-3 c κs = search needs
 
--- src/pieces.rt:131:1
 returns-3 : tie.Need-returns-3
-returns-3 c = ?
+returns-3 c =
+    let k = c .before .before .before in
+    let s = k .before .before in
+    c .told3 .ensures
+    ∙ sym (block-short (s .args .whole) (s .args .text .now) (s .args .at) (s .pre .0) (s .pre .1) (k .body-end .result) (k .body-end .ensures) (c .before .before .if1 .left)
+    (c .before .if2 .left))
 
 pub block-comment-spec : {M : Type 1} → statement M
 block-comment-spec =

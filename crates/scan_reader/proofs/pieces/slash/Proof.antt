@@ -1,44 +1,59 @@
+-- `reader::pieces::slash` meets its contract: by the byte behind the slash.
+use mathlib.Core.Path.{_≡_, sym, ap, _∙_}
+use Prim.Native.Nat.{_+_}
+use native.Mathlib.Omega.{arith}
+use lib.ListN.{getD}
+use Rattle.laws.proofs.Fronts.{inside}
+use Rattle.scan_reader.specs.Brief.{settled}
+use Rattle.scan_reader.proofs.Signs.{slash-two, slash-line, slash-block, slash-sign}
 use borrow.Author.Needs.{needs}
 use Rattle.scan_reader.proofs.pieces.slash.Statement.{statement}
 use Rattle.scan_reader.proofs.pieces.slash.Tie as tie
-use Rattle.scan_reader.proofs.pieces.slash.Reads as reads
-use Rattle.scan_reader.proofs.pieces.slash.Lts as lts
-use Rattle.scan_reader.proofs.pieces.block_comment.Reads as block-comment-reads
-use Rattle.scan_reader.proofs.pieces.line_comment.Reads as line-comment-reads
-use Rattle.scan_reader.proofs.pieces.sign.Reads as sign-reads
-use Rattle.scan_runs.proofs.peek.Reads as peek-reads
 
--- src/pieces.rt:150:27
 add-peek : tie.Need-add-peek
 add-peek c = search needs
 
--- src/pieces.rt:150:9
 peek-requires : tie.Need-peek-requires
 peek-requires c κs = search needs
 
--- src/pieces.rt:152:9
 line-comment-requires : tie.Need-line-comment-requires
 line-comment-requires c κs = search needs
 
--- src/pieces.rt:152:9
 returns : tie.Need-returns
-returns c = ?
+returns c =
+    let k = c .before .before in
+    let s = k .before .before in
+    let t = s .args .text .now in
+    c .line-comment .ensures ∙ ap (settled (s .args .whole) t (s .args .at)) (sym (slash-line t (s .args .at) (sym (k .peek .ensures) ∙ c .before .if1 .taken)))
 
--- src/pieces.rt:155:9
 block-comment-requires : tie.Need-block-comment-requires
-block-comment-requires c κs = ?
+block-comment-requires c κs =
+    let k = c .before .before in
+    let s = k .before .before in
+    let t = s .args .text .now in
+    let e : getD t (s .args .at + 1) 0 ≡ 42 = sym (k .peek .ensures) ∙ c .if2 .taken in
+    (omega (arith, inside t (s .args .at + 1) 42 e (omega arith)), e)
 
--- src/pieces.rt:155:9
 returns-2 : tie.Need-returns-2
-returns-2 c = ?
+returns-2 c =
+    let k = c .before .before .before in
+    let s = k .before .before in
+    let t = s .args .text .now in
+    c .block-comment .ensures ∙ ap (settled (s .args .whole) t (s .args .at)) (sym (slash-block t (s .args .at) (sym (k .peek .ensures) ∙ c .before .if2 .taken)))
 
--- src/pieces.rt:157:5
 sign-requires : tie.Need-sign-requires
-sign-requires c κs = ?
+sign-requires c κs =
+    let s = c .before .before .before .before in
+    (s .pre .0, slash-two _ (s .pre .1))
 
--- src/pieces.rt:146:1
 returns-3 : tie.Need-returns-3
-returns-3 c = ?
+returns-3 c =
+    let k = c .before .before .before in
+    let s = k .before .before in
+    let t = s .args .text .now in
+    c .sign .ensures
+    ∙ ap (settled (s .args .whole) t (s .args .at))
+    (sym (slash-sign t (s .args .at) (λ e. c .before .before .if1 .left (k .peek .ensures ∙ e)) (λ e. c .before .if2 .left (k .peek .ensures ∙ e))))
 
 pub slash-spec : {M : Type 1} → statement M
 slash-spec =

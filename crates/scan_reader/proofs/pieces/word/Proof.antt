@@ -1,44 +1,56 @@
+-- `reader::pieces::word` meets its contract: the run of word bytes, and its kind.
+use mathlib.Core.Path.{sym, ap, _∙_}
+use Prim.Native.Nat.{ℕ, _-_}
+use native.Mathlib.Omega.{arith}
+use lib.ListN.{drop}
+use borrow.Author.Tests.{not-true, not-false}
+use Rattle.scan_runs.proofs.Words.{words-plain}
+use Rattle.scan_reader.proofs.Settled.{wordAt, word-end, word-packed, word-unknown, word-told}
 use borrow.Author.Needs.{needs}
 use Rattle.scan_reader.proofs.pieces.word.Statement.{statement}
 use Rattle.scan_reader.proofs.pieces.word.Tie as tie
-use Rattle.scan_reader.proofs.pieces.word.Reads as reads
-use Rattle.scan_reader.proofs.pieces.word.Lts as lts
-use Rattle.scan_reader.proofs.pieces.told.Reads as told-reads
-use Rattle.scan_runs.proofs.read_word.Reads as read-word-reads
-use Rattle.scan_runs.proofs.shown.Reads as shown-reads
-use Rattle.scan_words.proofs.slots.kind_in.Reads as kind-in-reads
 
--- src/pieces.rt:48:9
 read-word-requires : tie.Need-read-word-requires
 read-word-requires c κs = search needs
 
--- src/pieces.rt:50:9
 shown-requires : tie.Need-shown-requires
 shown-requires c κs = search needs
 
--- src/pieces.rt:51:9
 told-requires : tie.Need-told-requires
 told-requires c κs = search needs
 
--- src/pieces.rt:51:9
 returns : tie.Need-returns
-returns c = ?
+returns c =
+    let k = c .before .before .before in
+    let s = k .before .before in
+    c .told .ensures
+    ∙ sym (word-unknown (s .args .text .now) (s .args .at) (k .read-word .result) (k .read-word .ensures) (s .args .whole)
+    (sym (c .before .before .shown .ensures) ∙ not-true _ (c .before .if1 .taken)))
 
--- src/pieces.rt:53:10
 kind-in-requires : tie.Need-kind-in-requires
 kind-in-requires c κs = search needs
 
--- src/pieces.rt:53:36
 sub-told : tie.Need-sub-told
-sub-told c = ?
+sub-told c =
+    let k = c .before .before .before in
+    let s = k .before .before in
+    omega (arith, word-end (s .args .text .now) (s .args .at) (k .read-word .result) (k .read-word .ensures))
 
--- src/pieces.rt:53:5
 told-requires-2 : tie.Need-told-requires-2
 told-requires-2 c κs = search needs
 
--- src/pieces.rt:38:1
 returns-2 : tie.Need-returns-2
-returns-2 c = ?
+returns-2 c =
+    let d = c .before .before in
+    let k = d .before .before in
+    let s = k .before .before in
+    let t = s .args .text .now in
+    let a = s .args .at in
+    let w = k .read-word .result in
+    let e = k .read-word .ensures in
+    c .told2 .ensures
+    ∙ ap (λ (x : ℕ). record { size = w .end - a; kind = x; bits = 0 }) (c .before .kind-in .ensures (wordAt t a w e) (words-plain (drop a t)) (word-packed t a w e))
+    ∙ sym (word-told t a w e (s .args .whole) (sym (d .before .shown .ensures) ∙ not-false _ (d .if1 .left)))
 
 pub word-spec : {M : Type 1} → statement M
 word-spec =
