@@ -5,10 +5,10 @@ pub mod slots;
 use rules::kind;
 ghost use mathlib.Core.Path.{_≡_};
 ghost use mathlib.Core.List.{[], _∷_};
-ghost use mathlib.Core.Bool.{cond};
+ghost use mathlib.Core.Bool.{true, false, cond};
 ghost use lib.Dec.{eqb};
 ghost use Rattle.rules.specs.Kinds.{Eof, signs, kindIn};
-ghost use Rattle.rules.specs.Lex.{isDigit};
+ghost use Rattle.rules.specs.Lex.{isDigit, isLone, maybeTwo};
 
 // Whether a byte is a decimal digit.
 pub fn is_digit(b: u8) -> bool
@@ -17,28 +17,17 @@ pub fn is_digit(b: u8) -> bool
     (b'0' <= b) & (b <= b'9')
 }
 
-// The kind of a sign of one byte, or Eof's.
+// The kind of a sign of one byte that may be the first of two.
 pub fn one_sign(b: u8) -> u32
+    requires { ⌜ (maybeTwo b ≡ true) × (isLone b ≡ false) ⌝ }
     ensures { λ r. ⌜ r ≡ kindIn signs Eof (b ∷ []) ⌝ }
 {
     match b {
-        b'{' => kind::LBRACE,
-        b'}' => kind::RBRACE,
-        b'(' => kind::LPAREN,
-        b')' => kind::RPAREN,
-        b':' => kind::COLON,
-        b'.' => kind::DOT,
-        b',' => kind::COMMA,
-        b';' => kind::SEMICOLON,
-        b'[' => kind::LBRACKET,
-        b']' => kind::RBRACKET,
-        b'=' => kind::EQUALS,
         b'+' => kind::PLUS,
         b'-' => kind::MINUS,
         b'*' => kind::STAR,
         b'/' => kind::SLASH,
-        b'%' => kind::PERCENT,
-        _ => kind::EOF,
+        _ => kind::PERCENT,
     }
 }
 

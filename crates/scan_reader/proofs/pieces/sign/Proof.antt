@@ -74,7 +74,7 @@ returns-3 c =
     ∙ sym (sign-lone (s .args .text .now) (s .args .at) (s .pre .1) (s .args .whole) (sign-shown d) (sym (two-is k) ∙ e .if2 .left) (c .before .if3 .taken))
 
 one-sign-requires : tie.Need-one-sign-requires
-one-sign-requires c κs = search needs
+one-sign-requires c κs = (c .before .before .before .before .before .before .before .before .pre .1, c .if3 .left)
 
 told-requires-4 : tie.Need-told-requires-4
 told-requires-4 c κs = search needs
