@@ -1,17 +1,12 @@
 -- Laws of spots: moves compose, in a line they are one addition, and what is ahead shrinks by them.
-use mathlib.Core.Path.{_≡_, refl, sym, ap, _∙_}
-use mathlib.Core.Bool.{Bool, true, false, _&&_}
-use mathlib.Core.List.{List, [], _∷_}
-use Prim.Native.Nat.{ℕ, suc, _+_, _-_, _≤_, _<_}
-use native.Mathlib.Nat.{add-zero, add-assoc, le-refl}
-use native.Mathlib.Numerals.{add-one}
+use mathlib.Core.Path.{_≡_, refl}
+use mathlib.Core.List.{List}
+use Prim.Native.Nat.{ℕ, _+_, _-_, _≤_, _<_}
+use native.Mathlib.Nat.{add-zero, add-assoc}
 use native.Mathlib.Omega.{arith}
-use lib.ListN.{length, take, drop, getD, length-drop, length-take, drop-of-length-le}
-use lib.Seq.{drop-cons, take-add, drop-drop, getD-drop}
-use lib.Dec.{eqb}
-use borrow.Author.Tests.{eqb-true}
-use Rattle.rules.specs.Text.{front, notNewline, moved, over, along, Roomy}
-use Rattle.rules.specs.Lex.{beforeClose}
+use lib.ListN.{length, take, drop, getD, length-drop, length-take}
+use lib.Seq.{drop-cons, take-add, drop-drop}
+use Rattle.rules.specs.Text.{notNewline, moved, over, along, Roomy}
 use Rattle.laws.proofs.Fronts.{front-le}
 use Rattle.laws.proofs.Places.{over-append, over-front, roomy-less, roomy-over}
 use Rattle.scan_reader.specs.declared.Spot.{Spot}

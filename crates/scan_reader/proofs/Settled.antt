@@ -15,7 +15,7 @@ use Rattle.rules.specs.declared.Lexical.the-variants.{OpenComment}
 use Rattle.scan_words.specs.Slots.{packedOf}
 use Rattle.scan_runs.specs.declared.Word.{Word}
 use Rattle.scan_runs.specs.Leaf.{packedFront, wordOf}
-use Rattle.scan_runs.proofs.Bodies.{body-le, body-line}
+use Rattle.scan_runs.proofs.Bodies.{body-line}
 use Rattle.laws.proofs.Fronts.{front-le}
 use Rattle.scan_reader.specs.declared.Brief.{Brief}
 use Rattle.scan_reader.specs.Brief.{Line, Block, Unknown, refusalCode, told, settled}

@@ -1,14 +1,14 @@
 -- From what was told back to the item: by its kind or code, what stands at the front, how many bytes it has, and that they are there.
 use mathlib.Core.Path.{_≡_, refl, sym, subst⁻¹}
-use mathlib.Core.Bool.{Bool, true, false, cond, not, _&&_, _||_, true≢false}
+use mathlib.Core.Bool.{Bool, true, false, cond, _&&_, _||_}
 use mathlib.Core.List.{List, [], _∷_}
 use Prim.Native.Nat.{ℕ, _+_, _-_, _≤_, _<_}
 use native.Mathlib.Nat.{add-assoc}
-use native.Mathlib.Decide.{ℕ-discrete, decLt}
+use native.Mathlib.Decide.{ℕ-discrete}
 use native.Mathlib.Omega.{arith}
 use lib.ListN.{length, take, drop, getD, length-drop}
 use lib.Dec.{eqb, leb, ltb}
-use borrow.Author.Tests.{eqb-true, eqb-false, ltb-true, ltb-false, eq-eqb, ne-eqb}
+use borrow.Author.Tests.{eqb-true, eqb-false, ltb-true, ltb-false}
 use Rattle.rules.specs.Text.{front, notNewline, isBlank}
 use Rattle.rules.specs.Kinds.{Spelt, Identifier, StringLiteral, Number, Eof, reserved, signs, sameBytes, kindIn}
 use Rattle.rules.specs.Rows.{bitsOf}
@@ -16,7 +16,7 @@ use Rattle.rules.specs.Lex.{Piece, blank, comment, row, refused, Item, known, e
 use Rattle.rules.specs.declared.Lexical.{Lexical}
 use Rattle.rules.specs.declared.Lexical.the-variants.{LoneSign, NoRowBegins, NoHexDigit, OpenComment, OpenString, BadEscape, NumberTooLarge}
 use Rattle.laws.proofs.Tests.{both-true}
-use Rattle.laws.proofs.Fronts.{front-in, front-le, front-more, front-in-line, met-in-line, inside}
+use Rattle.laws.proofs.Fronts.{front-le, front-more, front-in-line, inside}
 use Rattle.laws.proofs.Spelled.{same-eq}
 use Rattle.scan_runs.specs.declared.Quoted.{Quoted}
 use Rattle.scan_runs.specs.declared.Quoted.the-variants.{Closed, Open, Escape}
@@ -26,8 +26,8 @@ use Rattle.scan_runs.proofs.Quotes.{stringPiece, reachOf}
 use Rattle.scan_runs.proofs.Bodies.{body-line}
 use Rattle.scan_reader.specs.declared.Brief.{Brief}
 use Rattle.scan_reader.specs.Brief.{Blank, Line, Block, End, Unknown, refusalCode, told}
-use Rattle.scan_reader.proofs.Numbers.{opening, hexAt, digitsAt, digits-front, hex-front, opened, digit-inside, number-behind, none-is, some-is}
-use Rattle.scan_reader.proofs.Strings.{quotedAt, string-is, string-from, string-line}
+use Rattle.scan_reader.proofs.Numbers.{opening, hexAt, digits-front, hex-front, digit-inside, number-behind, none-is, some-is}
+use Rattle.scan_reader.proofs.Strings.{quotedAt, string-is, string-line}
 use Rattle.scan_reader.proofs.Reasons.{code-least}
 
 -- ---- a piece at the front of s has its bytes there, a row and a refusal's place in the line

@@ -3,7 +3,7 @@ use mathlib.Core.Path.{_≡_, refl}
 use mathlib.Core.Bool.{Bool, true, false, _&&_}
 use mathlib.Core.List.{List, [], _∷_}
 use Prim.Native.Nat.{ℕ, suc, _+_, _≤_, _<_}
-use native.Mathlib.Nat.{add-zero, le-refl}
+use native.Mathlib.Nat.{add-zero}
 use native.Mathlib.Numerals.{add-one}
 use native.Mathlib.Omega.{arith}
 use lib.ListN.{length, drop, getD, drop-of-length-le}
@@ -30,15 +30,6 @@ module _ (t : List ℕ) (i : ℕ) where
   pub body-end : length t ≤ i → beforeClose (drop i t) ≡ 0
   unfolding beforeClose
   body-end h = rw (drop-of-length-le t h)
-
-pub body-le : (s : List ℕ) → beforeClose s ≤ length s
-unfolding beforeClose
-body-le [] = le-refl 0
-body-le (b ∷ s) = pick (eqb b 42 && eqb (getD s 0 0) 47) (body-le s)
-  where
-    pick : (q : Bool) → beforeClose s ≤ length s → elim q as (λ _. ℕ) [ true ↦ 0 | false ↦ suc (beforeClose s) ] ≤ suc (length s)
-    pick true h = omega arith
-    pick false h = omega arith
 
 -- a body that stops inside stops at two bytes of a line
 pub body-line : (s : List ℕ) → beforeClose s < length s → 2 ≤ front notNewline (drop (beforeClose s) s)

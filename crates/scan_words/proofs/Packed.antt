@@ -3,12 +3,11 @@
 use mathlib.Core.Path.{_≡_, refl, sym, ap, _∙_}
 use mathlib.Core.Bool.{Bool, true, false, not, cond, _&&_, _||_, true≢false}
 use mathlib.Core.List.{List, [], _∷_, _++_, append-nil}
-use Prim.Native.Nat.{ℕ, zero, suc, _+_, _*_, _/_, _%_, _^_, _≤_, _<_}
+use Prim.Native.Nat.{ℕ, zero, suc, _+_, _*_, _/_, _%_, _^_, _<_}
 use native.Mathlib.Omega.{arith}
 use lib.ListN.{length, getD}
 use lib.Dec.{eqb, ltb}
 use borrow.Author.Tests.{eqb-true, eqb-false, ltb-true, eq-eqb, ne-eqb, not-true}
-use Rattle.rules.specs.Text.{front}
 use Rattle.rules.specs.Kinds.{Spelt, Identifier, reserved, sameBytes, kindIn}
 use Rattle.scan_words.specs.Slots.{packedOf, plain, slotOf, slotIn, Slots}
 use Rattle.laws.proofs.Tests.{both-true, true-both, neither}

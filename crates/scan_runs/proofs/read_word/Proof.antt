@@ -1,7 +1,7 @@
 -- `leaves::read_word` meets its contract: the end of the word, and its number, are the same from every index on the way.
-use Prim.Native.Nat.{_-_, _<_}
+use Prim.Native.Nat.{_-_}
 use native.Mathlib.Omega.{arith}
-use lib.ListN.{length, getD}
+use lib.ListN.{length}
 use Rattle.scan_runs.proofs.Words.{Packing, packing-start, packing-on, packing-stop, packing-end}
 use Rattle.scan_runs.proofs.read_word.Statement.{statement}
 use Rattle.scan_runs.proofs.read_word.Tie as tie

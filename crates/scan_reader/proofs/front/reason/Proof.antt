@@ -1,6 +1,5 @@
 -- `reader::front::reason` meets its contract: each code is one reason's.
-use mathlib.Core.Path.{_≡_, refl}
-use Rattle.rules.specs.declared.Lexical.the-variants.{NoRowBegins, LoneSign, NoHexDigit, OpenComment, OpenString, BadEscape, NumberTooLarge}
+use Rattle.rules.specs.declared.Lexical.the-variants.{NoRowBegins, LoneSign, NoHexDigit, OpenComment, OpenString, BadEscape}
 use Rattle.scan_reader.specs.Brief.{refusalCode}
 use Rattle.scan_reader.proofs.Reasons.{code-is, code-rest}
 use Rattle.scan_reader.proofs.front.reason.Statement.{statement}

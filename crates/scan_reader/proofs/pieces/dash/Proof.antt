@@ -1,7 +1,6 @@
 -- `reader::pieces::dash` meets its contract: by the byte behind the dash.
 use mathlib.Core.Path.{_≡_, sym, ap, _∙_}
-use mathlib.Core.Bool.{true, false}
-use Prim.Native.Nat.{ℕ, _+_}
+use Prim.Native.Nat.{_+_}
 use lib.ListN.{getD}
 use Rattle.rules.specs.Lex.{isDigit}
 use Rattle.scan_reader.specs.Brief.{settled}

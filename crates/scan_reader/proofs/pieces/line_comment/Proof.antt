@@ -1,6 +1,5 @@
 -- `reader::pieces::line_comment` meets its contract: closed by its newline, or by the end of the text.
 use mathlib.Core.Path.{sym, _∙_}
-use native.Mathlib.Omega.{arith}
 use Rattle.scan_reader.proofs.Settled.{line-closed, line-last, line-short}
 use borrow.Author.Needs.{needs}
 use Rattle.scan_reader.proofs.pieces.line_comment.Statement.{statement}
