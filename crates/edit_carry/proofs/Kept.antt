@@ -1,4 +1,5 @@
--- Kept rows: they are the first ones, each ends below a and the next does not, so halving finds them; the place behind them is behind the last.
+-- Kept rows: they are the first ones, each ends below a and the next does not, so halving finds them; the place behind them is behind the
+-- last.
 use mathlib.Core.Path.{_≡_, refl, ap, _∙_}
 use mathlib.Core.Bool.{Bool, true, false, cond}
 use mathlib.Core.List.{List, [], _∷_}
@@ -54,7 +55,8 @@ kept-stop a [] d h = absurd (not-suc-le-zero h)
 kept-stop a (r ∷ rs) d h = pick (ltb (r .end) a) refl h (kept-stop a rs d)
   where
     pick : (p : Bool) → ltb (r .end) a ≡ p → length (cond p (r ∷ kept a rs) []) < suc (length rs) →
-        (length (kept a rs) < length rs → a ≤ getD rs (length (kept a rs)) d .end) → a ≤ getD (r ∷ rs) (length (cond p (r ∷ kept a rs) [])) d .end
+        (length (kept a rs) < length rs → a ≤ getD rs (length (kept a rs)) d .end) →
+        a ≤ getD (r ∷ rs) (length (cond p (r ∷ kept a rs) [])) d .end
     pick false e h f = ltb-false (r .end) a e
     pick true e h f = f (le-of-suc-le-suc h)
 

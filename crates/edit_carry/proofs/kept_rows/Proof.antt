@@ -54,7 +54,8 @@ loop-again c =
     let m = c .before .before in
     let l = m .before .loop in
     let s = m .before .before .args in
-    between-low (s .a) (s .old .now) (s .count) (l .low) (l .high) (middle m) (l .inv) (low-middle m) (middle-high m) (rw (← end-word (s .old .now) (middle m)) at (c .if1 .taken))
+    between-low (s .a) (s .old .now) (s .count) (l .low) (l .high) (middle m) (l .inv) (low-middle m) (middle-high m)
+    (rw (← end-word (s .old .now) (middle m)) at (c .if1 .taken))
 
 add-low : tie.Need-add-low Inv-loop μ-loop
 add-low c = omega (arith, middle-lent (c .before .before))
@@ -68,7 +69,8 @@ loop-again-2 c =
     let l = m .before .loop in
     let s = m .before .before in
     let a = s .args in
-    between-high (a .a) (a .old .now) (a .count) (l .low) (l .high) (middle m) (l .inv) (low-middle m) (middle-high m) (s .pre .1) (rw (← end-word (a .old .now) (middle m)) at (c .if1 .left))
+    between-high (a .a) (a .old .now) (a .count) (l .low) (l .high) (middle m) (l .inv) (low-middle m) (middle-high m)
+    (s .pre .1) (rw (← end-word (a .old .now) (middle m)) at (c .if1 .left))
 
 returns : tie.Need-returns Inv-loop μ-loop
 returns c =
