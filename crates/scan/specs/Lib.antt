@@ -1,3 +1,3 @@
--- The definitions that the contracts of this crate cite.
-pub mod Writing
-pub mod Answer
+-- STUB
+pub mod Meeting
+pub mod Walk
