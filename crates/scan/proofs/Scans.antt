@@ -1,5 +1,5 @@
 -- A walk over a text from its start on, which meets no old row, is its scan: the rows, the ending and the answer.
-use mathlib.Core.Path.{_≡_, refl, sym, ap, _∙_}
+use mathlib.Core.Path.{_≡_, refl, sym, ap}
 use mathlib.Core.Bool.{Bool, true, false, _&&_}
 use mathlib.Core.List.{List, [], _∷_}
 use Prim.Native.Nat.{ℕ, zero, suc, pred, _+_, _≤_, _<_, _^_}
@@ -8,24 +8,21 @@ use native.Mathlib.Omega.{arith}
 use lib.ListN.{length}
 use lib.Dec.{leb}
 use Rattle.rules.specs.declared.Cursor.{Cursor}
-use Rattle.rules.specs.declared.Ending.{Ending}
 use Rattle.rules.specs.declared.Ending.the-variants as ending
-use Rattle.rules.specs.declared.Told.{Told}
 use Rattle.rules.specs.declared.Told.the-variants as tells
 use Rattle.rules.specs.declared.Outer.{Outer}
 use Rattle.rules.specs.declared.Judged.the-variants as verdict
-use Rattle.rules.specs.Text.{mostBytes, placeAt, startPlace, textJudged, Roomy}
+use Rattle.rules.specs.Text.{mostBytes, placeAt, startPlace, textJudged}
 use Rattle.rules.specs.Rows.{Row, rowAt, rowsIn}
 use Rattle.rules.specs.Lex.{Piece, blank, comment, row, refused, known, piece, item}
 use Rattle.rules.specs.Scan.{Reading, put, ends, stops, readRows, readEnding, read, scan, roomOf, told, laid, scanTold, scanLeaves}
 use Rattle.rules.specs.Edit.{Seen, sees, over′, look, from, some}
-use Rattle.theory_machine.proofs.Spans.{Spans, row-spans, refused-spans}
+use Rattle.theory_machine.proofs.Spans.{Spans, refused-spans}
 use Rattle.theory_machine.proofs.Same.{piece-spans}
 use Rattle.laws.proofs.Places.{over-start}
 use Rattle.laws.proofs.Rows.{scan-told-refused, scan-leaves-refused, scan-told, scan-leaves}
 use Rattle.scan.specs.declared.walk.Olds.{Olds}
 use Rattle.scan.specs.declared.walk.Stop.the-variants.{Over}
-use Rattle.scan.specs.declared.walk.Walked.{Walked}
 use Rattle.scan.specs.Meeting.{meetsAt}
 use Rattle.scan.specs.Walk.{placeIn, rowsSeen, stopSeen, seenFrom, walkRows, walkOf, Walkable}
 

@@ -17,7 +17,7 @@ use walk::walk;
 ghost use mathlib.Core.Path.{_≡_};
 ghost use mathlib.Core.List.{List};
 ghost use Prim.Native.Nat.{_<_, _^_};
-ghost use lib.ListN.{length as lengthN};
+ghost use lib.ListN.{length};
 ghost use Rattle.rules.specs.declared.Ending.{Ending as Endings};
 ghost use Rattle.rules.specs.Rows.{Row};
 ghost use Rattle.rules.specs.Scan.{told as toldOf, roomOf, scanTold, scanLeaves};
@@ -35,9 +35,9 @@ fn ending_of(stop: Stop) -> Ending
 }
 
 // What a scan of so many bytes tells of a walk over them, with room for so many rows.
-fn told(length: usize, room: usize, walked: Walked) -> Told
-    requires { ⌜ (length < 2 ^ 32) × (walked .count < 2 ^ 32) ⌝ }
-    ensures { λ r. ⌜ ((rs : List Row) (e : Endings) → walked ≡ record { count = lengthN rs; stop = Over e } → r ≡ toldOf length room rs e) ⌝ }
+fn told(bytes: usize, room: usize, walked: Walked) -> Told
+    requires { ⌜ (bytes < 2 ^ 32) × (walked .count < 2 ^ 32) ⌝ }
+    ensures { λ r. ⌜ ((rs : List Row) (e : Endings) → walked ≡ record { count = length rs; stop = Over e } → r ≡ toldOf bytes room rs e) ⌝ }
 {
     let count = walked.count;
     let stop = walked.stop;
@@ -46,7 +46,7 @@ fn told(length: usize, room: usize, walked: Walked) -> Told
     }
     Told::Rows(Table {
         count: count as u32,
-        length: length as u32,
+        length: bytes as u32,
         ending: ending_of(stop),
     })
 }

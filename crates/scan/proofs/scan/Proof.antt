@@ -59,10 +59,11 @@ returns-2 c =
     let s = w .before .before in
     let a = s .before .before .before .before .before .before .before .args in
     let t = a .text .now in
-    let q = all-rows t (a .rows .now) (text-well (s .before .before)) in (
-      c .told .ensures (readRows (scan t)) (readEnding (scan t)) (rw (w .walk .ensures .0, s .start .ensures) (walk-told _ _ t)) ∙ q .0,
-      rw (w .walk .ensures .1, s .start .ensures, walk-rows _ _ t) (q .1),
-    )
+    let q = all-rows t (a .rows .now) (text-well (s .before .before)) in
+    let v = w .walk .ensures in
+    let b = s .start .ensures in
+    let l = scan t in
+    (c .told .ensures (readRows l) (readEnding l) (rw (v .0, b) (walk-told _ _ t)) ∙ q .0, rw (v .1, b, walk-rows _ _ t) (q .1))
 
 pub scan-spec : {M : Type 1} → statement M
 scan-spec =
