@@ -307,7 +307,15 @@ pub fn edit_tested(old: &[u32], job: Job, start: u32, window: &[u8], new: &mut [
 {
     let begin = job.begin;
     let length = job.table.length;
-    if !sensible(length, job.a, job.b, job.n, begin.offset.0, start, window.len()) {
+    if !sensible(
+        length,
+        job.a,
+        job.b,
+        job.n,
+        begin.offset.0,
+        start,
+        window.len(),
+    ) {
         return refused(Outer::EditNotSensible);
     }
     if limit::MOST_BYTES_U64 < new_length(length, job.a, job.b, job.n) {
