@@ -21,10 +21,10 @@ use Rattle.theory_machine.proofs.Spans.{Spans, refused-spans}
 use Rattle.theory_machine.proofs.Same.{piece-spans}
 use Rattle.laws.proofs.Places.{over-start}
 use Rattle.laws.proofs.Rows.{scan-told-refused, scan-leaves-refused, scan-told, scan-leaves}
-use Rattle.scan.specs.declared.walk.Olds.{Olds}
-use Rattle.scan.specs.declared.walk.Stop.the-variants.{Over}
-use Rattle.scan.specs.Meeting.{meetsAt}
-use Rattle.scan.specs.Walk.{placeIn, rowsSeen, stopSeen, seenFrom, walkRows, walkOf, Walkable}
+use Rattle.scan_walk.specs.declared.Olds.{Olds}
+use Rattle.scan_walk.specs.declared.Stop.the-variants.{Over}
+use Rattle.scan_walk.specs.Meeting.{meetsAt}
+use Rattle.scan_walk.specs.Walk.{placeIn, rowsSeen, stopSeen, seenFrom, walkRows, walkOf, Walkable}
 
 -- ---- as many rows as bytes and one more, at most
 

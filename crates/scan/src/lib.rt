@@ -1,6 +1,4 @@
 // The scan: the rows of a text, written into lent words as far as they go.
-mod walk;
-
 use rules::Cursor;
 use rules::Ending;
 use rules::Judged;
@@ -10,10 +8,10 @@ use rules::Told;
 use rules::limit;
 use rules::row;
 use scan_place::judge_text;
-use walk::Olds;
-use walk::Stop;
-use walk::Walked;
-use walk::walk;
+use scan_walk::Olds;
+use scan_walk::Stop;
+use scan_walk::Walked;
+use scan_walk::walk;
 ghost use mathlib.Core.Path.{_≡_};
 ghost use mathlib.Core.List.{List};
 ghost use Prim.Native.Nat.{_<_, _^_};
@@ -21,7 +19,7 @@ ghost use lib.ListN.{length};
 ghost use Rattle.rules.specs.declared.Ending.{Ending as Endings};
 ghost use Rattle.rules.specs.Rows.{Row};
 ghost use Rattle.rules.specs.Scan.{told as toldOf, roomOf, scanTold, scanLeaves};
-ghost use Rattle.scan.specs.declared.walk.Stop.the-variants.{Over};
+ghost use Rattle.scan_walk.specs.declared.Stop.the-variants.{Over};
 
 // The ending at which a walk stopped.
 fn ending_of(stop: Stop) -> Ending

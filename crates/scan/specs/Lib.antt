@@ -1,3 +1,0 @@
--- STUB
-pub mod Meeting
-pub mod Walk
