@@ -59,11 +59,12 @@ rows-same (put r l) = ap (λ (rs : List Row). r ∷ rs) (rows-same l)
 rows-same ends = refl
 rows-same (stops why p d) = refl
 
-stop-same : (rows : List Row) (least b : ℕ) (t : List ℕ) (p : Cursor) (l : Reading) → stopSeen rows least b t p (asSeen l) ≡ Over (readEnding l)
-unfolding stopSeen asSeen readEnding
-stop-same rows least b t p (put r l) = stop-same rows least b t p l
-stop-same rows least b t p ends = refl
-stop-same rows least b t p (stops why q d) = refl
+module _ (rows : List Row) (least b : ℕ) (t : List ℕ) (p : Cursor) where
+  stop-same : (l : Reading) → stopSeen rows least b t p (asSeen l) ≡ Over (readEnding l)
+  unfolding stopSeen asSeen readEnding
+  stop-same (put r l) = stop-same l
+  stop-same ends = refl
+  stop-same (stops why q d) = refl
 
 -- places from the start on are the text's
 at-place : (t : List ℕ) (k : ℕ) → k ≤ length t → placeIn startPlace t k ≡ placeAt t k
@@ -71,14 +72,17 @@ unfolding placeIn
 at-place t k h = rw sub-zero (over-start t k h)
 
 module _ (t : List ℕ) (meet : ℕ → Bool) (never : (m : ℕ) → meet m ≡ false) where
+  -- what is seen from offset k on, of whose bytes the first n belong to the piece that was read last
+  abbrev seen : ℕ → ℕ → List ℕ → Seen
+  seen n k s = look (placeIn startPlace t) meet true n k s
+
   -- by the piece at offset k, with s behind its first byte
-  step : (k : ℕ) (s : List ℕ) → k + suc (length s) ≡ length t →
-      ((n : ℕ) → look (placeIn startPlace t) meet true n (suc k) s ≡ asSeen (read (placeAt t) n (suc k) s)) →
+  step : (k : ℕ) (s : List ℕ) → k + suc (length s) ≡ length t → ((n : ℕ) → seen n (suc k) s ≡ asSeen (read (placeAt t) n (suc k) s)) →
       (x : Piece) → Spans 1 0 (suc (length s)) (known x) →
       elim x as (λ _. Seen) [
-        | blank ↦ look (placeIn startPlace t) meet true zero (suc k) s
-        | comment n d ↦ look (placeIn startPlace t) meet true (pred n) (suc k) s
-        | row kind n bits d ↦ sees (rowAt (placeIn startPlace t k) kind (k + n) bits) (look (placeIn startPlace t) meet true (pred n) (suc k) s)
+        | blank ↦ seen zero (suc k) s
+        | comment n d ↦ seen (pred n) (suc k) s
+        | row kind n bits d ↦ sees (rowAt (placeIn startPlace t k) kind (k + n) bits) (seen (pred n) (suc k) s)
         | refused why p d ↦ over′ (ending.Refused why (placeIn startPlace t (k + p)))
       ]
       ≡ asSeen (elim x as (λ _. Reading) [
@@ -93,11 +97,13 @@ module _ (t : List ℕ) (meet : ℕ → Bool) (never : (m : ℕ) → meet m ≡ 
   step k s e h (row kind n bits d) f = rw (at-place t k (omega arith), h (pred n))
   step k s e h (refused why p d) (refused-spans _ _ _ l m u) = rw (at-place t (k + p) (omega arith))
 
-  seen-read : (n k : ℕ) (s : List ℕ) → k + length s ≡ length t → look (placeIn startPlace t) meet true n k s ≡ asSeen (read (placeAt t) n k s)
+  -- Where nothing meets and the bytes end the text, what is seen is what is read.
+  seen-read : (n k : ℕ) (s : List ℕ) → k + length s ≡ length t → seen n k s ≡ asSeen (read (placeAt t) n k s)
   unfolding look read asSeen item
   seen-read n k [] e = rw (at-place t k (omega arith))
   seen-read (suc n) k (b ∷ s) e = seen-read n (suc k) s (omega arith)
-  seen-read zero k (b ∷ s) e = rw (look, never k) (step k s e (λ n. seen-read n (suc k) s (omega arith)) (piece (b ∷ s)) (piece-spans b s))
+  seen-read zero k (b ∷ s) e =
+      rw (look, never k) (step k s e (λ n. seen-read n (suc k) s (omega arith)) (piece (b ∷ s)) (piece-spans b s))
 
 -- ---- the walk that meets no old row
 
@@ -121,7 +127,8 @@ module _ (ws : List ℕ) (least : ℕ) (t : List ℕ) where
   unfolding walkRows rowsIn
   walk-rows = rw seen-scan (rows-same (scan t))
 
-  pub walk-told : walkOf ws (none least) t startPlace true ≡ record { count = length (readRows (scan t)); stop = Over (readEnding (scan t)) }
+  pub walk-told : walkOf ws (none least) t startPlace true
+      ≡ record { count = length (readRows (scan t)); stop = Over (readEnding (scan t)) }
   unfolding walkOf rowsIn
   walk-told = rw (walk-rows, seen-scan, stop-same)
 
@@ -142,9 +149,11 @@ module _ (ws : List ℕ) (least : ℕ) (t : List ℕ) where
 -- ---- the answer
 
 module _ (t ws : List ℕ) where
-  pub refused-text : {why : Outer} {p : Cursor} → textJudged t ≡ verdict.Refused why p → (tells.Refused why p 0 ≡ scanTold t (roomOf ws)) × (ws ≡ scanLeaves t ws)
+  pub refused-text : {why : Outer} {p : Cursor} → textJudged t ≡ verdict.Refused why p →
+      (tells.Refused why p 0 ≡ scanTold t (roomOf ws)) × (ws ≡ scanLeaves t ws)
   refused-text e = (sym (scan-told-refused t e (roomOf ws)), sym (scan-leaves-refused t e ws))
 
   pub all-rows : textJudged t ≡ verdict.Fine →
-      (told (length t) (roomOf ws) (readRows (scan t)) (readEnding (scan t)) ≡ scanTold t (roomOf ws)) × (laid (readRows (scan t)) ws ≡ scanLeaves t ws)
+      (told (length t) (roomOf ws) (readRows (scan t)) (readEnding (scan t)) ≡ scanTold t (roomOf ws))
+      × (laid (readRows (scan t)) ws ≡ scanLeaves t ws)
   all-rows e = (sym (scan-told t e (roomOf ws)), sym (scan-leaves t e ws))
