@@ -1,29 +1,27 @@
--- What is seen of a window: where a meeting lies, how many rows there are, and the rows and the ending by what is written.
--- ---- the rows from a start on are the last ones
+-- What is seen of a window: how many rows, where a meeting lies, and that only a window which does not end the text is short; and by how a walk
+-- stops, the rows and the ending of the new table.
 use mathlib.Core.Path.{_≡_, refl, sym, ap, subst, _∙_}
-use mathlib.Core.Bool.{Bool, true, false, cond, not, _&&_}
+use mathlib.Core.Bool.{Bool, true, false, cond, not, _&&_, _||_}
 use mathlib.Core.List.{List, [], _∷_, _++_, map}
 use Prim.Native.Nat.{ℕ, zero, suc, pred, _+_, _-_, _≤_, _<_}
 use native.Mathlib.Nat.{le-refl}
 use native.Mathlib.Omega.{arith}
 use lib.ListN.{length, drop, length-map}
-use lib.Dec.{eqb, leb}
+use lib.Dec.{eqb, leb, ltb}
 use Rattle.rules.specs.declared.Cursor.{Cursor}
 use Rattle.rules.specs.declared.Ending.{Ending}
 use Rattle.rules.specs.declared.Ending.the-variants as ending
-use Rattle.rules.specs.Rows.{Row, eofRow}
-use Rattle.rules.specs.Lex.{Item, item, known, blank, comment, row, refused, end, unknown}
-use Rattle.rules.specs.Edit.{Seen, sees, over′, met, short, look, opens, from, some, firstPlace, carryRow, carryEnding, oldOffset, windowPlace, seenRows, seenEnding}
+use Rattle.rules.specs.Rows.{Row, rowAt, eofRow}
+use Rattle.rules.specs.Lex.{Item, item, piece, decidedAt, known, blank, comment, row, refused, end, unknown}
+use Rattle.rules.specs.Edit.{Seen, sees, over′, met, short, isShort, look, opens, from, some, firstPlace, carryRow, carryEnding, oldOffset, restart, windowPlace, seenRows, seenEnding}
 use Rattle.laws.proofs.Tests.{both-true}
 use Rattle.scan_reader.specs.declared.Spot.{Spot}
 use Rattle.scan_reader.specs.Read.{onward}
-use Rattle.edit_sight.specs.declared.Sight.the-variants.{Met, Over}
-use Rattle.edit_sight.specs.Sight.{meetsAt, startOf, sightOf}
-use Rattle.scan.specs.declared.Stop.the-variants as stops
-use Rattle.scan.specs.Writing.{Writing, rowsOf, stopOf}
-use Rattle.edit.proofs.Joins.{Joins, rows, meets, ends, refuses, lacks, Reaches, lookNext, look-next, look-meets}
-use Rattle.edit.proofs.Tails.{Closes}
-use Rattle.edit.proofs.Tails
+use Rattle.edit.specs.declared.walk.Stop.{Stop}
+use Rattle.edit.specs.declared.walk.Stop.the-variants.{Met, Over, Short}
+use Rattle.edit.specs.Walk.{meetsAt, startOf, rowsSeen, stopSeen}
+
+-- ---- the rows from a start on are the last ones
 
 from-few : (m : ℕ) (rs : List Row) → length (from m rs) ≤ length rs
 unfolding from
@@ -34,7 +32,7 @@ from-few m (r ∷ rs) = pick (eqb (r .start) m) (from-few m rs)
     pick true h = le-refl (suc (length rs))
     pick false h = omega arith
 
-pub from-drop : (m : ℕ) (rs : List Row) → from m rs ≡ drop (length rs - length (from m rs)) rs
+from-drop : (m : ℕ) (rs : List Row) → from m rs ≡ drop (length rs - length (from m rs)) rs
 unfolding from
 from-drop m [] = refl
 from-drop m (r ∷ rs) = pick (eqb (r .start) m) (from-drop m rs) (from-few m rs)
@@ -49,168 +47,202 @@ unfolding some
 some-length [] e = absurd (let z : _≡_ {A = ℕ} 0 1 = cc in omega arith)
 some-length (r ∷ rs) e = omega arith
 
--- ---- where a meeting lies
+-- ---- what can be seen of bytes from offset k to e
 
--- what holds of the offset of a meeting
-unfoldable pub Mets : (ℕ → Type 0) → Seen → Type 0
-Mets P (sees r s) = Mets P s
-Mets P (met m) = P m
-Mets P (over′ e) = Unit
-Mets P short = Unit
-
-mets-more : (P Q : ℕ → Type 0) → ((m : ℕ) → P m → Q m) → (x : Seen) → Mets P x → Mets Q x
-unfolding Mets
-mets-more P Q f (sees r s) h = mets-more P Q f s h
-mets-more P Q f (met m) h = f m h
-mets-more P Q f (over′ e) h = tt
-mets-more P Q f short h = tt
-
--- it is one, and lies in the bytes
+-- a meeting lies in the bytes
 pub record Lies (meet : ℕ → Bool) (k e m : ℕ) : Type 0 where
   pub meeting : meet m ≡ true
   pub low : k ≤ m
   pub high : m < e
 
+module _ (meet : ℕ → Bool) (whole : Bool) where
+  -- each row but the last takes a byte, and bytes that end the text are not short
+  unfoldable pub Shown : (k e : ℕ) → Seen → Type 0
+  Shown k e (sees r s) = (k ≤ e) × Shown (suc k) e s
+  Shown k e (over′ x) = Unit
+  Shown k e (met m) = Lies meet k e m
+  Shown k e short = whole ≡ false
+
+  shown-less : (k e : ℕ) (x : Seen) → Shown (suc k) e x → Shown k e x
+  unfolding Shown
+  shown-less k e (sees r s) h = (omega (arith, h .0), shown-less (suc k) e s (h .1))
+  shown-less k e (over′ x) h = tt
+  shown-less k e (met m) h = record { meeting = h .meeting; low = omega (arith, h .low); high = h .high }
+  shown-less k e short h = h
+
+  pub shown-few : (k e : ℕ) (x : Seen) → k ≤ e + 1 → Shown k e x → k + length (rowsSeen x) ≤ e + 1
+  unfolding Shown rowsSeen
+  shown-few k e (sees r s) l h = omega (arith, shown-few (suc k) e s (omega (arith, h .0)) (h .1))
+  shown-few k e (over′ x) l h = omega arith
+  shown-few k e (met m) l h = omega arith
+  shown-few k e short l h = omega arith
+
+  pub shown-whole : (k e : ℕ) (x : Seen) → Shown k e x → whole ≡ true → isShort x ≡ false
+  unfolding Shown isShort
+  shown-whole k e (sees r s) h w = shown-whole (suc k) e s (h .1) w
+  shown-whole k e (over′ x) h w = refl
+  shown-whole k e (met m) h w = refl
+  shown-whole k e short h w = sym w ∙ h
+
 module _ (pos : ℕ → Cursor) (meet : ℕ → Bool) (whole : Bool) where
-  pub lies : (n k : ℕ) (s : List ℕ) → Mets (Lies meet k (k + length s)) (look pos meet whole n k s)
-  unfolding look Mets lookNext
-  lies n k [] = pick whole
+  -- what is seen at the front, by the item there, with the bytes of the piece still to be passed over
+  unfoldable lookNext : Item → ℕ → List ℕ → Seen
+  lookNext (known blank) k s = look pos meet whole 0 (suc k) s
+  lookNext (known (comment n d)) k s = look pos meet whole (pred n) (suc k) s
+  lookNext (known (row kind n bits d)) k s = sees (rowAt (pos k) kind (k + n) bits) (look pos meet whole (pred n) (suc k) s)
+  lookNext (known (refused why p d)) k s = over′ (ending.Refused why (pos (k + p)))
+  lookNext end k s = short
+  lookNext unknown k s = short
+
+  look-next : (b : ℕ) (s : List ℕ) (k : ℕ) (x : Item) → (meet k && not (opens (b ∷ s))) ≡ false → item whole (b ∷ s) ≡ x →
+      look pos meet whole 0 k (b ∷ s) ≡ lookNext x k s
+  unfolding look lookNext
+  look-next b s k (known blank) e f = rw (e, look) (rw f)
+  look-next b s k (known (comment n d)) e f = rw (e, look) (rw f)
+  look-next b s k (known (row kind n bits d)) e f = rw (e, look) (rw f)
+  look-next b s k (known (refused why q d)) e f = rw (e, look) (rw f)
+  look-next b s k end e f = rw (e, look) (rw f)
+  look-next b s k unknown e f = rw (e, look) (rw f)
+
+  look-meets : (b : ℕ) (s : List ℕ) (k : ℕ) → (meet k && not (opens (b ∷ s))) ≡ true → look pos meet whole 0 k (b ∷ s) ≡ met k
+  unfolding look
+  look-meets b s k e = rw (e, look)
+
+  -- bytes that end the text show what stands at their front
+  not-known : (b : ℕ) (s : List ℕ) (x : Item) → item whole (b ∷ s) ≡ x → (known (piece (b ∷ s)) ≡ x → ⊥) → whole ≡ false
+  unfolding item
+  not-known b s x f h = pick whole f
     where
-      pick : (p : Bool) → Mets (Lies meet k (k + 0)) (cond p (sees (eofRow (pos k)) (over′ ending.None)) short)
-      pick true = tt
-      pick false = tt
-  lies (suc n) k (b ∷ s) = mets-more (Lies meet (suc k) (suc k + length s)) (Lies meet k (k + suc (length s))) (λ m h. record { meeting = h .meeting; low = omega (arith, h .low); high = omega (arith, h .high) }) (look pos meet whole n (suc k) s) (lies n (suc k) s)
-  lies zero k (b ∷ s) =
+      pick : (v : Bool) → cond (v || ltb (decidedAt (piece (b ∷ s))) (length (b ∷ s))) (known (piece (b ∷ s))) unknown ≡ x → v ≡ false
+      pick true g = absurd (h g)
+      pick false g = refl
+
+  pub shown : (n k : ℕ) (s : List ℕ) → Shown meet whole k (k + length s) (look pos meet whole n k s)
+  unfolding look Shown lookNext
+  shown n k [] = pick whole
+    where
+      pick : (p : Bool) → Shown meet p k (k + 0) (cond p (sees (eofRow (pos k)) (over′ ending.None)) short)
+      pick true = (omega arith, tt)
+      pick false = refl
+  shown (suc n) k (b ∷ s) = behind (shown n (suc k) s)
+    where
+      behind : Shown meet whole (suc k) (suc k + length s) (look pos meet whole n (suc k) s) → Shown meet whole k (k + suc (length s)) (look pos meet whole n (suc k) s)
+      behind h =
+          let e : suc k + length s ≡ k + suc (length s) = omega arith in
+          shown-less meet whole k (k + suc (length s)) (look pos meet whole n (suc k) s) (rw e at h)
+  shown zero k (b ∷ s) =
       pick (meet k && not (opens (b ∷ s))) refl
-      (λ n. mets-more (Lies meet (suc k) (suc k + length s)) (Lies meet k (k + suc (length s))) (λ m h. record { meeting = h .meeting; low = omega (arith, h .low); high = omega (arith, h .high) }) (look pos meet whole n (suc k) s) (lies n (suc k) s))
+      (λ n. let e : suc k + length s ≡ k + suc (length s) = omega arith in rw e at (shown n (suc k) s))
     where
-      by : (x : Item) → ((n : ℕ) → Mets (Lies meet k (k + suc (length s))) (look pos meet whole n (suc k) s)) → Mets (Lies meet k (k + suc (length s))) (lookNext pos meet whole x k s)
-      by (known blank) r = r 0
-      by (known (comment n d)) r = r (pred n)
-      by (known (row kind n bits d)) r = r (pred n)
-      by (known (refused why p d)) r = tt
-      by end r = tt
-      by unknown r = tt
+      all : ℕ
+      all = k + suc (length s)
 
-      pick : (m : Bool) → (meet k && not (opens (b ∷ s))) ≡ m → ((n : ℕ) → Mets (Lies meet k (k + suc (length s))) (look pos meet whole n (suc k) s)) →
-          Mets (Lies meet k (k + suc (length s))) (look pos meet whole 0 k (b ∷ s))
+      by : (x : Item) → item whole (b ∷ s) ≡ x → ((n : ℕ) → Shown meet whole (suc k) all (look pos meet whole n (suc k) s)) →
+          Shown meet whole k all (lookNext x k s)
+      by (known blank) f r = shown-less meet whole k all (look pos meet whole 0 (suc k) s) (r 0)
+      by (known (comment n d)) f r = shown-less meet whole k all (look pos meet whole (pred n) (suc k) s) (r (pred n))
+      by (known (row kind n bits d)) f r = (omega arith, r (pred n))
+      by (known (refused why p d)) f r = tt
+      by end f r = not-known b s end f (λ z. let y : _≡_ {A = ℕ} 0 1 = cc in omega arith)
+      by unknown f r = not-known b s unknown f (λ z. let y : _≡_ {A = ℕ} 0 1 = cc in omega arith)
+
+      pick : (m : Bool) → (meet k && not (opens (b ∷ s))) ≡ m → ((n : ℕ) → Shown meet whole (suc k) all (look pos meet whole n (suc k) s)) →
+          Shown meet whole k all (look pos meet whole 0 k (b ∷ s))
       pick true f r =
-          subst (Mets (Lies meet k (k + suc (length s)))) (sym (look-meets pos meet whole b s k f))
+          subst (Shown meet whole k all) (sym (look-meets b s k f))
           (record { meeting = both-true (meet k) (not (opens (b ∷ s))) f .0; low = le-refl k; high = omega arith })
-      pick false f r = subst (Mets (Lies meet k (k + suc (length s)))) (sym (look-next pos meet whole b s k (item whole (b ∷ s)) f refl)) (by (item whole (b ∷ s)) r)
+      pick false f r = subst (Shown meet whole k all) (sym (look-next b s k (item whole (b ∷ s)) f refl)) (by (item whole (b ∷ s)) refl r)
 
--- ---- by what the pass tells
+-- ---- the rows and the ending, by how a walk stops
 
-module _ (olds : List Row) (least b : ℕ) (w : List ℕ) (p : Cursor) where
-  -- a meeting: the index in the window, and the old row
-  pub record Meeting (x : Seen) (s : Spot) (r : ℕ) : Type 0 where
-    pub at : ℕ
-    pub inside : at < length w
-    pub spot : s ≡ onward w (startOf p) at
-    pub there : r < length olds
-    pub olds-there : from (p .offset .0 + at + b - least) olds ≡ drop r olds
-    pub reaches : Reaches (p .offset .0) at (length w) x
+-- it stopped for want of bytes
+unfoldable pub isLacking : Stop → Bool
+isLacking (Met s r) = false
+isLacking (Over e) = false
+isLacking Short = true
 
-  meeting-of : (m : ℕ) → Lies (meetsAt olds least b) (p .offset .0) (p .offset .0 + length w) m → (s : Spot) (r : ℕ) → sightOf olds least b w p (met m) ≡ Met s r → Meeting (met m) s r
-  unfolding sightOf Reaches meetsAt
-  meeting-of m l s r e =
-      let k = p .offset .0 in
-      let z : k + (m - k) ≡ m = omega (arith, l .low) in
-      let f = from (m + b - least) olds in
-      let q = both-true (leb least m) (some f) (l .meeting) in
-      let y : r ≡ length olds - length f = cc in
-      record {
-        at = m - k;
-        inside = omega (arith, l .low, l .high);
-        spot = cc;
-        there = omega (arith, some-length f (q .1), from-few (m + b - least) olds);
-        olds-there = ap (λ (j : ℕ). from (j + b - least) olds) z ∙ from-drop (m + b - least) olds ∙ ap (λ (j : ℕ). drop j olds) (sym y);
-        reaches = sym z;
-      }
+module _ (olds : List Row) (e : Ending) (a b n : ℕ) (w : List ℕ) where
+  abbrev rowsOf : Seen → List Row
+  rowsOf = seenRows olds e a b n w
 
-  pub meeting : (x : Seen) → Mets (Lies (meetsAt olds least b) (p .offset .0) (p .offset .0 + length w)) x → (s : Spot) (r : ℕ) → sightOf olds least b w p x ≡ Met s r → Meeting x s r
-  unfolding sightOf Reaches Mets
-  meeting (sees q x) l s r e =
-      let m = meeting x l s r e in
-      record { at = m .at; inside = m .inside; spot = m .spot; there = m .there; olds-there = m .olds-there; reaches = m .reaches }
-  meeting (met m) l s r e = meeting-of m l s r e
-  meeting (over′ x) l s r e = absurd (let z : _≡_ {A = ℕ} 0 1 = cc in omega arith)
-  meeting short l s r e = absurd (let z : _≡_ {A = ℕ} 0 1 = cc in omega arith)
+  abbrev endingOf : Seen → Ending
+  endingOf = seenEnding olds e a b n w
 
-  -- no meeting: the writing stops behind the window
-  pub over-reaches : (x : Seen) → sightOf olds least b w p x ≡ Over → Reaches (p .offset .0) (length w + 1) (length w) x
-  unfolding sightOf Reaches
-  over-reaches (sees r x) e = over-reaches x e
-  over-reaches (met m) e = absurd (let z : _≡_ {A = ℕ} 0 1 = cc in omega arith)
-  over-reaches (over′ x) e = omega arith
-  over-reaches short e = absurd (let z : _≡_ {A = ℕ} 0 1 = cc in omega arith)
+  -- old rows behind those that are seen
+  pub seen-few : (x : Seen) → length (rowsOf x) ≤ length (rowsSeen x) + length olds
+  unfolding seenRows rowsSeen
+  seen-few (sees r s) = omega (arith, seen-few s)
+  seen-few (over′ x) = omega arith
+  seen-few (met m) =
+      let f = from (oldOffset olds e a b n w m) olds in
+      omega (arith, length-map f (carryRow (firstPlace f) (windowPlace olds e a b n w m)), from-few (oldOffset olds e a b n w m) olds)
+  seen-few short = omega arith
 
--- ---- the rows and the ending, by what is written
+  -- those that are seen come first
+  pub record Begins (x : Seen) : Type 0 where
+    pub others : List Row
+    pub all : rowsOf x ≡ rowsSeen x ++ others
 
-module _ (olds : List Row) (e : Ending) (a b n : ℕ) (w : List ℕ) (spots : ℕ → Spot) (k u : ℕ) where
-  -- the old rows from the meeting on, moved
-  abbrev carriedRows : List Row
-  carriedRows = map (carryRow (firstPlace (from (oldOffset olds e a b n w (k + u)) olds)) (windowPlace olds e a b n w (k + u))) (from (oldOffset olds e a b n w (k + u)) olds)
+  pub begins : (x : Seen) → Begins x
+  unfolding seenRows rowsSeen
+  begins (sees r s) = let h = begins s in record { others = h .others; all = ap (_∷_ r) (h .all) }
+  begins (over′ x) = record { others = []; all = refl }
+  begins (met m) = record { others = rowsOf (met m); all = refl }
+  begins short = record { others = []; all = refl }
 
-  abbrev carriedEnding : Ending
-  carriedEnding = carryEnding (firstPlace (from (oldOffset olds e a b n w (k + u)) olds)) (windowPlace olds e a b n w (k + u)) e
+  module _ (p : Cursor) where
+    abbrev stopOf : Seen → Stop
+    stopOf = stopSeen olds (a + n) b w p
 
-  pub record MetBy (x : Seen) (y : Writing) : Type 0 where
-    pub rows-met : seenRows olds e a b n w x ≡ rowsOf y ++ carriedRows
-    pub ending-met : seenEnding olds e a b n w x ≡ carriedEnding
-    pub stop-met : stopOf y ≡ stops.At (spots u)
+    pub by-lacking : (x : Seen) → isShort x ≡ isLacking (stopOf x)
+    unfolding isShort stopSeen isLacking
+    by-lacking (sees r s) = by-lacking s
+    by-lacking (over′ x) = refl
+    by-lacking (met m) = refl
+    by-lacking short = refl
 
-  pub record OverBy (x : Seen) (y : Writing) : Type 0 where
-    pub rows-over : seenRows olds e a b n w x ≡ rowsOf y
-    pub closes : Closes (stopOf y) (seenEnding olds e a b n w x)
+    -- the text is over
+    pub by-over : (x : Seen) (y : Ending) → stopOf x ≡ Over y → (rowsOf x ≡ rowsSeen x) × (endingOf x ≡ y)
+    unfolding seenRows seenEnding rowsSeen stopSeen
+    by-over (sees r s) y q = let h = by-over s y q in (ap (_∷_ r) (h .0), h .1)
+    by-over (over′ x) y q = (refl, cc)
+    by-over (met m) y q = absurd (let z : _≡_ {A = ℕ} 0 1 = cc in omega arith)
+    by-over short y q = absurd (let z : _≡_ {A = ℕ} 0 1 = cc in omega arith)
 
-  module _ (least : ℕ) (p : Cursor) where
-    pub met-by : (x : Seen) (y : Writing) (s : Spot) (r : ℕ) → sightOf olds least b w p x ≡ Met s r → Joins spots k u x y → MetBy x y
-    unfolding sightOf seenRows seenEnding rowsOf stopOf
-    met-by x y s r q (rows {r = h} {s = x′} {w = y′} j) =
-        let m = met-by x′ y′ s r q j in
-        record { rows-met = ap (_∷_ h) (m .rows-met); ending-met = m .ending-met; stop-met = m .stop-met }
-    met-by x y s r q meets = record { rows-met = refl; ending-met = refl; stop-met = refl }
-    met-by x y s r q ends = absurd (let z : _≡_ {A = ℕ} 0 1 = cc in omega arith)
-    met-by x y s r q refuses = absurd (let z : _≡_ {A = ℕ} 0 1 = cc in omega arith)
-    met-by x y s r q lacks = absurd (let z : _≡_ {A = ℕ} 0 1 = cc in omega arith)
+    -- an old row meets at an index of the window, and the rows from it on follow
+    pub record Meeting (x : Seen) (s : Spot) (r : ℕ) : Type 0 where
+      pub at : ℕ
+      pub inside : at < length w
+      pub spot : s ≡ onward w (startOf p) at
+      pub there : r < length olds
+      pub rows-met : rowsOf x ≡ rowsSeen x ++ map (carryRow (firstPlace (drop r olds)) (s .cursor)) (drop r olds)
+      pub ending-met : endingOf x ≡ carryEnding (firstPlace (drop r olds)) (s .cursor) e
 
-    pub over-by : (x : Seen) (y : Writing) → sightOf olds least b w p x ≡ Over → Joins spots k u x y → OverBy x y
-    unfolding sightOf seenRows seenEnding rowsOf stopOf
-    over-by x y q (rows {r = h} {s = x′} {w = y′} j) =
-        let m = over-by x′ y′ q j in
-        record { rows-over = ap (_∷_ h) (m .rows-over); closes = m .closes }
-    over-by x y q meets = absurd (let z : _≡_ {A = ℕ} 0 1 = cc in omega arith)
-    over-by x y q ends = record { rows-over = refl; closes = Tails.ends }
-    over-by x y q refuses = record { rows-over = refl; closes = Tails.refuses }
-    over-by x y q lacks = absurd (let z : _≡_ {A = ℕ} 0 1 = cc in omega arith)
+    module _ (begin : p ≡ restart olds a) where
+      meeting : (m : ℕ) → Lies (meetsAt olds (a + n) b) (p .offset .0) (p .offset .0 + length w) m → (s : Spot) (r : ℕ) → stopOf (met m) ≡ Met s r → Meeting (met m) s r
+      unfolding seenRows seenEnding rowsSeen stopSeen meetsAt windowPlace onward
+      meeting m l s r q =
+          let k = p .offset .0 in
+          let f = from (m + b - (a + n)) olds in
+          let g = both-true (leb (a + n) m) (some f) (l .meeting) in
+          let y : r ≡ length olds - length f = cc in
+          let z : s ≡ onward w (startOf p) (m - k) = cc in
+          let v : f ≡ drop r olds = from-drop (m + b - (a + n)) olds ∙ ap (λ (j : ℕ). drop j olds) (sym y) in
+          let u : windowPlace olds e a b n w m ≡ s .cursor = rw (← begin) (sym (ap (λ (o : Spot). o .cursor) z)) in
+          record {
+            at = m - k;
+            inside = omega (arith, l .low, l .high);
+            spot = z;
+            there = omega (arith, some-length f (g .1), from-few (m + b - (a + n)) olds);
+            rows-met = ap (λ (c : Cursor). map (carryRow (firstPlace f) c) f) u ∙ ap (λ (rs : List Row). map (carryRow (firstPlace rs) (s .cursor)) rs) v;
+            ending-met = ap (λ (c : Cursor). carryEnding (firstPlace f) c e) u ∙ ap (λ (rs : List Row). carryEnding (firstPlace rs) (s .cursor) e) v;
+          }
 
--- ---- how many rows
-
-module _ (olds : List Row) (e : Ending) (a b n : ℕ) (w : List ℕ) (pos : ℕ → Cursor) (meet : ℕ → Bool) (whole : Bool) where
-  -- a row for each byte, one for the end, and the old rows
-  pub seen-few : (i k : ℕ) (s : List ℕ) → length (seenRows olds e a b n w (look pos meet whole i k s)) ≤ length s + 1 + length olds
-  unfolding look seenRows lookNext
-  seen-few i k [] = pick whole
-    where
-      pick : (p : Bool) → length (seenRows olds e a b n w (cond p (sees (eofRow (pos k)) (over′ ending.None)) short)) ≤ 0 + 1 + length olds
-      pick true = omega arith
-      pick false = omega arith
-  seen-few (suc i) k (c ∷ s) = omega (arith, seen-few i (suc k) s)
-  seen-few zero k (c ∷ s) = pick (meet k && not (opens (c ∷ s))) refl (λ i. seen-few i (suc k) s)
-    where
-      by : (x : Item) → ((i : ℕ) → length (seenRows olds e a b n w (look pos meet whole i (suc k) s)) ≤ length s + 1 + length olds) →
-          length (seenRows olds e a b n w (lookNext pos meet whole x k s)) ≤ suc (length s) + 1 + length olds
-      by (known blank) r = omega (arith, r 0)
-      by (known (comment i d)) r = omega (arith, r (pred i))
-      by (known (row kind i bits d)) r = omega (arith, r (pred i))
-      by (known (refused why p d)) r = omega arith
-      by end r = omega arith
-      by unknown r = omega arith
-
-      pick : (m : Bool) → (meet k && not (opens (c ∷ s))) ≡ m → ((i : ℕ) → length (seenRows olds e a b n w (look pos meet whole i (suc k) s)) ≤ length s + 1 + length olds) →
-          length (seenRows olds e a b n w (look pos meet whole 0 k (c ∷ s))) ≤ suc (length s) + 1 + length olds
-      pick true f r =
-          rw (look-meets pos meet whole c s k f)
-          (omega (arith, length-map (from (oldOffset olds e a b n w k) olds) (carryRow (firstPlace (from (oldOffset olds e a b n w k) olds)) (windowPlace olds e a b n w k)), from-few (oldOffset olds e a b n w k) olds))
-      pick false f r = rw (look-next pos meet whole c s k (item whole (c ∷ s)) f refl) (by (item whole (c ∷ s)) r)
+      pub by-met : (whole : Bool) (k : ℕ) (x : Seen) → p .offset .0 ≤ k → Shown (meetsAt olds (a + n) b) whole k (p .offset .0 + length w) x → (s : Spot) (r : ℕ) → stopOf x ≡ Met s r → Meeting x s r
+      unfolding seenRows seenEnding rowsSeen stopSeen Shown
+      by-met whole k (sees c x) h l s r q =
+          let m = by-met whole (suc k) x (omega arith) (l .1) s r q in
+          record { at = m .at; inside = m .inside; spot = m .spot; there = m .there; rows-met = ap (_∷_ c) (m .rows-met); ending-met = m .ending-met }
+      by-met whole k (met m) h l s r q = meeting m (record { meeting = l .meeting; low = omega (arith, l .low); high = l .high }) s r q
+      by-met whole k (over′ x) h l s r q = absurd (let z : _≡_ {A = ℕ} 0 1 = cc in omega arith)
+      by-met whole k short h l s r q = absurd (let z : _≡_ {A = ℕ} 0 1 = cc in omega arith)

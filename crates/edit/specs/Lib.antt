@@ -1,2 +1,3 @@
 -- What the contracts of this crate cite: the parts of an edit.
+pub mod Walk
 pub mod Job

@@ -87,7 +87,7 @@ returns-2 c =
     let l : a .job .kept ≤ roomOf (a .new .now) = k .before .before .if1 .left in
     kept-all (kept (a .job .a) (oldRows (a .old .now) (a .job))) (jobRows (a .old .now) (a .job) (a .window .now) (a .whole)) (jobEnding (a .old .now) (a .job) (a .window .now) (a .whole)) (a .new .now)
     (k .copy-rows2 .last .1 .1 .0) (a .job .kept) (k .copy-rows2 .ensures ∙ copied (s .pre .ready) (a .new .now) l) (omega (arith, s .pre .ready .kept)) (s .pre .ready .kept) (a .size) (t .fill-tail .result) (c .tell2 .result)
-    (t .fill-tail .last .1 .1 .1 .1 .1 .0) (t .fill-tail .ensures) (c .tell2 .ensures)
+    (t .fill-tail .last .1 .1 .1 .1 .0) (t .fill-tail .ensures) (c .tell2 .ensures)
 
 pub fill-spec : {M : Type 1} → statement M
 fill-spec =
