@@ -22,13 +22,13 @@ use Rattle.rows.proofs.Inside.{Fine, fine, row-sound, few-rows}
 use Rattle.edit_carry.proofs.Kept.{keptCount, kept-inside, kept-rows, kept-below, behind-rows}
 use Rattle.edit.specs.declared.walk.Stop.the-variants.{Met, Over}
 use Rattle.edit.specs.declared.walk.Walked.{Walked}
-use Rattle.edit.specs.Walk.{Walkable, meetsAt, placeIn, rowsSeen, stopSeen, seenFrom, walkSeen, walkRows, walkOf}
+use Rattle.edit.specs.Walk.{Walkable, meetsAt, placeIn, rowsSeen, seenFrom, walkSeen, walkRows, walkOf}
 use Rattle.edit.specs.declared.Job.{Job}
 use Rattle.edit.specs.declared.Tail.the-variants.{Full}
 use Rattle.edit.specs.Job.{Ready, Follows, oldRows, oldsOf, jobSeen, jobRows, jobEnding, tailTold, rowsBehind, endingBehind}
 use Rattle.edit.proofs.Facts.{rising, moves-row, moves-ending}
 use Rattle.edit.proofs.Tails.{full-before}
-use Rattle.edit.proofs.Seens.{Shown, shown, shown-few, shown-whole, isLacking, by-lacking, Begins, begins, by-over, Meeting, by-met, seen-few}
+use Rattle.edit.proofs.Seens.{Shown, shown, shown-few, shown-whole, isLacking, meetsOf, stopOf, seen-few, Begins, begins, by-lacking, by-over, Meeting, by-met}
 
 -- a place whose counters are small has room
 roomy : (n : ℕ) (c : Cursor) → n ≤ 2 ^ 31 + mostBytes → c .offset .0 ≤ mostBytes + 1 → c .line .0 ≤ mostBytes + 1 → c .column .0 ≤ mostBytes + 1 → Roomy n c
@@ -103,30 +103,32 @@ module _ {ws : List ℕ} {j : Job} {w : List ℕ} (r : Ready ws j w) where
   -- ---- what is seen
 
   module _ (whole : Bool) where
+    abbrev begin : ℕ
+    begin = j .begin .offset .0
+
+    abbrev end : ℕ
+    end = j .begin .offset .0 + length w
+
     -- a walk over the window sees it
     seen-same : walkSeen ws (oldsOf j) w (j .begin) whole ≡ jobSeen ws j w whole
     unfolding jobSeen seen meets windowPlace seenFrom meetsAt placeIn
     seen-same = rw (r .begin)
 
-    is-shown : Shown (meetsAt (oldRows ws j) (j .a + j .n) (j .b)) whole (j .begin .offset .0) (j .begin .offset .0 + length w) (jobSeen ws j w whole)
+    is-shown : Shown (meetsOf ws j w) whole begin end (jobSeen ws j w whole)
     unfolding seenFrom
-    is-shown =
-        subst (Shown (meetsAt (oldRows ws j) (j .a + j .n) (j .b)) whole (j .begin .offset .0) (j .begin .offset .0 + length w)) seen-same
-        (shown (placeIn (j .begin) w) (meetsAt (oldRows ws j) (j .a + j .n) (j .b)) whole 0 (j .begin .offset .0) w)
+    is-shown = subst (Shown (meetsOf ws j w) whole begin end) seen-same (shown (placeIn (j .begin) w) (meetsOf ws j w) whole 0 begin w)
 
     -- a window that ends the text is not short
     pub whole-long : whole ≡ true → isShort (jobSeen ws j w whole) ≡ false
-    whole-long e =
-        shown-whole (meetsAt (oldRows ws j) (j .a + j .n) (j .b)) whole (j .begin .offset .0) (j .begin .offset .0 + length w) (jobSeen ws j w whole) is-shown e
+    whole-long e = shown-whole (meetsOf ws j w) whole begin end (jobSeen ws j w whole) is-shown e
 
     -- so many rows fit a count
     pub few-all : j .kept + length (jobRows ws j w whole) < 2 ^ 32
     unfolding jobRows
     few-all =
         let x = jobSeen ws j w whole in
-        let q = seen-few (oldRows ws j) (j .table .ending) (j .a) (j .b) (j .n) w x in
-        let z = shown-few (meetsAt (oldRows ws j) (j .a + j .n) (j .b)) whole (j .begin .offset .0) (j .begin .offset .0 + length w) x (omega arith) is-shown in
-        omega (arith, q, z, rows-length (j .table .count) ws, few-rows sound, sound .short, few-kept, short-window)
+        let z = shown-few (meetsOf ws j w) whole begin end x (omega arith) is-shown in
+        omega (arith, seen-few ws j w x, z, rows-length (j .table .count) ws, few-rows sound, sound .short, few-kept, short-window)
 
     -- ---- by how the walk stops
 
@@ -139,43 +141,43 @@ module _ {ws : List ℕ} {j : Job} {w : List ℕ} (r : Ready ws j w) where
       unfolding walkOf
       counted = ap (λ (z : Walked). z .count) e
 
-      stopped : stopSeen (oldRows ws j) (j .a + j .n) (j .b) w (j .begin) (jobSeen ws j w whole) ≡ x .stop
+      stopped : stopOf ws j w (jobSeen ws j w whole) ≡ x .stop
       unfolding walkOf
-      stopped = ap (stopSeen (oldRows ws j) (j .a + j .n) (j .b) w (j .begin)) (sym seen-same) ∙ sym (ap (λ (z : Walked). z .stop) e)
+      stopped = ap (stopOf ws j w) (sym seen-same) ∙ sym (ap (λ (z : Walked). z .stop) e)
 
       ours-seen : rowsSeen (jobSeen ws j w whole) ≡ ours
       unfolding walkRows
       ours-seen = ap rowsSeen (sym seen-same)
 
       pub short-by : isShort (jobSeen ws j w whole) ≡ isLacking (x .stop)
-      short-by = by-lacking (oldRows ws j) (j .table .ending) (j .a) (j .b) (j .n) w (j .begin) (jobSeen ws j w whole) ∙ ap isLacking stopped
+      short-by = by-lacking ws j w (jobSeen ws j w whole) ∙ ap isLacking stopped
 
       -- they found no room
-      pub full-by : (tail : List ℕ) → roomOf tail < length ours → (Full ≡ tailTold (roomOf tail) (jobRows ws j w whole) (jobEnding ws j w whole)) × (laid ours tail ≡ laid (jobRows ws j w whole) tail)
+      pub full-by : (tail : List ℕ) → roomOf tail < length ours →
+          (Full ≡ tailTold (roomOf tail) (jobRows ws j w whole) (jobEnding ws j w whole)) × (laid ours tail ≡ laid (jobRows ws j w whole) tail)
       unfolding jobRows
       full-by tail h =
-          let q = begins (oldRows ws j) (j .table .ending) (j .a) (j .b) (j .n) w (jobSeen ws j w whole) in
+          let q = begins ws j w (jobSeen ws j w whole) in
           rw (q .all, ours-seen) (full-before ours (q .others) (jobEnding ws j w whole) tail h)
 
       -- the text is over
       pub over-by : (y : Ending) → x .stop ≡ Over y → (jobRows ws j w whole ≡ ours) × (jobEnding ws j w whole ≡ y)
       unfolding jobRows jobEnding
-      over-by y f =
-          let q = by-over (oldRows ws j) (j .table .ending) (j .a) (j .b) (j .n) w (j .begin) (jobSeen ws j w whole) y (stopped ∙ f) in
-          (q .0 ∙ ours-seen, q .1)
+      over-by y f = let q = by-over ws j w (jobSeen ws j w whole) y (stopped ∙ f) in (q .0 ∙ ours-seen, q .1)
 
       -- an old row meets
       module _ (s : Spot) (row : ℕ) (f : x .stop ≡ Met s row) where
-        there : Meeting (oldRows ws j) (j .table .ending) (j .a) (j .b) (j .n) w (j .begin) (jobSeen ws j w whole) s row
-        there =
-            by-met (oldRows ws j) (j .table .ending) (j .a) (j .b) (j .n) w (j .begin) (r .begin) whole (j .begin .offset .0) (jobSeen ws j w whole) (omega arith) is-shown s row (stopped ∙ f)
+        there : Meeting ws j w (jobSeen ws j w whole) s row
+        there = by-met ws j w (r .begin) whole begin (jobSeen ws j w whole) (omega arith) is-shown s row (stopped ∙ f)
 
         row-there : row < j .table .count
         row-there = rw (rows-length (j .table .count) ws) at (there .there)
 
         place-old : firstPlace (drop row (oldRows ws j)) ≡ rowPlace (rowNo ws row)
         unfolding firstPlace
-        place-old = ap firstPlace (drop-cons (oldRows ws j) row (rowIn []) (there .there)) ∙ ap rowPlace (rows-at (j .table .count) ws (rowIn []) row row-there)
+        place-old =
+            ap firstPlace (drop-cons (oldRows ws j) row (rowIn []) (there .there))
+            ∙ ap rowPlace (rows-at (j .table .count) ws (rowIn []) row row-there)
 
         pub met-rows : jobRows ws j w whole ≡ ours ++ rowsBehind ws (j .table) row (s .cursor)
         unfolding jobRows rowsBehind
@@ -188,9 +190,10 @@ module _ {ws : List ℕ} {j : Job} {w : List ℕ} (r : Ready ws j w) where
         room-spot : Roomy (2 ^ 31) (s .cursor)
         unfolding onward
         room-spot =
-            let n : 2 ^ 31 + length (take (there .at) w) ≡ 2 ^ 31 + there .at = rw (length-take-le (there .at) w (omega (arith, there .inside))) in
+            let t = take (there .at) w in
+            let n : 2 ^ 31 + length t ≡ 2 ^ 31 + there .at = rw (length-take-le (there .at) w (omega (arith, there .inside))) in
             subst (Roomy (2 ^ 31)) (sym (ap (λ (q : Spot). q .cursor) (there .spot)))
-            (roomy-over (2 ^ 31) (j .begin) (take (there .at) w) (roomy-less (2 ^ 31 + length w) (2 ^ 31 + length (take (there .at) w)) (j .begin) (omega (arith, n, there .inside)) room-begin))
+            (roomy-over (2 ^ 31) (j .begin) t (roomy-less (2 ^ 31 + length w) (2 ^ 31 + length t) (j .begin) (omega (arith, n, there .inside)) room-begin))
 
         pub met-follows : Follows ws (j .table) row (s .cursor)
         met-follows =

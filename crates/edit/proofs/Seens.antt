@@ -1,5 +1,5 @@
--- What is seen of a window: how many rows, where a meeting lies, and that only a window which does not end the text is short; and by how a walk
--- stops, the rows and the ending of the new table.
+-- What is seen of a window: how many rows, where a meeting lies, that bytes which end the text are not short; and, by how a walk stops, the
+-- rows and the ending of the new table.
 use mathlib.Core.Path.{_≡_, refl, sym, ap, subst, _∙_}
 use mathlib.Core.Bool.{Bool, true, false, cond, not, _&&_, _||_}
 use mathlib.Core.List.{List, [], _∷_, _++_, map}
@@ -19,7 +19,9 @@ use Rattle.scan_reader.specs.declared.Spot.{Spot}
 use Rattle.scan_reader.specs.Read.{onward}
 use Rattle.edit.specs.declared.walk.Stop.{Stop}
 use Rattle.edit.specs.declared.walk.Stop.the-variants.{Met, Over, Short}
+use Rattle.edit.specs.declared.Job.{Job}
 use Rattle.edit.specs.Walk.{meetsAt, startOf, rowsSeen, stopSeen}
+use Rattle.edit.specs.Job.{oldRows}
 
 -- ---- the rows from a start on are the last ones
 
@@ -117,19 +119,19 @@ module _ (pos : ℕ → Cursor) (meet : ℕ → Bool) (whole : Bool) where
       pick true g = absurd (h g)
       pick false g = refl
 
-  pub shown : (n k : ℕ) (s : List ℕ) → Shown meet whole k (k + length s) (look pos meet whole n k s)
+  abbrev ShownTo : ℕ → ℕ → Seen → Type 0
+  ShownTo = Shown meet whole
+
+  pub shown : (n k : ℕ) (s : List ℕ) → ShownTo k (k + length s) (look pos meet whole n k s)
   unfolding look Shown lookNext
   shown n k [] = pick whole
     where
       pick : (p : Bool) → Shown meet p k (k + 0) (cond p (sees (eofRow (pos k)) (over′ ending.None)) short)
       pick true = (omega arith, tt)
       pick false = refl
-  shown (suc n) k (b ∷ s) = behind (shown n (suc k) s)
-    where
-      behind : Shown meet whole (suc k) (suc k + length s) (look pos meet whole n (suc k) s) → Shown meet whole k (k + suc (length s)) (look pos meet whole n (suc k) s)
-      behind h =
-          let e : suc k + length s ≡ k + suc (length s) = omega arith in
-          shown-less meet whole k (k + suc (length s)) (look pos meet whole n (suc k) s) (rw e at h)
+  shown (suc n) k (b ∷ s) =
+      let e : suc k + length s ≡ k + suc (length s) = omega arith in
+      shown-less meet whole k (k + suc (length s)) (look pos meet whole n (suc k) s) (rw e at (shown n (suc k) s))
   shown zero k (b ∷ s) =
       pick (meet k && not (opens (b ∷ s))) refl
       (λ n. let e : suc k + length s ≡ k + suc (length s) = omega arith in rw e at (shown n (suc k) s))
@@ -137,8 +139,7 @@ module _ (pos : ℕ → Cursor) (meet : ℕ → Bool) (whole : Bool) where
       all : ℕ
       all = k + suc (length s)
 
-      by : (x : Item) → item whole (b ∷ s) ≡ x → ((n : ℕ) → Shown meet whole (suc k) all (look pos meet whole n (suc k) s)) →
-          Shown meet whole k all (lookNext x k s)
+      by : (x : Item) → item whole (b ∷ s) ≡ x → ((n : ℕ) → ShownTo (suc k) all (look pos meet whole n (suc k) s)) → ShownTo k all (lookNext x k s)
       by (known blank) f r = shown-less meet whole k all (look pos meet whole 0 (suc k) s) (r 0)
       by (known (comment n d)) f r = shown-less meet whole k all (look pos meet whole (pred n) (suc k) s) (r (pred n))
       by (known (row kind n bits d)) f r = (omega arith, r (pred n))
@@ -146,12 +147,12 @@ module _ (pos : ℕ → Cursor) (meet : ℕ → Bool) (whole : Bool) where
       by end f r = not-known b s end f (λ z. let y : _≡_ {A = ℕ} 0 1 = cc in omega arith)
       by unknown f r = not-known b s unknown f (λ z. let y : _≡_ {A = ℕ} 0 1 = cc in omega arith)
 
-      pick : (m : Bool) → (meet k && not (opens (b ∷ s))) ≡ m → ((n : ℕ) → Shown meet whole (suc k) all (look pos meet whole n (suc k) s)) →
-          Shown meet whole k all (look pos meet whole 0 k (b ∷ s))
+      pick : (m : Bool) → (meet k && not (opens (b ∷ s))) ≡ m → ((n : ℕ) → ShownTo (suc k) all (look pos meet whole n (suc k) s)) →
+          ShownTo k all (look pos meet whole 0 k (b ∷ s))
       pick true f r =
-          subst (Shown meet whole k all) (sym (look-meets b s k f))
+          subst (ShownTo k all) (sym (look-meets b s k f))
           (record { meeting = both-true (meet k) (not (opens (b ∷ s))) f .0; low = le-refl k; high = omega arith })
-      pick false f r = subst (Shown meet whole k all) (sym (look-next b s k (item whole (b ∷ s)) f refl)) (by (item whole (b ∷ s)) refl r)
+      pick false f r = subst (ShownTo k all) (sym (look-next b s k (item whole (b ∷ s)) f refl)) (by (item whole (b ∷ s)) refl r)
 
 -- ---- the rows and the ending, by how a walk stops
 
@@ -161,24 +162,39 @@ isLacking (Met s r) = false
 isLacking (Over e) = false
 isLacking Short = true
 
-module _ (olds : List Row) (e : Ending) (a b n : ℕ) (w : List ℕ) where
+module _ (ws : List ℕ) (j : Job) (w : List ℕ) where
+  abbrev olds : List Row
+  olds = oldRows ws j
+
+  -- the rows and the ending of what is seen, with the old rows from a meeting on
   abbrev rowsOf : Seen → List Row
-  rowsOf = seenRows olds e a b n w
+  rowsOf = seenRows olds (j .table .ending) (j .a) (j .b) (j .n) w
 
   abbrev endingOf : Seen → Ending
-  endingOf = seenEnding olds e a b n w
+  endingOf = seenEnding olds (j .table .ending) (j .a) (j .b) (j .n) w
 
-  -- old rows behind those that are seen
+  -- where an old row meets, and how a walk stops there
+  abbrev pub meetsOf : ℕ → Bool
+  meetsOf = meetsAt olds (j .a + j .n) (j .b)
+
+  abbrev pub stopOf : Seen → Stop
+  stopOf = stopSeen olds (j .a + j .n) (j .b) w (j .begin)
+
+  abbrev old-from : ℕ → List Row
+  old-from m = from (oldOffset olds (j .table .ending) (j .a) (j .b) (j .n) w m) olds
+
+  abbrev place-at : ℕ → Cursor
+  place-at = windowPlace olds (j .table .ending) (j .a) (j .b) (j .n) w
+
+  -- old rows stand behind those that are seen
   pub seen-few : (x : Seen) → length (rowsOf x) ≤ length (rowsSeen x) + length olds
   unfolding seenRows rowsSeen
   seen-few (sees r s) = omega (arith, seen-few s)
   seen-few (over′ x) = omega arith
   seen-few (met m) =
-      let f = from (oldOffset olds e a b n w m) olds in
-      omega (arith, length-map f (carryRow (firstPlace f) (windowPlace olds e a b n w m)), from-few (oldOffset olds e a b n w m) olds)
+      omega (arith, length-map (old-from m) (carryRow (firstPlace (old-from m)) (place-at m)), from-few (oldOffset olds (j .table .ending) (j .a) (j .b) (j .n) w m) olds)
   seen-few short = omega arith
 
-  -- those that are seen come first
   pub record Begins (x : Seen) : Type 0 where
     pub others : List Row
     pub all : rowsOf x ≡ rowsSeen x ++ others
@@ -190,59 +206,69 @@ module _ (olds : List Row) (e : Ending) (a b n : ℕ) (w : List ℕ) where
   begins (met m) = record { others = rowsOf (met m); all = refl }
   begins short = record { others = []; all = refl }
 
-  module _ (p : Cursor) where
-    abbrev stopOf : Seen → Stop
-    stopOf = stopSeen olds (a + n) b w p
+  pub by-lacking : (x : Seen) → isShort x ≡ isLacking (stopOf x)
+  unfolding isShort stopSeen isLacking
+  by-lacking (sees r s) = by-lacking s
+  by-lacking (over′ x) = refl
+  by-lacking (met m) = refl
+  by-lacking short = refl
 
-    pub by-lacking : (x : Seen) → isShort x ≡ isLacking (stopOf x)
-    unfolding isShort stopSeen isLacking
-    by-lacking (sees r s) = by-lacking s
-    by-lacking (over′ x) = refl
-    by-lacking (met m) = refl
-    by-lacking short = refl
+  -- the text is over
+  pub by-over : (x : Seen) (y : Ending) → stopOf x ≡ Over y → (rowsOf x ≡ rowsSeen x) × (endingOf x ≡ y)
+  unfolding seenRows seenEnding rowsSeen stopSeen
+  by-over (sees r s) y q = let h = by-over s y q in (ap (_∷_ r) (h .0), h .1)
+  by-over (over′ x) y q = (refl, cc)
+  by-over (met m) y q = absurd (let z : _≡_ {A = ℕ} 0 1 = cc in omega arith)
+  by-over short y q = absurd (let z : _≡_ {A = ℕ} 0 1 = cc in omega arith)
 
-    -- the text is over
-    pub by-over : (x : Seen) (y : Ending) → stopOf x ≡ Over y → (rowsOf x ≡ rowsSeen x) × (endingOf x ≡ y)
-    unfolding seenRows seenEnding rowsSeen stopSeen
-    by-over (sees r s) y q = let h = by-over s y q in (ap (_∷_ r) (h .0), h .1)
-    by-over (over′ x) y q = (refl, cc)
-    by-over (met m) y q = absurd (let z : _≡_ {A = ℕ} 0 1 = cc in omega arith)
-    by-over short y q = absurd (let z : _≡_ {A = ℕ} 0 1 = cc in omega arith)
+  -- an old row meets at an index of the window, and the rows from it on follow
+  pub record Meeting (x : Seen) (s : Spot) (r : ℕ) : Type 0 where
+    pub at : ℕ
+    pub inside : at < length w
+    pub spot : s ≡ onward w (startOf (j .begin)) at
+    pub there : r < length olds
+    pub rows-met : rowsOf x ≡ rowsSeen x ++ map (carryRow (firstPlace (drop r olds)) (s .cursor)) (drop r olds)
+    pub ending-met : endingOf x ≡ carryEnding (firstPlace (drop r olds)) (s .cursor) (j .table .ending)
 
-    -- an old row meets at an index of the window, and the rows from it on follow
-    pub record Meeting (x : Seen) (s : Spot) (r : ℕ) : Type 0 where
-      pub at : ℕ
-      pub inside : at < length w
-      pub spot : s ≡ onward w (startOf p) at
-      pub there : r < length olds
-      pub rows-met : rowsOf x ≡ rowsSeen x ++ map (carryRow (firstPlace (drop r olds)) (s .cursor)) (drop r olds)
-      pub ending-met : endingOf x ≡ carryEnding (firstPlace (drop r olds)) (s .cursor) e
+  module _ (begin : j .begin ≡ restart olds (j .a)) where
+    meeting : (m : ℕ) → Lies meetsOf (j .begin .offset .0) (j .begin .offset .0 + length w) m → (s : Spot) (r : ℕ) → stopOf (met m) ≡ Met s r →
+        Meeting (met m) s r
+    unfolding seenRows seenEnding rowsSeen stopSeen meetsAt windowPlace onward
+    meeting m l s r q =
+        let i = m - j .begin .offset .0 in
+        let o = m + j .b - (j .a + j .n) in
+        let f = old-from m in
+        let g = both-true (leb (j .a + j .n) m) (some f) (l .meeting) in
+        let y : r ≡ length olds - length f = cc in
+        let z : s ≡ onward w (startOf (j .begin)) i = cc in
+        let v : f ≡ drop r olds = from-drop o olds ∙ ap (λ (k : ℕ). drop k olds) (sym y) in
+        let u : place-at m ≡ s .cursor = rw (← begin) (sym (ap (λ (c : Spot). c .cursor) z)) in
+        record {
+          at = i;
+          inside = omega (arith, l .low, l .high);
+          spot = z;
+          there = omega (arith, some-length f (g .1), from-few o olds);
+          rows-met =
+              ap (λ (c : Cursor). map (carryRow (firstPlace f) c) f) u
+              ∙ ap (λ (rs : List Row). map (carryRow (firstPlace rs) (s .cursor)) rs) v;
+          ending-met =
+              ap (λ (c : Cursor). carryEnding (firstPlace f) c (j .table .ending)) u
+              ∙ ap (λ (rs : List Row). carryEnding (firstPlace rs) (s .cursor) (j .table .ending)) v;
+        }
 
-    module _ (begin : p ≡ restart olds a) where
-      meeting : (m : ℕ) → Lies (meetsAt olds (a + n) b) (p .offset .0) (p .offset .0 + length w) m → (s : Spot) (r : ℕ) → stopOf (met m) ≡ Met s r → Meeting (met m) s r
-      unfolding seenRows seenEnding rowsSeen stopSeen meetsAt windowPlace onward
-      meeting m l s r q =
-          let k = p .offset .0 in
-          let f = from (m + b - (a + n)) olds in
-          let g = both-true (leb (a + n) m) (some f) (l .meeting) in
-          let y : r ≡ length olds - length f = cc in
-          let z : s ≡ onward w (startOf p) (m - k) = cc in
-          let v : f ≡ drop r olds = from-drop (m + b - (a + n)) olds ∙ ap (λ (j : ℕ). drop j olds) (sym y) in
-          let u : windowPlace olds e a b n w m ≡ s .cursor = rw (← begin) (sym (ap (λ (o : Spot). o .cursor) z)) in
-          record {
-            at = m - k;
-            inside = omega (arith, l .low, l .high);
-            spot = z;
-            there = omega (arith, some-length f (g .1), from-few (m + b - (a + n)) olds);
-            rows-met = ap (λ (c : Cursor). map (carryRow (firstPlace f) c) f) u ∙ ap (λ (rs : List Row). map (carryRow (firstPlace rs) (s .cursor)) rs) v;
-            ending-met = ap (λ (c : Cursor). carryEnding (firstPlace f) c e) u ∙ ap (λ (rs : List Row). carryEnding (firstPlace rs) (s .cursor) e) v;
-          }
-
-      pub by-met : (whole : Bool) (k : ℕ) (x : Seen) → p .offset .0 ≤ k → Shown (meetsAt olds (a + n) b) whole k (p .offset .0 + length w) x → (s : Spot) (r : ℕ) → stopOf x ≡ Met s r → Meeting x s r
-      unfolding seenRows seenEnding rowsSeen stopSeen Shown
-      by-met whole k (sees c x) h l s r q =
-          let m = by-met whole (suc k) x (omega arith) (l .1) s r q in
-          record { at = m .at; inside = m .inside; spot = m .spot; there = m .there; rows-met = ap (_∷_ c) (m .rows-met); ending-met = m .ending-met }
-      by-met whole k (met m) h l s r q = meeting m (record { meeting = l .meeting; low = omega (arith, l .low); high = l .high }) s r q
-      by-met whole k (over′ x) h l s r q = absurd (let z : _≡_ {A = ℕ} 0 1 = cc in omega arith)
-      by-met whole k short h l s r q = absurd (let z : _≡_ {A = ℕ} 0 1 = cc in omega arith)
+    pub by-met : (whole : Bool) (k : ℕ) (x : Seen) → j .begin .offset .0 ≤ k → Shown meetsOf whole k (j .begin .offset .0 + length w) x →
+        (s : Spot) (r : ℕ) → stopOf x ≡ Met s r → Meeting x s r
+    unfolding seenRows seenEnding rowsSeen stopSeen Shown
+    by-met whole k (sees c x) h l s r q =
+        let m = by-met whole (suc k) x (omega arith) (l .1) s r q in
+        record {
+          at = m .at;
+          inside = m .inside;
+          spot = m .spot;
+          there = m .there;
+          rows-met = ap (_∷_ c) (m .rows-met);
+          ending-met = m .ending-met;
+        }
+    by-met whole k (met m) h l s r q = meeting m (record { meeting = l .meeting; low = omega (arith, l .low); high = l .high }) s r q
+    by-met whole k (over′ x) h l s r q = absurd (let z : _≡_ {A = ℕ} 0 1 = cc in omega arith)
+    by-met whole k short h l s r q = absurd (let z : _≡_ {A = ℕ} 0 1 = cc in omega arith)
