@@ -87,29 +87,6 @@ module _ (meet : ℕ → Bool) (whole : Bool) where
   shown-whole k e short h w = sym w ∙ h
 
 module _ (pos : ℕ → Cursor) (meet : ℕ → Bool) (whole : Bool) where
-  -- what is seen at the front, by the item there, with the bytes of the piece still to be passed over
-  unfoldable lookNext : Item → ℕ → List ℕ → Seen
-  lookNext (known blank) k s = look pos meet whole 0 (suc k) s
-  lookNext (known (comment n d)) k s = look pos meet whole (pred n) (suc k) s
-  lookNext (known (row kind n bits d)) k s = sees (rowAt (pos k) kind (k + n) bits) (look pos meet whole (pred n) (suc k) s)
-  lookNext (known (refused why p d)) k s = over′ (ending.Refused why (pos (k + p)))
-  lookNext end k s = short
-  lookNext unknown k s = short
-
-  look-next : (b : ℕ) (s : List ℕ) (k : ℕ) (x : Item) → (meet k && not (opens (b ∷ s))) ≡ false → item whole (b ∷ s) ≡ x →
-      look pos meet whole 0 k (b ∷ s) ≡ lookNext x k s
-  unfolding look lookNext
-  look-next b s k (known blank) e f = rw (e, look) (rw f)
-  look-next b s k (known (comment n d)) e f = rw (e, look) (rw f)
-  look-next b s k (known (row kind n bits d)) e f = rw (e, look) (rw f)
-  look-next b s k (known (refused why q d)) e f = rw (e, look) (rw f)
-  look-next b s k end e f = rw (e, look) (rw f)
-  look-next b s k unknown e f = rw (e, look) (rw f)
-
-  look-meets : (b : ℕ) (s : List ℕ) (k : ℕ) → (meet k && not (opens (b ∷ s))) ≡ true → look pos meet whole 0 k (b ∷ s) ≡ met k
-  unfolding look
-  look-meets b s k e = rw (e, look)
-
   -- bytes that end the text show what stands at their front
   not-known : (b : ℕ) (s : List ℕ) (x : Item) → item whole (b ∷ s) ≡ x → (known (piece (b ∷ s)) ≡ x → ⊥) → whole ≡ false
   unfolding item
@@ -123,7 +100,7 @@ module _ (pos : ℕ → Cursor) (meet : ℕ → Bool) (whole : Bool) where
   ShownTo = Shown meet whole
 
   pub shown : (n k : ℕ) (s : List ℕ) → ShownTo k (k + length s) (look pos meet whole n k s)
-  unfolding look Shown lookNext
+  unfolding look Shown
   shown n k [] = pick whole
     where
       pick : (p : Bool) → Shown meet p k (k + 0) (cond p (sees (eofRow (pos k)) (over′ ending.None)) short)
@@ -139,7 +116,17 @@ module _ (pos : ℕ → Cursor) (meet : ℕ → Bool) (whole : Bool) where
       all : ℕ
       all = k + suc (length s)
 
-      by : (x : Item) → item whole (b ∷ s) ≡ x → ((n : ℕ) → ShownTo (suc k) all (look pos meet whole n (suc k) s)) → ShownTo k all (lookNext x k s)
+      by : (x : Item) → item whole (b ∷ s) ≡ x → ((n : ℕ) → ShownTo (suc k) all (look pos meet whole n (suc k) s)) →
+          ShownTo k all (elim x as (λ _. Seen) [
+            | known p ↦ elim p as (λ _. Seen) [
+              | blank ↦ look pos meet whole zero (suc k) s
+              | comment n d ↦ look pos meet whole (pred n) (suc k) s
+              | row kind n bits d ↦ sees (rowAt (pos k) kind (k + n) bits) (look pos meet whole (pred n) (suc k) s)
+              | refused why p d ↦ over′ (ending.Refused why (pos (k + p)))
+            ]
+            | end ↦ short
+            | unknown ↦ short
+          ])
       by (known blank) f r = shown-less meet whole k all (look pos meet whole 0 (suc k) s) (r 0)
       by (known (comment n d)) f r = shown-less meet whole k all (look pos meet whole (pred n) (suc k) s) (r (pred n))
       by (known (row kind n bits d)) f r = (omega arith, r (pred n))
@@ -149,10 +136,8 @@ module _ (pos : ℕ → Cursor) (meet : ℕ → Bool) (whole : Bool) where
 
       pick : (m : Bool) → (meet k && not (opens (b ∷ s))) ≡ m → ((n : ℕ) → ShownTo (suc k) all (look pos meet whole n (suc k) s)) →
           ShownTo k all (look pos meet whole 0 k (b ∷ s))
-      pick true f r =
-          subst (ShownTo k all) (sym (look-meets b s k f))
-          (record { meeting = both-true (meet k) (not (opens (b ∷ s))) f .0; low = le-refl k; high = omega arith })
-      pick false f r = subst (ShownTo k all) (sym (look-next b s k (item whole (b ∷ s)) f refl)) (by (item whole (b ∷ s)) refl r)
+      pick true f r = rw (look, f) (record { meeting = both-true (meet k) (not (opens (b ∷ s))) f .0; low = le-refl k; high = omega arith })
+      pick false f r = rw (look, f) (by (item whole (b ∷ s)) refl r)
 
 -- ---- the rows and the ending, by how a walk stops
 
