@@ -13,7 +13,7 @@ use Rattle.rules.specs.declared.Table.{Table}
 use Rattle.rules.specs.declared.Told.{Told}
 use Rattle.rules.specs.declared.Told.the-variants.{Refused}
 use Rattle.rules.specs.Text.{mostBytes, startPlace, validBytes, over}
-use Rattle.rules.specs.Rows.{Row, rowsIn, wellFormed}
+use Rattle.rules.specs.Rows.{rowsIn, wellFormed}
 use Rattle.rules.specs.Scan.{told, laid}
 use Rattle.rules.specs.Edit.{isShort, kept, lastEnd, restart, newLength, sensible, ends, windowShort, newRows, newEnding, editTold, editLeaves}
 use Rattle.laws.proofs.Tests.{both-true}

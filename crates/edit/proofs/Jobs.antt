@@ -20,6 +20,7 @@ use Rattle.rows.specs.Shape.{rowNo}
 use Rattle.rows.proofs.Inside
 use Rattle.rows.proofs.Inside.{Fine, fine, row-sound, few-rows}
 use Rattle.edit_carry.proofs.Kept.{keptCount, kept-inside, kept-rows, kept-below, behind-rows}
+use Rattle.edit.specs.declared.walk.Olds.{Olds}
 use Rattle.edit.specs.declared.walk.Stop.the-variants.{Met, Over}
 use Rattle.edit.specs.declared.walk.Walked.{Walked}
 use Rattle.edit.specs.Walk.{Walkable, meetsAt, placeIn, rowsSeen, seenFrom, walkSeen, walkRows, walkOf}
@@ -28,7 +29,7 @@ use Rattle.edit.specs.declared.Tail.the-variants.{Full}
 use Rattle.edit.specs.Job.{Ready, Follows, oldRows, oldsOf, jobSeen, jobRows, jobEnding, tailTold, rowsBehind, endingBehind}
 use Rattle.edit.proofs.Facts.{rising, moves-row, moves-ending}
 use Rattle.edit.proofs.Tails.{full-before}
-use Rattle.edit.proofs.Seens.{Shown, shown, shown-few, shown-whole, isLacking, meetsOf, stopOf, seen-few, Begins, begins, by-lacking, by-over, Meeting, by-met}
+use Rattle.edit.proofs.Seens.{Shown, shown, shown-few, shown-whole, isLacking, meetsOf, stopOf, seen-few, begins, by-lacking, by-over, Meeting, by-met}
 
 -- a place whose counters are small has room
 roomy : (n : ℕ) (c : Cursor) → n ≤ 2 ^ 31 + mostBytes → c .offset .0 ≤ mostBytes + 1 → c .line .0 ≤ mostBytes + 1 → c .column .0 ≤ mostBytes + 1 → Roomy n c
@@ -86,8 +87,8 @@ module _ {ws : List ℕ} {j : Job} {w : List ℕ} (r : Ready ws j w) where
   room-window : Roomy (length w) (j .begin)
   room-window = roomy-less (2 ^ 31 + length w) (length w) (j .begin) (omega arith) room-begin
 
-  pub walkable : Walkable ws (oldsOf j) w (j .begin)
-  walkable =
+  can-walk : Walkable ws (oldsOf j) w (j .begin)
+  can-walk =
       record {
         lent = sound .lent;
         few = few-kept;
@@ -99,6 +100,9 @@ module _ {ws : List ℕ} {j : Job} {w : List ℕ} (r : Ready ws j w) where
         };
         roomy = room-window;
       }
+
+  pub walkable : (o : Olds) → o ≡ oldsOf j → Walkable ws o w (j .begin)
+  walkable o d = rw d can-walk
 
   -- ---- what is seen
 
@@ -136,6 +140,11 @@ module _ {ws : List ℕ} {j : Job} {w : List ℕ} (r : Ready ws j w) where
     abbrev pub ours : List Row
     ours = walkRows ws (oldsOf j) w (j .begin) whole
 
+    pub walked-by : (o : Olds) → o ≡ oldsOf j → (x : Walked) (tail left : List ℕ) →
+        (x ≡ walkOf ws o w (j .begin) whole) × (left ≡ laid (walkRows ws o w (j .begin) whole) tail) →
+        (x ≡ walkOf ws (oldsOf j) w (j .begin) whole) × (left ≡ laid ours tail)
+    walked-by o d x tail left q = rw d at q
+
     module _ (x : Walked) (e : x ≡ walkOf ws (oldsOf j) w (j .begin) whole) where
       pub counted : x .count ≡ length ours
       unfolding walkOf
@@ -154,7 +163,8 @@ module _ {ws : List ℕ} {j : Job} {w : List ℕ} (r : Ready ws j w) where
 
       -- they found no room
       pub full-by : (tail : List ℕ) → roomOf tail < length ours →
-          (Full ≡ tailTold (roomOf tail) (jobRows ws j w whole) (jobEnding ws j w whole)) × (laid ours tail ≡ laid (jobRows ws j w whole) tail)
+          (Full ≡ tailTold (roomOf tail) (jobRows ws j w whole) (jobEnding ws j w whole))
+          × (laid ours tail ≡ laid (jobRows ws j w whole) tail)
       unfolding jobRows
       full-by tail h =
           let q = begins ws j w (jobSeen ws j w whole) in
@@ -193,7 +203,8 @@ module _ {ws : List ℕ} {j : Job} {w : List ℕ} (r : Ready ws j w) where
             let t = take (there .at) w in
             let n : 2 ^ 31 + length t ≡ 2 ^ 31 + there .at = rw (length-take-le (there .at) w (omega (arith, there .inside))) in
             subst (Roomy (2 ^ 31)) (sym (ap (λ (q : Spot). q .cursor) (there .spot)))
-            (roomy-over (2 ^ 31) (j .begin) t (roomy-less (2 ^ 31 + length w) (2 ^ 31 + length t) (j .begin) (omega (arith, n, there .inside)) room-begin))
+            (roomy-over (2 ^ 31) (j .begin) t
+            (roomy-less (2 ^ 31 + length w) (2 ^ 31 + length t) (j .begin) (omega (arith, n, there .inside)) room-begin))
 
         pub met-follows : Follows ws (j .table) row (s .cursor)
         met-follows =

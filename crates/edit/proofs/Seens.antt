@@ -1,6 +1,6 @@
 -- What is seen of a window: how many rows, where a meeting lies, that bytes which end the text are not short; and, by how a walk stops, the
 -- rows and the ending of the new table.
-use mathlib.Core.Path.{_≡_, refl, sym, ap, subst, _∙_}
+use mathlib.Core.Path.{_≡_, refl, sym, ap, _∙_}
 use mathlib.Core.Bool.{Bool, true, false, cond, not, _&&_, _||_}
 use mathlib.Core.List.{List, [], _∷_, _++_, map}
 use Prim.Native.Nat.{ℕ, zero, suc, pred, _+_, _-_, _≤_, _<_}
@@ -165,8 +165,12 @@ module _ (ws : List ℕ) (j : Job) (w : List ℕ) where
   abbrev pub stopOf : Seen → Stop
   stopOf = stopSeen olds (j .a + j .n) (j .b) w (j .begin)
 
+  -- what stands at m, in the old text and in the new
+  abbrev old-at : ℕ → ℕ
+  old-at = oldOffset olds (j .table .ending) (j .a) (j .b) (j .n) w
+
   abbrev old-from : ℕ → List Row
-  old-from m = from (oldOffset olds (j .table .ending) (j .a) (j .b) (j .n) w m) olds
+  old-from m = from (old-at m) olds
 
   abbrev place-at : ℕ → Cursor
   place-at = windowPlace olds (j .table .ending) (j .a) (j .b) (j .n) w
@@ -177,7 +181,7 @@ module _ (ws : List ℕ) (j : Job) (w : List ℕ) where
   seen-few (sees r s) = omega (arith, seen-few s)
   seen-few (over′ x) = omega arith
   seen-few (met m) =
-      omega (arith, length-map (old-from m) (carryRow (firstPlace (old-from m)) (place-at m)), from-few (oldOffset olds (j .table .ending) (j .a) (j .b) (j .n) w m) olds)
+      omega (arith, length-map (old-from m) (carryRow (firstPlace (old-from m)) (place-at m)), from-few (old-at m) olds)
   seen-few short = omega arith
 
   pub record Begins (x : Seen) : Type 0 where
@@ -216,23 +220,22 @@ module _ (ws : List ℕ) (j : Job) (w : List ℕ) where
     pub ending-met : endingOf x ≡ carryEnding (firstPlace (drop r olds)) (s .cursor) (j .table .ending)
 
   module _ (begin : j .begin ≡ restart olds (j .a)) where
-    meeting : (m : ℕ) → Lies meetsOf (j .begin .offset .0) (j .begin .offset .0 + length w) m → (s : Spot) (r : ℕ) → stopOf (met m) ≡ Met s r →
-        Meeting (met m) s r
+    meeting : (m : ℕ) → Lies meetsOf (j .begin .offset .0) (j .begin .offset .0 + length w) m →
+        (s : Spot) (r : ℕ) → stopOf (met m) ≡ Met s r → Meeting (met m) s r
     unfolding seenRows seenEnding rowsSeen stopSeen meetsAt windowPlace onward
     meeting m l s r q =
         let i = m - j .begin .offset .0 in
-        let o = m + j .b - (j .a + j .n) in
         let f = old-from m in
         let g = both-true (leb (j .a + j .n) m) (some f) (l .meeting) in
         let y : r ≡ length olds - length f = cc in
         let z : s ≡ onward w (startOf (j .begin)) i = cc in
-        let v : f ≡ drop r olds = from-drop o olds ∙ ap (λ (k : ℕ). drop k olds) (sym y) in
+        let v : f ≡ drop r olds = from-drop (old-at m) olds ∙ ap (λ (k : ℕ). drop k olds) (sym y) in
         let u : place-at m ≡ s .cursor = rw (← begin) (sym (ap (λ (c : Spot). c .cursor) z)) in
         record {
           at = i;
           inside = omega (arith, l .low, l .high);
           spot = z;
-          there = omega (arith, some-length f (g .1), from-few o olds);
+          there = omega (arith, some-length f (g .1), from-few (old-at m) olds);
           rows-met =
               ap (λ (c : Cursor). map (carryRow (firstPlace f) c) f) u
               ∙ ap (λ (rs : List Row). map (carryRow (firstPlace rs) (s .cursor)) rs) v;

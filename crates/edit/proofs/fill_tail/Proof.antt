@@ -8,13 +8,12 @@ use borrow.Author.Needs.{needs}
 use Rattle.rules.specs.Rows.{Row}
 use Rattle.rules.specs.Scan.{roomOf, laid}
 use Rattle.laws.proofs.Rows.{laid-length}
-use Rattle.edit.specs.declared.walk.Olds.{Olds}
 use Rattle.edit.specs.declared.Tail.the-variants.{Rows}
-use Rattle.edit.specs.Walk.{Walkable, walkOf, walkRows}
+use Rattle.edit.specs.Walk.{walkOf}
 use Rattle.edit.specs.Job.{oldsOf, rowsBehind, endingBehind, FewBehind}
 use Rattle.edit.proofs.Seens.{isLacking}
 use Rattle.edit.proofs.Tails.{tail-all, count-behind, few-behind, met-all}
-use Rattle.edit.proofs.Jobs.{lent-old, walkable, ours, counted, short-by, full-by, over-by, met-rows, met-ending, met-follows}
+use Rattle.edit.proofs.Jobs.{lent-old, walkable, ours, walked-by, counted, short-by, full-by, over-by, met-rows, met-ending, met-follows}
 use Rattle.edit.proofs.fill_tail.Statement.{statement}
 use Rattle.edit.proofs.fill_tail.Tie as tie
 
@@ -42,23 +41,20 @@ at-tail c = c .before .before
 abbrev mine : tie.After-walk → List Row
 mine c = ours (start c .pre .ready) (start c .args .whole)
 
-is-walk : (c : tie.After-walk) →
+walked : (c : tie.After-walk) →
     let a = start c .args in
-    c .walk .result ≡ walkOf (a .old .now) (oldsOf (a .job)) (a .window .now) (a .job .begin) (a .whole)
-is-walk c =
-    let a = start c .args in
-    c .walk .ensures .0 ∙ ap (λ (o : Olds). walkOf (a .old .now) o (a .window .now) (a .job .begin) (a .whole)) (c .before .before .olds-of .ensures)
-
-left : (c : tie.After-walk) → c .walk .last .1 .1 .1 .1 .1 .0 ≡ laid (mine c) (start c .args .tail .now)
-left c =
-    let a = start c .args in
-    c .walk .ensures .1 ∙ ap (λ (o : Olds). laid (walkRows (a .old .now) o (a .window .now) (a .job .begin) (a .whole)) (a .tail .now)) (c .before .before .olds-of .ensures)
+    (c .walk .result ≡ walkOf (a .old .now) (oldsOf (a .job)) (a .window .now) (a .job .begin) (a .whole))
+    × (c .walk .last .1 .1 .1 .1 .1 .0 ≡ laid (mine c) (a .tail .now))
+walked c =
+    let s = start c in
+    let o = c .before .before in
+    walked-by (s .pre .ready) (s .args .whole) (o .olds-of .result) (o .olds-of .ensures) (c .walk .result) (s .args .tail .now) _ (c .walk .ensures)
 
 many : (c : tie.After-walk) → c .walk .result .count ≡ length (mine c)
-many c = let s = start c in counted (s .pre .ready) (s .args .whole) (c .walk .result) (is-walk c)
+many c = let s = start c in counted (s .pre .ready) (s .args .whole) (c .walk .result) (walked c .0)
 
 same-room : (c : tie.After-walk) → length (c .walk .last .1 .1 .1 .1 .1 .0) ≡ length (start c .args .tail .now)
-same-room c = ap length (left c) ∙ laid-length (mine c) (start c .args .tail .now)
+same-room c = ap length (walked c .1) ∙ laid-length (mine c) (start c .args .tail .now)
 
 -- there was room for its rows
 found-room : (c : tie.Else1) → length (mine (walk-of c)) ≤ roomOf (start (walk-of c) .args .tail .now)
@@ -70,9 +66,8 @@ olds-of-requires c κs = search needs
 
 walk-requires : tie.Need-walk-requires
 walk-requires c κs =
-    let s = at-olds (c .before) in
-    let a = s .args in
-    subst (λ (o : Olds). Walkable (a .old .now) o (a .window .now) (a .job .begin)) (sym (c .before .olds-of .ensures)) (walkable (s .pre .ready))
+    let k = c .before in
+    walkable (at-olds k .pre .ready) (k .olds-of .result) (k .olds-of .ensures)
 
 same-length : tie.Need-same-length
 same-length c = search needs
@@ -82,8 +77,9 @@ unfolding roomOf
 returns c =
     let w = c .before .before .before in
     let s = start w in
-    let q = full-by (s .pre .ready) (s .args .whole) (w .walk .result) (is-walk w) (s .args .tail .now) (omega (arith, c .if1 .taken, many w, same-room w)) in
-    (q .0, left w ∙ q .1)
+    let q = full-by (s .pre .ready) (s .args .whole) (w .walk .result) (walked w .0) (s .args .tail .now)
+    (omega (arith, c .if1 .taken, many w, same-room w)) in
+    (q .0, walked w .1 ∙ q .1)
 
 enum-known-stop : tie.Need-enum-known-stop
 enum-known-stop c = search needs
@@ -114,7 +110,7 @@ follow-requires c κs =
     let k = at-tail (c .before) in
     let w = walk-of (room-at k) in
     let s = start w in
-    met-follows (s .pre .ready) (s .args .whole) (w .walk .result) (is-walk w) _ _ (k .before .stop .given .1)
+    met-follows (s .pre .ready) (s .args .whole) (w .walk .result) (walked w .0) _ _ (k .before .stop .given .1)
 
 behind-requires : tie.Need-behind-requires
 unfolding roomOf
@@ -127,9 +123,10 @@ behind-requires c κs =
     let p = k .before .stop .given .0 .0 .cursor in
     let row = k .before .stop .given .0 .1 .0 in
     let zs = rowsBehind (a .old .now) (a .job .table) row p in
+    let n = count-behind (a .old .now) (a .job .table) row p (a .tail .now) in
     subst (FewBehind (w .walk .result .count)) (sym (f .follow .ensures .0))
     (few-behind (w .walk .result .count) _ zs (endingBehind (a .old .now) (a .job .table) row p)
-    (omega (arith, found-room (room-at k), many w, s .good .1 .1 .1 .1 .0 .1, count-behind (a .old .now) (a .job .table) row p (a .tail .now), lent-old (s .pre .ready), s .good .0 .1)))
+    (omega (arith, found-room (room-at k), many w, s .good .1 .1 .1 .1 .0 .1, n, lent-old (s .pre .ready), s .good .0 .1)))
 
 enum-known-stop-2 : tie.Need-enum-known-stop-2
 enum-known-stop-2 c = search needs
@@ -150,10 +147,11 @@ returns-2 c =
     let e = k .before .stop .given .1 in
     let p = k .before .stop .given .0 .0 .cursor in
     let row = k .before .stop .given .0 .1 .0 in
-    let rows = met-rows (s .pre .ready) (a .whole) (w .walk .result) (is-walk w) _ _ e in
-    let ending = met-ending (s .pre .ready) (a .whole) (w .walk .result) (is-walk w) _ _ e in
-    let q = met-all (mine w) (rowsBehind (a .old .now) (a .job .table) row p) (endingBehind (a .old .now) (a .job .table) row p) (a .tail .now)
-    (w .walk .last .1 .1 .1 .1 .1 .0) (w .walk .result .count) (left w) (found-room (room-at k)) (many w) (f .follow .result) (c .behind .result) (f .follow .last .1 .1 .1 .1 .0) (f .follow .ensures) (c .behind .ensures) in
+    let rows = met-rows (s .pre .ready) (a .whole) (w .walk .result) (walked w .0) _ _ e in
+    let ending = met-ending (s .pre .ready) (a .whole) (w .walk .result) (walked w .0) _ _ e in
+    let q = met-all (mine w) (rowsBehind (a .old .now) (a .job .table) row p) (endingBehind (a .old .now) (a .job .table) row p)
+    (a .tail .now) (w .walk .last .1 .1 .1 .1 .1 .0) (w .walk .result .count) (walked w .1) (found-room (room-at k)) (many w)
+    (f .follow .result) (c .behind .result) (f .follow .last .1 .1 .1 .1 .0) (f .follow .ensures) (c .behind .ensures) in
     (q .0 ∙ rw (rows, ending), q .1 ∙ ap (λ (z : List Row). laid z (a .tail .now)) (sym rows))
 
 same-length-3 : tie.Need-same-length-3
@@ -166,9 +164,9 @@ returns-3 c =
     let s = start w in
     let a = s .args in
     let y = c .before .stop2 .given .0 .0 in
-    let q = over-by (s .pre .ready) (a .whole) (w .walk .result) (is-walk w) y (c .before .stop2 .given .1) in (
+    let q = over-by (s .pre .ready) (a .whole) (w .walk .result) (walked w .0) y (c .before .stop2 .given .1) in (
       ap (λ (n : ℕ). Rows n y) (many w) ∙ tail-all (roomOf (a .tail .now)) (mine w) y (found-room k) ∙ rw (q .0, q .1),
-      left w ∙ ap (λ (z : List Row). laid z (a .tail .now)) (sym (q .0)),
+      walked w .1 ∙ ap (λ (z : List Row). laid z (a .tail .now)) (sym (q .0)),
     )
 
 same-length-4 : tie.Need-same-length-4
@@ -179,7 +177,8 @@ unfolding isLacking
 returns-4 c =
     let w = walk-of (c .before .before) in
     let s = start w in
-    absurd (let z = sym (s .pre .long) ∙ short-by (s .pre .ready) (s .args .whole) (w .walk .result) (is-walk w) ∙ ap isLacking (c .enum-told .given .1) in let y : _≡_ {A = ℕ} 0 1 = cc in omega arith)
+    let short = short-by (s .pre .ready) (s .args .whole) (w .walk .result) (walked w .0) ∙ ap isLacking (c .enum-told .given .1) in
+    absurd (let z = sym (s .pre .long) ∙ short in let y : _≡_ {A = ℕ} 0 1 = cc in omega arith)
 
 pub fill-tail-spec : {M : Type 1} → statement M
 fill-tail-spec =

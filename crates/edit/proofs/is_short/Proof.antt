@@ -1,12 +1,10 @@
 -- `edit::is_short` meets its contract: a window that ends the text is not short, and of another the walk tells.
-use mathlib.Core.Path.{_≡_, sym, ap, subst, _∙_}
+use mathlib.Core.Path.{_≡_, sym, ap, _∙_}
 use borrow.Author.Needs.{needs}
 use Rattle.rules.specs.Edit.{isShort}
-use Rattle.edit.specs.declared.walk.Olds.{Olds}
-use Rattle.edit.specs.Walk.{Walkable, walkOf}
 use Rattle.edit.specs.Job.{jobSeen}
 use Rattle.edit.proofs.Seens.{isLacking}
-use Rattle.edit.proofs.Jobs.{walkable, whole-long, short-by}
+use Rattle.edit.proofs.Jobs.{walkable, whole-long, walked-by, short-by}
 use Rattle.edit.proofs.is_short.Statement.{statement}
 use Rattle.edit.proofs.is_short.Tie as tie
 
@@ -21,7 +19,7 @@ tells c =
     let k = c .before .before in
     let s = start k in
     let a = s .args in
-    short-by (s .pre) (a .whole) (c .walk .result) (c .walk .ensures .0 ∙ ap (λ (o : Olds). walkOf (a .old .now) o (a .window .now) (a .job .begin) (a .whole)) (k .olds-of .ensures))
+    short-by (s .pre) (a .whole) (c .walk .result) (walked-by (s .pre) (a .whole) (k .olds-of .result) (k .olds-of .ensures) (c .walk .result) _ _ (c .walk .ensures) .0)
 
 returns : tie.Need-returns
 returns c = let s = c .before .before .before in sym (whole-long (s .pre) (s .args .whole) (c .if1 .taken))
@@ -34,9 +32,8 @@ slice-aggregate-walk c = search needs
 
 walk-requires : tie.Need-walk-requires
 walk-requires c κs =
-    let s = start (c .before) in
-    let a = s .args in
-    subst (λ (o : Olds). Walkable (a .old .now) o (a .window .now) (a .job .begin)) (sym (c .before .olds-of .ensures)) (walkable (s .pre))
+    let k = c .before in
+    walkable (start k .pre) (k .olds-of .result) (k .olds-of .ensures)
 
 enum-told : tie.Need-enum-told
 enum-told c = search needs

@@ -1,14 +1,13 @@
 -- `edit::reread` meets its contract: 7 by the window's end and by a walk over it, and then the rows.
 use mathlib.Core.Path.{_≡_, sym, ap, _∙_}
 use mathlib.Core.Bool.{Bool}
-use Prim.Native.Nat.{ℕ, _+_, _≤_}
+use Prim.Native.Nat.{_+_, _≤_}
 use native.Mathlib.Omega.{arith}
 use lib.ListN.{length}
 use lib.Dec.{eqb}
 use borrow.Author.Needs.{needs}
 use Rattle.rules.specs.Scan.{roomOf}
 use Rattle.edit.specs.declared.walk.Olds.{Olds}
-use Rattle.edit.specs.Job.{Ready}
 use Rattle.edit.proofs.Calls.{wholeOf, whole-by, reread-early, reread-short, reread-rows}
 use Rattle.edit.proofs.reread.Statement.{statement}
 use Rattle.edit.proofs.reread.Tie as tie
@@ -29,7 +28,8 @@ flag c =
 is-whole : (c : tie.Else1) → flag c ≡ wholeOf (at-end c .pre)
 is-whole c =
     let o = c .before .before in
-    whole-by (at-end c .pre) (o .before .wide .result) (o .before .before .new-length .result) (o .before .wide .ensures) (o .before .before .new-length .ensures)
+    let n = o .before .before in
+    whole-by (at-end c .pre) (o .before .wide .result) (n .new-length .result) (o .before .wide .ensures) (n .new-length .ensures)
 
 least : (c : tie.After-olds-of) → c .olds-of .result .least ≡ start c .args .job .a + start c .args .job .n
 least c = ap (λ (o : Olds). o .least) (c .olds-of .ensures)
@@ -59,7 +59,8 @@ returns : tie.Need-returns
 returns c =
     let o = c .before .before .before in
     let s = start o in
-    let q = reread-early (s .pre) (roomOf (s .args .new .now)) (s .args .new .now) (omega (arith, c .before .if1 .taken, least o, o .before .wide .ensures)) in
+    let q = reread-early (s .pre) (roomOf (s .args .new .now)) (s .args .new .now)
+    (omega (arith, c .before .if1 .taken, least o, o .before .wide .ensures)) in
     (c .refused .ensures ∙ q .0, q .1)
 
 is-short-requires : tie.Need-is-short-requires
@@ -73,7 +74,8 @@ returns-2 c =
     let v = c .before .before in
     let k = v .before in
     let s = at-end k in
-    let q = reread-short (s .pre) (roomOf (s .args .new .now)) (s .args .new .now) (is-late k) (flag k) (is-whole k) (sym (v .is-short .ensures) ∙ c .before .if2 .taken) in
+    let q = reread-short (s .pre) (roomOf (s .args .new .now)) (s .args .new .now) (is-late k) (flag k) (is-whole k)
+    (sym (v .is-short .ensures) ∙ c .before .if2 .taken) in
     (c .refused2 .ensures ∙ q .0, q .1)
 
 cast-fill : tie.Need-cast-fill
@@ -97,7 +99,8 @@ returns-3 c =
     let k = v .before in
     let s = at-end k in
     let n = k .before .before .before .before in
-    reread-rows (s .pre) (roomOf (s .args .new .now)) (s .args .new .now) (is-late k) (flag k) (is-whole k) (sym (v .is-short .ensures) ∙ f .before .before .if2 .left)
+    reread-rows (s .pre) (roomOf (s .args .new .now)) (s .args .new .now) (is-late k) (flag k) (is-whole k)
+    (sym (v .is-short .ensures) ∙ f .before .before .if2 .left)
     (n .new-length .result) (n .new-length .ensures) (f .fill .result) (f .fill .last .1 .1 .1 .1 .1 .0) (f .fill .ensures)
 
 pub reread-spec : {M : Type 1} → statement M
