@@ -20,10 +20,11 @@ use Rattle.rows.specs.Shape.{rowNo}
 use Rattle.rows.proofs.Inside
 use Rattle.rows.proofs.Inside.{Fine, fine, row-sound, few-rows}
 use Rattle.edit_carry.proofs.Kept.{keptCount, kept-inside, kept-rows, kept-below, behind-rows}
-use Rattle.edit.specs.declared.walk.Olds.{Olds}
-use Rattle.edit.specs.declared.walk.Stop.the-variants.{Met, Over}
-use Rattle.edit.specs.declared.walk.Walked.{Walked}
-use Rattle.edit.specs.Walk.{Walkable, meetsAt, placeIn, rowsSeen, seenFrom, walkSeen, walkRows, walkOf}
+use Rattle.scan_walk.specs.declared.Olds.{Olds}
+use Rattle.scan_walk.specs.declared.Stop.the-variants.{Met, Over}
+use Rattle.scan_walk.specs.declared.Walked.{Walked}
+use Rattle.scan_walk.specs.Meeting.{meetsAt}
+use Rattle.scan_walk.specs.Walk.{Walkable, placeIn, rowsSeen, seenFrom, walkSeen, walkRows, walkOf}
 use Rattle.edit.specs.declared.Job.{Job}
 use Rattle.edit.specs.declared.Tail.the-variants.{Full}
 use Rattle.edit.specs.Job.{Ready, Follows, oldRows, oldsOf, jobSeen, jobRows, jobEnding, tailTold, rowsBehind, endingBehind}

@@ -17,10 +17,11 @@ use Rattle.rules.specs.Edit.{Seen, sees, over′, met, short, isShort, look, op
 use Rattle.laws.proofs.Tests.{both-true}
 use Rattle.scan_reader.specs.declared.Spot.{Spot}
 use Rattle.scan_reader.specs.Read.{onward}
-use Rattle.edit.specs.declared.walk.Stop.{Stop}
-use Rattle.edit.specs.declared.walk.Stop.the-variants.{Met, Over, Short}
+use Rattle.scan_walk.specs.declared.Stop.{Stop}
+use Rattle.scan_walk.specs.declared.Stop.the-variants.{Met, Over, Short}
 use Rattle.edit.specs.declared.Job.{Job}
-use Rattle.edit.specs.Walk.{meetsAt, startOf, rowsSeen, stopSeen}
+use Rattle.scan_walk.specs.Meeting.{meetsAt}
+use Rattle.scan_walk.specs.Walk.{startOf, rowsSeen, stopSeen}
 use Rattle.edit.specs.Job.{oldRows}
 
 -- ---- the rows from a start on are the last ones

@@ -1,3 +1,2 @@
 -- What the contracts of this crate cite: the parts of an edit.
-pub mod Walk
 pub mod Job

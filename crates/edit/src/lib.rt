@@ -1,6 +1,4 @@
 // The edit call: from the old rows, the numbers of an edit and a window of the new text, the new rows; and where a window starts.
-mod walk;
-
 use edit_carry::carry_ending;
 use edit_carry::carry_rows;
 use edit_carry::copy_rows;
@@ -20,9 +18,9 @@ use rules::limit;
 use rules::row;
 use scan_place::pass;
 use scan_place::valid_bytes;
-use walk::Olds;
-use walk::Stop;
-use walk::walk;
+use scan_walk::Olds;
+use scan_walk::Stop;
+use scan_walk::walk;
 ghost use mathlib.Core.Path.{_≡_};
 ghost use mathlib.Core.Bool.{true};
 ghost use mathlib.Core.List.{_++_};

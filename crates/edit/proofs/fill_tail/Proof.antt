@@ -9,7 +9,7 @@ use Rattle.rules.specs.Rows.{Row}
 use Rattle.rules.specs.Scan.{roomOf, laid}
 use Rattle.laws.proofs.Rows.{laid-length}
 use Rattle.edit.specs.declared.Tail.the-variants.{Rows}
-use Rattle.edit.specs.Walk.{walkOf}
+use Rattle.scan_walk.specs.Walk.{walkOf}
 use Rattle.edit.specs.Job.{oldsOf, rowsBehind, endingBehind, FewBehind}
 use Rattle.edit.proofs.Seens.{isLacking}
 use Rattle.edit.proofs.Tails.{tail-all, count-behind, few-behind, met-all}

@@ -7,7 +7,7 @@ use lib.ListN.{length}
 use lib.Dec.{eqb}
 use borrow.Author.Needs.{needs}
 use Rattle.rules.specs.Scan.{roomOf}
-use Rattle.edit.specs.declared.walk.Olds.{Olds}
+use Rattle.scan_walk.specs.declared.Olds.{Olds}
 use Rattle.edit.proofs.Calls.{wholeOf, whole-by, reread-early, reread-short, reread-rows}
 use Rattle.edit.proofs.reread.Statement.{statement}
 use Rattle.edit.proofs.reread.Tie as tie
