@@ -15,6 +15,7 @@ use Rattle.rules.specs.Lex.{Piece, blank, decidedAt, isLetter, isDigit, isLone,
 use Rattle.rules.specs.declared.Lexical.the-variants.{NoRowBegins}
 use Rattle.laws.specs.Tests.{allBelow}
 use Rattle.laws.proofs.Tests.{both-true, below}
+use Rattle.scan_words.specs.Class as class
 use Rattle.scan_words.specs.Class.{classOf, Classes}
 use Rattle.scan_words.proofs.Marks.{classTest, class-byte, oneSign, Alone, alone}
 use Rattle.scan_reader.specs.declared.Brief.{Brief}
@@ -26,11 +27,12 @@ use Rattle.scan_reader.proofs.Signs.{byte-here, single-decided}
 
 unfoldable pub chosen : ℕ → List ℕ → Piece
 chosen k s =
-    cond (eqb k 1) blank
-    (cond (eqb k 2) (word s)
-    (cond (eqb k 3) (number false 0 s)
-    (cond (eqb k 4) (slashed s)
-    (cond (eqb k 5) (dashed s) (cond (eqb k 6) (string false 1 (drop 1 s)) (cond (eqb k 7) (sign s) (single (getD s 0 0) 0)))))))
+    cond (eqb k class.Blank) blank
+    (cond (eqb k class.Letter) (word s)
+    (cond (eqb k class.Digit) (number false 0 s)
+    (cond (eqb k class.Slash) (slashed s)
+    (cond (eqb k class.Dash) (dashed s)
+    (cond (eqb k class.Quote) (string false 1 (drop 1 s)) (cond (eqb k class.Double) (sign s) (single (getD s 0 0) 0)))))))
 
 sign-single : (s : List ℕ) → maybeTwo (getD s 0 0) ≡ false → sign s ≡ single (getD s 0 0) 0
 unfolding sign
@@ -44,7 +46,8 @@ piece-chosen s =
   where
     pick : (p q r u v w x y : Bool) → (x ≡ false → sign s ≡ single (getD s 0 0) 0) →
         cond p blank (cond q (slashed s) (cond r (word s) (cond u (number false 0 s) (cond v (dashed s) (cond w (string false 1 (drop 1 s)) (sign s))))))
-        ≡ chosen (cond p 1 (cond q 4 (cond r 2 (cond u 3 (cond v 5 (cond w 6 (cond x 7 (cond y 0 8)))))))) s
+        ≡ chosen (cond p class.Blank (cond q class.Slash (cond r class.Letter (cond u class.Digit
+        (cond v class.Dash (cond w class.Quote (cond x class.Double (cond y class.Nothing class.Sign)))))))) s
     pick true q r u v w x y e = refl
     pick false true r u v w x y e = refl
     pick false false true u v w x y e = refl
@@ -92,16 +95,17 @@ least = refl
 lower : (n k : ℕ) → k < suc n → (k ≡ n → ⊥) → k < n
 lower n k l e = omega arith
 
-lowest : (k : ℕ) → k < 1 → k ≡ 0
-lowest k l = omega arith
+only : (k : ℕ) → k < 3 → (k ≡ class.Letter → ⊥) → (k ≡ class.Digit → ⊥) → k ≡ class.Nothing
+only k l no-letter no-digit = omega arith
 
 -- a class that is none of the others is that of no beginning
-pub class-none : (b : ℕ) → b < 256 → (k : ℕ) → classOf b ≡ k → Rare k → (k ≡ 1 → ⊥) → (k ≡ 4 → ⊥) → (k ≡ 5 → ⊥) → (k ≡ 6 → ⊥) → classOf b ≡ 0
+pub class-none : (b : ℕ) → b < 256 → (k : ℕ) → classOf b ≡ k → Rare k →
+    (k ≡ class.Blank → ⊥) → (k ≡ class.Slash → ⊥) → (k ≡ class.Dash → ⊥) → (k ≡ class.Quote → ⊥) → classOf b ≡ class.Nothing
 unfolding leastTest
-class-none b h k e r one four five six =
+class-none b h k e r no-blank no-slash no-dash no-quote =
     let l : k < 9 = rw e at (ltb-true (classOf b) 9 (below leastTest 256 least b h)) in
-    let low : k < 4 = lower 4 k (lower 5 k (lower 6 k (lower 7 k (lower 8 k l (r .no-sign)) (r .no-double)) six) five) four in
-    e ∙ lowest k (lower 1 k (lower 2 k (lower 3 k low (r .no-number)) (r .no-word)) one)
+    let m : k < 5 = lower 5 k (lower 6 k (lower 7 k (lower 8 k l (r .no-sign)) (r .no-double)) no-quote) no-dash in
+    e ∙ only k (lower 3 k (lower 4 k m no-slash) no-blank) (r .no-word) (r .no-number)
 
 -- ---- what is told of the item
 
@@ -109,10 +113,10 @@ noneTest : ℕ → Bool
 noneTest b = not (isLone b) && eqb (oneSign b) Eof
 
 -- a byte that begins nothing
-nothing-begins : (b : ℕ) → b < 256 → classOf b ≡ 0 → (isLone b ≡ false) × (oneSign b ≡ Eof)
+nothing-begins : (b : ℕ) → b < 256 → classOf b ≡ class.Nothing → (isLone b ≡ false) × (oneSign b ≡ Eof)
 unfolding noneTest classTest classOf isBlank isLetter isDigit maybeTwo kindIn signs sameBytes
 nothing-begins b h e =
-    let x = both-true (not (isLone b)) (eqb (oneSign b) Eof) (class-byte 0 noneTest refl b h e) in
+    let x = both-true (not (isLone b)) (eqb (oneSign b) Eof) (class-byte class.Nothing noneTest refl b h e) in
     (not-true _ (x .0), eqb-true _ _ (x .1))
 
 told-cond : (s : List ℕ) (x : Piece) (p : Bool) → told s (cond p (known x) unknown) ≡ cond p (told s (known x)) (told s unknown)
@@ -140,9 +144,9 @@ module _ (whole : Bool) (t : List ℕ) (a : ℕ) where
         let p = chosen k (drop a t) in
         sym (ap (told (drop a t)) (item-at whole t a h k e) ∙ told-cond (drop a t) p (whole || ltb (a + decidedAt p) (length t)))
 
-    pub told-blank : classOf (getD t a 0) ≡ 1 → here ≡ record { size = 1; kind = Blank; bits = 0 }
+    pub told-blank : classOf (getD t a 0) ≡ class.Blank → here ≡ record { size = 1; kind = Blank; bits = 0 }
     unfolding chosen decidedAt told
-    told-blank e = sym (told-class 1 e) ∙ settled-inside whole t a blank (rw add-zero h)
+    told-blank e = sym (told-class class.Blank e) ∙ settled-inside whole t a blank (rw add-zero h)
 
     -- a class that begins a sign of one byte, or nothing
     told-single : (k : ℕ) → classOf (getD t a 0) ≡ k → chosen k (drop a t) ≡ single (getD (drop a t) 0 0) 0 → here ≡ told (drop a t) (known (single (getD t a 0) 0))
@@ -156,10 +160,10 @@ module _ (whole : Bool) (t : List ℕ) (a : ℕ) where
     unfolding chosen single told
     told-sign r b l =
         let n = alone r (getD t a 0) b l in
-        told-single 8 (n .class) refl ∙ rw (n .plain, ne-eqb _ _ (n .some), n .kind)
+        told-single class.Sign (n .class) refl ∙ rw (n .plain, ne-eqb _ _ (n .some), n .kind)
 
-    pub told-none : getD t a 0 < 256 → classOf (getD t a 0) ≡ 0 → here ≡ record { size = 0; kind = refusalCode NoRowBegins; bits = 0 }
+    pub told-none : getD t a 0 < 256 → classOf (getD t a 0) ≡ class.Nothing → here ≡ record { size = 0; kind = refusalCode NoRowBegins; bits = 0 }
     unfolding chosen single told
     told-none b e =
         let n = nothing-begins (getD t a 0) b e in
-        told-single 0 e refl ∙ rw (n .0, eq-eqb _ _ (n .1))
+        told-single class.Nothing e refl ∙ rw (n .0, eq-eqb _ _ (n .1))

@@ -15,9 +15,9 @@ use Rattle.rules.specs.Lex.{isLetter, isDigit, isWord}
 use Rattle.laws.specs.Tests.{allBelow}
 use Rattle.laws.proofs.Tests.{below, true-both}
 use Rattle.laws.proofs.Fronts.{front-on, front-off, front-end}
-use Rattle.scan_words.specs.Class.{Classes}
+use Rattle.scan_words.specs.Class.{Digit, Classes}
 use Rattle.scan_words.specs.Slots.{packedOf, plain}
-use Rattle.scan_words.proofs.Marks.{apart, mark-word, mark-other}
+use Rattle.scan_words.proofs.Marks.{mark-word, mark-other}
 use Rattle.scan_runs.specs.Leaf.{packedFront, wordOf}
 use Rattle.scan_runs.specs.declared.Word.{Word}
 
@@ -90,12 +90,12 @@ module _ {cl : List ℕ} (c : Classes cl) (t : List ℕ) (i₀ v i : ℕ) (r : P
   answer e w = rw (w, ← e)
 
   module _ (h : i < length t) (b : getD t i 0 < 256) where
-    pub packing-on : apart (getD cl (getD t i 0) 0) ≡ false → Packing t i₀ (packedWith v (getD t i 0)) (i + 1)
+    pub packing-on : getD cl (getD t i 0) 0 ≤ Digit → Packing t i₀ (packedWith v (getD t i 0)) (i + 1)
     packing-on m =
         let y = mark-word c (getD t i 0) b m in
         record { inside = omega arith; ends = omega (arith, front-on isWord t i h y, r .ends); packs = sym (packed-on v t i h y) ∙ r .packs }
 
-    pub packing-stop : apart (getD cl (getD t i 0) 0) ≡ true → found ≡ wordOf i₀ (drop i₀ t)
+    pub packing-stop : Digit < getD cl (getD t i 0) 0 → found ≡ wordOf i₀ (drop i₀ t)
     packing-stop m =
         let n = mark-other c (getD t i 0) b m in
         answer (omega (arith, front-off isWord t i h n, r .ends)) (sym (r .packs) ∙ packed-off v t i h n)

@@ -53,7 +53,7 @@ pub fn read_word(classes: &[u8; 256], text: &[u8], at: usize) -> Word
     while i < text.len() {
         let b = text[i];
         let class = classes[b as usize];
-        if (class != classes::LETTER) & (class != classes::DIGIT) {
+        if classes::DIGIT < class {
             return Word { end: i, packed };
         }
         packed = packed % BEFORE_LAST * ABOVE_BYTE + b as u64;

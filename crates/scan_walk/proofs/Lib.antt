@@ -4,6 +4,5 @@ pub mod Meetings
 pub mod Blanks
 pub mod Laid
 pub mod Looks
-pub mod Told
 pub mod Passing
 pub mod Walks

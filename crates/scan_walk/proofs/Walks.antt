@@ -21,9 +21,9 @@ use Rattle.laws.proofs.Rows.{rows-length, laid-none}
 use Rattle.scan_reader.specs.declared.Spot.{Spot}
 use Rattle.scan_reader.specs.Read.{onward, Ahead}
 use Rattle.scan_reader.proofs.Moves.{onward-more}
-use Rattle.scan_walk.specs.declared.reader.Brief.{Brief}
-use Rattle.scan_walk.specs.Brief.{Blank, Line, End, Unknown, told}
-use Rattle.scan_walk.proofs.Told.{ToldRow, ToldComment, by-row, by-blank, by-comment, by-line, by-end, by-unknown, by-refused}
+use Rattle.scan_reader.specs.declared.Brief.{Brief}
+use Rattle.scan_reader.specs.Brief.{Blank, Line, End, Unknown, told}
+use Rattle.scan_reader.proofs.Told.{by-row, by-blank, by-comment, by-end, by-unknown, by-refused}
 use Rattle.scan_walk.specs.declared.Found.{Found}
 use Rattle.scan_walk.specs.declared.Olds.{Olds}
 use Rattle.scan_walk.specs.declared.Stop.{Stop}
@@ -250,7 +250,7 @@ module _ (ws : List ℕ) (o : Olds) (t : List ℕ) (p : Cursor) (whole : Bool) (
               rw (f .unknown d .0, f .unknown d .1) (over-with Short (ap rowsSeen s) (ap stopOf s))
           by (no e) (no d) =
               let b = by-refused whole (drop i t) r told-here (omega arith) in
-              let s = seen-by (known (refused (b .why) (r .size) (b .decided))) (b .is) in
+              let s = seen-by (known (refused (b .why) (r .size) (b .decided))) (b .item-is) in
               let z = f .refused (b .why) (b .code) in
               rw (z .0, z .1)
               (over-with (Over (ending.Refused (b .why) (along (here .cursor) (r .size)))) (ap rowsSeen s) (ap stopOf s ∙ rw (place-on (r .size), over-front (here .cursor) (drop i t) (r .size) (b .line))))
@@ -268,10 +268,10 @@ module _ (ws : List ℕ) (o : Olds) (t : List ℕ) (p : Cursor) (whole : Bool) (
           by : Dec (r .kind ≡ Blank) → Gap
           by (yes e) =
               let b = by-blank whole (drop i t) r told-here e in
-              gap (omega (arith, b .size)) (omega (arith, b .size, b .inside)) (seen-by (known blank) (b .is) ∙ seen-on 1 ∙ rw (b .size))
+              gap (omega (arith, b .one)) (omega (arith, b .one, b .inside)) (seen-by (known blank) (b .item-is) ∙ seen-on 1 ∙ rw (b .one))
           by (no e) =
               let b = by-comment whole (drop i t) r told-here (omega arith) k in
-              gap (b .some) (b .inside) (seen-by (known (comment (r .size) (b .decided))) (b .is) ∙ seen-on (r .size))
+              gap (b .some) (b .inside) (seen-by (known (comment (r .size) (b .decided))) (b .item-is) ∙ seen-on (r .size))
 
       pub passable : r .kind < End → Roomy (length t) p → Passable t here r
       passable h ready = by (decLe Blank (r .kind))
@@ -287,8 +287,8 @@ module _ (ws : List ℕ) (o : Olds) (t : List ℕ) (p : Cursor) (whole : Bool) (
               not-both l d = omega arith
 
               of-line : r .kind ≤ Line → Dec (r .kind ≡ Line) → r .size - 1 ≤ front notNewline (drop i t)
-              of-line d (yes e) = by-line whole (drop i t) r told-here e
-              of-line d (no e) = omega (arith, by-blank whole (drop i t) r told-here (omega arith) .size)
+              of-line d (yes e) = by-comment whole (drop i t) r told-here (omega arith) h .line e
+              of-line d (no e) = omega (arith, by-blank whole (drop i t) r told-here (omega arith) .one)
 
           by : Dec (Blank ≤ r .kind) → Passable t here r
           by (yes l) = of-gap l (is-gap l h)
@@ -308,7 +308,7 @@ module _ (ws : List ℕ) (o : Olds) (t : List ℕ) (p : Cursor) (whole : Bool) (
         unfolding lookBy rowsSeen stopSeen rowOf
         walking-row h =
             let b = by-row whole (drop i t) r told-here h in
-            let e = seen-by (known (row′ (b .decided))) (b .is) in
+            let e = seen-by (known (row′ (b .decided))) (b .item-is) in
             let k : rowAt (placeIn p t (p .offset .0 + i)) (r .kind) (p .offset .0 + i + r .size) (r .bits) ≡ rowOf (here .cursor) r = rw (place-here, at-offset) in
             subst (λ (j : ℕ). Walking (placed n (rowOf (here .cursor) r) us) s j row (n + 1)) (sym (on-at s (r .size) z))
             (record {

@@ -14,8 +14,8 @@ use Rattle.rules.specs.Scan.{roomOf}
 use Rattle.rules.specs.Edit.{Seen, sees, over′, met, short, look, from}
 use Rattle.scan_reader.specs.declared.Spot.{Spot}
 use Rattle.scan_reader.specs.Read.{onward, Ahead}
-use Rattle.scan_walk.specs.declared.reader.Brief.{Brief}
-use Rattle.scan_walk.specs.Brief.{Blank, Line, End, Unknown, refusalCode}
+use Rattle.scan_reader.specs.declared.Brief.{Brief}
+use Rattle.scan_reader.specs.Brief.{Blank, Line, End, Unknown, refusalCode}
 use Rattle.scan_walk.specs.declared.Olds.{Olds}
 use Rattle.scan_walk.specs.declared.Stop.{Stop}
 use Rattle.scan_walk.specs.declared.Stop.the-variants.{Met, Over, Short}

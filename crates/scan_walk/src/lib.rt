@@ -2,21 +2,18 @@
 // a spot where an old row meets, or where more bytes must be shown. A scan meets no old rows; an edit looks at its window by a walk with no room.
 mod meeting;
 mod puts;
-pub mod reader;
 mod spots;
 
 use meeting::find;
 use puts::put_behind;
-use reader::BLANK;
-use reader::Brief;
-use reader::END;
-use reader::UNKNOWN;
-use reader::brief_at;
-use reader::reason;
 use rules::Cursor;
 use rules::Ending;
 use rules::kind;
+use scan_reader::Brief;
 use scan_reader::Spot;
+use scan_reader::codes;
+use scan_reader::front::brief;
+use scan_reader::front::reason;
 use spots::behind;
 use spots::past_blanks;
 ghost use mathlib.Core.Path.{_≡_};
@@ -60,7 +57,7 @@ fn finish(rows: &mut [u32], n: usize, at: Cursor, told: Brief) -> Walked
     ensures { λ r. ⌜ Finished n at told r (now (rows .entry)) (now (rows .exit)) ⌝ }
 {
     let kind = told.kind;
-    if kind == END {
+    if kind == codes::END {
         let end = Brief {
             size: 0,
             kind: kind::EOF,
@@ -72,7 +69,7 @@ fn finish(rows: &mut [u32], n: usize, at: Cursor, told: Brief) -> Walked
             stop: Stop::Over(Ending::None),
         };
     }
-    if kind == UNKNOWN {
+    if kind == codes::UNKNOWN {
         return Walked {
             count: n,
             stop: Stop::Short,
@@ -98,7 +95,7 @@ pub fn walk(
     ensures { λ r. ⌜ (r ≡ walkOf (now (old .entry)) olds (now (text .entry)) begin whole) × (now (rows .exit) ≡ laid (walkRows (now (old .entry)) olds (now (text .entry)) begin whole) (now (rows .entry))) ⌝ }
 {
     let classes = scan_words::classes::table();
-    let slots = reader::slots();
+    let slots = scan_words::slots::table();
     let mut here = Spot {
         at: 0,
         cursor: begin,
@@ -116,12 +113,12 @@ pub fn walk(
                 stop: Stop::Met(spot, row),
             };
         }
-        let told = brief_at(&classes, &slots, text, spot.at, whole);
+        let told = brief(&classes, &slots, text, spot.at, whole);
         let cursor = spot.cursor;
-        if END <= told.kind {
+        if codes::END <= told.kind {
             return finish(rows, count, cursor, told);
         }
-        if told.kind < BLANK {
+        if told.kind < codes::BLANK {
             put_behind(rows, count, cursor, told);
             count += 1;
         }

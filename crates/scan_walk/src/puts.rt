@@ -1,8 +1,8 @@
 // Rows into lent words.
-use crate::reader::Brief;
 use rules::Cursor;
 use rules::limit;
 use rules::row;
+use scan_reader::Brief;
 ghost use mathlib.Core.Path.{_≡_};
 ghost use mathlib.Core.List.{_++_};
 ghost use Prim.Native.Nat.{_+_, _≤_, _<_, _^_};

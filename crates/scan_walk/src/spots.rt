@@ -1,9 +1,8 @@
 // Spots moved over the lent bytes.
-use crate::reader::BLANK;
-use crate::reader::Brief;
-use crate::reader::LINE;
 use scan_place::pass;
+use scan_reader::Brief;
 use scan_reader::Spot;
+use scan_reader::codes;
 ghost use mathlib.Core.Path.{_≡_};
 ghost use lib.ListN.{drop};
 ghost use Rattle.rules.specs.Text.{isBlank};
@@ -43,13 +42,13 @@ pub fn behind(text: &[u8], here: Spot, told: Brief) -> Spot
     let size = told.size;
     let at = here.at;
     let cursor = here.cursor;
-    if told.kind < BLANK {
+    if told.kind < codes::BLANK {
         return Spot {
             at: at + size,
             cursor: cursor.onward(size as u32),
         };
     }
-    if told.kind <= LINE {
+    if told.kind <= codes::LINE {
         let n = size - 1;
         return Spot {
             at: at + size,

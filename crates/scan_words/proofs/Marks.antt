@@ -6,11 +6,11 @@ use Prim.Native.Nat.{ℕ, _-_, _≤_, _<_}
 use native.Mathlib.Omega.{arith}
 use lib.ListN.{getD}
 use lib.Dec.{eqb, leb, ltb}
-use borrow.Author.Tests.{eqb-true, eqb-false, leb-true, ltb-true, not-true, eq-eqb, lt-ltb, le-ltb}
+use borrow.Author.Tests.{eqb-true, eqb-false, leb-true, ltb-true, not-true, eq-eqb, le-leb, lt-leb, lt-ltb, le-ltb}
 use Rattle.rules.specs.Text.{isBlank}
 use Rattle.rules.specs.Kinds.{Eof, signs, sameBytes, kindIn}
 use Rattle.rules.specs.Lex.{isLetter, isDigit, isWord, maybeTwo, isLone}
-use Rattle.scan_words.specs.Class.{classOf, markOf, Classes}
+use Rattle.scan_words.specs.Class.{Digit, classOf, markOf, Classes}
 use Rattle.laws.specs.Tests.{allBelow}
 use Rattle.laws.proofs.Tests.{below, both-true}
 
@@ -40,37 +40,34 @@ pub class-quote : (b : ℕ) → b < 256 → classOf b ≡ 6 → b ≡ 34
 unfolding classTest classOf isBlank isLetter isDigit maybeTwo kindIn signs sameBytes
 class-quote b h e = eqb-true _ _ (class-byte 6 (λ b. eqb b 34) refl b h e)
 
-pub class-digit : (b : ℕ) → b < 256 → classOf b ≡ 3 → isDigit b ≡ true
+pub class-digit : (b : ℕ) → b < 256 → classOf b ≡ 1 → isDigit b ≡ true
 unfolding classTest classOf isBlank isLetter isDigit maybeTwo kindIn signs sameBytes
-class-digit = class-byte 3 isDigit refl
+class-digit = class-byte 1 isDigit refl
 
 -- ---- what a table says
 
--- the byte is in no word
-abbrev pub apart : ℕ → Bool
-apart m = not (eqb m 2) && not (eqb m 3)
-
+-- a mark says whether the byte is in words
 wordTest : ℕ → Bool
-wordTest b = cond (isWord b) (not (apart (markOf b))) (apart (markOf b))
+wordTest b = cond (isWord b) (leb (markOf b) Digit) (ltb Digit (markOf b))
 
 word-test : allBelow wordTest 256 ≡ true
 unfolding wordTest markOf classOf isBlank isWord isLetter isDigit maybeTwo kindIn signs sameBytes
 word-test = refl
 
 module _ {t : List ℕ} (c : Classes t) (b : ℕ) (h : b < 256) where
-  by-mark : cond (isWord b) (not (apart (getD t b 0))) (apart (getD t b 0)) ≡ true
+  by-mark : cond (isWord b) (leb (getD t b 0) Digit) (ltb Digit (getD t b 0)) ≡ true
   unfolding wordTest
   by-mark = rw (c .mark b h) (below wordTest 256 word-test b h)
 
-  pub mark-word : apart (getD t b 0) ≡ false → isWord b ≡ true
-  mark-word e = pick (isWord b) (rw e at by-mark)
+  pub mark-word : getD t b 0 ≤ Digit → isWord b ≡ true
+  mark-word e = pick (isWord b) (rw (le-leb (getD t b 0) Digit e, le-ltb Digit (getD t b 0) e) at by-mark)
     where
       pick : (p : Bool) → cond p true false ≡ true → p ≡ true
       pick true q = refl
       pick false q = q
 
-  pub mark-other : apart (getD t b 0) ≡ true → isWord b ≡ false
-  mark-other e = pick (isWord b) (rw e at by-mark)
+  pub mark-other : Digit < getD t b 0 → isWord b ≡ false
+  mark-other e = pick (isWord b) (rw (lt-leb (getD t b 0) Digit e, lt-ltb Digit (getD t b 0) e) at by-mark)
     where
       pick : (p : Bool) → cond p false true ≡ true → p ≡ false
       pick true q = sym q

@@ -7,7 +7,7 @@ use native.Mathlib.Nat.{add-zero}
 use Rattle.rules.specs.declared.Lexical.{Lexical}
 use Rattle.rules.specs.declared.Lexical.the-variants.{NoRowBegins, LoneSign, NoHexDigit, OpenComment, OpenString, BadEscape, NumberTooLarge}
 use Rattle.rules.specs.Rows.{eofRow}
-use Rattle.scan_walk.specs.Brief.{End, Unknown, refusalCode}
+use Rattle.scan_reader.specs.Brief.{End, Unknown, refusalCode}
 use Rattle.scan_walk.specs.Walk.{rowOf, placed, Finished}
 use Rattle.scan_walk.proofs.finish.Statement.{statement}
 use Rattle.scan_walk.proofs.finish.Tie as tie

@@ -13,8 +13,8 @@ use Rattle.rules.specs.Lex.{item}
 use Rattle.laws.proofs.Rows.{laid-length}
 use Rattle.laws.proofs.Places.{roomy-less}
 use Rattle.scan_reader.specs.declared.Spot.{Spot}
-use Rattle.scan_walk.specs.declared.reader.Brief.{Brief}
-use Rattle.scan_walk.specs.Brief.{Blank, End, told}
+use Rattle.scan_reader.specs.declared.Brief.{Brief}
+use Rattle.scan_reader.specs.Brief.{Blank, End, told}
 use Rattle.scan_walk.specs.declared.Olds.{Olds}
 use Rattle.scan_walk.specs.declared.Stop.the-variants.{Met}
 use Rattle.scan_walk.specs.declared.Walked.{Walked}
@@ -106,13 +106,13 @@ met f e =
 -- ---- nothing meets, and what stands there was told
 
 abbrev Told : Type 0
-Told = tie.After-brief-at Inv-loop μ-loop
+Told = tie.After-brief Inv-loop μ-loop
 
 abbrev looked : Told → Looked
 looked b = b .before .before .before .before
 
 abbrev told-of : Told → Brief
-told-of b = b .brief-at .result
+told-of b = b .brief .result
 
 off : (b : Told) → let f = looked b in let l = head f in stopsAt (rowsIn (olds-of l .count) (old-of l)) (olds-of l .least) (olds-of l .b) (begin-of l .offset .0 + spot f .at) (drop (spot f .at) (text-of l)) ≡ false
 off b =
@@ -122,7 +122,7 @@ off b =
     ∙ b .before .before .before .if1 .left
 
 told-here : (b : Told) → let f = looked b in let l = head f in told-of b ≡ told (drop (spot f .at) (text-of l)) (item (whole-of l) (drop (spot f .at) (text-of l)))
-told-here b = b .brief-at .ensures
+told-here b = b .brief .ensures
 
 -- the bytes are few enough to be counted
 few : (l : Loop) → length (text-of l) + 1 < 2 ^ 64
@@ -206,8 +206,8 @@ same-length c = answer-length (head (c .before)) _ _ (met (c .before) (c .if1 .t
 returns : tie.Need-returns Inv-loop μ-loop
 returns c = met (c .before) (c .if1 .taken)
 
-brief-at-requires : tie.Need-brief-at-requires Inv-loop μ-loop
-brief-at-requires c κs =
+brief-requires : tie.Need-brief-requires Inv-loop μ-loop
+brief-requires c κs =
     let f = c .before .before .before in
     let l = head f in
     ((l .before .before .table .ensures, l .before .slots .ensures), found f .inside)
@@ -279,7 +279,7 @@ walk-spec =
     find-requires
     same-length
     returns
-    brief-at-requires
+    brief-requires
     finish-requires
     same-length-2
     returns-2

@@ -4,6 +4,7 @@ use Prim.Native.Nat.{ℕ, _<_}
 use native.Mathlib.Nat.{add-zero}
 use native.Mathlib.Omega.{arith}
 use lib.ListN.{getD}
+use Rattle.scan_words.specs.Class as class
 use Rattle.scan_words.specs.Class.{classOf}
 use Rattle.scan_words.proofs.Marks.{class-two, class-digit, mark-size, mark-class, low}
 use Rattle.scan_reader.specs.Brief.{Rare}
@@ -59,7 +60,7 @@ unfolding chosen
 returns-3 c =
     let d = c .before .before in
     let s = d .before .before .before .before in
-    c .word .ensures ∙ told-class (s .args .whole) (s .args .text .now) (s .args .at) (d .before .before .if1 .left) 2 (class-is d 2 (c .before .if3 .taken) (omega arith))
+    c .word .ensures ∙ told-class (s .args .whole) (s .args .text .now) (s .args .at) (d .before .before .if1 .left) class.Letter (class-is d class.Letter (c .before .if3 .taken) (omega arith))
 
 sub-told : tie.Need-sub-told
 sub-told c = search needs
@@ -82,26 +83,26 @@ returns-4 c =
 sign-requires : tie.Need-sign-requires
 sign-requires c κs =
     let d = c .before .before .before in
-    (d .before .before .if1 .left, class-two (byteAt d) (byte (d .before)) (class-is d 7 (c .if5 .taken) (omega arith)))
+    (d .before .before .if1 .left, class-two (byteAt d) (byte (d .before)) (class-is d class.Double (c .if5 .taken) (omega arith)))
 
 returns-5 : tie.Need-returns-5
 unfolding chosen
 returns-5 c =
     let d = c .before .before .before .before in
     let s = d .before .before .before .before in
-    c .sign .ensures ∙ told-class (s .args .whole) (s .args .text .now) (s .args .at) (d .before .before .if1 .left) 7 (class-is d 7 (c .before .if5 .taken) (omega arith))
+    c .sign .ensures ∙ told-class (s .args .whole) (s .args .text .now) (s .args .at) (d .before .before .if1 .left) class.Double (class-is d class.Double (c .before .if5 .taken) (omega arith))
 
 number-requires : tie.Need-number-requires
 number-requires c κs =
     let d = c .before .before .before .before in
-    rw add-zero (d .before .before .if1 .left, class-digit (byteAt d) (byte (d .before)) (class-is d 3 (c .if6 .taken) (omega arith)))
+    rw add-zero (d .before .before .if1 .left, class-digit (byteAt d) (byte (d .before)) (class-is d class.Digit (c .if6 .taken) (omega arith)))
 
 returns-6 : tie.Need-returns-6
 unfolding chosen
 returns-6 c =
     let d = c .before .before .before .before .before in
     let s = d .before .before .before .before in
-    c .number .ensures ∙ told-class (s .args .whole) (s .args .text .now) (s .args .at) (d .before .before .if1 .left) 3 (class-is d 3 (c .before .if6 .taken) (omega arith))
+    c .number .ensures ∙ told-class (s .args .whole) (s .args .text .now) (s .args .at) (d .before .before .if1 .left) class.Digit (class-is d class.Digit (c .before .if6 .taken) (omega arith))
 
 rare-requires : tie.Need-rare-requires
 rare-requires c κs =

@@ -2,6 +2,7 @@
 use mathlib.Core.Path.{_≡_, refl, sym, _∙_}
 use Prim.Native.Nat.{ℕ, _<_}
 use lib.ListN.{getD}
+use Rattle.scan_words.specs.Class as class
 use Rattle.scan_words.specs.Class.{classOf}
 use Rattle.scan_words.proofs.Marks.{class-slash, class-dash, class-quote}
 use Rattle.scan_reader.specs.Brief.{refusalCode}
@@ -37,28 +38,28 @@ returns : tie.Need-returns
 returns c =
     let k = c .before .before in
     let s = k .before in
-    c .told .ensures ∙ sym (told-blank (s .args .whole) (s .args .text .now) (s .args .at) (s .pre .0) (class-is k 1 (c .before .match .keys1)))
+    c .told .ensures ∙ sym (told-blank (s .args .whole) (s .args .text .now) (s .args .at) (s .pre .0) (class-is k class.Blank (c .before .match .keys1)))
 
 returns-2 : tie.Need-returns-2
 unfolding chosen
 returns-2 c =
     let k = c .before .before in
     let s = k .before in
-    c .slash .ensures ∙ told-class (s .args .whole) (s .args .text .now) (s .args .at) (s .pre .0) 4 (class-is k 4 (c .before .match .keys2))
+    c .slash .ensures ∙ told-class (s .args .whole) (s .args .text .now) (s .args .at) (s .pre .0) class.Slash (class-is k class.Slash (c .before .match .keys2))
 
 returns-3 : tie.Need-returns-3
 unfolding chosen
 returns-3 c =
     let k = c .before .before in
     let s = k .before in
-    c .dash .ensures ∙ told-class (s .args .whole) (s .args .text .now) (s .args .at) (s .pre .0) 5 (class-is k 5 (c .before .match .keys3))
+    c .dash .ensures ∙ told-class (s .args .whole) (s .args .text .now) (s .args .at) (s .pre .0) class.Dash (class-is k class.Dash (c .before .match .keys3))
 
 returns-4 : tie.Need-returns-4
 unfolding chosen
 returns-4 c =
     let k = c .before .before in
     let s = k .before in
-    c .string .ensures ∙ told-class (s .args .whole) (s .args .text .now) (s .args .at) (s .pre .0) 6 (class-is k 6 (c .before .match .keys4))
+    c .string .ensures ∙ told-class (s .args .whole) (s .args .text .now) (s .args .at) (s .pre .0) class.Quote (class-is k class.Quote (c .before .match .keys4))
 
 returns-5 : tie.Need-returns-5
 unfolding refusalCode
