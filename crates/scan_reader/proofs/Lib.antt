@@ -6,3 +6,4 @@ pub mod Signs
 pub mod Strings
 pub mod Items
 pub mod Reasons
+pub mod Told

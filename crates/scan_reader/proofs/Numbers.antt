@@ -170,10 +170,10 @@ module _ (t : List ℕ) (a m : ℕ) (i : a + m < length t) (g : isDigit (getD t 
     abbrev numeral : Piece
     numeral = number negative m (drop m (drop a t))
 
-    none-is : d .end ≡ from → numeral ≡ refused NoHexDigit (from - a) (from - a)
+    pub none-is : d .end ≡ from → numeral ≡ refused NoHexDigit (from - a) (from - a)
     none-is z = rw (← size-is) (none-at t a m i g negative h x (end-is z))
 
-    some-is : (d .end ≡ from → ⊥) → numeral ≡ numberOf negative (d .end - a) (d .value)
+    pub some-is : (d .end ≡ from → ⊥) → numeral ≡ numberOf negative (d .end - a) (d .value)
     some-is z = rw d-is (some-at t a m i g negative h x (λ y. z (begin-is y)))
 
     number-at : a + decidedAt numeral ≡ d .end

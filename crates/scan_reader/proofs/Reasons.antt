@@ -1,14 +1,14 @@
 -- A refusal's code is one reason's.
 use mathlib.Core.Path.{_≡_, refl, sym, ap, _∙_}
 use mathlib.Core.Bool.{cond}
-use Prim.Native.Nat.{ℕ, _≤_}
+use Prim.Native.Nat.{ℕ, _<_}
 use native.Mathlib.Omega.{arith}
 use lib.Dec.{eqb}
 use Rattle.rules.specs.declared.Lexical.{Lexical}
 use Rattle.rules.specs.declared.Lexical.the-variants.{NoRowBegins, LoneSign, NoHexDigit, OpenComment, OpenString, BadEscape, NumberTooLarge}
 use Rattle.scan_reader.specs.Brief.{Unknown, refusalCode}
 
-pub code-least : (why : Lexical) → Unknown ≤ refusalCode why
+pub code-least : (why : Lexical) → Unknown < refusalCode why
 unfolding refusalCode
 code-least NoRowBegins = omega arith
 code-least LoneSign = omega arith

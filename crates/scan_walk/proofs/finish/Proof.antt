@@ -4,24 +4,12 @@ use Prim.Native.Nat.{ℕ, _<_}
 use native.Mathlib.Omega.{arith}
 use borrow.Author.Needs.{needs}
 use native.Mathlib.Nat.{add-zero}
-use Rattle.rules.specs.declared.Lexical.{Lexical}
-use Rattle.rules.specs.declared.Lexical.the-variants.{NoRowBegins, LoneSign, NoHexDigit, OpenComment, OpenString, BadEscape, NumberTooLarge}
 use Rattle.rules.specs.Rows.{eofRow}
-use Rattle.scan_reader.specs.Brief.{End, Unknown, refusalCode}
+use Rattle.scan_reader.specs.Brief.{End, Unknown}
+use Rattle.scan_reader.proofs.Reasons.{code-least}
 use Rattle.scan_walk.specs.Walk.{rowOf, placed, Finished}
 use Rattle.scan_walk.proofs.finish.Statement.{statement}
 use Rattle.scan_walk.proofs.finish.Tie as tie
-
--- a refusal's number is above both
-refusal-above : (why : Lexical) → Unknown < refusalCode why
-unfolding refusalCode
-refusal-above NoRowBegins = omega arith
-refusal-above LoneSign = omega arith
-refusal-above NoHexDigit = omega arith
-refusal-above OpenComment = omega arith
-refusal-above OpenString = omega arith
-refusal-above BadEscape = omega arith
-refusal-above NumberTooLarge = omega arith
 
 no : {A : Type 0} → ⊥ → A
 no e = absurd e
@@ -45,7 +33,7 @@ returns c =
     record {
       end = λ k. (refl, c .before .before .put-behind .ensures ∙ rw add-zero);
       unknown = λ k. no (apart (omega arith) (sym e ∙ k));
-      refused = λ why k. no (apart (omega (arith, refusal-above why)) (sym e ∙ k));
+      refused = λ why k. no (apart (omega (arith, code-least why)) (sym e ∙ k));
     }
 
 returns-2 : tie.Need-returns-2
@@ -54,7 +42,7 @@ returns-2 c =
     record {
       end = λ k. no (c .before .if1 .left k);
       unknown = λ k. (refl, refl);
-      refused = λ why k. no (apart (omega (arith, refusal-above why)) (sym e ∙ k));
+      refused = λ why k. no (apart (omega (arith, code-least why)) (sym e ∙ k));
     }
 
 cast-onward : tie.Need-cast-onward

@@ -179,8 +179,8 @@ stands-behind c =
 table-requires : tie.Need-table-requires Inv-loop μ-loop
 table-requires c κs = search needs
 
-slots-requires : tie.Need-slots-requires Inv-loop μ-loop
-slots-requires c κs = search needs
+table-requires-2 : tie.Need-table-requires-2 Inv-loop μ-loop
+table-requires-2 c κs = search needs
 
 loop-holds : tie.Need-loop-holds Inv-loop μ-loop
 loop-holds c =
@@ -210,7 +210,7 @@ brief-requires : tie.Need-brief-requires Inv-loop μ-loop
 brief-requires c κs =
     let f = c .before .before .before in
     let l = head f in
-    ((l .before .before .table .ensures, l .before .slots .ensures), found f .inside)
+    ((l .before .before .table .ensures, l .before .table2 .ensures), found f .inside)
 
 finish-requires : tie.Need-finish-requires Inv-loop μ-loop
 finish-requires c κs =
@@ -273,7 +273,7 @@ walk-spec =
     Inv-loop
     μ-loop
     table-requires
-    slots-requires
+    table-requires-2
     loop-holds
     past-blanks-requires
     find-requires
