@@ -1,5 +1,4 @@
 -- What an edit tells and leaves, by the order of its refusals.
--- the pass tells a short window
 use mathlib.Core.Path.{_≡_, refl, sym, ap, subst, _∙_}
 use mathlib.Core.Bool.{Bool, true, false, _&&_}
 use mathlib.Core.List.{List, _++_}
@@ -14,27 +13,18 @@ use Rattle.rules.specs.declared.Table.{Table}
 use Rattle.rules.specs.declared.Told.{Told}
 use Rattle.rules.specs.declared.Told.the-variants.{Refused}
 use Rattle.rules.specs.Text.{mostBytes, startPlace, validBytes, over}
-use Rattle.rules.specs.Rows.{Row, rowsIn, wellFormed}
+use Rattle.rules.specs.Rows.{rowsIn, wellFormed}
 use Rattle.rules.specs.Scan.{told, laid}
-use Rattle.rules.specs.Edit.{Seen, sees, over′, met, short, isShort, kept, lastEnd, restart, newLength, sensible, ends, windowShort, newRows, newEnding, editTold, editLeaves}
+use Rattle.rules.specs.Edit.{isShort, kept, lastEnd, restart, newLength, sensible, ends, windowShort, newRows, newEnding, editTold, editLeaves}
 use Rattle.laws.proofs.Tests.{both-true}
 use Rattle.rows.specs.Shape.{rowNo}
 use Rattle.rows.proofs.Inside.{fine}
 use Rattle.laws.proofs.Valid.{is-valid, is-bad}
 use Rattle.edit_carry.specs.Moves.{Ended}
 use Rattle.edit_carry.proofs.Kept.{kept-inside, kept-rows}
-use Rattle.edit_sight.specs.Sight.{sightOf}
 use Rattle.edit.specs.declared.Job.{Job}
-use Rattle.edit.specs.Job.{sensibleAt, jobOf, oldRows, sizeAfter, Tested, Ready, jobSeen, jobRows, jobEnding, jobSight, isShortSight, rereadTold, rereadLeaves}
+use Rattle.edit.specs.Job.{sensibleAt, jobOf, oldRows, sizeAfter, Tested, Ready, jobSeen, jobRows, jobEnding, rereadTold, rereadLeaves}
 use Rattle.edit.proofs.Facts.{ended}
-use Rattle.edit.proofs.Jobs.{sight-same}
-
-short-same : (olds : List Row) (least b : ℕ) (w : List ℕ) (p : Cursor) (x : Seen) → isShort x ≡ isShortSight (sightOf olds least b w p x)
-unfolding isShort sightOf
-short-same olds least b w p (sees r s) = short-same olds least b w p s
-short-same olds least b w p (over′ e) = refl
-short-same olds least b w p (met m) = refl
-short-same olds least b w p short = refl
 
 -- ---- 7, and then the rows
 
@@ -47,9 +37,6 @@ module _ {ws : List ℕ} {j : Job} {w : List ℕ} (r : Ready ws j w) where
   pub whole-by : (x y : ℕ) → x ≡ j .begin .offset .0 → y ≡ sizeAfter j → eqb (x + length w) y ≡ wholeOf
   whole-by x y e f = rw (e, f, r .begin)
 
-  short-by : (whole : Bool) → isShort (jobSeen ws j w whole) ≡ isShortSight (jobSight ws j w whole)
-  short-by whole = short-same (oldRows ws j) (j .a + j .n) (j .b) w (j .begin) (jobSeen ws j w whole) ∙ ap isShortSight (sight-same r whole)
-
   -- the window ends before a + n, or shows too little
   short-window : Bool
   short-window = windowShort (oldRows ws j) (j .table .ending) (j .table .length) (j .a) (j .b) (j .n) w
@@ -58,11 +45,11 @@ module _ {ws : List ℕ} {j : Job} {w : List ℕ} (r : Ready ws j w) where
   unfolding windowShort short-window
   early h = rw (lt-ltb _ _ (subst (λ (p : Cursor). p .offset .0 + length w < j .a + j .n) (r .begin) h))
 
-  late : j .a + j .n ≤ j .begin .offset .0 + length w → (whole : Bool) → whole ≡ wholeOf → short-window ≡ isShortSight (jobSight ws j w whole)
+  late : j .a + j .n ≤ j .begin .offset .0 + length w → (whole : Bool) → whole ≡ wholeOf → short-window ≡ isShort (jobSeen ws j w whole)
   unfolding windowShort short-window jobSeen
   late h whole e =
       rw (le-ltb _ _ (subst (λ (p : Cursor). j .a + j .n ≤ p .offset .0 + length w) (r .begin) h))
-      (ap (λ (q : Bool). isShort (jobSeen ws j w q)) (sym e) ∙ short-by whole)
+      (ap (λ (q : Bool). isShort (jobSeen ws j w q)) (sym e))
 
   module _ (m : ℕ) (new : List ℕ) where
     refused-7 : short-window ≡ true → (Refused WindowShort startPlace 0 ≡ rereadTold ws j w m) × (new ≡ rereadLeaves ws j w new)
@@ -73,10 +60,10 @@ module _ {ws : List ℕ} {j : Job} {w : List ℕ} (r : Ready ws j w) where
     reread-early h = refused-7 (early h)
 
     module _ (h : j .a + j .n ≤ j .begin .offset .0 + length w) (whole : Bool) (e : whole ≡ wholeOf) where
-      pub reread-short : isShortSight (jobSight ws j w whole) ≡ true → (Refused WindowShort startPlace 0 ≡ rereadTold ws j w m) × (new ≡ rereadLeaves ws j w new)
+      pub reread-short : isShort (jobSeen ws j w whole) ≡ true → (Refused WindowShort startPlace 0 ≡ rereadTold ws j w m) × (new ≡ rereadLeaves ws j w new)
       reread-short f = refused-7 (late h whole e ∙ f)
 
-      pub reread-rows : isShortSight (jobSight ws j w whole) ≡ false → (size : ℕ) → size ≡ sizeAfter j → (x : Told) (ys : List ℕ) →
+      pub reread-rows : isShort (jobSeen ws j w whole) ≡ false → (size : ℕ) → size ≡ sizeAfter j → (x : Told) (ys : List ℕ) →
           (x ≡ told size m (kept (j .a) (oldRows ws j) ++ jobRows ws j w whole) (jobEnding ws j w whole)) × (ys ≡ laid (kept (j .a) (oldRows ws j) ++ jobRows ws j w whole) new) →
           (x ≡ rereadTold ws j w m) × (ys ≡ rereadLeaves ws j w new)
       unfolding rereadTold rereadLeaves short-window newRows newEnding jobRows jobEnding jobSeen
