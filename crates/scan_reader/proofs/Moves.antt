@@ -24,7 +24,8 @@ pub onward-more : (t : List ℕ) (s : Spot) (m n : ℕ) → onward t (onward t s
 unfolding onward
 onward-more t s m n = rw (take-add, over-append, drop-drop, add-assoc)
 
-pub onward-one : (t : List ℕ) (s : Spot) → s .at < length t → onward t s 1 ≡ record { at = s .at + 1; cursor = moved (s .cursor) (getD t (s .at) 0) }
+pub onward-one : (t : List ℕ) (s : Spot) → s .at < length t → onward t s 1
+    ≡ record { at = s .at + 1; cursor = moved (s .cursor) (getD t (s .at) 0) }
 unfolding onward over
 onward-one t s h = rw (drop-cons t (s .at) 0 h)
 
@@ -36,7 +37,8 @@ pub ahead-more : (t : List ℕ) (s : Spot) (n : ℕ) → s .at + n ≤ length t 
 unfolding onward
 ahead-more t s n h a =
     let u = take n (drop (s .at) t) in
-    let e : length t - (s .at + n) + length u ≡ length t - s .at = omega (arith, length-take n (drop (s .at) t), length-drop (s .at) t, a .inside) in
+    let e : length t - (s .at + n) + length u ≡ length t - s .at =
+    omega (arith, length-take n (drop (s .at) t), length-drop (s .at) t, a .inside) in
     record { inside = h; roomy = roomy-over (length t - (s .at + n)) (s .cursor) u (rw e (a .roomy)) }
 
 -- how far a line goes at most
