@@ -63,10 +63,6 @@ digitsAt t a m h = digitsOf h (a + m) (drop (a + m) t)
 
 module _ (t : List ℕ) (a m : ℕ) where
   module _ (h : Bool) where
-    pub digits-behind : a ≤ digitsAt t a m h .end
-    unfolding digitsOf
-    digits-behind = omega arith
-
     pub digits-front : m ≤ front notNewline (drop a t) → digitsAt t a m h .end - a ≤ front notNewline (drop a t)
     unfolding digitsOf
     digits-front l =
