@@ -197,7 +197,7 @@ fn each_crate_is_told() {
     let ran = says(said, 0);
     let lines: Vec<&str> = ran.complaints.lines().collect();
     assert!(
-        lines[0].starts_with("check: proving 8 crates, "),
+        lines[0].starts_with("check: proving 10 crates, "),
         "{}",
         lines[0]
     );
