@@ -1,5 +1,5 @@
--- Characters, as the table of RFC 3629 has them: how long one is and what it is made of, and what a longer or a shorter list of bytes has at its
--- front. Nothing else opens the table, `charAt` and `isCut`.
+-- Characters, as the table of RFC 3629 has them: how long one is and what it is made of, and what a longer or a shorter list of bytes
+-- has at its front. Nothing else opens the table, `charAt` and `isCut`.
 use mathlib.Core.Path.{_≡_, refl, ap, sym, _∙_}
 use mathlib.Core.Bool.{Bool, true, false, cond, _&&_, _||_, true≢false}
 use mathlib.Core.List.{List, [], _∷_, _++_}
@@ -266,15 +266,18 @@ cut-lead b s h = line-lead b (omega (arith, cut-is b s h .short))
 -- where neither a character nor a cut one stands, none does, whatever follows
 pub bad-stays : (b : ℕ) (s z : List ℕ) → charAt (b ∷ s) ≡ 0 → isCut (b ∷ s) ≡ false → charAt (b ∷ (s ++ z)) ≡ 0
 unfolding isCut
-bad-stays b s z e h = by (char-front b s) e (eqb (met (lineOf b) (b ∷ s)) (suc (length s))) refl (ltb (suc (length s)) (length (lineOf b))) refl h
+bad-stays b s z e h =
+    by (char-front b s) e (eqb (met (lineOf b) (b ∷ s)) (suc (length s))) refl (ltb (suc (length s)) (length (lineOf b))) refl h
   where
-    same : met (lineOf b) (b ∷ (s ++ z)) ≡ met (lineOf b) (b ∷ s) → (met (lineOf b) (b ∷ s) ≡ length (lineOf b) → ⊥) → charAt (b ∷ (s ++ z)) ≡ 0
+    same : met (lineOf b) (b ∷ (s ++ z)) ≡ met (lineOf b) (b ∷ s) → (met (lineOf b) (b ∷ s) ≡ length (lineOf b) → ⊥)
+        → charAt (b ∷ (s ++ z)) ≡ 0
     same f k = front-none b (s ++ z) (λ g. k (sym f ∙ g))
 
     by : {n : ℕ} → Front b s n → n ≡ 0 → (x : Bool) → eqb (met (lineOf b) (b ∷ s)) (suc (length s)) ≡ x → (y : Bool)
         → ltb (suc (length s)) (length (lineOf b)) ≡ y → (x && y) ≡ false → charAt (b ∷ (s ++ z)) ≡ 0
     by (whole w) e x f y g h = front-char b (s ++ z) (met-back (lineOf b) (b ∷ s) z (omega arith) ∙ w) ∙ e
     by (none k) e false f y g h =
-        same (met-stop (lineOf b) (b ∷ s) z (omega (arith, met-le (lineOf b) (b ∷ s), eqb-false (met (lineOf b) (b ∷ s)) (suc (length s)) f))) k
+        let l : met (lineOf b) (b ∷ s) ≡ suc (length s) → ⊥ = eqb-false _ _ f in
+        same (met-stop (lineOf b) (b ∷ s) z (omega (arith, met-le (lineOf b) (b ∷ s)))) k
     by (none k) e true f false g h = same (met-back (lineOf b) (b ∷ s) z (ltb-false (suc (length s)) (length (lineOf b)) g)) k
     by (none k) e true f true g h = absurd (true≢false h)

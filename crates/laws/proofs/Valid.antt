@@ -140,16 +140,25 @@ unfolding validBytes validFrom
 all-low [] h = refl
 all-low (b ∷ s) h = from-some b s 0 (char-low b s (h 0 (omega arith))) ∙ ap suc (all-low s (λ k l. h (suc k) (omega arith)))
 
+pub valid-nil : valid [] ≡ true
+valid-nil = is-valid [] (omega arith)
+
+pub valid-one : (b : ℕ) → b < 128 → valid (b ∷ []) ≡ true
+unfolding validBytes validFrom
+valid-one b h = is-valid (b ∷ []) (omega (arith, from-some b [] 0 (char-low b [] h)))
+
 -- ---- behind a valid text
 
-from-join : (u : List ℕ) (n : ℕ) (v : List ℕ) → n ≤ length u → validFrom n u ≡ length u → validFrom n (u ++ v) ≡ length u + validFrom 0 v
+from-join : (u : List ℕ) (n : ℕ) (v : List ℕ) → n ≤ length u → validFrom n u ≡ length u
+    → validFrom n (u ++ v) ≡ length u + validFrom 0 v
 unfolding validFrom
 from-join [] zero v h e = sym (zero-add _)
 from-join [] (suc n) v h e = absurd (let y : ⊥ = omega arith in y)
 from-join (b ∷ u) (suc n) v h e = omega (arith, from-join u n v (omega arith) (omega arith))
 from-join (b ∷ u) zero v h e = by (charAt (b ∷ u)) refl (λ n. from-join u n v)
   where
-    by : (m : ℕ) → charAt (b ∷ u) ≡ m → ((n : ℕ) → n ≤ length u → validFrom n u ≡ length u → validFrom n (u ++ v) ≡ length u + validFrom 0 v)
+    by : (m : ℕ) → charAt (b ∷ u) ≡ m
+        → ((n : ℕ) → n ≤ length u → validFrom n u ≡ length u → validFrom n (u ++ v) ≡ length u + validFrom 0 v)
         → validFrom 0 (b ∷ (u ++ v)) ≡ suc (length u) + validFrom 0 v
     by zero f ih = absurd (let y : ⊥ = omega (arith, from-none b u f) in y)
     by (suc n) f ih =
@@ -225,12 +234,14 @@ from-sides (c ∷ x) zero b y h f e = by (charAt (c ∷ (x ++ (b ∷ y)))) refl 
         }
 
     by : (m : ℕ) → charAt (c ∷ (x ++ (b ∷ y))) ≡ m
-        → ((n : ℕ) → n ≤ front isTail (x ++ (b ∷ y)) → validFrom n (x ++ (b ∷ y)) ≡ length (x ++ (b ∷ y)) → Sides n x (b ∷ y)) → Sides 0 (c ∷ x) (b ∷ y)
+        → ((n : ℕ) → n ≤ front isTail (x ++ (b ∷ y)) → validFrom n (x ++ (b ∷ y)) ≡ length (x ++ (b ∷ y)) → Sides n x (b ∷ y))
+        → Sides 0 (c ∷ x) (b ∷ y)
     by zero g ih = absurd (let z : ⊥ = omega (arith, from-none c (x ++ (b ∷ y)) g) in z)
     by (suc n) g ih =
         on n g (ih n (char-tails c (x ++ (b ∷ y)) n g) (omega (arith, from-some c (x ++ (b ∷ y)) n g)))
 
-pub valid-sides : (x : List ℕ) (b : ℕ) (y : List ℕ) → isTail b ≡ false → valid (x ++ (b ∷ y)) ≡ true → (valid x ≡ true) × (valid (b ∷ y) ≡ true)
+pub valid-sides : (x : List ℕ) (b : ℕ) (y : List ℕ) → isTail b ≡ false → valid (x ++ (b ∷ y)) ≡ true
+    → (valid x ≡ true) × (valid (b ∷ y) ≡ true)
 unfolding validBytes
 valid-sides x b y h v =
     let s : Sides 0 x (b ∷ y) = from-sides x 0 b y h (omega arith) (valid-all (x ++ (b ∷ y)) v) in
@@ -258,7 +269,8 @@ from-stop n [] v h e = absurd (true≢false (sym cut-nil ∙ e))
 from-stop (suc n) (b ∷ u) v h e = ap suc (from-stop n u v (omega arith) e)
 from-stop zero (b ∷ u) v h e = by (charAt (b ∷ u)) refl (λ n. from-stop n u v)
   where
-    by : (m : ℕ) → charAt (b ∷ u) ≡ m → ((n : ℕ) → n ≤ length u → isCut (drop (validFrom n u) u) ≡ false → validFrom n (u ++ v) ≡ validFrom n u)
+    by : (m : ℕ) → charAt (b ∷ u) ≡ m
+        → ((n : ℕ) → n ≤ length u → isCut (drop (validFrom n u) u) ≡ false → validFrom n (u ++ v) ≡ validFrom n u)
         → validFrom 0 (b ∷ (u ++ v)) ≡ validFrom 0 (b ∷ u)
     by zero f ih = from-none b (u ++ v) (bad-stays b u v f (rw (from-none b u f) at e)) ∙ sym (from-none b u f)
     by (suc n) f ih =
@@ -286,8 +298,8 @@ cut-stays u v h = by (parted u) h
     by (cut e) h = absurd (let y : ⊥ = omega arith in y)
     by (broken e) h = from-stop 0 u v (omega arith) e
 
--- The last character of a part of a text, which its end may cut: it has four bytes at most, the first of them is no tail, and what stands before it
--- is valid.
+-- The last character of a part of a text, which its end may cut: it has four bytes at most, the first of them is no tail, and what stands
+-- before it is valid.
 pub record Ends (n : ℕ) (t : List ℕ) : Type 0 where
   pub before : List ℕ
   pub lead : ℕ
