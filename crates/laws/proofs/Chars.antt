@@ -1,5 +1,5 @@
 -- Characters, as the table of RFC 3629 has them: how long one is and what it is made of, and what a longer or a shorter list of bytes
--- has at its front. Nothing else opens the table, `charAt` and `isCut`.
+-- has at its front. But for what the code asks of a line, nothing else opens the table, `charAt` and `isCut`.
 use mathlib.Core.Path.{_≡_, refl, ap, sym, _∙_}
 use mathlib.Core.Bool.{Bool, true, false, cond, _&&_, _||_, true≢false}
 use mathlib.Core.List.{List, [], _∷_, _++_}
@@ -8,13 +8,9 @@ use native.Mathlib.Omega.{arith}
 use lib.Dec.{eqb, leb, ltb}
 use lib.ListN.{length}
 use borrow.Author.Tests.{eqb-true, eqb-false, eq-eqb, ne-eqb, ltb-true, ltb-false, leb-true, le-leb}
-use Rattle.rules.specs.Text.{front, within, Range, range, utf8, met, lineIn, lineOf, charAt, isCut}
+use Rattle.rules.specs.Text.{front, within, Range, range, isTail, utf8, met, lineIn, lineOf, charAt, isCut}
 use Rattle.laws.proofs.Tests.{both-true, true-both, false-by}
 use Rattle.laws.proofs.Fronts.{front-in}
-
--- a byte that stands behind a character's first
-abbrev pub isTail : ℕ → Bool
-isTail b = within 0x80 0xBF b
 
 -- ---- bytes in ranges
 
@@ -50,11 +46,11 @@ met-stop (r ∷ rs) (b ∷ s) z h = by (within (r .lo) (r .hi) b) h (met-stop rs
 -- ---- the table's lines
 
 -- each meets a test
-each : (List Range → Bool) → List (List Range) → Bool
+unfoldable pub each : (List Range → Bool) → List (List Range) → Bool
 each p [] = true
 each p (rs ∷ lines) = p rs && each p lines
 
-line-each : (p : List Range → Bool) → p [] ≡ true → (lines : List (List Range)) → each p lines ≡ true → (b : ℕ) → p (lineIn lines b) ≡ true
+pub line-each : (p : List Range → Bool) → p [] ≡ true → (lines : List (List Range)) → each p lines ≡ true → (b : ℕ) → p (lineIn lines b) ≡ true
 unfolding each lineIn
 line-each p e [] h b = e
 line-each p e (rs ∷ lines) h b =
@@ -65,7 +61,7 @@ line-each p e (rs ∷ lines) h b =
     by false ih = ih
 
 -- four bytes at most
-line-four : (b : ℕ) → length (lineOf b) ≤ 4
+pub line-four : (b : ℕ) → length (lineOf b) ≤ 4
 unfolding each utf8
 line-four b = leb-true _ 4 (line-each (λ rs. leb (length rs) 4) refl utf8 refl b)
 
@@ -131,11 +127,11 @@ char-front b s = by (eqb (met (lineOf b) (b ∷ s)) (length (lineOf b))) refl
     by true e = whole (eqb-true _ _ e)
     by false e = none (eqb-false _ _ e)
 
-front-char : (b : ℕ) (s : List ℕ) → met (lineOf b) (b ∷ s) ≡ length (lineOf b) → charAt (b ∷ s) ≡ length (lineOf b)
+pub front-char : (b : ℕ) (s : List ℕ) → met (lineOf b) (b ∷ s) ≡ length (lineOf b) → charAt (b ∷ s) ≡ length (lineOf b)
 unfolding charAt
 front-char b s e = rw (eq-eqb (met (lineOf b) (b ∷ s)) (length (lineOf b)) e)
 
-front-none : (b : ℕ) (s : List ℕ) → (met (lineOf b) (b ∷ s) ≡ length (lineOf b) → ⊥) → charAt (b ∷ s) ≡ 0
+pub front-none : (b : ℕ) (s : List ℕ) → (met (lineOf b) (b ∷ s) ≡ length (lineOf b) → ⊥) → charAt (b ∷ s) ≡ 0
 unfolding charAt
 front-none b s e = rw (ne-eqb (met (lineOf b) (b ∷ s)) (length (lineOf b)) e)
 

@@ -13,9 +13,10 @@ use borrow.Author.Tests.{eqb-true, eqb-false, eq-eqb, ne-eqb, lt-ltb, le-ltb, lt
 use Rattle.rules.specs.declared.Outer.the-variants.{TextTooLong, BadByte}
 use Rattle.rules.specs.declared.Judged.{Judged}
 use Rattle.rules.specs.declared.Judged.the-variants.{Fine, Refused}
-use Rattle.rules.specs.Text.{mostBytes, front, charAt, isCut, validFrom, validBytes, valid, cutBytes, placeAt, startPlace, textJudged}
+use Rattle.rules.specs.Text.{mostBytes, front, isTail, charAt, isCut, validFrom, validBytes, valid, cutBytes, placeAt, startPlace, textJudged}
+use Rattle.rules.specs.Edit.{windowBytes, windowValid}
 use Rattle.laws.proofs.Fronts.{front-out, front-rest}
-use Rattle.laws.proofs.Chars.{isTail, char-nil, char-le, char-four, char-low, char-lead, char-tails, char-join, char-back, cut-nil, cut-three, cut-lead, bad-stays}
+use Rattle.laws.proofs.Chars.{char-nil, char-le, char-four, char-low, char-lead, char-tails, char-join, char-back, cut-nil, cut-three, cut-lead, bad-stays}
 
 -- ---- character by character: the first n bytes belong to the character that was read last
 
@@ -370,3 +371,30 @@ last-char t h e = by (parted t) e
 pub before-valid : {t : List ℕ} (l : Ends 0 t) → valid (l .before) ≡ true
 unfolding validBytes
 before-valid l = is-valid (l .before) (omega (arith, l .valid))
+
+-- ---- a window, which may end the text or not
+
+pub window-whole : (w : List ℕ) → windowBytes true w ≡ validBytes w
+unfolding windowBytes
+window-whole w = refl
+
+pub window-cut : (w : List ℕ) → isCut (drop (validBytes w) w) ≡ true → windowBytes false w ≡ length w
+unfolding windowBytes cutBytes
+window-cut w e = rw e
+
+pub window-broken : (w : List ℕ) → isCut (drop (validBytes w) w) ≡ false → windowBytes false w ≡ validBytes w
+unfolding windowBytes cutBytes
+window-broken w e = rw e
+
+pub window-le : (whole : Bool) (w : List ℕ) → windowBytes whole w ≤ length w
+unfolding windowBytes
+window-le true w = valid-le w
+window-le false w = cut-le w
+
+pub is-window-valid : (whole : Bool) (w : List ℕ) → length w ≤ windowBytes whole w → windowValid whole w ≡ true
+unfolding windowValid
+is-window-valid whole w h = eq-eqb (windowBytes whole w) (length w) (omega (arith, window-le whole w))
+
+pub is-window-bad : (whole : Bool) (w : List ℕ) → windowBytes whole w < length w → windowValid whole w ≡ false
+unfolding windowValid
+is-window-bad whole w h = ne-eqb (windowBytes whole w) (length w) (λ e. omega arith)

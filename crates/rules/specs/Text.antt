@@ -43,6 +43,9 @@ range lo hi = record { lo = lo; hi = hi }
 abbrev pub tail : Range
 tail = range 0x80 0xBF
 
+abbrev pub isTail : ℕ → Bool
+isTail b = within (tail .lo) (tail .hi) b
+
 -- a line for each way to make a character: a range for each of its bytes
 unfoldable pub utf8 : List (List Range)
 utf8 =

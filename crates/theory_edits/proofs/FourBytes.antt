@@ -15,9 +15,8 @@ use lib.Dec.{eqb}
 use lib.ListN.{length, drop, take, length-append, take-append-drop}
 use lib.Seq.{take-append-le, length-take-le, drop-drop, drop-append-seam, drop-append-add}
 use borrow.Author.Tests.{eqb-true, eqb-false}
-use Rattle.rules.specs.Text.{validBytes, valid, cutBytes, placeAt, over}
+use Rattle.rules.specs.Text.{isTail, validBytes, valid, cutBytes, placeAt, over}
 use Rattle.rules.specs.Edit.{restart, judging, windowBytes, windowValid}
-use Rattle.laws.proofs.Chars.{isTail}
 use Rattle.laws.proofs.Valid.{valid-all, valid-le, is-valid, valid-join, valid-both, valid-sides, cut-le, cut-stays, Ends, last-char, before-valid}
 use Rattle.theory_edits.specs.Change.{Change, oldText, newText, a, n, oldRows, starts, stops, Window, Unjudged, endsText}
 use Rattle.theory_edits.proofs.Places.{place-window}

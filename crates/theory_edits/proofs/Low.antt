@@ -12,7 +12,7 @@ use lib.Seq.{take-length, take-add}
 use borrow.Author.Tests.{eqb-true, eq-eqb, leb-true, lt-leb, ltb-true}
 use Rattle.rules.specs.declared.Cursor.{Cursor}
 use Rattle.rules.specs.declared.Lexical.{Lexical}
-use Rattle.rules.specs.Text.{isBlank, placeAt, startPlace, valid}
+use Rattle.rules.specs.Text.{isTail, isBlank, placeAt, startPlace, valid}
 use Rattle.rules.specs.Kinds
 use Rattle.rules.specs.Kinds.{Spelt, signs, sameBytes, kindIn}
 use Rattle.rules.specs.Lex.{isDigit, isLetter, isWord, isHexDigit, isEscape, largest, isLone, maybeTwo}
@@ -21,7 +21,6 @@ use Rattle.rules.specs.Scan.{Reading, put, ends, stops, readRows, scan}
 use Rattle.rules.specs.Edit.{kept, endPlace, lastEnd, restart}
 use Rattle.laws.proofs.Tests.{both-true, either}
 use Rattle.laws.proofs.Spelled.{same-eq}
-use Rattle.laws.proofs.Chars.{isTail}
 use Rattle.laws.proofs.Valid.{valid-both, valid-sides, valid-nil, valid-one}
 use Rattle.theory_machine.specs.Machine.{Token, St, gap, slash, line, block, star, minus, str, esc, two, name, zer, hex0, dec, hex, Spot, First, go, clear, over, bad, Move, fresh, on, back, Last, clean, ended, cut, number, numberEnd, oneSign, twoSign, begin, step, finish, after, move, close, run, scanBytes}
 use Rattle.theory_machine.proofs.Same.{same-scan}
