@@ -7,14 +7,14 @@ use Prim.Native.Nat.{ℕ, suc, _≤_, _<_}
 use native.Mathlib.Omega.{arith}
 use lib.Dec.{eqb, leb, ltb}
 use lib.ListN.{length}
-use borrow.Author.Tests.{eqb-true, eqb-false, eq-eqb, ne-eqb, ltb-true, ltb-false, leb-true, le-leb}
+use borrow.Author.Tests.{eqb-true, eqb-false, eq-eqb, ne-eqb, lt-ltb, ltb-true, ltb-false, leb-true, le-leb}
 use Rattle.rules.specs.Text.{front, within, Range, range, isTail, utf8, met, lineIn, lineOf, charAt, isCut}
 use Rattle.laws.proofs.Tests.{both-true, true-both, false-by}
 use Rattle.laws.proofs.Fronts.{front-in}
 
 -- ---- bytes in ranges
 
-met-le : (rs : List Range) (s : List ℕ) → met rs s ≤ length s
+pub met-le : (rs : List Range) (s : List ℕ) → met rs s ≤ length s
 unfolding met
 met-le [] s = omega arith
 met-le (r ∷ rs) [] = omega arith
@@ -32,7 +32,7 @@ met-back (r ∷ rs) [] z h = absurd (let y : ⊥ = omega arith in y)
 met-back (r ∷ rs) (b ∷ s) z h = ap (λ (n : ℕ). cond (within (r .lo) (r .hi) b) (suc n) 0) (met-back rs s z (omega arith))
 
 -- nor what stands behind a byte that does not lie in its range
-met-stop : (rs : List Range) (s z : List ℕ) → met rs s < length s → met rs (s ++ z) ≡ met rs s
+pub met-stop : (rs : List Range) (s z : List ℕ) → met rs s < length s → met rs (s ++ z) ≡ met rs s
 unfolding met
 met-stop [] s z h = refl
 met-stop (r ∷ rs) [] z h = absurd (let y : ⊥ = omega arith in y)
@@ -50,7 +50,8 @@ unfoldable pub each : (List Range → Bool) → List (List Range) → Bool
 each p [] = true
 each p (rs ∷ lines) = p rs && each p lines
 
-pub line-each : (p : List Range → Bool) → p [] ≡ true → (lines : List (List Range)) → each p lines ≡ true → (b : ℕ) → p (lineIn lines b) ≡ true
+pub line-each : (p : List Range → Bool) → p [] ≡ true → (lines : List (List Range)) → each p lines ≡ true → (b : ℕ)
+    → p (lineIn lines b) ≡ true
 unfolding each lineIn
 line-each p e [] h b = e
 line-each p e (rs ∷ lines) h b =
@@ -134,6 +135,18 @@ front-char b s e = rw (eq-eqb (met (lineOf b) (b ∷ s)) (length (lineOf b)) e)
 pub front-none : (b : ℕ) (s : List ℕ) → (met (lineOf b) (b ∷ s) ≡ length (lineOf b) → ⊥) → charAt (b ∷ s) ≡ 0
 unfolding charAt
 front-none b s e = rw (ne-eqb (met (lineOf b) (b ∷ s)) (length (lineOf b)) e)
+
+-- where one stands, all of its line is met
+pub record Whole (b : ℕ) (s : List ℕ) : Type 0 where
+  pub all : met (lineOf b) (b ∷ s) ≡ length (lineOf b)
+  pub size : charAt (b ∷ s) ≡ length (lineOf b)
+
+pub char-whole : (b : ℕ) (s : List ℕ) → 0 < charAt (b ∷ s) → Whole b s
+char-whole b s h = by (char-front b s) h
+  where
+    by : {n : ℕ} → Front b s n → 0 < n → Whole b s
+    by (whole e) h = record { all = e; size = front-char b s e }
+    by (none k) h = absurd (let y : ⊥ = omega arith in y)
 
 pub char-nil : charAt [] ≡ 0
 unfolding charAt
@@ -242,11 +255,15 @@ pub cut-nil : isCut [] ≡ true
 unfolding isCut
 cut-nil = refl
 
-record Cut (b : ℕ) (s : List ℕ) : Type 0 where
-  all : met (lineOf b) (b ∷ s) ≡ suc (length s)
-  short : suc (length s) < length (lineOf b)
+pub record Cut (b : ℕ) (s : List ℕ) : Type 0 where
+  pub all : met (lineOf b) (b ∷ s) ≡ suc (length s)
+  pub short : suc (length s) < length (lineOf b)
 
-cut-is : (b : ℕ) (s : List ℕ) → isCut (b ∷ s) ≡ true → Cut b s
+pub is-cut : (b : ℕ) (s : List ℕ) → Cut b s → isCut (b ∷ s) ≡ true
+unfolding isCut
+is-cut b s c = true-both (eq-eqb _ _ (c .all)) (lt-ltb _ _ (c .short))
+
+pub cut-is : (b : ℕ) (s : List ℕ) → isCut (b ∷ s) ≡ true → Cut b s
 unfolding isCut
 cut-is b s h =
     let i = both-true (eqb (met (lineOf b) (b ∷ s)) (suc (length s))) (ltb (suc (length s)) (length (lineOf b))) h in

@@ -59,8 +59,9 @@ module _ (b : ℕ) (h : b < 256) where
 
   pub size-above : 0xF5 ≤ b → length (lineOf b) ≡ 0
   size-above lo =
-      size-is
-      ∙ rw (le-ltb b 0x80 (omega arith), le-ltb b 0xC2 (omega arith), le-ltb b 0xE0 (omega arith), le-ltb b 0xF0 (omega arith), le-ltb b 0xF5 lo)
+      let k : 0xE0 ≤ b = omega arith in
+      let l : 0xF0 ≤ b = omega arith in
+      size-is ∙ rw (le-ltb b 0x80 (omega arith), le-ltb b 0xC2 (omega arith), le-ltb b 0xE0 k, le-ltb b 0xF0 l, le-ltb b 0xF5 lo)
 
   seconds : (eqb (second (lineOf b) .lo) (lowOf b) && eqb (second (lineOf b) .hi) (highOf b)) ≡ true
   unfolding right
