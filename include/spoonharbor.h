@@ -11,8 +11,8 @@
  * the same time. Parts of memory that are lent for writing must overlap neither each other nor what is lent for reading. A length of 0 is
  * fine (with any pointer that is not null). Lengths of rows and nodes are lent in words, not in rows or bytes.
  *
- * An answer is eight words, always all written. A table (what stands beside rows) is lent in the words in which a scan or an edit told
- * it, so keep them as they are.
+ * An answer is eight words, always all written. A table (what stands beside rows) is lent in the words in which a scan, a change or an edit
+ * told it, so keep them as they are.
  *
  * Room. A text of n bytes has at most n + 1 rows, since every row but the text's end has a byte: SH_ROW_ROOM(n) words hold them. A tree has
  * at most as many nodes as the text has rows: SH_NODE_ROOM(rows) words suffice, and a parse asks for them.
@@ -32,7 +32,7 @@ extern "C" {
 
 /* This header's version, a byte for each part. `spoonharbor_version()` tells the archive's: hold them together once at the start. */
 #define SPOONHARBOR_VERSION_MAJOR 0
-#define SPOONHARBOR_VERSION_MINOR 2
+#define SPOONHARBOR_VERSION_MINOR 3
 #define SPOONHARBOR_VERSION_PATCH 0
 #define SPOONHARBOR_VERSION (SPOONHARBOR_VERSION_MAJOR * 65536u + SPOONHARBOR_VERSION_MINOR * 256u + SPOONHARBOR_VERSION_PATCH)
 
@@ -48,7 +48,7 @@ enum sh_answer_word {
     SH_FIRST = 4,  /* SH_REFUSED_WANTED: the kind that was wanted; SH_REFUSED_MAP_LACKS: the field; spelling: start; sets: the number */
     SH_SECOND = 5, /* SH_REFUSED_WANTED: the kind that was found; spelling: end */
     SH_COUNT = 6,  /* rows or nodes written */
-    SH_LENGTH = 7, /* scan, edit: the text's length; 0 where refused below 11 */
+    SH_LENGTH = 7, /* scan, change, edit: the text's length; 0 where refused below 11 */
     SH_WORDS = 8
 };
 
@@ -283,9 +283,16 @@ void spoonharbor_spelling(const uint8_t *text, size_t text_length, const uint32_
 void spoonharbor_parse(const uint8_t *text, size_t text_length, const uint32_t *rows, size_t row_words, const uint32_t table[SH_WORDS],
                        uint32_t *nodes, size_t node_words, uint32_t answer[SH_WORDS]);
 
-/* Old bytes a to b (b not included) became n new ones. The window is a part of the new text that starts at the restart place (offset
- * `start`). The new table is that of a fresh scan of the new text, or 7: show a longer window. Refusals in this order: 3, 6, 1, 2, 7,
- * which leave the new rows untouched, then 4 or 11 to 15 as a scan gives them.
+/* Old bytes a to b (b not included) became n new ones, and the text is all of the new text. The new table is that of a fresh scan of it. One
+ * call suffices: it finds the restart place itself, and never says 7. Refusals in this order: 3, 6 (a > b, b past the old text, or the text
+ * is not as long as the change makes it), 1, 2 (of the bytes from the restart place on), which leave the new rows untouched, then 4 or 11
+ * to 15 as a scan gives them. The text before the restart place is taken to be the old one's. */
+void spoonharbor_change(const uint32_t *old_rows, size_t old_words, const uint32_t table[SH_WORDS], uint32_t a, uint32_t b, uint32_t n,
+                        const uint8_t *text, size_t text_length, uint32_t *new_rows, size_t new_words, uint32_t answer[SH_WORDS]);
+
+/* The same for whoever does not hold the whole new text. The window is a part of it that starts at the restart place (offset `start`). The
+ * new table is that of a fresh scan of the new text, or 7: show a longer window. Refusals in this order: 3, 6, 1, 2, 7, which leave the new
+ * rows untouched, then 4 or 11 to 15 as a scan gives them.
  *
  * How long a window: it must show all new bytes, and some way behind them (256 bytes mostly suffice). As long as the answer is 7, show
  * four times as much behind the new bytes, up to the text's end: a window to the text's end is never 7. Each call costs a pass over the

@@ -6,7 +6,7 @@ use compare::deep::on_deep_stack;
 use compare::edits::worked;
 use compare::generate::random::Random;
 use compare::generate::{lengths, sample_texts, short};
-use compare::model::edit::{edit, restart, Change};
+use compare::model::edit::{change as changed, edit, restart, Change};
 use compare::model::parse::{parse, section_kind};
 use compare::model::table::Lent;
 use compare::model::{row_words, scan::scan, Told};
@@ -99,6 +99,7 @@ fn hold_edit_against_scan(old: &[u8], a: usize, b: usize, new_bytes: &[u8]) {
         }
     }
     assert!(was_enough);
+    assert_eq!(changed(lent, change, &new, usize::MAX), fresh);
 }
 
 #[test]

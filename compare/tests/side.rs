@@ -44,6 +44,14 @@ fn edits_are_fresh_scans() {
             "{number}"
         );
     }
+    for number in [0, 1, 2, 4, 6] {
+        assert!(
+            counts.get(&format!("any change, answered {number}")) > 0,
+            "{number}"
+        );
+    }
+    assert_eq!(counts.get("any change, answered 7"), 0);
+    assert!(counts.get("changes") > 10_000);
 }
 
 #[test]

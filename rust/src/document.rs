@@ -8,12 +8,6 @@ use crate::LONGEST_TEXT;
 use std::fmt;
 use std::ops::Range;
 
-/// How many bytes behind the new ones the first window of an edit shows.
-const FIRST_WINDOW: usize = 256;
-
-/// How many times longer each further window is.
-const WINDOW_GROWTH: usize = 4;
-
 /// An open text and its rows. The text is ASCII and has at most 65,536 bytes; the rows are always those of a fresh reading.
 ///
 /// Two documents are equal if their texts, rows and refusals are.
@@ -22,7 +16,7 @@ pub struct Document {
     text: String,
     /// The rows' words, and behind them room that no row has.
     rows: Vec<u32>,
-    /// Where the next edit writes; it then changes places with `rows`.
+    /// Where the next change writes; it then changes places with `rows`.
     spare: Vec<u32>,
     /// What stands beside the rows, in the words in which the library told it.
     table: Words,
@@ -97,33 +91,16 @@ impl Document {
     /// the document is then as it was.
     pub fn replace(&mut self, range: Range<usize>, new_bytes: &[u8]) -> Result<(), Refusal> {
         let change = self.change(&range, new_bytes.len())?;
-        let restart = lent::restart(self.row_words(), &self.table, change.a);
-        if let Some(refusal) = Refusal::from_words(&restart) {
-            return Err(refusal);
-        }
-        let new_length = self.text.len() - range.len() + new_bytes.len();
-        let words = room_for(new_length);
+        let text = changed(self.text.as_bytes(), range, new_bytes);
+        let words = room_for(text.len());
         if self.spare.len() < words {
             self.spare.resize(words, 0);
         }
-        let start = restart[lent::OFFSET];
-        let window = Window::new(&self.text, start as usize, range.clone(), new_bytes);
-        let table = edited(
-            Old {
-                rows: written(&self.rows, &self.table),
-                table: &self.table,
-            },
-            change,
-            start,
-            window,
-            &mut self.spare,
-        )?;
-        // The library has seen the new bytes in a window, and they are ASCII then, as the text is.
-        let new_text = std::str::from_utf8(new_bytes).map_err(|_| at_start(Reason::BadByte))?;
-        if self.text.get(range.clone()).is_none() {
-            return Err(at_start(Reason::EditNotSensible));
-        }
-        self.text.replace_range(range, new_text);
+        let rows = written(&self.rows, &self.table);
+        let table = lent::change(rows, &self.table, change, &text, &mut self.spare);
+        taken(&table)?;
+        // The library has taken the text, which is ASCII then.
+        self.text = String::from_utf8(text).map_err(|_| at_start(Reason::BadByte))?;
         self.table = table;
         std::mem::swap(&mut self.rows, &mut self.spare);
         Ok(())
@@ -173,67 +150,11 @@ impl fmt::Debug for Document {
     }
 }
 
-/// The table before an edit.
-struct Old<'a> {
-    rows: &'a [u32],
-    table: &'a Words,
-}
-
-/// The table behind an edit, whose rows then are in `new`; longer windows are shown until one suffices, as one to the text's
-/// end does.
-fn edited(
-    old: Old,
-    change: Change,
-    start: u32,
-    mut window: Window,
-    new: &mut [u32],
-) -> Result<Words, Refusal> {
-    loop {
-        let answer = lent::edit(old.rows, old.table, change, start, &window.bytes, new);
-        match taken(&answer) {
-            Err(refusal) if refusal.reason == Reason::WindowShort && window.grow() => {}
-            Err(refusal) => return Err(refusal),
-            Ok(()) => return Ok(answer),
-        }
-    }
-}
-
-/// A part of the new text, which need not be there as a whole: it starts at the restart place, and goes some way behind the
-/// new bytes.
-struct Window<'a> {
-    bytes: Vec<u8>,
-    /// The old text's bytes behind what the window shows.
-    rest: &'a [u8],
-    /// How many of them the window showed last behind the new ones.
-    shown: usize,
-}
-
-impl<'a> Window<'a> {
-    fn new(old: &'a str, start: usize, range: Range<usize>, new_bytes: &[u8]) -> Window<'a> {
-        let old = old.as_bytes();
-        let mut window = Window {
-            bytes: [old.get(start..range.start).unwrap_or_default(), new_bytes].concat(),
-            rest: old.get(range.end..).unwrap_or_default(),
-            shown: 0,
-        };
-        window.show(FIRST_WINDOW);
-        window
-    }
-
-    fn show(&mut self, count: usize) {
-        let count = count.min(self.rest.len());
-        let (more, rest) = self.rest.split_at(count);
-        self.bytes.extend_from_slice(more);
-        self.rest = rest;
-        self.shown += count;
-    }
-
-    /// Makes the window longer; false if it ends the text already.
-    fn grow(&mut self) -> bool {
-        let goes_on = !self.rest.is_empty();
-        self.show(self.shown * (WINDOW_GROWTH - 1));
-        goes_on
-    }
+/// A text with new bytes in the place of those in `range`.
+fn changed(text: &[u8], range: Range<usize>, new_bytes: &[u8]) -> Vec<u8> {
+    let before = text.get(..range.start).unwrap_or_default();
+    let behind = text.get(range.end..).unwrap_or_default();
+    [before, new_bytes, behind].concat()
 }
 
 /// The words of the rows that a table has.
@@ -247,7 +168,7 @@ fn room_for(length: usize) -> usize {
     (length + 1) * ROW_WORDS
 }
 
-/// Whether an answer of a scan or an edit is a table, which may end in a refusal from 11 on.
+/// Whether an answer of a scan or a change is a table, which may end in a refusal from 11 on.
 fn taken(answer: &Words) -> Result<(), Refusal> {
     match Refusal::from_words(answer) {
         Some(refusal) if refusal.number() < 11 => Err(refusal),

@@ -1,7 +1,7 @@
 //! The library's calls over lent slices, as they are: every answer is eight words in the layout below.
 //!
 //! Every call answers for every argument, so nothing here can go wrong but what the answer says. Lengths travel with the
-//! slices; a table is lent in the words in which [`scan`] or [`edit`] told it.
+//! slices; a table is lent in the words in which [`scan`], [`change`] or [`edit`] told it.
 
 use crate::ffi;
 
@@ -22,7 +22,7 @@ pub const FIRST: usize = 4;
 pub const SECOND: usize = 5;
 /// How many rows or nodes were written.
 pub const COUNT: usize = 6;
-/// The text's length; 0 where a scan or an edit is refused below 11.
+/// The text's length; 0 where a scan, a change or an edit is refused below 11.
 pub const LENGTH: usize = 7;
 
 /// The words of a row: kind, start, end, line, column, value low, value high, zero.
@@ -107,7 +107,7 @@ pub fn parse(text: &[u8], rows: &[u32], table: &Words, nodes: &mut [u32]) -> Wor
     answer
 }
 
-/// What an edit did: old bytes `a` to `b` (`b` not included) became `n` new ones.
+/// What became of a text: old bytes `a` to `b` (`b` not included) became `n` new ones.
 #[derive(Debug, Clone, Copy, PartialEq, Eq)]
 pub struct Change {
     pub a: u32,
@@ -115,8 +115,31 @@ pub struct Change {
     pub n: u32,
 }
 
-/// Writes the new table behind a change. The window is a part of the new text that starts at the restart place, whose offset
-/// is `start`. 7: show a longer window.
+/// Writes the new table behind a change, by all of the new text: that of a fresh scan. It is never 7, and 6 also where the text
+/// is not as long as the change makes it.
+pub fn change(old: &[u32], table: &Words, change: Change, text: &[u8], new: &mut [u32]) -> Words {
+    let mut answer = [0; 8];
+    // SAFETY: `old`, `table` and `text` are lent for reading, `new` and `answer` for writing, with their own lengths.
+    unsafe {
+        ffi::spoonharbor_change(
+            old.as_ptr(),
+            old.len(),
+            table,
+            change.a,
+            change.b,
+            change.n,
+            text.as_ptr(),
+            text.len(),
+            new.as_mut_ptr(),
+            new.len(),
+            &mut answer,
+        );
+    }
+    answer
+}
+
+/// The same by a part of the new text, for whoever does not hold all of it. The window is a part that starts at the restart
+/// place, whose offset is `start`. 7: show a longer window.
 pub fn edit(
     old: &[u32],
     table: &Words,

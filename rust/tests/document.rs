@@ -233,9 +233,9 @@ fn a_refused_replacement_changes_nothing() {
     assert_eq!(document, Document::open(document.text()).unwrap());
 }
 
-/// An edit whose end is far behind every first window.
+/// A change whose end is far behind the new bytes.
 #[test]
-fn windows_grow_as_far_as_needed() {
+fn changes_reach_as_far_as_needed() {
     let mut text = "a /* b */ ".to_string();
     text.push_str(&"c ".repeat(20_000));
     text.push_str("*/ d");

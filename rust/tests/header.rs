@@ -383,11 +383,12 @@ fn names_behind(text: &str, beginning: &str) -> BTreeSet<String> {
 /// What the crate `spoonharbor` exports is what the header declares and what this crate calls.
 #[test]
 fn every_call_is_declared() {
-    let exported = names_behind(
+    let sources = [
         include_str!("../../crates/spoonharbor/src/lib.rt"),
-        "pub extern \"C\" fn ",
-    );
-    assert_eq!(exported.len(), 10);
+        include_str!("../../crates/spoonharbor/src/change.rt"),
+    ];
+    let exported = names_behind(&sources.concat(), "pub extern \"C\" fn ");
+    assert_eq!(exported.len(), 11);
     let called = names_behind(include_str!("../src/ffi.rs"), "pub fn ");
     assert_eq!(called, exported);
     let code = code();

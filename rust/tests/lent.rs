@@ -64,6 +64,8 @@ fn tables_are_judged() {
         let change = Change { a: 0, b: 0, n: 0 };
         let answer = lent::edit(&rows, &table, change, 0, TEXT, &mut memory);
         assert_eq!(answer, refused(3));
+        let answer = lent::change(&rows, &table, change, TEXT, &mut memory);
+        assert_eq!(answer, refused(3));
         assert!(memory.iter().all(|word| *word == CANARY));
     }
     let mut many = table;
@@ -164,6 +166,64 @@ fn an_edit_answers_as_document_01_says() {
 }
 
 #[test]
+fn a_change_is_the_edit_to_the_texts_end() {
+    let (rows, table) = scanned(TEXT);
+    let change = Change { a: 13, b: 14, n: 2 };
+    let new = b"unit u{\n x+=-12;\n}\n";
+    let mut memory = vec![CANARY; 80];
+    let mut answer_to = |change, text: &[u8], room: usize| {
+        memory.fill(CANARY);
+        let answer = lent::change(&rows, &table, change, text, &mut memory[..room]);
+        (answer, memory.clone())
+    };
+    let untouched = vec![CANARY; 80];
+    let (fresh_rows, fresh) = scanned(new);
+    let (answer, written) = answer_to(change, new, 80);
+    assert_eq!(answer, fresh);
+    assert_eq!(written[..72], fresh_rows[..72]);
+    assert!(written[72..].iter().all(|word| *word == CANARY));
+    let (answer, written) = answer_to(change, new, 40);
+    assert_eq!(answer, [4, 0, 1, 1, 0, 0, 5, 0]);
+    assert_eq!(written[..40], fresh_rows[..40]);
+    assert!(written[40..].iter().all(|word| *word == CANARY));
+    // a text that is not as long as the change makes it, and one whose bytes are not ASCII behind the restart place
+    for text in [&new[..18], b"unit u{\n x+=-12;\n}\n\n", b"", TEXT] {
+        let answer = answer_to(change, text, 80);
+        assert_eq!(answer, (refused(6), untouched.clone()), "{text:?}");
+    }
+    let answer = answer_to(change, b"unit u{\n x+=-1\xff;\n}\n", 80);
+    assert_eq!(answer, ([2, 14, 2, 7, 0, 0, 0, 0], untouched.clone()));
+    // numbers that make no change of the text, whatever the new text's length
+    for (a, b, n) in [(14, 13, 1), (0, 19, 1), (19, 19, 0), (u32::MAX, 0, 0)] {
+        for text in [TEXT, b"", b";"] {
+            let answer = answer_to(Change { a, b, n }, text, 80);
+            assert_eq!(answer, (refused(6), untouched.clone()), "{a} {b} {n}");
+        }
+    }
+}
+
+#[test]
+fn a_change_to_more_than_the_limit_is_refused() {
+    let (rows, table) = scanned(TEXT);
+    let mut memory = vec![CANARY; 80];
+    let longest = [TEXT, &[b' '; 65_536 - 18]].concat();
+    let longer = [TEXT, &[b' '; 65_537 - 18]].concat();
+    let change = |n: usize| Change {
+        a: 18,
+        b: 18,
+        n: n as u32,
+    };
+    let answer = lent::change(&rows, &table, change(65_536 - 18), &longest, &mut memory);
+    assert_eq!(answer, [0, 0, 0, 0, 0, 0, 9, 65_536]);
+    memory.fill(CANARY);
+    let answer = lent::change(&rows, &table, change(65_537 - 18), &longer, &mut memory);
+    assert_eq!(answer, refused(1));
+    let answer = lent::change(&rows, &table, change(65_536 - 18), &longer, &mut memory);
+    assert_eq!(answer, refused(6));
+    assert!(memory.iter().all(|word| *word == CANARY));
+}
+
+#[test]
 fn numbers_at_their_edges_are_answered() {
     let (rows, table) = scanned(TEXT);
     let mut memory = vec![CANARY; 80];
@@ -197,6 +257,11 @@ fn numbers_at_their_edges_are_answered() {
             );
             let answer = lent::edit(&rows, &table, change, u32::MAX, TEXT, &mut memory);
             assert_eq!(answer, refused(6), "{change:?}");
+            let answer = lent::change(&rows, &table, change, b"?", &mut memory);
+            assert!(
+                [1, 2, 6, 11].contains(&answer[lent::NUMBER]),
+                "{change:?} {answer:?}"
+            );
         }
     }
     assert!(memory.iter().all(|word| *word == CANARY));

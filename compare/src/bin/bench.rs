@@ -193,6 +193,7 @@ fn typed(old: &[u8], rounds: Rounds) {
         "the edit is a fresh scan"
     );
     let mut other = row_memory(&new);
+    let mut whole = row_memory(&new);
     let mut copied = row_memory(&new);
     #[cfg(before)]
     let mut own = row_memory(&new);
@@ -221,7 +222,16 @@ fn typed(old: &[u8], rounds: Rounds) {
                 &mut other,
             ));
         }),
-        Side::new("  of it the table test", || {
+        Side::new("library, change by the whole new text", || {
+            black_box(lent::change(
+                black_box(&rows),
+                &table,
+                change,
+                black_box(&new),
+                &mut whole,
+            ));
+        }),
+        Side::new("  of each the table test", || {
             black_box(lent::well_formed(black_box(&rows), &table));
         }),
         Side::new("a copy of the rows (memcpy)", || {

@@ -9,8 +9,8 @@ use std::time::Instant;
 const USAGE: &str = "\
 usage: side scan [TEXTS [SEED]]      rows, values, refusals, every lent word
        side parse [TEXTS [SEED]]     nodes, refusals, every lent word
-       side edit [CALLS [SEED]]      random edits at every window length
-       side small [LENGTH]           every edit of every text of at most LENGTH bytes over 16 bytes, at every window length
+       side edit [CALLS [SEED]]      random edits at every window length, and as changes
+       side small [LENGTH]           every edit of every text of at most LENGTH bytes over 16 bytes, at every window length, and as a change
        side chains [EDITS [SEED]]    edits one after the other on documents of up to 60,000 bytes
        side tables [TABLES [SEED]]   tables with words changed, sets, sections
        side full                     all of them, at length

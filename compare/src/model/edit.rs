@@ -1,4 +1,4 @@
-//! The edit: the new table from the old one and a window of the new text.
+//! The edit: the new table from the old one and a window of the new text; and the change, which has all of it.
 
 use super::lex::{opens_gap, piece, Piece, Shown};
 use super::scan::{eof, row};
@@ -67,6 +67,21 @@ pub fn edit(old: Lent, change: Change, start: u32, window: &[u8], room: usize) -
         }
     };
     Told::in_room(told, new_length as u32, ending, room)
+}
+
+/// What a change to this text with this room answers and writes.
+pub fn change(old: Lent, change: Change, text: &[u8], room: usize) -> Told {
+    let Change { a, b, n } = change;
+    if !old.is_well_formed() {
+        return Told::refused(3, START);
+    }
+    let makes = i64::from(old.length()) - (i64::from(b) - i64::from(a)) + i64::from(n);
+    if a > b || b > old.length() || text.len() as i64 != makes {
+        return Told::refused(6, START);
+    }
+    let rows = old.all_rows().expect("a well-formed table's rows are lent");
+    let start = restart_in(&rows, a).offset;
+    edit(old, change, start, &text[start as usize..], room)
 }
 
 /// Where the window of an edit at `a` must start, or the refusal: 3, 6.

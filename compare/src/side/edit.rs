@@ -1,11 +1,11 @@
-//! The library's edit against the model's at every window length, against a fresh scan by the library, and by the original.
+//! The library's edit against the model's at every window length, and its change, against a fresh scan by the library, and by the original.
 
 use super::{memory_with, same, shown, Compared, Counts, Difference, Memory};
 use crate::answer::{answer, Answer};
 use crate::generate::change::new_bytes;
 use crate::generate::random::Random;
 use crate::generate::{damage, random_text, short};
-use crate::model::edit::{edit, restart, Change};
+use crate::model::edit::{change as changed, edit, restart, Change};
 use crate::model::table::Lent;
 use crate::model::{refusal_words, Told};
 use spoonharbor::lent::{self, Words};
@@ -14,7 +14,7 @@ use spoonharbor::lent::{self, Words};
 /// join, a plain sign, a blank, a newline, and a byte that begins no row.
 const SMALL: &[u8; 16] = b"ax09n\"\\/*-=<; \n@";
 
-/// Random edits of random texts, each at every window length, until so many calls were made.
+/// Random edits of random texts, each at every window length and as a change, until so many calls were made.
 pub fn run(calls: u64, seed: u64) -> Compared {
     let mut counts = Counts::default();
     let mut holder = Holder::default();
@@ -31,7 +31,7 @@ pub fn run(calls: u64, seed: u64) -> Compared {
 }
 
 /// Every edit of every text of at most `length` bytes over sixteen bytes, each with no, every one and every two new bytes, each
-/// at every window length.
+/// at every window length and as a change.
 pub fn run_small(length: u32) -> Compared {
     let mut counts = Counts::default();
     let mut holder = Holder::default();
@@ -100,7 +100,7 @@ impl Holder {
         self.rows.truncate(self.table[lent::COUNT] as usize * 8);
     }
 
-    /// Holds one edit at every window length.
+    /// Holds one edit at every window length, and as a change.
     fn hold(
         &mut self,
         old: &[u8],
@@ -125,8 +125,45 @@ impl Holder {
         for end in start as usize..=new.len() {
             self.hold_window(old, change, &new, start as usize..end, &fresh, counts)?;
         }
+        self.hold_change(old, change, &new, &fresh, counts)?;
         counts.add("edits");
         Ok(())
+    }
+
+    /// Holds one change: the model's answer, which is the fresh scan's; room in plenty, exactly full, and one short.
+    fn hold_change(
+        &mut self,
+        old: &[u8],
+        change: Change,
+        new: &[u8],
+        (fresh_table, fresh_rows): &(Words, Vec<u32>),
+        counts: &mut Counts,
+    ) -> Result<(), Difference> {
+        let asked = || format!("{change:?} of {} into {}", shown(old), shown(new));
+        let count = fresh_rows.len() / 8;
+        for room in [count + 1, count, count.saturating_sub(1)] {
+            let words = room * 8 + 5;
+            let expected = changed(self.lent(), change, new, room);
+            let (answer, written) = self.call_change(change, new, words);
+            same(answer, expected.words(), asked)?;
+            same(written, &memory_with(&expected, words)[..], asked)?;
+            if room >= count {
+                same(&answer, fresh_table, asked)?;
+                same(&written[..fresh_rows.len()], &fresh_rows[..], asked)?;
+            }
+            counts.add("calls");
+            counts.add("changes");
+        }
+        Ok(())
+    }
+
+    /// The library's answer to a change and what it left in so many words.
+    fn call_change(&mut self, change: Change, text: &[u8], words: usize) -> (Words, &[u32]) {
+        let Change { a, b, n } = change;
+        let memory = self.memory.fresh(words);
+        let change = lent::Change { a, b, n };
+        let answer = lent::change(&self.rows, &self.table, change, text, memory);
+        (answer, memory)
     }
 
     /// The restart place, which must be the model's.
@@ -244,6 +281,45 @@ impl Holder {
         same(written, &memory_with(&expected, words)[..], asked)?;
         counts.add("calls");
         counts.add(format!("any call, answered {}", answer[lent::NUMBER]));
+        self.hold_change_outside(random, old, change, words, counts)
+    }
+
+    /// Holds a change whose text lies: mostly it is as long as the change makes it, or nearly.
+    fn hold_change_outside(
+        &mut self,
+        random: &mut Random,
+        old: &[u8],
+        change: Change,
+        words: usize,
+        counts: &mut Counts,
+    ) -> Result<(), Difference> {
+        let Change { a, b, n } = change;
+        let makes =
+            i64::from(self.table[lent::LENGTH]) - i64::from(b) + i64::from(a) + i64::from(n);
+        let near = makes + random.below(5) as i64 - 2;
+        let length = match random.below(4) {
+            0 => near,
+            _ => makes,
+        };
+        let length = length.clamp(0, 65_600) as usize;
+        let mut text = short::random_text(random, length);
+        if length > 0 && random.one_in(4) {
+            let at = random.below(length);
+            text[at] = 128 + random.below(128) as u8;
+        }
+        let expected = changed(self.lent(), change, &text, words / 8);
+        let (answer, written) = self.call_change(change, &text, words);
+        let asked = || {
+            format!(
+                "{change:?} into {}, {words} words, of {}",
+                shown(&text),
+                shown(old)
+            )
+        };
+        same(answer, expected.words(), asked)?;
+        same(written, &memory_with(&expected, words)[..], asked)?;
+        counts.add("calls");
+        counts.add(format!("any change, answered {}", answer[lent::NUMBER]));
         Ok(())
     }
 }

@@ -1,10 +1,10 @@
-//! Tables from outside: the table test, spelling, restart, parse and edit of tables with words changed, against the model.
+//! Tables from outside: the table test, spelling, restart, parse, edit and change of tables with words changed, against the model.
 
 use super::{memory_with, same, shown, Compared, Counts, Difference, Memory, CANARY};
 use crate::generate::random::Random;
 use crate::generate::{random_text, short};
 use crate::method_sets::{kind_of_section, mask_of, PROGRAM_KINDS};
-use crate::model::edit::{edit, restart, Change};
+use crate::model::edit::{change as changed, edit, restart, Change};
 use crate::model::parse::parse;
 use crate::model::refusal_words;
 use crate::model::table::Lent;
@@ -108,7 +108,8 @@ fn hold(
     same(answer, expected, asked)?;
     same(&*nodes, &written[..], asked)?;
 
-    hold_edit(random, lent_table, a, memory, counts)
+    hold_edit(random, lent_table, a, memory, counts)?;
+    hold_change(random, lent_table, a, memory, counts)
 }
 
 /// An edit of a table that no text need have.
@@ -144,6 +145,42 @@ fn hold_edit(
     same(&*new, &memory_with(&expected, words)[..], asked)?;
     counts.add(format!(
         "edit of any table, answered {}",
+        answer[lent::NUMBER]
+    ));
+    Ok(())
+}
+
+/// A change of a table that no text need have, to a text that mostly is as long as the change makes it.
+fn hold_change(
+    random: &mut Random,
+    old: Lent,
+    a: u32,
+    memory: &mut Memory,
+    counts: &mut Counts,
+) -> Result<(), Difference> {
+    let change = Change {
+        a,
+        b: a + random.below(4) as u32,
+        n: random.below(4) as u32,
+    };
+    let grown = u64::from(old.length()) + u64::from(change.n) + u64::from(a);
+    let makes = grown.saturating_sub(u64::from(change.b));
+    let length = makes.min(70_000) as usize + usize::from(random.one_in(8));
+    let text = short::random_text(random, length);
+    let words = old.rows.len();
+    let expected = changed(old, change, &text, words / 8);
+    let new = memory.fresh(words);
+    let numbers = lent::Change {
+        a: change.a,
+        b: change.b,
+        n: change.n,
+    };
+    let answer = lent::change(old.rows, old.table, numbers, &text, new);
+    let asked = || format!("{change:?} into {} on {old:?}", shown(&text));
+    same(answer, expected.words(), asked)?;
+    same(&*new, &memory_with(&expected, words)[..], asked)?;
+    counts.add(format!(
+        "change of any table, answered {}",
         answer[lent::NUMBER]
     ));
     Ok(())

@@ -1,5 +1,6 @@
 // What is written: where a call differs from what is expected of it, and the counts.
 use crate::tally::CALLS;
+use crate::tally::CHANGES;
 use crate::tally::KINDS;
 use crate::tally::RESTARTS;
 use crate::tally::ROWS;
@@ -103,6 +104,7 @@ fn answers(tally: Tally) {
 pub fn counts(tally: Tally) {
     line(b"restart places ", tally, RESTARTS);
     line(b"calls ", tally, CALLS);
+    line(b"changes ", tally, CHANGES);
     line(b"rows ", tally, ROWS);
     kinds(tally);
     answers(tally);

@@ -10,6 +10,8 @@ pub const CALLS: usize = 28;
 
 pub const ROWS: usize = 29;
 
+pub const CHANGES: usize = 30;
+
 // No counter.
 pub const NOTHING: usize = 32;
 

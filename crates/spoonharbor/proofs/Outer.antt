@@ -88,7 +88,7 @@ outer-demand-3 c ws table answer w g e = by (demand-3 c ws table w g)
 -- ---- the theorem in the outer face's own words
 
 -- a scan whose answer's words are a table's tells its rows
-rows-told : (t : List ℕ) (m : ℕ) → isEnding (getD (toldWords (scanTold t m)) 0 0) ≡ true → scanTold t m ≡ Rows (scanned.tableOf t)
+pub rows-told : (t : List ℕ) (m : ℕ) → isEnding (getD (toldWords (scanTold t m)) 0 0) ≡ true → scanTold t m ≡ Rows (scanned.tableOf t)
 unfolding isEnding
 rows-told t m h = by (scan-says t m) h
   where

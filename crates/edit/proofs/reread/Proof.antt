@@ -1,4 +1,4 @@
--- `edit::reread` meets its contract: 7 by the window's end and by the pass, and then the rows.
+-- `edit::reread` meets its contract: 7 by the window's end and by a walk over it, and then the rows.
 use mathlib.Core.Path.{_≡_, sym, ap, _∙_}
 use mathlib.Core.Bool.{Bool}
 use Prim.Native.Nat.{_+_, _≤_}
@@ -7,45 +7,38 @@ use lib.ListN.{length}
 use lib.Dec.{eqb}
 use borrow.Author.Needs.{needs}
 use Rattle.rules.specs.Scan.{roomOf}
-use Rattle.edit.specs.declared.Job.{Job}
-use Rattle.edit.specs.Job.{Ready, jobSight, isShortSight}
-use Rattle.edit.proofs.Jobs.{sightable}
+use Rattle.scan_walk.specs.declared.Olds.{Olds}
 use Rattle.edit.proofs.Calls.{wholeOf, whole-by, reread-early, reread-short, reread-rows}
 use Rattle.edit.proofs.reread.Statement.{statement}
 use Rattle.edit.proofs.reread.Tie as tie
 
-abbrev job : tie.After-struct-known → Job
-job c = c .before .before .before .before .before .before .before .before .before .before .before .args .job
+-- ---- the function's entry, as it is seen from behind each stage
 
-ready : (c : tie.After-struct-known) →
-    let a = c .before .before .before .before .before .before .before .before .before .before .before .args in
-    Ready (a .old .now) (job c) (a .window .now)
-ready c = c .before .before .before .before .before .before .before .before .before .before .before .pre
+abbrev start : tie.After-olds-of → tie.Start
+start c = c .before .before .before .before .before .before .before .before
 
-abbrev flag : tie.After-struct-known → Bool
+abbrev at-end : tie.Else1 → tie.Start
+at-end c = start (c .before .before)
+
+abbrev flag : tie.Else1 → Bool
 flag c =
-    let a = c .before .before .before .before .before .before .before .before .before .before .before .args in
-    eqb (c .before .before .before .before .wide .result + length (a .window .now)) (c .before .before .before .before .before .new-length .result)
+    let o = c .before .before in
+    eqb (o .before .wide .result + length (start o .args .window .now)) (o .before .before .new-length .result)
 
-is-whole : (c : tie.After-struct-known) → flag c ≡ wholeOf (ready c)
+is-whole : (c : tie.Else1) → flag c ≡ wholeOf (at-end c .pre)
 is-whole c =
-    whole-by (ready c) (c .before .before .before .before .wide .result) (c .before .before .before .before .before .new-length .result)
-    (c .before .before .before .before .wide .ensures) (c .before .before .before .before .before .new-length .ensures)
+    let o = c .before .before in
+    let n = o .before .before in
+    whole-by (at-end c .pre) (o .before .wide .result) (n .new-length .result) (o .before .wide .ensures) (n .new-length .ensures)
+
+least : (c : tie.After-olds-of) → c .olds-of .result .least ≡ start c .args .job .a + start c .args .job .n
+least c = ap (λ (o : Olds). o .least) (c .olds-of .ensures)
 
 -- it reaches a + n
-is-late : (c : tie.After-struct-known) →
-    let a = c .before .before .before .before .before .before .before .before .before .before .before .args in
+is-late : (c : tie.Else1) →
+    let a = at-end c .args in
     a .job .a + a .job .n ≤ a .job .begin .offset .0 + length (a .window .now)
-is-late c =
-    omega (arith, c .before .if1 .left, c .before .before .wide3 .ensures, c .before .before .before .wide2 .ensures, c .before .before .before .before .wide .ensures)
-
-is-seen : (c : tie.After-see) →
-    let a = c .before .before .before .before .before .before .before .before .before .before .before .before .args in
-    c .see .result ≡ jobSight (a .old .now) (a .job) (a .window .now) (flag (c .before))
-unfolding jobSight
-is-seen c =
-    let k = c .before in
-    rw (k .before .before .wide3 .ensures, k .before .before .before .wide2 .ensures) at (c .see .ensures)
+is-late c = let o = c .before .before in omega (arith, c .if1 .left, least o, o .before .wide .ensures)
 
 new-length-requires : tie.Need-new-length-requires
 new-length-requires c κs = search needs
@@ -56,33 +49,19 @@ wide-requires c κs = search needs
 add-end : tie.Need-add-end
 add-end c = search needs
 
-wide-requires-2 : tie.Need-wide-requires-2
-wide-requires-2 c κs = search needs
-
-wide-requires-3 : tie.Need-wide-requires-3
-wide-requires-3 c κs = search needs
-
-add-least : tie.Need-add-least
-add-least c = search needs
+olds-of-requires : tie.Need-olds-of-requires
+olds-of-requires c κs = search needs
 
 refused-requires : tie.Need-refused-requires
 refused-requires c κs = search needs
 
 returns : tie.Need-returns
 returns c =
-    let k = c .before .before .before .before in
-    let s = k .before .before .before .before .before .before .before in
+    let o = c .before .before .before in
+    let s = start o in
     let q = reread-early (s .pre) (roomOf (s .args .new .now)) (s .args .new .now)
-    (omega (arith, c .before .if1 .taken, c .before .before .wide3 .ensures, c .before .before .before .wide2 .ensures, k .wide .ensures)) in
+    (omega (arith, c .before .if1 .taken, least o, o .before .wide .ensures)) in
     (c .refused .ensures ∙ q .0, q .1)
-
-cast-see : tie.Need-cast-see
-cast-see c = search needs
-
-see-requires : tie.Need-see-requires
-see-requires c κs =
-    let a = c .before .before .before .before .before .before .before .before .before .before .before .args in
-    rw (c .before .before .wide3 .ensures, c .before .before .before .wide2 .ensures) (sightable (ready c))
 
 is-short-requires : tie.Need-is-short-requires
 is-short-requires c κs = search needs
@@ -92,11 +71,11 @@ refused-requires-2 c κs = search needs
 
 returns-2 : tie.Need-returns-2
 returns-2 c =
-    let v = c .before .before .before in
+    let v = c .before .before in
     let k = v .before in
-    let s = k .before .before .before .before .before .before .before .before .before .before .before in
+    let s = at-end k in
     let q = reread-short (s .pre) (roomOf (s .args .new .now)) (s .args .new .now) (is-late k) (flag k) (is-whole k)
-    (ap isShortSight (sym (is-seen v)) ∙ sym (c .before .before .is-short .ensures) ∙ c .before .if2 .taken) in
+    (sym (v .is-short .ensures) ∙ c .before .if2 .taken) in
     (c .refused2 .ensures ∙ q .0, q .1)
 
 cast-fill : tie.Need-cast-fill
@@ -104,11 +83,10 @@ cast-fill c = search needs
 
 fill-requires : tie.Need-fill-requires
 fill-requires c κs =
-    let v = c .before .before .before in
+    let v = c .before .before in
     record {
-      ready = ready (v .before);
-      same = is-seen v;
-      long = sym (c .before .before .is-short .ensures) ∙ c .before .if2 .left;
+      ready = at-end (v .before) .pre;
+      long = sym (v .is-short .ensures) ∙ c .before .if2 .left;
     }
 
 same-length : tie.Need-same-length
@@ -117,12 +95,13 @@ same-length c = search needs
 returns-3 : tie.Need-returns-3
 returns-3 c =
     let f = c .before .before in
-    let v = f .before .before .before .before in
+    let v = f .before .before .before in
     let k = v .before in
-    let s = k .before .before .before .before .before .before .before .before .before .before .before in
+    let s = at-end k in
+    let n = k .before .before .before .before in
     reread-rows (s .pre) (roomOf (s .args .new .now)) (s .args .new .now) (is-late k) (flag k) (is-whole k)
-    (ap isShortSight (sym (is-seen v)) ∙ sym (f .before .before .before .is-short .ensures) ∙ f .before .before .if2 .left)
-    (k .before .before .before .before .before .new-length .result) (k .before .before .before .before .before .new-length .ensures) (f .fill .result) (f .fill .last .1 .1 .1 .1 .1 .1 .0) (f .fill .ensures)
+    (sym (v .is-short .ensures) ∙ f .before .before .if2 .left)
+    (n .new-length .result) (n .new-length .ensures) (f .fill .result) (f .fill .last .1 .1 .1 .1 .1 .0) (f .fill .ensures)
 
 pub reread-spec : {M : Type 1} → statement M
 reread-spec =
@@ -131,13 +110,9 @@ reread-spec =
     new-length-requires
     wide-requires
     add-end
-    wide-requires-2
-    wide-requires-3
-    add-least
+    olds-of-requires
     refused-requires
     returns
-    cast-see
-    see-requires
     is-short-requires
     refused-requires-2
     returns-2
