@@ -45,7 +45,8 @@ module _ (negative : Bool) (a m : ℕ) (u : List ℕ) where
   unfolding hex digitsOf digitIn
   hex-none e = let z : front isHexDigit u ≡ 0 = omega arith in rw z
 
-  hex-digits : (digitsOf true (a + m) u .end ≡ a + m → ⊥) → hex negative m u ≡ numberOf negative (digitsOf true (a + m) u .end - a) (digitsOf true (a + m) u .value)
+  hex-digits : (digitsOf true (a + m) u .end ≡ a + m → ⊥) → hex negative m u
+      ≡ numberOf negative (digitsOf true (a + m) u .end - a) (digitsOf true (a + m) u .value)
   unfolding hex digitsOf speltFront digitIn
   hex-digits e =
       rw (ne-eqb (front isHexDigit u) 0 (λ (z : front isHexDigit u ≡ 0). e (rw z (add-zero (a + m)))))
@@ -62,23 +63,21 @@ digitsAt t a m h = digitsOf h (a + m) (drop (a + m) t)
 
 module _ (t : List ℕ) (a m : ℕ) where
   module _ (h : Bool) where
-    pub digits-behind : a ≤ digitsAt t a m h .end
-    unfolding digitsOf
-    digits-behind = omega arith
-
     pub digits-front : m ≤ front notNewline (drop a t) → digitsAt t a m h .end - a ≤ front notNewline (drop a t)
     unfolding digitsOf
     digits-front l =
         let n = front (digitIn h) (drop (a + m) t) in
         let k : n ≤ front notNewline (drop (a + m) t) = front-in-line (digitIn h) (digit-line h) (drop (a + m) t) in
-        let d : front notNewline (drop a t) ≡ m + front notNewline (drop (a + m) t) = rw (← drop-drop m a t) (front-drop notNewline m (drop a t) l) in
+        let d : front notNewline (drop a t) ≡ m + front notNewline (drop (a + m) t) =
+        rw (← drop-drop m a t) (front-drop notNewline m (drop a t) l) in
         omega arith
 
   byte-at : (k : ℕ) → getD (drop m (drop a t)) k 0 ≡ getD t (a + m + k) 0
   byte-at k = ap (λ (x : List ℕ). getD x k 0) (drop-drop m a t) ∙ getD-drop (a + m) t k 0
 
   module _ (negative : Bool) where
-    pub decimal-is : decimal negative m (drop m (drop a t)) ≡ numberOf negative (digitsAt t a m false .end - a) (digitsAt t a m false .value)
+    pub decimal-is : decimal negative m (drop m (drop a t))
+        ≡ numberOf negative (digitsAt t a m false .end - a) (digitsAt t a m false .value)
     decimal-is = ap (decimal negative m) (drop-drop m a t) ∙ decimal-digits negative a m (drop (a + m) t)
 
     pub hex-is : (digitsAt t a m true .end ≡ a + m → ⊥) →
@@ -99,7 +98,8 @@ module _ (t : List ℕ) (a m : ℕ) where
     number-is-decimal e = rw (byte-at 0, byte-at 1, add-zero, e)
 
   -- the bytes of `0x` are bytes of the line
-  pub hex-front : m ≤ front notNewline (drop a t) → (eqb (getD t (a + m) 0) 48 && eqb (getD t (a + m + 1) 0) 120) ≡ true → m + 2 ≤ front notNewline (drop a t)
+  pub hex-front : m ≤ front notNewline (drop a t) → (eqb (getD t (a + m) 0) 48 && eqb (getD t (a + m + 1) 0) 120) ≡ true →
+      m + 2 ≤ front notNewline (drop a t)
   hex-front l e =
       let b = both-true (eqb (getD t (a + m) 0) 48) (eqb (getD t (a + m + 1) 0) 120) e in
       let x : getD t (a + m) 0 ≡ 48 = eqb-true _ _ (b .0) in
@@ -143,7 +143,8 @@ module _ (t : List ℕ) (a m : ℕ) (i : a + m < length t) (g : isDigit (getD t 
       some e = omega (arith, front-on isDigit t (a + m) i g)
 
   some-at : (h : Bool) → h ≡ hexAt t (a + m) → (digitsAt t a (m + opening h) h .end ≡ a + (m + opening h) → ⊥) →
-      number negative m (drop m (drop a t)) ≡ numberOf negative (digitsAt t a (m + opening h) h .end - a) (digitsAt t a (m + opening h) h .value)
+      number negative m (drop m (drop a t))
+      ≡ numberOf negative (digitsAt t a (m + opening h) h .end - a) (digitsAt t a (m + opening h) h .value)
   some-at true x z = number-is-hex t a m negative (sym x) ∙ hex-is t a (m + 2) negative z
   some-at false x z = rw (add-zero m) (number-is-decimal t a m negative (sym x) ∙ decimal-is t a m negative)
 
@@ -197,10 +198,12 @@ module _ (t : List ℕ) (a m : ℕ) (i : a + m < length t) (g : isDigit (getD t 
         number-none z = number-known (refused NoHexDigit (from - a) (from - a)) (none-is z)
 
         module _ (z : d .end ≡ from → ⊥) where
-          pub number-large : largest < d .value → settled whole t a numeral ≡ record { size = 0; kind = refusalCode NumberTooLarge; bits = 0 }
+          pub number-large : largest < d .value → settled whole t a numeral
+              ≡ record { size = 0; kind = refusalCode NumberTooLarge; bits = 0 }
           unfolding told numberOf
           number-large b = number-known (numberOf negative (d .end - a) (d .value)) (some-is z) ∙ rw (lt-leb (d .value) largest b)
 
-          pub number-row : d .value ≤ largest → settled whole t a numeral ≡ record { size = d .end - a; kind = Number; bits = bitsOf negative (d .value) }
+          pub number-row : d .value ≤ largest → settled whole t a numeral
+              ≡ record { size = d .end - a; kind = Number; bits = bitsOf negative (d .value) }
           unfolding told numberOf
           number-row b = number-known (numberOf negative (d .end - a) (d .value)) (some-is z) ∙ rw (le-leb (d .value) largest b)

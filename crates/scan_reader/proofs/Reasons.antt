@@ -38,7 +38,8 @@ reason-is NumberTooLarge = refl
 pub code-is : (k : ℕ) (r : Lexical) → k ≡ refusalCode r → (why : Lexical) → k ≡ refusalCode why → r ≡ why
 code-is k r e why f = sym (reason-is r) ∙ ap reasonOf (sym e ∙ f) ∙ reason-is why
 
-pub code-rest : (k : ℕ) → (k ≡ 69 → ⊥) → (k ≡ 70 → ⊥) → (k ≡ 71 → ⊥) → (k ≡ 72 → ⊥) → (k ≡ 73 → ⊥) → (k ≡ 74 → ⊥) → (why : Lexical) → k ≡ refusalCode why → NumberTooLarge ≡ why
+pub code-rest : (k : ℕ) → (k ≡ 69 → ⊥) → (k ≡ 70 → ⊥) → (k ≡ 71 → ⊥) → (k ≡ 72 → ⊥) → (k ≡ 73 → ⊥) → (k ≡ 74 → ⊥) → (why : Lexical) → k
+    ≡ refusalCode why → NumberTooLarge ≡ why
 unfolding refusalCode
 code-rest k a b c d e f NoRowBegins z = absurd (a z)
 code-rest k a b c d e f LoneSign z = absurd (b z)

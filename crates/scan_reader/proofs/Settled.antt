@@ -61,7 +61,8 @@ module _ (t : List ℕ) (a : ℕ) (w : Word) (r : w ≡ wordOf a (drop a t)) whe
 
   word-is : word (drop a t) ≡ row (kindIn reserved Identifier wordAt) (w .end - a) 0 (w .end - a)
   unfolding word
-  word-is = let n : front isWord (drop a t) ≡ w .end - a = omega (arith, word-end) in ap (λ (x : ℕ). row (kindIn reserved Identifier wordAt) x 0 x) n
+  word-is = let n : front isWord (drop a t) ≡ w .end - a = omega (arith, word-end) in
+      ap (λ (x : ℕ). row (kindIn reserved Identifier wordAt) x 0 x) n
 
   word-at : a + (w .end - a) ≡ w .end
   word-at = omega (arith, word-end)
@@ -71,7 +72,8 @@ module _ (t : List ℕ) (a : ℕ) (w : Word) (r : w ≡ wordOf a (drop a t)) whe
     unfolding decidedAt
     word-unknown h = rw word-is (settled-unknown whole t a (row _ (w .end - a) 0 (w .end - a)) (w .end) word-at h)
 
-    pub word-told : (whole || ltb (w .end) (length t)) ≡ true → settled whole t a (word (drop a t)) ≡ record { size = w .end - a; kind = kindIn reserved Identifier wordAt; bits = 0 }
+    pub word-told : (whole || ltb (w .end) (length t)) ≡ true → settled whole t a (word (drop a t))
+        ≡ record { size = w .end - a; kind = kindIn reserved Identifier wordAt; bits = 0 }
     unfolding decidedAt told
     word-told h = rw word-is (settled-known whole t a (row _ (w .end - a) 0 (w .end - a)) (w .end) word-at h)
 
@@ -99,7 +101,8 @@ module _ (whole : Bool) (t : List ℕ) (a : ℕ) (b : getD t (a + 1) 0 ≡ 47) (
   line-closed h =
       let k : left < length (drop a t) = omega (arith, length-drop a t) in
       let n : e + 1 - a ≡ left + 1 = omega arith in
-      rw (n, lt-ltb left (length (drop a t)) k) (settled-inside whole t a (comment (left + 1) left) (omega arith) ∙ line-told t a (left + 1) left b)
+      rw (n, lt-ltb left (length (drop a t)) k)
+      (settled-inside whole t a (comment (left + 1) left) (omega arith) ∙ line-told t a (left + 1) left b)
 
   module _ (h : length t ≤ e) (i : a ≤ length t) where
     -- all that is left is the comment
@@ -136,14 +139,16 @@ module _ (whole : Bool) (t : List ℕ) (a : ℕ) (i : a + 2 ≤ length t) (b : g
       let k : body < length u = omega (arith, body-is, length-two) in
       let two : body + 2 ≤ length u = omega (arith, body-line u k, front-le notNewline (drop body u), length-drop body u) in
       let n : e + 2 - a ≡ body + 4 = omega (arith, body-is) in
-      rw (n, lt-ltb body (length u) k) (settled-inside whole t a (comment (body + 4) (body + 3)) (omega (arith, length-two)) ∙ block-told t a (body + 4) (body + 3) b)
+      rw (n, lt-ltb body (length u) k)
+      (settled-inside whole t a (comment (body + 4) (body + 3)) (omega (arith, length-two)) ∙ block-told t a (body + 4) (body + 3) b)
 
   module _ (h : length t ≤ e) where
     block-left : blockComment (drop a t) ≡ refused OpenComment 2 (length (drop a t))
     unfolding blockComment
     block-left = rw (le-ltb body (length (drop 2 (drop a t))) (omega (arith, body-is, length-two)))
 
-    pub block-open : whole ≡ true → settled whole t a (blockComment (drop a t)) ≡ record { size = 2; kind = refusalCode OpenComment; bits = 0 }
+    pub block-open : whole ≡ true → settled whole t a (blockComment (drop a t))
+        ≡ record { size = 2; kind = refusalCode OpenComment; bits = 0 }
     unfolding told
     block-open w = rw block-left (settled-whole whole t a (refused OpenComment 2 (length (drop a t))) w)
 

@@ -69,19 +69,23 @@ module _ (t : List ℕ) (a : ℕ) (d : maybeTwo (getD t a 0) ≡ true) where
     sign-unknown h = settled-unknown whole t a (sign (drop a t)) (a + 1) (rw sign-decided) h
 
     module _ (h : (whole || ltb (a + 1) (length t)) ≡ true) where
-      sign-known : settled whole t a (sign (drop a t)) ≡ told (drop a t) (known (cond (eqb (twoAt t a) Eof) (single (getD t a 0) 1) (row (twoAt t a) 2 0 1)))
-      sign-known = settled-known whole t a (sign (drop a t)) (a + 1) (rw sign-decided) h ∙ ap (λ (x : Piece). told (drop a t) (known x)) sign-is
+      sign-known : settled whole t a (sign (drop a t))
+          ≡ told (drop a t) (known (cond (eqb (twoAt t a) Eof) (single (getD t a 0) 1) (row (twoAt t a) 2 0 1)))
+      sign-known = settled-known whole t a (sign (drop a t)) (a + 1) (rw sign-decided) h
+          ∙ ap (λ (x : Piece). told (drop a t) (known x)) sign-is
 
       pub sign-two : (twoAt t a ≡ Eof → ⊥) → settled whole t a (sign (drop a t)) ≡ record { size = 2; kind = twoAt t a; bits = 0 }
       unfolding told
       sign-two e = sign-known ∙ rw (ne-eqb (twoAt t a) Eof e)
 
       module _ (e : twoAt t a ≡ Eof) where
-        pub sign-lone : isLone (getD t a 0) ≡ true → settled whole t a (sign (drop a t)) ≡ record { size = 0; kind = refusalCode LoneSign; bits = 0 }
+        pub sign-lone : isLone (getD t a 0) ≡ true → settled whole t a (sign (drop a t))
+            ≡ record { size = 0; kind = refusalCode LoneSign; bits = 0 }
         unfolding told single
         sign-lone l = sign-known ∙ rw (eq-eqb (twoAt t a) Eof e, l)
 
-        pub sign-one : getD t a 0 < 256 → isLone (getD t a 0) ≡ false → settled whole t a (sign (drop a t)) ≡ record { size = 1; kind = kindIn signs Eof (getD t a 0 ∷ []); bits = 0 }
+        pub sign-one : getD t a 0 < 256 → isLone (getD t a 0) ≡ false → settled whole t a (sign (drop a t))
+            ≡ record { size = 1; kind = kindIn signs Eof (getD t a 0 ∷ []); bits = 0 }
         unfolding told single
         sign-one b l = sign-known ∙ rw (eq-eqb (twoAt t a) Eof e, l, ne-eqb _ _ (some-sign (getD t a 0) b d l))
 

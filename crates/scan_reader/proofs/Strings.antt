@@ -46,7 +46,8 @@ module _ (t : List ℕ) (a : ℕ) (i : a < length t) (b : getD t a 0 ≡ 34) whe
   string-inside q e = omega (arith, string-line q e, front-le notNewline (drop a t), length-drop a t)
 
   module _ (whole : Bool) (e : ℕ) where
-    pub string-closed : quotedAt t a ≡ Closed e → settled whole t a (stringAt t a) ≡ record { size = e + 1 - a; kind = StringLiteral; bits = 0 }
+    pub string-closed : quotedAt t a ≡ Closed e → settled whole t a (stringAt t a)
+        ≡ record { size = e + 1 - a; kind = StringLiteral; bits = 0 }
     unfolding stringPiece decidedAt told reachOf
     string-closed q =
         let f : a + 1 ≤ e + 1 = string-from (Closed e) q in
@@ -61,13 +62,17 @@ module _ (t : List ℕ) (a : ℕ) (i : a < length t) (b : getD t a 0 ≡ 34) whe
     unfolding stringPiece
     string-unknown q h = rw (string-is (Open e) q) (settled-unknown whole t a (refused OpenString (e - a) (e - a)) e (open-at q) h)
 
-    pub string-open : quotedAt t a ≡ Open e → (whole || ltb e (length t)) ≡ true → settled whole t a (stringAt t a) ≡ record { size = e - a; kind = refusalCode OpenString; bits = 0 }
+    pub string-open : quotedAt t a ≡ Open e → (whole || ltb e (length t)) ≡ true → settled whole t a (stringAt t a)
+        ≡ record { size = e - a; kind = refusalCode OpenString; bits = 0 }
     unfolding stringPiece told
     string-open q h = rw (string-is (Open e) q) (settled-known whole t a (refused OpenString (e - a) (e - a)) e (open-at q) h)
 
-    pub string-escape : quotedAt t a ≡ Escape e → settled whole t a (stringAt t a) ≡ record { size = e - a; kind = refusalCode BadEscape; bits = 0 }
+    pub string-escape : quotedAt t a ≡ Escape e → settled whole t a (stringAt t a)
+        ≡ record { size = e - a; kind = refusalCode BadEscape; bits = 0 }
     unfolding stringPiece decidedAt told reachOf seenOf
     string-escape q =
         let f : a + 1 ≤ e = string-from (Escape e) q in
-        let k : e + 2 ≤ a + 1 + length (drop (a + 1) t) = rw q at (quoted-seen false (a + 1) (drop (a + 1) t) (λ (_ : false ≡ true). omega arith)) in
-        rw (string-is (Escape e) q) (settled-inside whole t a (refused BadEscape (e - a) (e + 1 - a)) (omega (arith, length-drop (a + 1) t)))
+        let k : e + 2 ≤ a + 1 + length (drop (a + 1) t) =
+        rw q at (quoted-seen false (a + 1) (drop (a + 1) t) (λ (_ : false ≡ true). omega arith)) in
+        rw (string-is (Escape e) q) (settled-inside whole t a (refused BadEscape (e - a) (e + 1 - a))
+        (omega (arith, length-drop (a + 1) t)))

@@ -74,7 +74,8 @@ module _ (d : ℕ) (w : List ℕ) where
       let x = both-true (clean (e .spelling) && ltb (e .kind) 64) (lined es) l in
       pick (sameBytes (e .spelling) w) refl n (both-true (clean (e .spelling)) _ (x .0) .0) (kind-clean es (x .1))
     where
-      pick : (p : Bool) → sameBytes (e .spelling) w ≡ p → (elim p as (λ _. ℕ) [ true ↦ e .kind | false ↦ kindIn es d w ] ≡ d → ⊥) → clean (e .spelling) ≡ true →
+      pick : (p : Bool) → sameBytes (e .spelling) w ≡ p → (elim p as (λ _. ℕ) [ true ↦ e .kind | false ↦ kindIn es d w ] ≡ d → ⊥) →
+          clean (e .spelling) ≡ true →
           ((kindIn es d w ≡ d → ⊥) → clean w ≡ true) → clean w ≡ true
       pick true q n c r = rw (← same-eq (e .spelling) w q) c
       pick false q n c r = r n
@@ -97,14 +98,16 @@ module _ (s : List ℕ) where
       one : eqb (kindIn signs Eof (getD s 0 0 ∷ [])) Eof ≡ false → 1 ≤ front notNewline s
       one e =
           let k = kindIn signs Eof (getD s 0 0 ∷ []) in
-          let x = both-true (ltb 0 (getD s 0 0) && notNewline (getD s 0 0)) true (kind-clean Eof (getD s 0 0 ∷ []) signs lined-signs (eqb-false k Eof e)) in
+          let x = both-true (ltb 0 (getD s 0 0) && notNewline (getD s 0 0)) true
+          (kind-clean Eof (getD s 0 0 ∷ []) signs lined-signs (eqb-false k Eof e)) in
           one-front h (both-true (ltb 0 (getD s 0 0)) (notNewline (getD s 0 0)) (x .0) .1)
 
       pick : (p q : Bool) → eqb (kindIn signs Eof (getD s 0 0 ∷ [])) Eof ≡ q →
           Sound s (cond p (refused LoneSign 0 d) (cond q (refused NoRowBegins 0 d) (row (kindIn signs Eof (getD s 0 0 ∷ [])) 1 0 d)))
       pick true q e = of-refused LoneSign 0 d (omega arith)
       pick false true e = of-refused NoRowBegins 0 d (omega arith)
-      pick false false e = of-row (kindIn signs Eof (getD s 0 0 ∷ [])) 1 0 d (kind-low Eof (getD s 0 0 ∷ []) signs lined-signs (omega arith)) (omega arith) (one e)
+      pick false false e = of-row (kindIn signs Eof (getD s 0 0 ∷ [])) 1 0 d
+          (kind-low Eof (getD s 0 0 ∷ []) signs lined-signs (omega arith)) (omega arith) (one e)
 
   sign-sound : 0 < length s → Sound s (sign s)
   unfolding sign clean
@@ -117,13 +120,15 @@ module _ (s : List ℕ) where
       line e =
           let b = getD s 0 0 in
           let c = getD s 1 0 in
-          let x = both-true (ltb 0 b && notNewline b) ((ltb 0 c && notNewline c) && true) (kind-clean Eof (b ∷ c ∷ []) signs lined-signs (eqb-false two Eof e)) in
+          let x = both-true (ltb 0 b && notNewline b) ((ltb 0 c && notNewline c) && true)
+          (kind-clean Eof (b ∷ c ∷ []) signs lined-signs (eqb-false two Eof e)) in
           let y = both-true (ltb 0 c) (notNewline c) (both-true (ltb 0 c && notNewline c) true (x .1) .0) in
           two-front (one-front h (both-true (ltb 0 b) (notNewline b) (x .0) .1)) (ltb-true 0 c (y .0)) (y .1)
 
       pick : (p q : Bool) → eqb two Eof ≡ q → Sound s (cond p (cond q (single (getD s 0 0) 1) (row two 2 0 1)) (single (getD s 0 0) 0))
       pick true true e = single-sound 1 h
-      pick true false e = of-row two 2 0 1 (kind-low Eof (getD s 0 0 ∷ getD s 1 0 ∷ []) signs lined-signs (omega arith)) (omega arith) (line e)
+      pick true false e = of-row two 2 0 1 (kind-low Eof (getD s 0 0 ∷ getD s 1 0 ∷ []) signs lined-signs (omega arith)) (omega arith)
+          (line e)
       pick false q e = single-sound 0 h
 
   -- ---- words
@@ -132,7 +137,8 @@ module _ (s : List ℕ) where
   unfolding word isWord isLetter isDigit
   word-sound h e =
       let w = take (front isWord s) s in
-      of-row (kindIn reserved Identifier w) (front isWord s) 0 (front isWord s) (kind-low Identifier w reserved lined-reserved (omega arith))
+      of-row (kindIn reserved Identifier w) (front isWord s) 0 (front isWord s)
+      (kind-low Identifier w reserved lined-reserved (omega arith))
       (front-more isWord s 0 0 (omega arith) h (rw e)) (front-in-line isWord refl s)
 
   -- ---- comments
@@ -141,15 +147,25 @@ module _ (s : List ℕ) where
   unfolding lineComment
   line-sound h = pick (ltb (front notNewline s) (length s)) refl
     where
-      pick : (p : Bool) → ltb (front notNewline s) (length s) ≡ p → Sound s (cond p (comment (front notNewline s + 1) (front notNewline s)) (comment (length s) (length s)))
-      pick true e = let l : front notNewline s < length s = ltb-true _ _ e in of-comment (front notNewline s + 1) (front notNewline s) (omega arith) (omega arith) (λ _. omega arith)
-      pick false e = let l : length s ≤ front notNewline s = ltb-false _ _ e in of-comment (length s) (length s) (omega arith) (omega arith) (λ _. omega arith)
+      pick : (p : Bool) → ltb (front notNewline s) (length s) ≡ p →
+          Sound s (cond p (comment (front notNewline s + 1) (front notNewline s)) (comment (length s) (length s)))
+      pick true e = let l : front notNewline s < length s = ltb-true _ _ e in
+          of-comment (front notNewline s + 1) (front notNewline s) (omega arith) (omega arith) (λ _. omega arith)
+      pick false e = let l : length s ≤ front notNewline s = ltb-false _ _ e in
+          of-comment (length s) (length s) (omega arith) (omega arith) (λ _. omega arith)
 
   abbrev body : ℕ
   body = beforeClose (drop 2 s)
 
   body-inside : body < length (drop 2 s) → body + 4 ≤ length s
-  body-inside l = omega (arith, body-line (drop 2 s) l, front-le notNewline (drop body (drop 2 s)), length-drop body (drop 2 s), length-drop 2 s)
+  body-inside l = omega (
+    arith,
+    body-line (drop 2 s) l,
+    front-le notNewline (drop body (drop 2 s)),
+    length-drop body
+        (drop 2 s),
+    length-drop 2 s,
+  )
 
   block-sound : 1 ≤ front notNewline s → getD s 1 0 ≡ 42 → Sound s (blockComment s)
   unfolding blockComment
@@ -204,10 +220,12 @@ module _ (s : List ℕ) (m : ℕ) (l : m ≤ front notNewline s) (negative : Boo
     where
       pick : Dec (digits .end ≡ from) → Sound s (number negative m (drop m (drop 0 s)))
       pick (yes z) =
-          rw (none-is s 0 m digit-there g hexed refl from refl digits refl negative z) (of-refused NoHexDigit (from - 0) (from - 0) (omega (arith, from-line hexed refl)))
+          rw (none-is s 0 m digit-there g hexed refl from refl digits refl negative z)
+          (of-refused NoHexDigit (from - 0) (from - 0) (omega (arith, from-line hexed refl)))
       pick (no z) =
           rw (some-is s 0 m digit-there g hexed refl from refl digits refl negative z)
-          (number-of (digits .end - 0) (digits .value) (omega (arith, number-behind s 0 m digit-there g hexed refl from refl digits refl)) size-line)
+          (number-of (digits .end - 0) (digits .value)
+          (omega (arith, number-behind s 0 m digit-there g hexed refl from refl digits refl)) size-line)
 
 -- ---- strings
 
@@ -240,7 +258,8 @@ module _ (s : List ℕ) (h : 0 < length s) where
   piece-sound = pick (isBlank b) (eqb b 47) (isLetter b) (isDigit b) (eqb b 45) (eqb b 34) refl refl refl refl refl refl
     where
       pick : (p q r u v w : Bool) → isBlank b ≡ p → eqb b 47 ≡ q → isLetter b ≡ r → isDigit b ≡ u → eqb b 45 ≡ v → eqb b 34 ≡ w →
-          Sound s (cond p blank (cond q (slashed s) (cond r (word s) (cond u (number false 0 s) (cond v (dashed s) (cond w (string false 1 (drop 1 s)) (sign s)))))))
+          Sound s (cond p blank (cond q (slashed s)
+          (cond r (word s) (cond u (number false 0 s) (cond v (dashed s) (cond w (string false 1 (drop 1 s)) (sign s)))))))
       pick true q r u v w a c d e f g = of-blank h a
       pick false true r u v w a c d e f g = slash-sound s h (eqb-true _ _ c)
       pick false false true u v w a c d e f g = word-sound s h d

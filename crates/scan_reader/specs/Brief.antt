@@ -46,7 +46,9 @@ refusalCode NumberTooLarge = Refused + 6
 
 -- all of them, as the code lists its own
 abbrev pub codes : List ℕ
-codes = Blank ∷ Line ∷ Block ∷ End ∷ Unknown ∷ 69 ∷ 70 ∷ 71 ∷ 72 ∷ 73 ∷ 74 ∷ 75 ∷ []
+codes =
+    Blank ∷ Line ∷ Block ∷ End ∷ Unknown ∷ Refused ∷ (Refused + 1) ∷ (Refused + 2) ∷ (Refused + 3) ∷ (Refused + 4) ∷ (Refused + 5)
+    ∷ (Refused + 6) ∷ []
 
 -- ---- what is told of an item at the front of s
 

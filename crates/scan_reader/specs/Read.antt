@@ -2,7 +2,7 @@
 use mathlib.Core.List.{List}
 use Prim.Native.Nat.{ℕ, _+_, _-_, _≤_}
 use lib.ListN.{length, take, drop}
-use Rattle.rules.specs.Text.{front, notNewline, over, Roomy}
+use Rattle.rules.specs.Text.{over, Roomy}
 use Rattle.scan_reader.specs.declared.Spot.{Spot}
 
 -- the spot n bytes on
@@ -13,8 +13,3 @@ onward t s n = record { at = s .at + n; cursor = over (s .cursor) (take n (drop 
 pub record Ahead (t : List ℕ) (s : Spot) : Type 0 where
   pub inside : s .at ≤ length t
   pub roomy : Roomy (length t - s .at) (s .cursor)
-
--- n bytes ahead of the spot are bytes of its line
-pub record InLine (t : List ℕ) (s : Spot) (n : ℕ) : Type 0 where
-  pub ahead : Ahead t s
-  pub line : n ≤ front notNewline (drop (s .at) t)

@@ -23,7 +23,8 @@ module _ (t : List ℕ) (i : ℕ) where
   unfolding beforeClose
   body-stop h p q = rw (drop-cons t i 0 h) (rw (beforeClose, next-at t i, p, q))
 
-  pub body-on : i < length t → (eqb (getD t i 0) 42 && eqb (getD t (i + 1) 0) 47) ≡ false → beforeClose (drop i t) ≡ 1 + beforeClose (drop (i + 1) t)
+  pub body-on : i < length t → (eqb (getD t i 0) 42 && eqb (getD t (i + 1) 0) 47) ≡ false → beforeClose (drop i t)
+      ≡ 1 + beforeClose (drop (i + 1) t)
   unfolding beforeClose
   body-on h e = rw (drop-cons t i 0 h, add-one i) (rw (beforeClose, next-at t i, e) (omega arith))
 

@@ -75,18 +75,21 @@ raised : ℕ → ℕ → ℕ
 raised c zero = c
 raised c (suc k) = raised c k * 256
 
-unique : (k : ℕ) (u r : List ℕ) (c d : ℕ) → length u < k → plain u ≡ true → plain r ≡ true → value u + raised c k ≡ value r + raised d k → u ≡ r
+unique : (k : ℕ) (u r : List ℕ) (c d : ℕ) → length u < k → plain u ≡ true → plain r ≡ true → value u + raised c k ≡ value r + raised d k →
+    u ≡ r
 unfolding value raised
 unique zero u r c d l p q e = absurd (none l)
   where
     none : length u < 0 → ⊥
     none h = omega arith
 unique (suc k) [] [] c d l p q e = refl
-unique (suc k) [] (b ∷ r) c d l p q e = let y = plain-cons b r q in absurd (never (raised c k) (raised d k) (value r) b (y .some) (y .small) e)
+unique (suc k) [] (b ∷ r) c d l p q e = let y = plain-cons b r q in
+    absurd (never (raised c k) (raised d k) (value r) b (y .some) (y .small) e)
   where
     never : (m n v b : ℕ) → 0 < b → b < 256 → 0 + m * 256 ≡ v * 256 + b + n * 256 → ⊥
     never m n v b s t e = omega arith
-unique (suc k) (a ∷ u) [] c d l p q e = let y = plain-cons a u p in absurd (never (raised d k) (raised c k) (value u) a (y .some) (y .small) (sym e))
+unique (suc k) (a ∷ u) [] c d l p q e = let y = plain-cons a u p in
+    absurd (never (raised d k) (raised c k) (value u) a (y .some) (y .small) (sym e))
   where
     never : (m n v b : ℕ) → 0 < b → b < 256 → 0 + m * 256 ≡ v * 256 + b + n * 256 → ⊥
     never m n v b s t e = omega arith
@@ -144,7 +147,8 @@ module _ (w : List ℕ) (h : plain w ≡ true) where
   untaken [] n = refl
   untaken (e ∷ es) n =
       let b = neither (eqb (slotOf (packedOf 0 (e .spelling))) (slotOf p)) (taken es (slotOf p)) n in
-      let d : sameBytes (e .spelling) w ≡ false = differs (e .spelling) w (λ (z : w ≡ e .spelling). eqb-false (slotOf (packedOf 0 (e .spelling))) (slotOf p) (b .0) (rw z)) in
+      let d : sameBytes (e .spelling) w ≡ false =
+      differs (e .spelling) w (λ (z : w ≡ e .spelling). eqb-false (slotOf (packedOf 0 (e .spelling))) (slotOf p) (b .0) (rw z)) in
       rw (kindIn, d) (untaken es (b .1))
 
   module _ (e : Spelt) (es : List Spelt) where
@@ -157,13 +161,16 @@ module _ (w : List ℕ) (h : plain w ≡ true) where
     kind-of : e .kind < 256 → (v * 256 + e .kind) % 256 ≡ e .kind
     kind-of l = omega arith
 
-    pick : (a : Bool) → sameBytes (e .spelling) w ≡ a → (b : Bool) → eqb (slotOf v) (slotOf p) ≡ b → length (e .spelling) < 8 → plain (e .spelling) ≡ true → e .kind < 256 →
+    pick : (a : Bool) → sameBytes (e .spelling) w ≡ a → (b : Bool) → eqb (slotOf v) (slotOf p) ≡ b → length (e .spelling) < 8 →
+        plain (e .spelling) ≡ true → e .kind < 256 →
         taken es (slotOf v) ≡ false → answered (slotIn es (slotOf p)) p ≡ kindIn es Identifier w →
-        answered (cond b (v * 256 + e .kind) (slotIn es (slotOf p))) p ≡ elim a as (λ _. ℕ) [ true ↦ e .kind | false ↦ kindIn es Identifier w ]
+        answered (cond b (v * 256 + e .kind) (slotIn es (slotOf p))) p
+        ≡ elim a as (λ _. ℕ) [ true ↦ e .kind | false ↦ kindIn es Identifier w ]
     pick true q true r l m k n o = rw (word-of k, kind-of k, eq-eqb v p (ap (packedOf 0) (same-eq (e .spelling) w q)))
     pick true q false r l m k n o = absurd (eqb-false _ _ r (ap (λ (x : List ℕ). slotOf (packedOf 0 x)) (same-eq (e .spelling) w q)))
     pick false q true r l m k n o =
-        let other : v ≡ p → ⊥ = λ z. true≢false (same-says true w (e .spelling) ((λ _. sym (packed-same (e .spelling) w l m h z)), (λ _. refl)) ∙ q) in
+        let other : v ≡ p → ⊥ =
+        λ z. true≢false (same-says true w (e .spelling) ((λ _. sym (packed-same (e .spelling) w l m h z)), (λ _. refl)) ∙ q) in
         rw (word-of k, ne-eqb v p other) (sym (untaken es (rw (eqb-true (slotOf v) (slotOf p) r) at n)))
     pick false q false r l m k n o = o
 

@@ -34,7 +34,12 @@ returns : tie.Need-returns Inv-loop μ-loop
 returns c =
     let l = c .before .before .before .before .before .loop in
     let t = c .before .before .before .before .before .before .before .args .text .now in
-    omega (arith, body-stop t (l .i) (omega arith) (c .before .before .if1 .taken) (sym (c .before .peek .ensures) ∙ c .if2 .taken), l .inv .1)
+    omega (
+      arith,
+      body-stop t (l .i) (omega arith) (c .before .before .if1 .taken)
+          (sym (c .before .peek .ensures) ∙ c .if2 .taken),
+      l .inv .1,
+    )
 
 add-i : tie.Need-add-i Inv-loop μ-loop
 add-i c = omega arith

@@ -29,7 +29,8 @@ returns c =
     let k = c .before .before in
     let l = k .before .before .loop in
     let s = k .before .before .before in
-    packing-stop (s .pre .0) _ _ (l .packed) (l .i) (l .inv) (k .before .loop-test .taken) (k .shared-slice-known .given (l .i) .fits) (c .if1 .taken)
+    packing-stop (s .pre .0) _ _ (l .packed) (l .i) (l .inv) (k .before .loop-test .taken) (k .shared-slice-known .given (l .i) .fits)
+    (c .if1 .taken)
 
 mul-packed : tie.Need-mul-packed Inv-loop μ-loop
 mul-packed c = omega arith
@@ -51,7 +52,8 @@ loop-again c =
     let k = c .before .before in
     let l = k .before .before .loop in
     let s = k .before .before .before in
-    packing-on (s .pre .0) _ _ (l .packed) (l .i) (l .inv) (k .before .loop-test .taken) (k .shared-slice-known .given (l .i) .fits) (c .if1 .left)
+    packing-on (s .pre .0) _ _ (l .packed) (l .i) (l .inv) (k .before .loop-test .taken) (k .shared-slice-known .given (l .i) .fits)
+    (c .if1 .left)
 
 returns-2 : tie.Need-returns-2 Inv-loop μ-loop
 returns-2 c =

@@ -27,7 +27,19 @@ NoneOf (k ∷ ks) b = NoneOf ks b × (b ≡ k → ⊥)
 -- at any other byte every entry fails
 none : (b x : ℕ) → NoneOf (60 ∷ 62 ∷ 37 ∷ 47 ∷ 42 ∷ 45 ∷ 43 ∷ []) b → kindIn signs Eof (b ∷ x ∷ []) ≡ Eof
 unfolding allFail signs sameBytes
-none b x h = no-entry signs Eof (b ∷ x ∷ []) (simp (never, ne-eqb 60 b (λ e. h .1 (sym e)), ne-eqb 62 b (λ e. h .0 .1 (sym e)), ne-eqb 37 b (λ e. h .0 .0 .1 (sym e)), ne-eqb 47 b (λ e. h .0 .0 .0 .1 (sym e)), ne-eqb 42 b (λ e. h .0 .0 .0 .0 .1 (sym e)), ne-eqb 45 b (λ e. h .0 .0 .0 .0 .0 .1 (sym e)), ne-eqb 43 b (λ e. h .0 .0 .0 .0 .0 .0 .1 (sym e))))
+none b x h = no-entry signs Eof (b ∷ x ∷ [])
+    (simp (
+      never,
+      ne-eqb 60 b (λ e. h .1 (sym e)),
+      ne-eqb 62 b (λ e. h .0 .1 (sym e)),
+      ne-eqb 37 b (λ e. h .0 .0 .1 (sym e)),
+      ne-eqb 47 b
+          (λ e. h .0 .0 .0 .1 (sym e)),
+      ne-eqb 42 b (λ e. h .0 .0 .0 .0 .1 (sym e)),
+      ne-eqb 45 b (λ e. h .0 .0 .0 .0 .0 .1 (sym e)),
+      ne-eqb 43 b
+          (λ e. h .0 .0 .0 .0 .0 .0 .1 (sym e)),
+    ))
 
 followed-requires : tie.Need-followed-requires
 followed-requires c κs = search needs

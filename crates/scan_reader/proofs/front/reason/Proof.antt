@@ -30,7 +30,8 @@ unfolding refusalCode
 returns-6 c = code-is (c .before .args .kind) BadEscape (c .match .keys6)
 
 returns-7 : tie.Need-returns-7
-returns-7 c = let r = c .match .rest in code-rest (c .before .args .kind) (r .0 .0 .0 .0 .0 .1) (r .0 .0 .0 .0 .1) (r .0 .0 .0 .1) (r .0 .0 .1) (r .0 .1) (r .1)
+returns-7 c = let r = c .match .rest in
+    code-rest (c .before .args .kind) (r .0 .0 .0 .0 .0 .1) (r .0 .0 .0 .0 .1) (r .0 .0 .0 .1) (r .0 .0 .1) (r .0 .1) (r .1)
 
 pub reason-spec : {M : Type 1} → statement M
 reason-spec =

@@ -26,7 +26,8 @@ returns c =
     let k = c .before .before in
     let s = k .before .before in
     c .told .ensures
-    ∙ sym (block-closed (s .args .whole) (s .args .text .now) (s .args .at) (s .pre .0) (s .pre .1) (k .body-end .result) (k .body-end .ensures) (c .before .if1 .taken))
+    ∙ sym (block-closed (s .args .whole) (s .args .text .now) (s .args .at) (s .pre .0) (s .pre .1) (k .body-end .result)
+    (k .body-end .ensures) (c .before .if1 .taken))
 
 told-requires-2 : tie.Need-told-requires-2
 told-requires-2 c κs = search needs
@@ -37,7 +38,8 @@ returns-2 c =
     let k = c .before .before .before in
     let s = k .before .before in
     c .told2 .ensures
-    ∙ sym (block-open (s .args .whole) (s .args .text .now) (s .args .at) (s .pre .0) (s .pre .1) (k .body-end .result) (k .body-end .ensures) (c .before .before .if1 .left)
+    ∙ sym (block-open (s .args .whole) (s .args .text .now) (s .args .at) (s .pre .0) (s .pre .1) (k .body-end .result)
+    (k .body-end .ensures) (c .before .before .if1 .left)
     (c .before .if2 .taken))
 
 told-requires-3 : tie.Need-told-requires-3
@@ -48,7 +50,8 @@ returns-3 c =
     let k = c .before .before .before in
     let s = k .before .before in
     c .told3 .ensures
-    ∙ sym (block-short (s .args .whole) (s .args .text .now) (s .args .at) (s .pre .0) (s .pre .1) (k .body-end .result) (k .body-end .ensures) (c .before .before .if1 .left)
+    ∙ sym (block-short (s .args .whole) (s .args .text .now) (s .args .at) (s .pre .0) (s .pre .1) (k .body-end .result)
+    (k .body-end .ensures) (c .before .before .if1 .left)
     (c .before .if2 .left))
 
 pub block-comment-spec : {M : Type 1} → statement M

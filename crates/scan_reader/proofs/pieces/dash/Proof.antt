@@ -11,7 +11,8 @@ use Rattle.scan_reader.proofs.pieces.dash.Statement.{statement}
 use Rattle.scan_reader.proofs.pieces.dash.Tie as tie
 
 -- what the byte behind the dash is
-digit-is : (c : tie.After-is-digit) → c .is-digit .result ≡ isDigit (getD (c .before .before .before .args .text .now) (c .before .before .before .args .at + 1) 0)
+digit-is : (c : tie.After-is-digit) → c .is-digit .result
+    ≡ isDigit (getD (c .before .before .before .args .text .now) (c .before .before .before .args .at + 1) 0)
 digit-is c = c .is-digit .ensures ∙ ap isDigit (c .before .peek .ensures)
 
 add-peek : tie.Need-add-peek
@@ -34,7 +35,8 @@ returns c =
     let k = c .before .before in
     let s = k .before .before .before in
     let t = s .args .text .now in
-    c .number .ensures ∙ ap (settled (s .args .whole) t (s .args .at)) (sym (dash-number t (s .args .at) (sym (digit-is k) ∙ c .before .if1 .taken)))
+    c .number .ensures ∙ ap (settled (s .args .whole) t (s .args .at))
+    (sym (dash-number t (s .args .at) (sym (digit-is k) ∙ c .before .if1 .taken)))
 
 sign-requires : tie.Need-sign-requires
 sign-requires c κs =
@@ -46,7 +48,8 @@ returns-2 c =
     let k = c .before .before in
     let s = k .before .before .before in
     let t = s .args .text .now in
-    c .sign .ensures ∙ ap (settled (s .args .whole) t (s .args .at)) (sym (dash-sign t (s .args .at) (sym (digit-is k) ∙ c .before .if1 .left)))
+    c .sign .ensures ∙ ap (settled (s .args .whole) t (s .args .at))
+    (sym (dash-sign t (s .args .at) (sym (digit-is k) ∙ c .before .if1 .left)))
 
 pub dash-spec : {M : Type 1} → statement M
 dash-spec =

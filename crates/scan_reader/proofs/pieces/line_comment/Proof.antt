@@ -21,7 +21,8 @@ returns : tie.Need-returns
 returns c =
     let k = c .before .before in
     let s = k .before .before in
-    c .told .ensures ∙ sym (line-closed (s .args .whole) (s .args .text .now) (s .args .at) (s .pre .1) (k .line-end .result) (k .line-end .ensures) (c .before .if1 .taken))
+    c .told .ensures ∙ sym (line-closed (s .args .whole) (s .args .text .now) (s .args .at) (s .pre .1) (k .line-end .result)
+    (k .line-end .ensures) (c .before .if1 .taken))
 
 sub-told-2 : tie.Need-sub-told-2
 sub-told-2 c = search needs
@@ -34,7 +35,8 @@ returns-2 c =
     let k = c .before .before .before in
     let s = k .before .before in
     c .told2 .ensures
-    ∙ sym (line-last (s .args .whole) (s .args .text .now) (s .args .at) (s .pre .1) (k .line-end .result) (k .line-end .ensures) (c .before .before .if1 .left) (s .pre .0) (c .before .if2 .taken))
+    ∙ sym (line-last (s .args .whole) (s .args .text .now) (s .args .at) (s .pre .1) (k .line-end .result) (k .line-end .ensures)
+    (c .before .before .if1 .left) (s .pre .0) (c .before .if2 .taken))
 
 told-requires-3 : tie.Need-told-requires-3
 told-requires-3 c κs = search needs
@@ -44,7 +46,8 @@ returns-3 c =
     let k = c .before .before .before in
     let s = k .before .before in
     c .told3 .ensures
-    ∙ sym (line-short (s .args .whole) (s .args .text .now) (s .args .at) (s .pre .1) (k .line-end .result) (k .line-end .ensures) (c .before .before .if1 .left) (s .pre .0) (c .before .if2 .left))
+    ∙ sym (line-short (s .args .whole) (s .args .text .now) (s .args .at) (s .pre .1) (k .line-end .result) (k .line-end .ensures)
+    (c .before .before .if1 .left) (s .pre .0) (c .before .if2 .left))
 
 pub line-comment-spec : {M : Type 1} → statement M
 line-comment-spec =

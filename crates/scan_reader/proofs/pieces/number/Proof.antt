@@ -66,7 +66,9 @@ returns c =
     let j = e .before in
     let s = j .before .before .before .before in
     c .told .ensures
-    ∙ sym (number-unknown (s .args .text .now) (s .args .at) (s .args .m) (s .pre .0) (s .pre .1) (hexed j) (hex-is j) (j .if1 .from) (from-is j) (e .read-digits .result) (e .read-digits .ensures) (s .args .negative) (s .args .whole) (sym (c .before .before .shown .ensures) ∙ not-true _ (c .before .if2 .taken)))
+    ∙ sym (number-unknown (s .args .text .now) (s .args .at) (s .args .m) (s .pre .0) (s .pre .1) (hexed j) (hex-is j) (j .if1 .from)
+    (from-is j) (e .read-digits .result) (e .read-digits .ensures) (s .args .negative) (s .args .whole)
+    (sym (c .before .before .shown .ensures) ∙ not-true _ (c .before .if2 .taken)))
 
 sub-told : tie.Need-sub-told
 sub-told c =
@@ -83,7 +85,10 @@ returns-2 c =
     let j = e .before in
     let s = j .before .before .before .before in
     c .told2 .ensures
-    ∙ sym (number-none (s .args .text .now) (s .args .at) (s .args .m) (s .pre .0) (s .pre .1) (hexed j) (hex-is j) (j .if1 .from) (from-is j) (e .read-digits .result) (e .read-digits .ensures) (s .args .negative) (s .args .whole) (sym (c .before .before .before .before .shown .ensures) ∙ not-false _ (c .before .before .before .if2 .left)) (c .before .before .if3 .taken))
+    ∙ sym (number-none (s .args .text .now) (s .args .at) (s .args .m) (s .pre .0) (s .pre .1) (hexed j) (hex-is j) (j .if1 .from)
+    (from-is j) (e .read-digits .result) (e .read-digits .ensures) (s .args .negative) (s .args .whole)
+    (sym (c .before .before .before .before .shown .ensures) ∙ not-false _ (c .before .before .before .if2 .left))
+    (c .before .before .if3 .taken))
 
 told-requires-3 : tie.Need-told-requires-3
 told-requires-3 c κs = search needs
@@ -95,14 +100,22 @@ returns-3 c =
     let j = e .before in
     let s = j .before .before .before .before in
     c .told3 .ensures
-    ∙ sym (number-large (s .args .text .now) (s .args .at) (s .args .m) (s .pre .0) (s .pre .1) (hexed j) (hex-is j) (j .if1 .from) (from-is j) (e .read-digits .result) (e .read-digits .ensures) (s .args .negative) (s .args .whole) (sym (c .before .before .before .before .shown .ensures) ∙ not-false _ (c .before .before .before .if2 .left)) (c .before .before .if3 .left) (c .before .if4 .taken))
+    ∙ sym (number-large (s .args .text .now) (s .args .at) (s .args .m) (s .pre .0) (s .pre .1) (hexed j) (hex-is j) (j .if1 .from)
+    (from-is j) (e .read-digits .result) (e .read-digits .ensures) (s .args .negative) (s .args .whole)
+    (sym (c .before .before .before .before .shown .ensures) ∙ not-false _ (c .before .before .before .if2 .left))
+    (c .before .before .if3 .left) (c .before .if4 .taken))
 
 sub-t12 : tie.Need-sub-t12
 sub-t12 c =
     let e = c .before .before .before .before in
     let j = e .before in
     let s = j .before .before .before .before in
-    omega (arith, from-is j, number-behind (s .args .text .now) (s .args .at) (s .args .m) (s .pre .0) (s .pre .1) (hexed j) (hex-is j) (j .if1 .from) (from-is j) (e .read-digits .result) (e .read-digits .ensures))
+    omega (
+      arith,
+      from-is j,
+      number-behind (s .args .text .now) (s .args .at) (s .args .m) (s .pre .0) (s .pre .1) (hexed j) (hex-is j)
+          (j .if1 .from) (from-is j) (e .read-digits .result) (e .read-digits .ensures),
+    )
 
 bits-of-requires : tie.Need-bits-of-requires
 bits-of-requires c κs = search needs
@@ -113,7 +126,10 @@ returns-4 c =
     let j = e .before in
     let s = j .before .before .before .before in
     ap (λ (x : ℕ). record { size = e .read-digits .result .end - s .args .at; kind = Number; bits = x }) (c .bits-of .ensures)
-    ∙ sym (number-row (s .args .text .now) (s .args .at) (s .args .m) (s .pre .0) (s .pre .1) (hexed j) (hex-is j) (j .if1 .from) (from-is j) (e .read-digits .result) (e .read-digits .ensures) (s .args .negative) (s .args .whole) (sym (c .before .before .before .before .shown .ensures) ∙ not-false _ (c .before .before .before .if2 .left)) (c .before .before .if3 .left) (c .before .if4 .left))
+    ∙ sym (number-row (s .args .text .now) (s .args .at) (s .args .m) (s .pre .0) (s .pre .1) (hexed j) (hex-is j) (j .if1 .from)
+    (from-is j) (e .read-digits .result) (e .read-digits .ensures) (s .args .negative) (s .args .whole)
+    (sym (c .before .before .before .before .shown .ensures) ∙ not-false _ (c .before .before .before .if2 .left))
+    (c .before .before .if3 .left) (c .before .if4 .left))
 
 pub number-spec : {M : Type 1} → statement M
 number-spec =

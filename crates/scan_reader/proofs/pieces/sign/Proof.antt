@@ -18,7 +18,9 @@ sign-shown : (c : tie.Else1) → (c .before .before .before .args .whole || ltb 
 sign-shown c = sym (c .before .shown .ensures) ∙ not-false _ (c .if1 .left)
 
 -- the kind of the two bytes
-two-is : (c : tie.After-two-sign) → c .two-sign .result ≡ twoAt (c .before .before .before .before .before .before .args .text .now) (c .before .before .before .before .before .before .args .at)
+two-is : (c : tie.After-two-sign) → c .two-sign .result
+    ≡ twoAt (c .before .before .before .before .before .before .args .text .now)
+    (c .before .before .before .before .before .before .args .at)
 two-is c =
     let s = c .before .before .before .before .before .before in
     c .two-sign .ensures ∙ ap (λ (x : ℕ). kindIn signs Eof (getD (s .args .text .now) (s .args .at) 0 ∷ x ∷ [])) (c .before .peek .ensures)
@@ -37,7 +39,8 @@ returns c =
     let d = c .before .before in
     let s = d .before .before in
     c .told .ensures
-    ∙ sym (sign-unknown (s .args .text .now) (s .args .at) (s .pre .1) (s .args .whole) (sym (d .shown .ensures) ∙ not-true _ (c .before .if1 .taken)))
+    ∙ sym (sign-unknown (s .args .text .now) (s .args .at) (s .pre .1) (s .args .whole)
+    (sym (d .shown .ensures) ∙ not-true _ (c .before .if1 .taken)))
 
 shared-slice-read-b : tie.Need-shared-slice-read-b
 shared-slice-read-b c = search needs
@@ -58,7 +61,8 @@ returns-2 c =
     let s = d .before .before .before in
     c .told2 .ensures
     ∙ ap (λ (x : ℕ). record { size = 2; kind = x; bits = 0 }) (two-is k)
-    ∙ sym (sign-two (s .args .text .now) (s .args .at) (s .pre .1) (s .args .whole) (sign-shown d) (λ e. c .before .if2 .taken (two-is k ∙ e)))
+    ∙ sym (sign-two (s .args .text .now) (s .args .at) (s .pre .1) (s .args .whole) (sign-shown d)
+    (λ e. c .before .if2 .taken (two-is k ∙ e)))
 
 told-requires-3 : tie.Need-told-requires-3
 told-requires-3 c κs = search needs
@@ -71,7 +75,8 @@ returns-3 c =
     let d = k .before .before .before in
     let s = d .before .before .before in
     c .told3 .ensures
-    ∙ sym (sign-lone (s .args .text .now) (s .args .at) (s .pre .1) (s .args .whole) (sign-shown d) (sym (two-is k) ∙ e .if2 .left) (c .before .if3 .taken))
+    ∙ sym (sign-lone (s .args .text .now) (s .args .at) (s .pre .1) (s .args .whole) (sign-shown d) (sym (two-is k) ∙ e .if2 .left)
+    (c .before .if3 .taken))
 
 one-sign-requires : tie.Need-one-sign-requires
 one-sign-requires c κs = (c .before .before .before .before .before .before .before .before .pre .1, c .if3 .left)

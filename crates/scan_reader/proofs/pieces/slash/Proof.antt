@@ -24,7 +24,8 @@ returns c =
     let k = c .before .before in
     let s = k .before .before in
     let t = s .args .text .now in
-    c .line-comment .ensures ∙ ap (settled (s .args .whole) t (s .args .at)) (sym (slash-line t (s .args .at) (sym (k .peek .ensures) ∙ c .before .if1 .taken)))
+    c .line-comment .ensures ∙ ap (settled (s .args .whole) t (s .args .at))
+    (sym (slash-line t (s .args .at) (sym (k .peek .ensures) ∙ c .before .if1 .taken)))
 
 block-comment-requires : tie.Need-block-comment-requires
 block-comment-requires c κs =
@@ -39,7 +40,8 @@ returns-2 c =
     let k = c .before .before .before in
     let s = k .before .before in
     let t = s .args .text .now in
-    c .block-comment .ensures ∙ ap (settled (s .args .whole) t (s .args .at)) (sym (slash-block t (s .args .at) (sym (k .peek .ensures) ∙ c .before .if2 .taken)))
+    c .block-comment .ensures ∙ ap (settled (s .args .whole) t (s .args .at))
+    (sym (slash-block t (s .args .at) (sym (k .peek .ensures) ∙ c .before .if2 .taken)))
 
 sign-requires : tie.Need-sign-requires
 sign-requires c κs =
@@ -53,7 +55,8 @@ returns-3 c =
     let t = s .args .text .now in
     c .sign .ensures
     ∙ ap (settled (s .args .whole) t (s .args .at))
-    (sym (slash-sign t (s .args .at) (λ e. c .before .before .if1 .left (k .peek .ensures ∙ e)) (λ e. c .before .if2 .left (k .peek .ensures ∙ e))))
+    (sym (slash-sign t (s .args .at) (λ e. c .before .before .if1 .left (k .peek .ensures ∙ e))
+    (λ e. c .before .if2 .left (k .peek .ensures ∙ e))))
 
 pub slash-spec : {M : Type 1} → statement M
 slash-spec =

@@ -13,13 +13,17 @@ use Rattle.scan_reader.proofs.pieces.string.Statement.{statement}
 use Rattle.scan_reader.proofs.pieces.string.Tie as tie
 
 -- what the match learnt of the string
-closed-is : (c : tie.After-q) → quotedAt (c .before .before .before .before .args .text .now) (c .before .before .before .before .args .at) ≡ Closed (c .q .given .0 .0)
+closed-is : (c : tie.After-q) → quotedAt (c .before .before .before .before .args .text .now) (c .before .before .before .before .args .at)
+    ≡ Closed (c .q .given .0 .0)
 closed-is c = sym (c .before .before .read-quoted .ensures) ∙ c .q .given .1
 
-open-is : (c : tie.After-q2) → quotedAt (c .before .before .before .before .args .text .now) (c .before .before .before .before .args .at) ≡ Open (c .q2 .given .0 .0)
+open-is : (c : tie.After-q2) → quotedAt (c .before .before .before .before .args .text .now) (c .before .before .before .before .args .at)
+    ≡ Open (c .q2 .given .0 .0)
 open-is c = sym (c .before .before .read-quoted .ensures) ∙ c .q2 .given .1
 
-escape-is : (c : tie.After-q3) → quotedAt (c .before .before .before .before .args .text .now) (c .before .before .before .before .args .at) ≡ Escape (c .q3 .given .0 .0)
+escape-is : (c : tie.After-q3) →
+    quotedAt (c .before .before .before .before .args .text .now) (c .before .before .before .before .args .at)
+    ≡ Escape (c .q3 .given .0 .0)
 escape-is c = sym (c .before .before .read-quoted .ensures) ∙ c .q3 .given .1
 
 add-read-quoted : tie.Need-add-read-quoted
@@ -36,7 +40,8 @@ unfolding reachOf
 add-told c =
     let d = c .before in
     let s = d .before .before .before .before in
-    let l : d .q .given .0 .0 + 1 ≤ length (s .args .text .now) = string-inside (s .args .text .now) (s .args .at) (s .pre .0) (s .pre .1) (Closed (d .q .given .0 .0)) (closed-is d) in
+    let l : d .q .given .0 .0 + 1 ≤ length (s .args .text .now) =
+    string-inside (s .args .text .now) (s .args .at) (s .pre .0) (s .pre .1) (Closed (d .q .given .0 .0)) (closed-is d) in
     omega arith
 
 sub-told : tie.Need-sub-told
@@ -44,7 +49,8 @@ unfolding reachOf
 sub-told c =
     let d = c .before in
     let s = d .before .before .before .before in
-    let f : s .args .at + 1 ≤ d .q .given .0 .0 + 1 = string-from (s .args .text .now) (s .args .at) (s .pre .0) (s .pre .1) (Closed (d .q .given .0 .0)) (closed-is d) in
+    let f : s .args .at + 1 ≤ d .q .given .0 .0 + 1 =
+    string-from (s .args .text .now) (s .args .at) (s .pre .0) (s .pre .1) (Closed (d .q .given .0 .0)) (closed-is d) in
     omega arith
 
 told-requires : tie.Need-told-requires
@@ -72,7 +78,8 @@ unfolding reachOf
 sub-told-2 c =
     let d = c .before .before .before in
     let s = d .before .before .before .before in
-    let f : s .args .at + 1 ≤ d .q2 .given .0 .0 = string-from (s .args .text .now) (s .args .at) (s .pre .0) (s .pre .1) (Open (d .q2 .given .0 .0)) (open-is d) in
+    let f : s .args .at + 1 ≤ d .q2 .given .0 .0 =
+    string-from (s .args .text .now) (s .args .at) (s .pre .0) (s .pre .1) (Open (d .q2 .given .0 .0)) (open-is d) in
     omega arith
 
 told-requires-3 : tie.Need-told-requires-3
@@ -86,7 +93,8 @@ unfolding reachOf
 sub-told-3 c =
     let d = c .before in
     let s = d .before .before .before .before in
-    let f : s .args .at + 1 ≤ d .q3 .given .0 .0 = string-from (s .args .text .now) (s .args .at) (s .pre .0) (s .pre .1) (Escape (d .q3 .given .0 .0)) (escape-is d) in
+    let f : s .args .at + 1 ≤ d .q3 .given .0 .0 =
+    string-from (s .args .text .now) (s .args .at) (s .pre .0) (s .pre .1) (Escape (d .q3 .given .0 .0)) (escape-is d) in
     omega arith
 
 told-requires-4 : tie.Need-told-requires-4
@@ -96,7 +104,8 @@ returns-2 : tie.Need-returns-2
 returns-2 c =
     let d = c .before .before in
     let s = d .before .before .before .before in
-    c .told .ensures ∙ sym (string-closed (s .args .text .now) (s .args .at) (s .pre .0) (s .pre .1) (s .args .whole) (d .q .given .0 .0) (closed-is d))
+    c .told .ensures ∙ sym (string-closed (s .args .text .now) (s .args .at) (s .pre .0) (s .pre .1) (s .args .whole) (d .q .given .0 .0)
+    (closed-is d))
 
 returns-3 : tie.Need-returns-3
 unfolding refusalCode
@@ -113,7 +122,8 @@ unfolding refusalCode
 returns-4 c =
     let d = c .before .before in
     let s = d .before .before .before .before in
-    c .told4 .ensures ∙ sym (string-escape (s .args .text .now) (s .args .at) (s .pre .0) (s .pre .1) (s .args .whole) (d .q3 .given .0 .0) (escape-is d))
+    c .told4 .ensures ∙ sym (string-escape (s .args .text .now) (s .args .at) (s .pre .0) (s .pre .1) (s .args .whole) (d .q3 .given .0 .0)
+    (escape-is d))
 
 pub string-spec : {M : Type 1} → statement M
 string-spec =

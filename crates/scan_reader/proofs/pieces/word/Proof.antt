@@ -49,7 +49,8 @@ returns-2 c =
     let w = k .read-word .result in
     let e = k .read-word .ensures in
     c .told2 .ensures
-    ∙ ap (λ (x : ℕ). record { size = w .end - a; kind = x; bits = 0 }) (c .before .kind-in .ensures (wordAt t a w e) (words-plain (drop a t)) (word-packed t a w e))
+    ∙ ap (λ (x : ℕ). record { size = w .end - a; kind = x; bits = 0 })
+    (c .before .kind-in .ensures (wordAt t a w e) (words-plain (drop a t)) (word-packed t a w e))
     ∙ sym (word-told t a w e (s .args .whole) (sym (d .before .shown .ensures) ∙ not-false _ (d .if1 .left)))
 
 pub word-spec : {M : Type 1} → statement M
