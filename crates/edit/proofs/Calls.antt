@@ -1,25 +1,25 @@
 -- What an edit tells and leaves, by the order of its refusals.
 use mathlib.Core.Path.{_≡_, refl, sym, ap, subst, _∙_}
-use mathlib.Core.Bool.{Bool, true, false, _&&_}
+use mathlib.Core.Bool.{Bool, true, false, not, _&&_}
 use mathlib.Core.List.{List, _++_}
 use Prim.Native.Nat.{ℕ, suc, _+_, _*_, _≤_, _<_}
 use native.Mathlib.Omega.{arith}
 use lib.ListN.{length, take}
-use lib.Dec.{eqb, leb}
+use lib.Dec.{eqb, leb, ltb}
 use borrow.Author.Tests.{lt-ltb, le-ltb, leb-true, eqb-true}
 use Rattle.rules.specs.declared.Cursor.{Cursor}
 use Rattle.rules.specs.declared.Outer.the-variants.{TextTooLong, BadByte, NotWellFormed, EditNotSensible, WindowShort}
 use Rattle.rules.specs.declared.Table.{Table}
 use Rattle.rules.specs.declared.Told.{Told}
 use Rattle.rules.specs.declared.Told.the-variants.{Refused}
-use Rattle.rules.specs.Text.{mostBytes, startPlace, validBytes, over}
+use Rattle.rules.specs.Text.{mostBytes, startPlace, over}
 use Rattle.rules.specs.Rows.{rowsIn, wellFormed}
 use Rattle.rules.specs.Scan.{told, laid}
-use Rattle.rules.specs.Edit.{isShort, kept, lastEnd, restart, newLength, sensible, ends, windowShort, newRows, newEnding, editTold, editLeaves}
+use Rattle.rules.specs.Edit.{isShort, kept, lastEnd, restart, newLength, sensible, ends, judging, unjudged, windowBytes, windowShort, newRows, newEnding, editTold, editLeaves}
 use Rattle.laws.proofs.Tests.{both-true}
 use Rattle.rows.specs.Shape.{rowNo}
 use Rattle.rows.proofs.Inside.{fine}
-use Rattle.laws.proofs.Valid.{is-valid, is-bad}
+use Rattle.laws.proofs.Valid.{is-window-valid, is-window-bad}
 use Rattle.edit_carry.specs.Moves.{Ended}
 use Rattle.edit_carry.proofs.Kept.{kept-inside, kept-rows}
 use Rattle.edit.specs.declared.Job.{Job}
@@ -37,37 +37,37 @@ module _ {ws : List ℕ} {j : Job} {w : List ℕ} (r : Ready ws j w) where
   pub whole-by : (x y : ℕ) → x ≡ j .begin .offset .0 → y ≡ sizeAfter j → eqb (x + length w) y ≡ wholeOf
   whole-by x y e f = rw (e, f, r .begin)
 
-  -- the window ends before a + n, or shows too little
-  short-window : Bool
-  short-window = windowShort (oldRows ws j) (j .table .ending) (j .table .length) (j .a) (j .b) (j .n) w
+  -- it shows too little to be judged
+  abbrev pub early : Bool
+  early = unjudged (oldRows ws j) (j .table .length) (j .a) (j .b) (j .n) w
 
-  early : j .begin .offset .0 + length w < j .a + j .n → short-window ≡ true
-  unfolding windowShort short-window
-  early h = rw (lt-ltb _ _ (subst (λ (p : Cursor). p .offset .0 + length w < j .a + j .n) (r .begin) h))
-
-  late : j .a + j .n ≤ j .begin .offset .0 + length w → (whole : Bool) → whole ≡ wholeOf → short-window ≡ isShort (jobSeen ws j w whole)
-  unfolding windowShort short-window jobSeen
-  late h whole e =
-      rw (le-ltb _ _ (subst (λ (p : Cursor). j .a + j .n ≤ p .offset .0 + length w) (r .begin) h))
-      (ap (λ (q : Bool). isShort (jobSeen ws j w q)) (sym e))
+  pub early-by : (x y : ℕ) (q : Bool) → x ≡ j .begin .offset .0 → y ≡ j .a + j .n → q ≡ wholeOf → (ltb (x + length w) (y + judging) && not q) ≡ early
+  unfolding unjudged
+  early-by x y q e f g = rw (e, f, g, r .begin)
 
   module _ (m : ℕ) (new : List ℕ) where
-    refused-7 : short-window ≡ true → (Refused WindowShort startPlace 0 ≡ rereadTold ws j w m) × (new ≡ rereadLeaves ws j w new)
-    unfolding rereadTold rereadLeaves short-window
-    refused-7 e = rw e (refl, refl)
+    abbrev Reread : Told → List ℕ → Type 0
+    Reread x ys = (x ≡ rereadTold ws j w m) × (ys ≡ rereadLeaves ws j w new)
 
-    pub reread-early : j .begin .offset .0 + length w < j .a + j .n → (Refused WindowShort startPlace 0 ≡ rereadTold ws j w m) × (new ≡ rereadLeaves ws j w new)
-    reread-early h = refused-7 (early h)
+    pub reread-early : early ≡ true → Reread (Refused WindowShort startPlace 0) new
+    unfolding rereadTold rereadLeaves
+    reread-early e = rw e (refl, refl)
 
-    module _ (h : j .a + j .n ≤ j .begin .offset .0 + length w) (whole : Bool) (e : whole ≡ wholeOf) where
-      pub reread-short : isShort (jobSeen ws j w whole) ≡ true → (Refused WindowShort startPlace 0 ≡ rereadTold ws j w m) × (new ≡ rereadLeaves ws j w new)
-      reread-short f = refused-7 (late h whole e ∙ f)
+    module _ (late : early ≡ false) (whole : Bool) (e : whole ≡ wholeOf) where
+      pub reread-bad : windowBytes whole w < length w → Reread (Refused BadByte (over (j .begin) (take (windowBytes whole w) w)) 0) new
+      unfolding rereadTold rereadLeaves
+      reread-bad h = rw (late, ← e, is-window-bad whole w h, r .begin) (refl, refl)
 
-      pub reread-rows : isShort (jobSeen ws j w whole) ≡ false → (size : ℕ) → size ≡ sizeAfter j → (x : Told) (ys : List ℕ) →
-          (x ≡ told size m (kept (j .a) (oldRows ws j) ++ jobRows ws j w whole) (jobEnding ws j w whole)) × (ys ≡ laid (kept (j .a) (oldRows ws j) ++ jobRows ws j w whole) new) →
-          (x ≡ rereadTold ws j w m) × (ys ≡ rereadLeaves ws j w new)
-      unfolding rereadTold rereadLeaves short-window newRows newEnding jobRows jobEnding jobSeen
-      reread-rows f size g x ys q = rw (late h whole e ∙ f) (rw (← e, ← g) q)
+      module _ (good : length w ≤ windowBytes whole w) where
+        pub reread-short : isShort (jobSeen ws j w whole) ≡ true → Reread (Refused WindowShort startPlace 0) new
+        unfolding rereadTold rereadLeaves windowShort jobSeen
+        reread-short f = rw (late, ← e, is-window-valid whole w good, f) (refl, refl)
+
+        pub reread-rows : isShort (jobSeen ws j w whole) ≡ false → (size : ℕ) → size ≡ sizeAfter j → (x : Told) (ys : List ℕ) →
+            (x ≡ told size m (kept (j .a) (oldRows ws j) ++ jobRows ws j w whole) (jobEnding ws j w whole)) × (ys ≡ laid (kept (j .a) (oldRows ws j) ++ jobRows ws j w whole) new) →
+            Reread x ys
+        unfolding rereadTold rereadLeaves windowShort newRows newEnding jobRows jobEnding jobSeen
+        reread-rows f size g x ys q = rw (late, ← e, is-window-valid whole w good, f) (rw (← g) q)
 
 -- ---- the call
 
@@ -146,11 +146,6 @@ module _ {ws : List ℕ} {j : Job} (t : Tested ws j) (start : ℕ) (w : List ℕ
     edit-1 m new h = rw (t .fine, senses-by, s, lt-ltb mostBytes (sizeAfter j) h) (refl, refl)
 
     module _ (h : sizeAfter j ≤ mostBytes) where
-      pub edit-2 : (m : ℕ) (new : List ℕ) → validBytes w < length w
-          → JobEdited m new (Refused BadByte (over (j .begin) (take (validBytes w) w)) 0) new
-      unfolding editTold editLeaves
-      edit-2 m new l = rw (t .fine, senses-by, s, le-ltb mostBytes (sizeAfter j) h, is-bad w l, ← t .begin) (refl, refl)
-
       pub ready-by : Ready ws j w
       ready-by =
           let x = sensible-by (j .table .length) (j .a) (j .b) (j .n) (j .begin .offset .0) start (length w) s in
@@ -164,7 +159,6 @@ module _ {ws : List ℕ} {j : Job} (t : Tested ws j) (start : ℕ) (w : List ℕ
             short = h;
           }
 
-      pub edit-rest : (m : ℕ) (new : List ℕ) → length w ≤ validBytes w → (x : Told) (ys : List ℕ) →
-          (x ≡ rereadTold ws j w m) × (ys ≡ rereadLeaves ws j w new) → JobEdited m new x ys
+      pub edit-rest : (m : ℕ) (new : List ℕ) (x : Told) (ys : List ℕ) → (x ≡ rereadTold ws j w m) × (ys ≡ rereadLeaves ws j w new) → JobEdited m new x ys
       unfolding editTold editLeaves rereadTold rereadLeaves
-      edit-rest m new l x ys z = rw (t .fine, senses-by, s, le-ltb mostBytes (sizeAfter j) h, is-valid w l) z
+      edit-rest m new x ys z = rw (t .fine, senses-by, s, le-ltb mostBytes (sizeAfter j) h) z

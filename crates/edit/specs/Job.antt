@@ -1,20 +1,20 @@
 -- What the parts of the edit call ask and give: an edit whose numbers are sensible, what is seen of its window, and what is written
 -- behind the kept rows.
 use mathlib.Core.Path.{_≡_}
-use mathlib.Core.Bool.{Bool, true, false, cond, _&&_}
+use mathlib.Core.Bool.{Bool, true, false, cond, not, _&&_}
 use mathlib.Core.List.{List, map}
 use Prim.Native.Nat.{ℕ, _+_, _*_, _^_, _≤_, _<_}
-use lib.ListN.{length, drop}
+use lib.ListN.{length, take, drop}
 use lib.Dec.{eqb, leb}
 use Rattle.rules.specs.declared.Cursor.{Cursor}
 use Rattle.rules.specs.declared.Ending.{Ending}
 use Rattle.rules.specs.declared.Table.{Table}
-use Rattle.rules.specs.declared.Outer.the-variants.{NoRowRoom, WindowShort}
+use Rattle.rules.specs.declared.Outer.the-variants.{BadByte, NoRowRoom, WindowShort}
 use Rattle.rules.specs.declared.Told.{Told}
 use Rattle.rules.specs.declared.Told.the-variants as tells
-use Rattle.rules.specs.Text.{mostBytes, startPlace}
+use Rattle.rules.specs.Text.{mostBytes, startPlace, over}
 use Rattle.rules.specs.Rows.{Row, rowsIn, rowPlace, wellFormed}
-use Rattle.rules.specs.Edit.{Seen, kept, restart, newLength, seen, isShort, seenRows, seenEnding, carryRow, carryEnding, ends, windowShort, newRows, newEnding}
+use Rattle.rules.specs.Edit.{Seen, kept, restart, newLength, seen, isShort, seenRows, seenEnding, carryRow, carryEnding, ends, unjudged, windowBytes, windowValid, windowShort, newRows, newEnding}
 use Rattle.rules.specs.Scan.{told, laid}
 use Rattle.rows.specs.Shape.{rowNo}
 use Rattle.edit_carry.specs.Moves.{MovesRow, MovesEnding}
@@ -114,16 +114,22 @@ unfoldable pub TellsFit : ℕ → Tail → ℕ → Type 0
 TellsFit k (Rows n e) m = k + n < 2 ^ 32
 TellsFit k Full m = m < 2 ^ 32
 
--- 7, and then 4 against lexical refusals
+-- 7, 2, 7, and then 4 against lexical refusals: the rest of the edit's order
 unfoldable pub rereadTold : List ℕ → Job → List ℕ → ℕ → Told
 rereadTold ws j w m =
     let len : ℕ = j .table .length in
-    cond (windowShort (oldRows ws j) (j .table .ending) len (j .a) (j .b) (j .n) w) (tells.Refused WindowShort startPlace 0)
-    (told (sizeAfter j) m (newRows (oldRows ws j) (j .table .ending) (j .a) (j .b) (j .n) w (ends (oldRows ws j) len (j .a) (j .b) (j .n) w))
-    (newEnding (oldRows ws j) (j .table .ending) (j .a) (j .b) (j .n) w (ends (oldRows ws j) len (j .a) (j .b) (j .n) w)))
+    let whole : Bool = ends (oldRows ws j) len (j .a) (j .b) (j .n) w in
+    cond (unjudged (oldRows ws j) len (j .a) (j .b) (j .n) w) (tells.Refused WindowShort startPlace 0)
+    (cond (not (windowValid whole w)) (tells.Refused BadByte (over (restart (oldRows ws j) (j .a)) (take (windowBytes whole w) w)) 0)
+    (cond (windowShort (oldRows ws j) (j .table .ending) len (j .a) (j .b) (j .n) w) (tells.Refused WindowShort startPlace 0)
+    (told (sizeAfter j) m (newRows (oldRows ws j) (j .table .ending) (j .a) (j .b) (j .n) w whole)
+    (newEnding (oldRows ws j) (j .table .ending) (j .a) (j .b) (j .n) w whole))))
 
 unfoldable pub rereadLeaves : List ℕ → Job → List ℕ → List ℕ → List ℕ
 rereadLeaves ws j w new =
     let len : ℕ = j .table .length in
-    cond (windowShort (oldRows ws j) (j .table .ending) len (j .a) (j .b) (j .n) w) new
-    (laid (newRows (oldRows ws j) (j .table .ending) (j .a) (j .b) (j .n) w (ends (oldRows ws j) len (j .a) (j .b) (j .n) w)) new)
+    let whole : Bool = ends (oldRows ws j) len (j .a) (j .b) (j .n) w in
+    cond (unjudged (oldRows ws j) len (j .a) (j .b) (j .n) w) new
+    (cond (not (windowValid whole w)) new
+    (cond (windowShort (oldRows ws j) (j .table .ending) len (j .a) (j .b) (j .n) w) new
+    (laid (newRows (oldRows ws j) (j .table .ending) (j .a) (j .b) (j .n) w whole) new)))

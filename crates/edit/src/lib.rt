@@ -17,7 +17,7 @@ use rules::Told;
 use rules::limit;
 use rules::row;
 use scan_place::pass;
-use scan_place::valid_bytes;
+use scan_place::window_bytes;
 use scan_walk::Olds;
 use scan_walk::Stop;
 use scan_walk::walk;
@@ -201,7 +201,8 @@ fn fill(old: &[u32], job: Job, window: &[u8], whole: bool, size: u32, new: &mut 
     tell(kept, tail, size, room)
 }
 
-// The window is read, and the rows are written, of an edit that is sensible.
+// The window of a sensible edit is judged and read, and the rows are written: 7 where it shows too little to be judged, 2, 7 where it
+// shows neither a meeting place nor a refusal nor the text's end.
 fn reread(old: &[u32], job: Job, window: &[u8], new: &mut [u32]) -> Told
     requires { ⌜ Ready (now old) job (now window) ⌝ }
     ensures { λ r. ⌜ (r ≡ rereadTold (now (old .entry)) job (now (window .entry)) (roomOf (now (new .entry)))) × (now (new .exit) ≡ rereadLeaves (now (old .entry)) job (now (window .entry)) (now (new .entry))) ⌝ }
@@ -210,11 +211,15 @@ fn reread(old: &[u32], job: Job, window: &[u8], new: &mut [u32]) -> Told
     let begin = job.begin;
     let size = new_length(table.length, job.a, job.b, job.n);
     let end = wide(begin.offset.0) + window.len() as u64;
+    let whole = end == size;
     let olds = olds_of(job);
-    if end < olds.least {
+    if (end < olds.least + limit::JUDGING) & !whole {
         return refused(Outer::WindowShort);
     }
-    let whole = end == size;
+    let valid = window_bytes(window, whole);
+    if valid < window.len() {
+        return Told::Refused(Outer::BadByte, pass(window, begin, valid), 0);
+    }
     if is_short(old, job, window, whole) {
         return refused(Outer::WindowShort);
     }
@@ -258,10 +263,6 @@ pub fn edit_tested(old: &[u32], job: Job, start: u32, window: &[u8], new: &mut [
     }
     if limit::MOST_BYTES_U64 < new_length(length, job.a, job.b, job.n) {
         return refused(Outer::TextTooLong);
-    }
-    let valid = valid_bytes(window);
-    if valid < window.len() {
-        return Told::Refused(Outer::BadByte, pass(window, begin, valid), 0);
     }
     reread(old, job, window, new)
 }

@@ -1,22 +1,22 @@
 -- A change never says 7: its window ends the text. The theorem is `never-short`, for all arguments.
-use Prim.Native.Nat.{ℕ, _+_, _≤_}
+use Prim.Native.Nat.{ℕ, _+_}
 use native.Mathlib.Omega.{arith}
 use mathlib.Core.Bool.{Bool, true, false, cond, not, _&&_, true≢false}
 use mathlib.Core.List.{List}
 use mathlib.Core.Path.{_≡_, refl, ap, _∙_}
 use lib.ListN.{length, take, drop, length-drop}
 use lib.Dec.{eqb, leb, ltb}
-use borrow.Author.Tests.{le-ltb, eq-eqb}
+use borrow.Author.Tests.{eq-eqb}
 use Rattle.rules.specs.declared.Cursor.{Cursor}
 use Rattle.rules.specs.declared.Ending.{Ending}
 use Rattle.rules.specs.declared.Outer.the-variants.{TextTooLong, BadByte, NotWellFormed, NoRowRoom, EditNotSensible, WindowShort}
 use Rattle.rules.specs.declared.Table.{Table}
 use Rattle.rules.specs.declared.Told.{Told}
 use Rattle.rules.specs.declared.Told.the-variants.{Rows, Refused}
-use Rattle.rules.specs.Text.{mostBytes, validBytes, valid, startPlace, over}
+use Rattle.rules.specs.Text.{mostBytes, startPlace, over}
 use Rattle.rules.specs.Rows.{Row, rowsIn, wellFormed}
 use Rattle.rules.specs.Scan.{told}
-use Rattle.rules.specs.Edit.{isShort, seen, restart, newLength, sensible, ends, windowShort, newRows, newEnding, editTold}
+use Rattle.rules.specs.Edit.{isShort, seen, restart, newLength, sensible, ends, judging, unjudged, windowBytes, windowValid, windowShort, newRows, newEnding, editTold}
 use Rattle.laws.proofs.Tests.{both-true, true-both}
 use Rattle.theory_edits.proofs.Kept.{restart-le}
 use Rattle.theory_edits.proofs.LookItem.{same-look}
@@ -53,24 +53,26 @@ told-no i m rows e = by (leb (length rows) m)
     by true = no-rows
     by false = no-4
 
--- the order of the refusals: each test may answer as it will, but the window of a sensible change, with a text as long as it says, is not
--- short
-ordered : (formed same sense long good short : Bool) → (same ≡ true → sense ≡ true → short ≡ false) → (bad : Cursor) {x : Told}
-    → NotSeven x
+-- the order of the refusals: each test may answer as it will, but the window of a sensible change, with a text as long as it says, can be
+-- judged and is not short
+ordered : (formed same sense long early good short : Bool) → (same ≡ true → sense ≡ true → early ≡ false)
+    → (same ≡ true → sense ≡ true → short ≡ false) → (bad : Cursor) {x : Told} → NotSeven x
     → NotSeven (cond (not formed) (Refused NotWellFormed startPlace 0)
     (cond (not same) (Refused EditNotSensible startPlace 0)
     (cond (not formed) (Refused NotWellFormed startPlace 0)
     (cond (not sense) (Refused EditNotSensible startPlace 0)
     (cond long (Refused TextTooLong startPlace 0)
+    (cond early (Refused WindowShort startPlace 0)
     (cond (not good) (Refused BadByte bad 0)
-    (cond short (Refused WindowShort startPlace 0) x)))))))
-ordered false same sense long good short h bad n = no-3
-ordered true false sense long good short h bad n = no-6
-ordered true true false long good short h bad n = no-6
-ordered true true true true good short h bad n = no-1
-ordered true true true false false short h bad n = no-2
-ordered true true true false true true h bad n = absurd (true≢false (h refl refl))
-ordered true true true false true false h bad n = n
+    (cond short (Refused WindowShort startPlace 0) x))))))))
+ordered false same sense long early good short h k bad n = no-3
+ordered true false sense long early good short h k bad n = no-6
+ordered true true false long early good short h k bad n = no-6
+ordered true true true true early good short h k bad n = no-1
+ordered true true true false true good short h k bad n = absurd (true≢false (h refl refl))
+ordered true true true false false false short h k bad n = no-2
+ordered true true true false false true true h k bad n = absurd (true≢false (k refl refl))
+ordered true true true false false true false h k bad n = n
 
 -- ---- the whole window
 
@@ -85,15 +87,20 @@ module _ (rows : List Row) (e : Ending) (len a b n : ℕ) (text : List ℕ) (f :
   unfolding seen
   seen-whole w = ap isShort (same-look _ _ true w _) ∙ window.never-short _ _ w _ 0 _
 
+  ends-text : ends rows len a b n (drop from text) ≡ true
+  ends-text = rw (stops, eq-eqb (length text) (newLength len a b n) (f .same))
+
+  pub whole-judged : unjudged rows len a b n (drop from text) ≡ false
+  unfolding unjudged
+  whole-judged = rw ends-text (and-false (ltb (from + length (drop from text)) (a + n + judging)))
+    where
+      and-false : (q : Bool) → (q && false) ≡ false
+      and-false true = refl
+      and-false false = refl
+
   pub whole-suffices : windowShort rows e len a b n (drop from text) ≡ false
   unfolding windowShort
-  whole-suffices =
-      rw (
-        stops,
-        le-ltb (length text) (a + n) (reaches len a b n (length text) f),
-        eq-eqb (length text) (newLength len a b n) (f .same),
-      )
-      (seen-whole (drop from text))
+  whole-suffices = rw ends-text (seen-whole (drop from text))
 
 -- ---- the theorem
 
@@ -117,8 +124,10 @@ module _ (ws : List ℕ) (t : Table) (a b n : ℕ) (text : List ℕ) where
   unfolding changeTold editTold changeWindow
   never-short m =
       ordered (wellFormed ws t) (eqb (length text) (newLength (t .length) a b n)) senses
-      (ltb mostBytes (newLength (t .length) a b n)) (valid shown) (windowShort rows (t .ending) (t .length) a b n shown)
+      (ltb mostBytes (newLength (t .length) a b n)) (unjudged rows (t .length) a b n shown) (windowValid (ends rows (t .length) a b n shown) shown)
+      (windowShort rows (t .ending) (t .length) a b n shown)
+      (λ e s. whole-judged rows (t .ending) (t .length) a b n text (fits e s))
       (λ e s. whole-suffices rows (t .ending) (t .length) a b n text (fits e s))
-      (over (restart rows a) (take (validBytes shown) shown))
+      (over (restart rows a) (take (windowBytes (ends rows (t .length) a b n shown) shown) shown))
       (told-no (newLength (t .length) a b n) m (newRows rows (t .ending) a b n shown (ends rows (t .length) a b n shown))
       (newEnding rows (t .ending) a b n shown (ends rows (t .length) a b n shown)))

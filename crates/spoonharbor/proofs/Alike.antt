@@ -16,10 +16,10 @@ use Rattle.rules.specs.declared.Told.the-variants.{Rows}
 use Rattle.rules.specs.declared.Judged.{Judged}
 use Rattle.rules.specs.declared.Judged.the-variants as verdict
 use Rattle.rules.specs.Refusals.{lexicalNumber}
-use Rattle.rules.specs.Text.{mostBytes, valid, textJudged}
+use Rattle.rules.specs.Text.{mostBytes, textJudged}
 use Rattle.rules.specs.Rows.{Row, rowsIn, endingFits, rowsFit, wellFormed}
 use Rattle.rules.specs.Scan.{told}
-use Rattle.rules.specs.Edit.{Seen, sees, over′, met, short, meets, windowPlace, seenRows, seenEnding, seen, carryEnding, newRows, newEnding, newLength, sensible, windowShort, editTold, editLeaves, restartTold}
+use Rattle.rules.specs.Edit.{Seen, sees, over′, met, short, meets, windowPlace, seenRows, seenEnding, seen, carryEnding, newRows, newEnding, newLength, sensible, windowShort, editTold, editLeaves, restartTold, ends, unjudged, windowValid}
 use Rattle.rules.specs.Calls.{judged, spellingJudged, reading, endingTold, endingLeaves, parseTold, parseLeaves}
 use Rattle.answers.specs.Layout.{words, endingWords, toldWords, parsedWords, isEnding, lexicalOf, lengthOf, tableOf}
 use Rattle.spoonharbor.specs.Alike.{EndsAlike, both-none, both-refused, Alike}
@@ -154,9 +154,10 @@ module _ (ws : List ℕ) {t u : Table} (s : Alike t u) (a b n start : ℕ) (w : 
       (same-else (not (wellFormed ws u)) _
       (same-else (not (sensible (rowsIn (u .count) ws) (u .length) a b n start w)) _
       (same-else (ltb mostBytes (newLength (u .length) a b n)) _
-      (same-else (not (valid w)) _
+      (same-else (unjudged (rowsIn (u .count) ws) (u .length) a b n w) _
+      (same-else (not (windowValid (ends (rowsIn (u .count) ws) (u .length) a b n w) w)) _
       (same-else (windowShort (rowsIn (u .count) ws) (u .ending) (u .length) a b n w) _
-      (same-told _ room _ (alike-ending _ _ _ a b n w (s .ending) _)))))))
+      (same-told _ room _ (alike-ending _ _ _ a b n w (s .ending) _))))))))
 
   pub alike-edit-told : (room : ℕ) → toldWords (editTold ws t a b n start w room) ≡ toldWords (editTold ws u a b n start w room)
   alike-edit-told room = same-edit room .same

@@ -38,7 +38,7 @@ tokensOf t = tokens t (rowsOf t)
 pub record Readable (t : List ℕ) : Type 0 where
   -- it has at most 65,536 bytes
   pub fits : length t ≤ mostBytes
-  -- and no bad byte
+  -- and is valid UTF-8
   pub good : valid t ≡ true
 
 -- a text that scans fully

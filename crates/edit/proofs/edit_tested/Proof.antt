@@ -1,20 +1,14 @@
 -- `edit::edit_tested` meets its contract: the refusals behind 3 in their order, and then what the reading of the window gives.
-use mathlib.Core.Path.{_≡_, sym, ap, _∙_}
+use mathlib.Core.Path.{_≡_, sym, _∙_}
 use mathlib.Core.Bool.{true}
-use Prim.Native.Nat.{ℕ, _+_, _^_, _≤_}
+use Prim.Native.Nat.{_≤_}
 use native.Mathlib.Omega.{arith}
-use lib.ListN.{length, take}
+use lib.ListN.{length}
 use borrow.Author.Tests.{not-true, not-false}
 use borrow.Author.Needs.{needs}
-use Rattle.rules.specs.declared.Cursor.{Cursor}
-use Rattle.rules.specs.declared.Outer.the-variants as outers
-use Rattle.rules.specs.declared.Told.the-variants as tells
-use Rattle.rules.specs.Text.{over}
 use Rattle.rules.specs.Scan.{roomOf}
-use Rattle.laws.proofs.Places.{roomy-less}
 use Rattle.edit.specs.Job.{sizeAfter, Ready}
-use Rattle.edit.proofs.Jobs.{room-begin}
-use Rattle.edit.proofs.Calls.{senses, sensible-by, ready-by, edit-6, edit-1, edit-2, edit-rest}
+use Rattle.edit.proofs.Calls.{senses, sensible-by, ready-by, edit-6, edit-1, edit-rest}
 use Rattle.edit.proofs.edit_tested.Statement.{statement}
 use Rattle.edit.proofs.edit_tested.Tie as tie
 
@@ -28,9 +22,6 @@ at-size c = start (c .before)
 
 abbrev at-bytes : tie.Else2 → tie.Start
 at-bytes c = at-size (c .before .before)
-
-abbrev at-valid : tie.After-valid-bytes → tie.Start
-at-valid c = at-bytes (c .before)
 
 -- the edit is sensible
 is-sensible : (c : tie.Else1) → let s = at-size c in senses (s .pre) (s .args .start) (s .args .window .now) ≡ true
@@ -76,41 +67,19 @@ returns-2 c =
     (omega (arith, c .before .if2 .taken, c .before .before .new-length .ensures)) in
     (c .refused2 .ensures ∙ q .0, q .1)
 
-valid-bytes-requires : tie.Need-valid-bytes-requires
-valid-bytes-requires c κs = search needs
-
-pass-requires : tie.Need-pass-requires
-pass-requires c κs =
-    let v = c .before in
-    let a = at-valid v .args in (
-      omega (arith, c .if3 .taken),
-      roomy-less (2 ^ 31 + length (a .window .now)) (v .valid-bytes .result) (a .job .begin) (omega (arith, c .if3 .taken))
-          (room-begin (ready (v .before))),
-    )
-
-returns-3 : tie.Need-returns-3
-returns-3 c =
-    let v = c .before .before in
-    let s = at-valid v in
-    let q = edit-2 (s .pre) (s .args .start) (s .args .window .now) (is-sensible (v .before .before .before)) (fits (v .before))
-    (roomOf (s .args .new .now)) (s .args .new .now) (omega (arith, c .before .if3 .taken, v .valid-bytes .ensures)) in
-    let e = c .pass .ensures ∙ ap (λ (z : ℕ). over (s .args .job .begin) (take z (s .args .window .now))) (v .valid-bytes .ensures) in
-    (ap (λ (z : Cursor). tells.Refused outers.BadByte z 0) e ∙ q .0, q .1)
-
 reread-requires : tie.Need-reread-requires
-reread-requires c κs = ready (c .before .before .before)
+reread-requires c κs = ready (c .before)
 
 same-length : tie.Need-same-length
 same-length c = search needs
 
-returns-4 : tie.Need-returns-4
-returns-4 c =
+returns-3 : tie.Need-returns-3
+returns-3 c =
     let r = c .before .before in
-    let v = r .before .before .before in
-    let s = at-valid v in
-    edit-rest (s .pre) (s .args .start) (s .args .window .now) (is-sensible (v .before .before .before)) (fits (v .before))
-    (roomOf (s .args .new .now)) (s .args .new .now) (omega (arith, r .before .before .if3 .left, v .valid-bytes .ensures))
-    (r .reread .result) (r .reread .last .1 .1 .1 .0) (r .reread .ensures)
+    let k = r .before .before in
+    let s = at-bytes k in
+    edit-rest (s .pre) (s .args .start) (s .args .window .now) (is-sensible (k .before .before)) (fits k)
+    (roomOf (s .args .new .now)) (s .args .new .now) (r .reread .result) (r .reread .last .1 .1 .1 .0) (r .reread .ensures)
 
 pub edit-tested-spec : {M : Type 1} → statement M
 edit-tested-spec =
@@ -122,9 +91,6 @@ edit-tested-spec =
     new-length-requires
     refused-requires-2
     returns-2
-    valid-bytes-requires
-    pass-requires
-    returns-3
     reread-requires
     same-length
-    returns-4)
+    returns-3)
