@@ -58,6 +58,9 @@ enum-known-u c = search needs
 kind-at-requires-2 : tie.Need-kind-at-requires-2
 kind-at-requires-2 c κs = search needs
 
+cast-t21 : tie.Need-cast-t21
+cast-t21 c = search needs
+
 same-length : tie.Need-same-length
 same-length c = search needs
 
@@ -107,18 +110,4 @@ returns-3 c = λ ts tl i n e m₀ st.
 pub assigned-spec : {M : Type 1} → statement M
 assigned-spec =
     tie.close
-    (tie.spec
-    kind-at-requires
-    add-add
-    add-requires
-    enum-known-u
-    kind-at-requires-2
-    same-length
-    returns
-    assign-node-requires
-    ended-requires
-    enum-known-why
-    same-length-2
-    returns-2
-    same-length-3
-    returns-3)
+    (tie.spec kind-at-requires add-add add-requires enum-known-u kind-at-requires-2 cast-t21 same-length returns assign-node-requires ended-requires enum-known-why same-length-2 returns-2 same-length-3 returns-3)

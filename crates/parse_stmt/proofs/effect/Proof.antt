@@ -79,6 +79,9 @@ returns c = λ ts tl.
     let b : isAssign (kindAt ts (c .before .before .before .before .before .before .before .before .t .given .0 .0 .row)) ≡ true = sym (test-is (c .before .before .before .before .before) ts tl) ∙ c .before .before .before .before .if1 .taken in
     rw (read (c .before .before .before .before .before .before .before .before) ts tl, b) (c .before .before .assigned .ensures ts tl (a .row) (a .node) (v .tree) (a .nodes .now) (v .stands))
 
+cast-t21 : tie.Need-cast-t21
+cast-t21 c = search needs
+
 same-length-2 : tie.Need-same-length-2
 same-length-2 c = search needs
 
@@ -125,19 +128,4 @@ returns-4 c = λ ts tl.
 pub effect-spec : {M : Type 1} → statement M
 effect-spec =
     tie.close
-    (tie.spec
-    add-requires
-    enum-known-t
-    kind-at-requires
-    is-assign-requires
-    assigned-requires
-    same-length
-    returns
-    same-length-2
-    returns-2
-    ended-requires
-    enum-known-why
-    same-length-3
-    returns-3
-    same-length-4
-    returns-4)
+    (tie.spec add-requires enum-known-t kind-at-requires is-assign-requires assigned-requires same-length returns cast-t21 same-length-2 returns-2 ended-requires enum-known-why same-length-3 returns-3 same-length-4 returns-4)
