@@ -110,4 +110,19 @@ returns-3 c = λ ts tl i n e m₀ st.
 pub assigned-spec : {M : Type 1} → statement M
 assigned-spec =
     tie.close
-    (tie.spec kind-at-requires add-add add-requires enum-known-u kind-at-requires-2 cast-t21 same-length returns assign-node-requires ended-requires enum-known-why same-length-2 returns-2 same-length-3 returns-3)
+    (tie.spec
+    kind-at-requires
+    add-add
+    add-requires
+    enum-known-u
+    kind-at-requires-2
+    cast-t21
+    same-length
+    returns
+    assign-node-requires
+    ended-requires
+    enum-known-why
+    same-length-2
+    returns-2
+    same-length-3
+    returns-3)

@@ -163,4 +163,27 @@ returns-5 c = λ ts tl.
 pub declare-spec : {M : Type 1} → statement M
 declare-spec =
     tie.close
-    (tie.spec add-name kind-at-requires cast-t19 returns add-sign kind-at-requires-2 cast-t21 returns-2 add-add add-requires enum-known-t kind-at-requires-3 cast-t29 same-length returns-3 kind-at-requires-4 decl-node-requires named-end-requires enum-known-why same-length-2 returns-4 same-length-3 returns-5)
+    (tie.spec
+    add-name
+    kind-at-requires
+    cast-t19
+    returns
+    add-sign
+    kind-at-requires-2
+    cast-t21
+    returns-2
+    add-add
+    add-requires
+    enum-known-t
+    kind-at-requires-3
+    cast-t29
+    same-length
+    returns-3
+    kind-at-requires-4
+    decl-node-requires
+    named-end-requires
+    enum-known-why
+    same-length-2
+    returns-4
+    same-length-3
+    returns-5)

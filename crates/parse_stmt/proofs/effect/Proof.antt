@@ -128,4 +128,20 @@ returns-4 c = λ ts tl.
 pub effect-spec : {M : Type 1} → statement M
 effect-spec =
     tie.close
-    (tie.spec add-requires enum-known-t kind-at-requires is-assign-requires assigned-requires same-length returns cast-t21 same-length-2 returns-2 ended-requires enum-known-why same-length-3 returns-3 same-length-4 returns-4)
+    (tie.spec
+    add-requires
+    enum-known-t
+    kind-at-requires
+    is-assign-requires
+    assigned-requires
+    same-length
+    returns
+    cast-t21
+    same-length-2
+    returns-2
+    ended-requires
+    enum-known-why
+    same-length-3
+    returns-3
+    same-length-4
+    returns-4)
