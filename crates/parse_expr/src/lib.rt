@@ -69,7 +69,7 @@ fn binary_node(k: u32) -> u32
 
 // The end of a call: s stands behind the receiver, at the dot; m is the next node, and next the row behind the call.
 fn call_end(nodes: &mut [u32], s: At, m: u32, count: u32, next: u32) -> Got
-    requires { ⌜ (s .place ≤ 65536) × ((s .row ≤ 65536) × ((m ≤ 65537) × (count ≤ 65536))) ⌝ }
+    requires { ⌜ (s .row ≤ 65536) × ((m ≤ 65537) × (count ≤ 65536)) ⌝ }
     ensures { λ r. ⌜ CallEnd (s .variable) s m count next (now (nodes .entry)) (now (nodes .exit)) r ⌝ }
 {
     if s.variable {

@@ -23,7 +23,8 @@ pub struct At {
     pub things: u32,
 }
 
-// What was read, or why not and the row where.
+// What was read, or why not and the row where. That row is as wide as the last two fields of a state, so that both answers are passed on
+// by the same moves.
 pub enum Got {
     Done(At),
     Refused(Syntax, usize),
@@ -110,7 +111,7 @@ pub fn store(nodes: &mut [u32], n: u32, w: Words)
 
 // Node n with no facts; `name` is a row, or MISSING.
 pub fn close(nodes: &mut [u32], n: u32, kind: u32, place: u32, name: u32, children: u32)
-    requires { ⌜ (n ≤ 65537) × (place ≤ 65537) ⌝ }
+    requires { ⌜ n ≤ 65537 ⌝ }
     ensures { λ _. ⌜ now (nodes .exit) ≡ sets (now (nodes .entry)) (8 * n) (nodeWords (node kind place name children)) ⌝ }
 {
     store(
@@ -131,7 +132,7 @@ pub fn close(nodes: &mut [u32], n: u32, kind: u32, place: u32, name: u32, childr
 
 // The state behind a nameless node that is written at t, over what was read up to t.
 pub fn shut(nodes: &mut [u32], t: At, kind: u32, place: u32, children: u32) -> At
-    requires { ⌜ (t .node ≤ 65537) × (place ≤ 65537) ⌝ }
+    requires { ⌜ t .node ≤ 65537 ⌝ }
     ensures { λ r. ⌜ (r ≡ stateAt (t .row) (t .node + 1) place) × (now (nodes .exit) ≡ sets (now (nodes .entry)) (8 * t .node) (nodeWords (node kind place missing children))) ⌝ }
 {
     let n = t.node;
@@ -147,7 +148,7 @@ pub fn shut(nodes: &mut [u32], t: At, kind: u32, place: u32, children: u32) -> A
 
 // The state behind a nameless node over what was read up to t, and behind the row that ends it.
 pub fn ended(nodes: &mut [u32], t: At, kind: u32, place: u32, children: u32) -> At
-    requires { ⌜ (t .node ≤ 65537) × ((place ≤ 65537) × (t .row ≤ 65537)) ⌝ }
+    requires { ⌜ (t .node ≤ 65537) × (t .row ≤ 65537) ⌝ }
     ensures { λ r. ⌜ (r ≡ stateAt (t .row + 1) (t .node + 1) place) × (now (nodes .exit) ≡ sets (now (nodes .entry)) (8 * t .node) (nodeWords (node kind place missing children))) ⌝ }
 {
     let s = shut(nodes, t, kind, place, children);
