@@ -75,7 +75,7 @@ fn assign_node(k: u32) -> u32
 
 // The state behind a named node with one child, over what was read up to t, and behind the row that ends it.
 fn named_end(nodes: &mut [u32], t: At, kind: u32, name: u32) -> At
-    requires { ⌜ (t .node ≤ 65537) × ((name ≤ 65537) × (t .row ≤ 65537)) ⌝ }
+    requires { ⌜ (t .node ≤ 65537) × (t .row ≤ 65537) ⌝ }
     ensures { λ r. ⌜ (r ≡ stateAt (t .row + 1) (t .node + 1) name) × (now (nodes .exit) ≡ sets (now (nodes .entry)) (8 * t .node) (nodeWords (node kind name name 1))) ⌝ }
 {
     let n = t.node;
@@ -256,7 +256,7 @@ fn branch(rows: &[u32], count: u32, nodes: &mut [u32], row: u32, node: u32, left
 
 // Behind a then body at t: an else body, if there is one, and the node of the `if` whose guard is at `guard`.
 fn otherwise(rows: &[u32], count: u32, nodes: &mut [u32], t: At, guard: u32, left: usize) -> Got
-    requires { ⌜ AsksElse (now rows) count t guard left ⌝ }
+    requires { ⌜ AsksElse (now rows) count t left ⌝ }
     ensures { λ r. ⌜ Elsewise (λ ts w l. elseBy ts left (body ts left) (eqb (kindAt ts (t .row)) KeywordElse) w (thenBody l) (t .row)) (now (rows .entry)) count t guard (now (nodes .entry)) (now (nodes .exit)) r ⌝ }
 {
     let j = t.row;
