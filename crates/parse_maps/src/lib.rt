@@ -351,7 +351,7 @@ fn lacks(f: Facts) -> u32
 
 // The map's node, whose name is at a row, from fields that lack nothing.
 fn map_node(nodes: &mut [u32], node: u32, name: u32, f: Facts)
-    requires { ⌜ (node ≤ 65537) × ((name ≤ 65537) × ((1 ≤ f .limit) × (f .limit ≤ 4294967296))) ⌝ }
+    requires { ⌜ (node ≤ 65537) × ((1 ≤ f .limit) × (f .limit ≤ 4294967296)) ⌝ }
     ensures { λ _. ⌜ now (nodes .exit) ≡ sets (now (nodes .entry)) (8 * node) (nodeWords (factNode NodeMap name name 0 (f .maptype) (f .key) (f .value) (pred (f .limit)))) ⌝ }
 {
     parse_nodes::store(

@@ -134,7 +134,7 @@ map-node-requires c κs =
     let f = c .before .before .before .before .before .f .given .0 .0 in
     let most : f .limit ≤ 4294967296 = subst (λ (x : Facts). x .limit ≤ 4294967296) (sym (g .0 .same)) (fields-limit (g .1 .is)) in
     let least = lacks-none (f .maptype) (f .key) (f .value) (f .limit) (sym (c .before .before .lacks .ensures) ∙ c .before .if3 .left) in
-    (omega (arith, p .few, p .inside, p .short), (omega (arith, p .inside, p .short), (least, most)))
+    (omega (arith, p .few, p .inside, p .short), (least, most))
 
 add-t30 : tie.Need-add-t30
 add-t30 c = search needs
