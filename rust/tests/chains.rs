@@ -115,7 +115,8 @@ fn edge(text: &str, offset: usize) -> usize {
     (0..=offset).rev().find(at_edge).unwrap_or(0)
 }
 
-/// One random edit that takes few bytes away, made on the document and on the text beside it. A range that cuts a character is refused first.
+/// One random edit that takes few bytes away, made on the document and on the text beside it. A range that cuts a character is refused
+/// first.
 fn step(random: &mut Random, typed: Typed, document: &mut Document, text: &mut String) {
     let start = random.below(text.len() + 1);
     let most = if random.one_in(20) { 100 } else { 4 };
