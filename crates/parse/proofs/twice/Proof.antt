@@ -13,7 +13,7 @@ use Rattle.parse_nodes.specs.Post.{Met}
 use Rattle.parse_nodes.proofs.Turn.{refused}
 use Rattle.parse_nodes.proofs.Told.{names-told}
 use Rattle.parse.specs.Program.{readingOf}
-use Rattle.parse.proofs.Whole.{none-written, Wrote, wrote, final-ok, final-no, nodes-fit, room-fits, refused-in}
+use Rattle.parse.proofs.Whole.{none-written, Wrote, wrote, final-ok, final-no, room-fits, refused-in}
 use Rattle.parse.proofs.twice.Statement.{statement}
 use Rattle.parse.proofs.twice.Tie as tie
 
