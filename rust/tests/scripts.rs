@@ -204,8 +204,8 @@ fn each_crate_is_told() {
     assert_eq!(
         lines[1..],
         [
-            "check: 2 of 8: laws proved (1 s)",
-            "check: 3 of 8: scan proved (28 s)"
+            "check: 2 of 10: laws proved (1 s)",
+            "check: 3 of 10: scan proved (28 s)"
         ]
     );
     assert_eq!((ran.out.as_str(), ran.status), ("", 0));
