@@ -8,7 +8,8 @@ use crate::LONGEST_TEXT;
 use std::fmt;
 use std::ops::Range;
 
-/// An open text and its rows. The text is ASCII and has at most 65,536 bytes; the rows are always those of a fresh reading.
+/// An open text and its rows. The text is valid UTF-8 and has at most 65,536 bytes; the rows are always those of a fresh reading, and
+/// each of them starts and ends between two characters, which is proved of the library. Offsets and columns count bytes.
 ///
 /// Two documents are equal if their texts, rows and refusals are.
 #[derive(Clone)]
@@ -23,14 +24,15 @@ pub struct Document {
 }
 
 impl Document {
-    /// Reads a text. Refused are a text that is too long (1) and one that is not ASCII (2). A text that scans only up to a
-    /// place is open with its rows up to there, and [`Document::refusal`] tells the rest.
+    /// Reads a text, which may be any bytes. Refused are a text that is too long (1) and one that is not valid UTF-8 (2, at the first
+    /// character that is broken or cut, as [`std::str::Utf8Error::valid_up_to`]). A text that scans only up to a place is open with its
+    /// rows up to there, and [`Document::refusal`] tells the rest.
     pub fn open(text: impl Into<Vec<u8>>) -> Result<Document, Refusal> {
         let text = text.into();
         let mut rows = vec![0; room_for(text.len().min(LONGEST_TEXT))];
         let table = lent::scan(&text, &mut rows);
         taken(&table)?;
-        // The library has taken the text, which is ASCII then.
+        // The library has taken the text, which is valid UTF-8 then.
         let text = String::from_utf8(text).map_err(|_| at_start(Reason::BadByte))?;
         Ok(Document {
             text,
@@ -61,7 +63,8 @@ impl Document {
     }
 
     /// The part of the text that a row spells; empty for Eof. A row that is not there is 3. The rows are the document's own, so
-    /// nothing is tested anew: the answer is that of [`lent::spelling`], in a time that does not grow with the text.
+    /// nothing but the characters at both ends is tested anew: the answer is that of [`lent::spelling`], in a time that does not grow
+    /// with the text.
     pub fn spelling(&self, row: usize) -> Result<&str, Refusal> {
         self.row(row)
             .and_then(|row| self.text.get(row.span()))
@@ -86,39 +89,46 @@ impl Document {
         }
     }
 
-    /// Puts new bytes in the place of the text's bytes in `range`. Refused are a range that is not in the text (6), a
-    /// change after which the text is too long (1), and new bytes that are not ASCII (2, with the place in the new text);
-    /// the document is then as it was.
-    pub fn replace(&mut self, range: Range<usize>, new_bytes: &[u8]) -> Result<(), Refusal> {
-        let change = self.change(&range, new_bytes.len())?;
-        let text = changed(self.text.as_bytes(), range, new_bytes);
+    /// Puts a new text in the place of the text's bytes in `range`. Refused are a range that is not in the text (6), one that starts or
+    /// ends inside a character ([`Reason::InsideCharacter`], with the place of the first such end), and a change after which the text is
+    /// too long (1), in this order; the document is then as it was. The new text is never refused with 2: an editor that is sent a
+    /// character byte by byte keeps its bytes until they are whole.
+    pub fn replace(&mut self, range: Range<usize>, new: &str) -> Result<(), Refusal> {
+        let (before, behind) = self.kept(&range)?;
+        let change = change(range, self.text.len(), new.len())?;
+        let text = [before, new, behind].concat();
         let words = room_for(text.len());
         if self.spare.len() < words {
             self.spare.resize(words, 0);
         }
         let rows = written(&self.rows, &self.table);
-        let table = lent::change(rows, &self.table, change, &text, &mut self.spare);
+        let table = lent::change(rows, &self.table, change, text.as_bytes(), &mut self.spare);
         taken(&table)?;
-        // The library has taken the text, which is ASCII then.
-        self.text = String::from_utf8(text).map_err(|_| at_start(Reason::BadByte))?;
+        self.text = text;
         self.table = table;
         std::mem::swap(&mut self.rows, &mut self.spare);
         Ok(())
     }
 
-    /// The change in the library's numbers, if the range and the new length are sensible.
-    fn change(&self, range: &Range<usize>, new_bytes: usize) -> Result<Change, Refusal> {
+    /// The text before a range and behind it, if the range lies in the text and cuts no character.
+    fn kept(&self, range: &Range<usize>) -> Result<(&str, &str), Refusal> {
         if range.start > range.end || range.end > self.text.len() {
             return Err(at_start(Reason::EditNotSensible));
         }
-        if new_bytes > LONGEST_TEXT || self.text.len() - range.len() + new_bytes > LONGEST_TEXT {
-            return Err(at_start(Reason::TextTooLong));
+        let part = |at: usize| {
+            self.text
+                .split_at_checked(at)
+                .ok_or_else(|| self.inside(at))
+        };
+        Ok((part(range.start)?.0, part(range.end)?.1))
+    }
+
+    /// The refusal of an offset that is inside a character.
+    fn inside(&self, offset: usize) -> Refusal {
+        Refusal {
+            reason: Reason::InsideCharacter,
+            place: Place::before(self.text.as_bytes(), offset),
         }
-        Ok(Change {
-            a: range.start as u32,
-            b: range.end as u32,
-            n: new_bytes as u32,
-        })
     }
 
     fn count(&self) -> usize {
@@ -150,11 +160,16 @@ impl fmt::Debug for Document {
     }
 }
 
-/// A text with new bytes in the place of those in `range`.
-fn changed(text: &[u8], range: Range<usize>, new_bytes: &[u8]) -> Vec<u8> {
-    let before = text.get(..range.start).unwrap_or_default();
-    let behind = text.get(range.end..).unwrap_or_default();
-    [before, new_bytes, behind].concat()
+/// A change of a text of so many bytes in the library's numbers, if the new text is not too long.
+fn change(range: Range<usize>, length: usize, new_bytes: usize) -> Result<Change, Refusal> {
+    if new_bytes > LONGEST_TEXT || length - range.len() + new_bytes > LONGEST_TEXT {
+        return Err(at_start(Reason::TextTooLong));
+    }
+    Ok(Change {
+        a: range.start as u32,
+        b: range.end as u32,
+        n: new_bytes as u32,
+    })
 }
 
 /// The words of the rows that a table has.

@@ -14,7 +14,7 @@ pub const NUMBER: usize = 0;
 pub const OFFSET: usize = 1;
 /// The line of the refusal's place.
 pub const LINE: usize = 2;
-/// The column of the refusal's place.
+/// The column of the refusal's place, which counts bytes.
 pub const COLUMN: usize = 3;
 /// The wanted kind of 21, the field of 29, a spelling's start, or the number that was asked for.
 pub const FIRST: usize = 4;
@@ -48,7 +48,7 @@ pub fn version() -> u32 {
 }
 
 /// Scans a text into rows. Number 0 or 11 to 15: a table of so many rows, which ends so. 4: as many rows as there is room
-/// for are written. 1, 2: the rows are untouched.
+/// for are written. 1, and 2 where the bytes are not valid UTF-8: the rows are untouched.
 pub fn scan(text: &[u8], rows: &mut [u32]) -> Words {
     let mut answer = [0; 8];
     // SAFETY: `text` is lent for reading and `rows` and `answer` for writing, with their own lengths.
@@ -70,7 +70,9 @@ pub fn well_formed(rows: &[u32], table: &Words) -> bool {
     unsafe { ffi::spoonharbor_well_formed(rows.as_ptr(), rows.len(), table) == 1 }
 }
 
-/// The part of the text that a row spells, from the word at [`FIRST`] to that at [`SECOND`]. Refusals 1, 2, 3.
+/// The part of the text that a row spells, from the word at [`FIRST`] to that at [`SECOND`]. Refusals 1, 2, 3. Rows of a scanned
+/// text start and end between characters. A table that no text has may be well formed and have a row that cuts one, so the part is bytes:
+/// whoever wants a `str` tests it.
 pub fn spelling(text: &[u8], rows: &[u32], table: &Words, row: u32) -> Words {
     let mut answer = [0; 8];
     // SAFETY: `text` and `rows`, with their own lengths, and `table` are lent for reading, `answer` for writing.
@@ -139,7 +141,8 @@ pub fn change(old: &[u32], table: &Words, change: Change, text: &[u8], new: &mut
 }
 
 /// The same by a part of the new text, for whoever does not hold all of it. The window is a part that starts at the restart
-/// place, whose offset is `start`. 7: show a longer window.
+/// place, whose offset is `start`. 7: show a longer window; it must show four bytes behind the new ones, or the text's end, before anything
+/// else of it is judged. Its end may cut a character.
 pub fn edit(
     old: &[u32],
     table: &Words,

@@ -1,15 +1,18 @@
-//! Chains of random edits: after every step a document is what a freshly opened one is and what the original reads.
+//! Chains of random edits: after every step a document is what a freshly opened one is and, of ASCII, what the original reads.
 
 use compare::answer::{answer, Answer};
 use compare::deep::on_deep_stack;
 use compare::generate::random::Random;
 use compare::generate::{damage, random_text, short, spelling};
 use spoonharbor::lent;
-use spoonharbor::{Document, Refusal, Row, LONGEST_TEXT};
+use spoonharbor::{Document, Reason, Refusal, Row, LONGEST_TEXT};
 
-/// Holds a document's rows and refusal against the original's reading of its text.
+/// Holds a document's rows and refusal against the original's reading of its text. Of bytes of 128 or more it reads another language.
 fn assert_read_as_by_original(document: &Document) {
     let text = document.text();
+    if !text.is_ascii() {
+        return;
+    }
     let Answer::Compared { rows, ending, .. } = answer(text.as_bytes()) else {
         panic!("the original can be asked about every document")
     };
@@ -63,30 +66,64 @@ fn refusal_numbers(refusal: &Refusal) -> [u32; 4] {
     [refusal.number(), offset, line, column]
 }
 
-/// New bytes: nothing, a few bytes that matter to the scan, a token, or a whole text.
-fn new_bytes(random: &mut Random) -> Vec<u8> {
-    match random.below(12) {
-        0..=2 => Vec::new(),
+/// Characters of each length, alone, in comments and in strings, and broken off.
+const CHARACTERS: [&str; 12] = [
+    "°",
+    "é",
+    "€",
+    "角",
+    "😀",
+    "e\u{301}",
+    "/* 0.1° */",
+    "// α Centauri\n",
+    "\"星 \\\"Ω\\\" 🔭\"",
+    "/*\u{10ffff}",
+    "\"ê",
+    "\u{feff}",
+];
+
+/// Bytes of the generator's as a text.
+fn text_of(bytes: Vec<u8>) -> String {
+    String::from_utf8_lossy(&bytes).into_owned()
+}
+
+/// A new text: nothing, a few bytes that matter to the scan, characters, a token, or a whole text.
+fn new_text(random: &mut Random) -> String {
+    match random.below(15) {
+        0..=2 => String::new(),
         3..=6 => {
             let count = 1 + random.below(3);
-            short::random_text(random, count)
+            text_of(short::random_text(random, count))
         }
-        7..=9 => spelling::any_token(random).as_bytes().to_vec(),
-        10 => short::quoting_text(random),
-        _ => random_text(random),
+        7..=9 => spelling::any_token(random).to_string(),
+        10 => text_of(short::quoting_text(random)),
+        11..=13 => CHARACTERS[random.below(CHARACTERS.len())].to_string(),
+        _ => text_of(random_text(random)),
     }
 }
 
-/// One random edit that takes few bytes away, made on the document and on the text beside it.
-fn step(random: &mut Random, document: &mut Document, text: &mut Vec<u8>) {
+/// The last edge between two characters at an offset or before it.
+fn edge(text: &str, offset: usize) -> usize {
+    let at_edge = |offset: &usize| text.is_char_boundary(*offset);
+    (0..=offset).rev().find(at_edge).unwrap_or(0)
+}
+
+/// One random edit that takes few bytes away, made on the document and on the text beside it. A range that cuts a character is refused first.
+fn step(random: &mut Random, document: &mut Document, text: &mut String) {
     let start = random.below(text.len() + 1);
     let most = if random.one_in(20) { 100 } else { 4 };
     let end = (start + random.below(most + 1)).min(text.len());
-    let new = new_bytes(random);
+    let new = new_text(random);
+    let range = edge(text, start)..edge(text, end);
+    if range != (start..end) {
+        let refusal = document.replace(start..end, &new).unwrap_err();
+        assert_eq!(refusal.reason, Reason::InsideCharacter);
+        assert_eq!(document.text(), text);
+    }
     document
-        .replace(start..end, &new)
-        .expect("a sensible edit of ASCII");
-    text.splice(start..end, new);
+        .replace(range.clone(), &new)
+        .expect("a sensible edit");
+    text.replace_range(range, &new);
 }
 
 #[test]
@@ -94,18 +131,18 @@ fn small_documents_follow_long_chains() {
     on_deep_stack(|| {
         let mut random = Random::new(21);
         for _ in 0..2_000 {
-            let mut text = random_text(&mut random);
-            let mut document = Document::open(text.clone()).unwrap();
+            let mut text = text_of(random_text(&mut random));
+            let mut document = Document::open(text.as_str()).unwrap();
             assert_read_as_by_original(&document);
             for _ in 0..10 {
                 step(&mut random, &mut document, &mut text);
                 if text.len() > 400 {
-                    let end = text.len();
-                    document.replace(200..end, b"").unwrap();
-                    text.truncate(200);
+                    let kept = edge(&text, 200);
+                    document.replace(kept..text.len(), "").unwrap();
+                    text.truncate(kept);
                 }
-                assert_eq!(document.text().as_bytes(), text);
-                assert_eq!(document, Document::open(text.clone()).unwrap());
+                assert_eq!(document.text(), text);
+                assert_eq!(document, Document::open(text.as_str()).unwrap());
                 assert_read_as_by_original(&document);
             }
         }
@@ -113,11 +150,14 @@ fn small_documents_follow_long_chains() {
 }
 
 /// A text of many programs, so that most of it lies outside every window.
-fn long_text(random: &mut Random, length: usize) -> Vec<u8> {
-    let mut text = Vec::new();
+fn long_text(random: &mut Random, length: usize) -> String {
+    let mut text = String::new();
     while text.len() < length {
-        text.extend(compare::generate::programs::text(random, 40));
-        text.push(b'\n');
+        text += &text_of(compare::generate::programs::text(random, 40));
+        text += match random.below(4) {
+            0 => " // Ὠρίων, 0.1°\n",
+            _ => "\n",
+        };
     }
     text
 }
@@ -128,37 +168,31 @@ fn a_long_document_follows_a_long_chain() {
     on_deep_stack(|| {
         let mut random = Random::new(22);
         let mut text = long_text(&mut random, 20_000);
-        let mut document = Document::open(text.clone()).unwrap();
-        for count in 0..2_000 {
+        let mut document = Document::open(text.as_str()).unwrap();
+        for _ in 0..2_000 {
             let before = text.clone();
             step(&mut random, &mut document, &mut text);
-            assert_eq!(document, Document::open(text.clone()).unwrap());
+            assert_eq!(document, Document::open(text.as_str()).unwrap());
             if document.refusal().is_some() {
                 let (range, old) = change_back(&text, &before);
-                document.replace(range, &old).unwrap();
+                document.replace(range, old).unwrap();
                 text = before;
-                assert_eq!(document, Document::open(text.clone()).unwrap());
+                assert_eq!(document, Document::open(text.as_str()).unwrap());
             }
             assert!(document.rows().len() > 2_000);
-            if count % 50 == 0 {
-                assert_read_as_by_original(&document);
-            }
         }
     });
 }
 
-/// The shortest change that makes `new` what `old` is.
-fn change_back(new: &[u8], old: &[u8]) -> (std::ops::Range<usize>, Vec<u8>) {
-    let start = new.iter().zip(old).take_while(|(x, y)| x == y).count();
-    let most = new.len().min(old.len()) - start;
-    let end = new
-        .iter()
-        .rev()
-        .zip(old.iter().rev())
-        .take(most)
-        .take_while(|(x, y)| x == y)
-        .count();
-    (start..new.len() - end, old[start..old.len() - end].to_vec())
+/// A short change that makes `new` what `old` is: what the two have in common at both ends stays.
+fn change_back<'a>(new: &str, old: &'a str) -> (std::ops::Range<usize>, &'a str) {
+    let pairs = new.char_indices().zip(old.chars());
+    let apart = pairs.take_while(|((_, x), y)| x == y).last();
+    let start = apart.map_or(0, |((at, x), _)| at + x.len_utf8());
+    let backwards = new[start..].chars().rev().zip(old[start..].chars().rev());
+    let same = backwards.take_while(|(x, y)| x == y);
+    let end: usize = same.map(|(x, _)| x.len_utf8()).sum();
+    (start..new.len() - end, &old[start..old.len() - end])
 }
 
 /// Trees follow too: the tree of an edited document is that of a fresh one, and refused where that is.
@@ -167,12 +201,12 @@ fn trees_follow_edits() {
     let mut random = Random::new(23);
     for _ in 0..3_000 {
         let mut text = compare::generate::programs::text(&mut random, 30);
-        let mut document = Document::open(text.clone()).unwrap();
-        let before = text.clone();
+        let before = text_of(text.clone());
+        let mut document = Document::open(before.as_str()).unwrap();
         damage::damage_bytes(&mut random, &mut text);
-        let range = 0..before.len();
-        document.replace(range, &text).unwrap();
-        let fresh = Document::open(text.clone()).unwrap();
+        let text = text_of(text);
+        document.replace(0..before.len(), &text).unwrap();
+        let fresh = Document::open(text.as_str()).unwrap();
         assert_eq!(document.tree(), fresh.tree());
         document.replace(0..text.len(), &before).unwrap();
         assert_eq!(document.tree(), Document::open(before).unwrap().tree());
@@ -188,8 +222,9 @@ fn documents_reach_the_limit() {
     let mut refused = 0;
     for _ in 0..300 {
         let at = random.below(document.text().len() + 1);
-        let new = compare::generate::programs::text(&mut random, 10);
-        let new = [b"*/ ", &new[..], b" /*"].concat();
+        let at = edge(document.text(), at);
+        let new = text_of(compare::generate::programs::text(&mut random, 10));
+        let new = format!("*/ {new} /*°");
         let room = LONGEST_TEXT - document.text().len();
         match document.replace(at..at, &new) {
             Ok(()) => assert!(new.len() <= room),
@@ -198,7 +233,8 @@ fn documents_reach_the_limit() {
                 assert!(new.len() > room);
                 refused += 1;
                 let end = document.text().len();
-                document.replace(end - 400..end, b"").unwrap();
+                let kept = edge(document.text(), end - 400);
+                document.replace(kept..end, "").unwrap();
             }
         }
         assert_eq!(document, Document::open(document.text()).unwrap());
@@ -211,7 +247,10 @@ fn documents_reach_the_limit() {
 fn spellings_are_the_library_s() {
     let mut random = Random::new(11);
     for _ in 0..2_000 {
-        let text = random_text(&mut random);
+        let mut text = random_text(&mut random);
+        let at = random.below(text.len() + 1);
+        let character = CHARACTERS[random.below(CHARACTERS.len())];
+        text.splice(at..at, character.bytes());
         let Ok(document) = Document::open(text.clone()) else {
             continue;
         };
