@@ -147,6 +147,14 @@ static void open_comment(void) {
     printf("change 60005 to 60005: %" PRIu32 "\n", change(60005, 60005, "x"));
 }
 
+/* A text with characters of several bytes, which columns count one by one; and one that ends inside such a character. */
+static void open_characters(void) {
+    open_text("/* 0.1\xC2\xB0 */ \"\xCE\xA9\" @");
+    print_rows();
+    open_text("\"\xCE");
+    print_rows();
+}
+
 int main(void) {
     if (spoonharbor_version() != SPOONHARBOR_VERSION) {
         fprintf(stderr, "the archive is another version's than the header\n");
@@ -165,6 +173,7 @@ int main(void) {
     print_nodes();
 
     printf("replace 99 to 99: %" PRIu32 "\n", replace(99, 99, "x"));
+    open_characters();
     open_comment();
     print_methods("kprobe/encoder_read");
     return 0;

@@ -213,11 +213,12 @@ impl Place {
     /// The place before the byte at `offset`: lines end with a newline, and columns count bytes.
     pub(crate) fn before(text: &[u8], offset: usize) -> Place {
         let before = text.get(..offset).unwrap_or(text);
-        let lines = before.split(|&byte| byte == b'\n');
+        let mut lines = before.rsplit(|&byte| byte == b'\n');
+        let column = lines.next().map_or(1, |line| line.len() + 1);
         Place {
             offset: before.len(),
-            line: lines.clone().count(),
-            column: lines.last().map_or(1, |line| line.len() + 1),
+            line: lines.count() + 1,
+            column,
         }
     }
 

@@ -87,9 +87,16 @@ fn text_of(bytes: Vec<u8>) -> String {
     String::from_utf8_lossy(&bytes).into_owned()
 }
 
-/// A new text: nothing, a few bytes that matter to the scan, characters, a token, or a whole text.
-fn new_text(random: &mut Random) -> String {
-    match random.below(15) {
+/// Which new texts an edit puts in: those of the generator, or characters of several bytes too.
+#[derive(Clone, Copy)]
+enum Typed {
+    Generated = 12,
+    Characters = 15,
+}
+
+/// A new text: nothing, a few bytes that matter to the scan, a token, a whole text, or characters.
+fn new_text(random: &mut Random, typed: Typed) -> String {
+    match random.below(typed as usize) {
         0..=2 => String::new(),
         3..=6 => {
             let count = 1 + random.below(3);
@@ -97,8 +104,8 @@ fn new_text(random: &mut Random) -> String {
         }
         7..=9 => spelling::any_token(random).to_string(),
         10 => text_of(short::quoting_text(random)),
-        11..=13 => CHARACTERS[random.below(CHARACTERS.len())].to_string(),
-        _ => text_of(random_text(random)),
+        11 => text_of(random_text(random)),
+        _ => CHARACTERS[random.below(CHARACTERS.len())].to_string(),
     }
 }
 
@@ -109,11 +116,11 @@ fn edge(text: &str, offset: usize) -> usize {
 }
 
 /// One random edit that takes few bytes away, made on the document and on the text beside it. A range that cuts a character is refused first.
-fn step(random: &mut Random, document: &mut Document, text: &mut String) {
+fn step(random: &mut Random, typed: Typed, document: &mut Document, text: &mut String) {
     let start = random.below(text.len() + 1);
     let most = if random.one_in(20) { 100 } else { 4 };
     let end = (start + random.below(most + 1)).min(text.len());
-    let new = new_text(random);
+    let new = new_text(random, typed);
     let range = edge(text, start)..edge(text, end);
     if range != (start..end) {
         let refusal = document.replace(start..end, &new).unwrap_err();
@@ -130,12 +137,13 @@ fn step(random: &mut Random, document: &mut Document, text: &mut String) {
 fn small_documents_follow_long_chains() {
     on_deep_stack(|| {
         let mut random = Random::new(21);
-        for _ in 0..2_000 {
+        for count in 0..4_000 {
+            let typed = [Typed::Generated, Typed::Characters][count % 2];
             let mut text = text_of(random_text(&mut random));
             let mut document = Document::open(text.as_str()).unwrap();
             assert_read_as_by_original(&document);
             for _ in 0..10 {
-                step(&mut random, &mut document, &mut text);
+                step(&mut random, typed, &mut document, &mut text);
                 if text.len() > 400 {
                     let kept = edge(&text, 200);
                     document.replace(kept..text.len(), "").unwrap();
@@ -150,37 +158,43 @@ fn small_documents_follow_long_chains() {
 }
 
 /// A text of many programs, so that most of it lies outside every window.
-fn long_text(random: &mut Random, length: usize) -> String {
+fn long_text(random: &mut Random, length: usize, behind_each: &str) -> String {
     let mut text = String::new();
     while text.len() < length {
         text += &text_of(compare::generate::programs::text(random, 40));
-        text += match random.below(4) {
-            0 => " // Ὠρίων, 0.1°\n",
-            _ => "\n",
-        };
+        text += behind_each;
     }
     text
 }
 
 /// An edit after which the document does not scan is undone by the next, so that the rows stay many.
+fn follows_a_long_chain(random: &mut Random, typed: Typed, mut text: String) {
+    let mut document = Document::open(text.as_str()).unwrap();
+    for count in 0..2_000 {
+        let before = text.clone();
+        step(random, typed, &mut document, &mut text);
+        assert_eq!(document, Document::open(text.as_str()).unwrap());
+        if document.refusal().is_some() {
+            let (range, old) = change_back(&text, &before);
+            document.replace(range, old).unwrap();
+            text = before;
+            assert_eq!(document, Document::open(text.as_str()).unwrap());
+        }
+        assert!(document.rows().len() > 2_000);
+        if count % 50 == 0 {
+            assert_read_as_by_original(&document);
+        }
+    }
+}
+
 #[test]
 fn a_long_document_follows_a_long_chain() {
     on_deep_stack(|| {
         let mut random = Random::new(22);
-        let mut text = long_text(&mut random, 20_000);
-        let mut document = Document::open(text.as_str()).unwrap();
-        for _ in 0..2_000 {
-            let before = text.clone();
-            step(&mut random, &mut document, &mut text);
-            assert_eq!(document, Document::open(text.as_str()).unwrap());
-            if document.refusal().is_some() {
-                let (range, old) = change_back(&text, &before);
-                document.replace(range, old).unwrap();
-                text = before;
-                assert_eq!(document, Document::open(text.as_str()).unwrap());
-            }
-            assert!(document.rows().len() > 2_000);
-        }
+        let text = long_text(&mut random, 20_000, "\n");
+        follows_a_long_chain(&mut random, Typed::Generated, text);
+        let text = long_text(&mut random, 20_000, " // Ὠρίων, 0.1°\n");
+        follows_a_long_chain(&mut random, Typed::Characters, text);
     });
 }
 
@@ -217,7 +231,7 @@ fn trees_follow_edits() {
 #[test]
 fn documents_reach_the_limit() {
     let mut random = Random::new(24);
-    let text = long_text(&mut random, LONGEST_TEXT - 1_000);
+    let text = long_text(&mut random, LONGEST_TEXT - 1_000, " // 0.1°\n");
     let mut document = Document::open(text).unwrap();
     let mut refused = 0;
     for _ in 0..300 {
