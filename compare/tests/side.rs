@@ -61,6 +61,14 @@ fn small_edits_are_fresh_scans() {
 }
 
 #[test]
+fn small_edits_of_characters_are_fresh_scans() {
+    let counts = no_difference(|| edit::run_parts(4));
+    assert!(counts.get("calls") > 1_000_000);
+    assert!(counts.get("windows that end inside a character") > 100_000);
+    assert!(counts.get("fresh scan, which is 2") > 100_000);
+}
+
+#[test]
 fn chains_stay_fresh() {
     let counts = no_difference(|| chains::run(8_000, 3));
     assert_eq!(counts.get("edits"), 8_000);

@@ -1,6 +1,7 @@
 //! Tables from outside: the table test, spelling, restart, parse, edit and change of tables with words changed, against the model.
 
 use super::{memory_with, same, shown, Compared, Counts, Difference, Memory, CANARY};
+use crate::generate::characters::{put_over, with_characters};
 use crate::generate::random::Random;
 use crate::generate::{random_text, short};
 use crate::method_sets::{kind_of_section, mask_of, PROGRAM_KINDS};
@@ -17,6 +18,9 @@ pub fn run(count: u64, seed: u64) -> Compared {
     let mut random = Random::new(seed);
     for _ in 0..count {
         let mut text = random_text(&mut random);
+        if random.one_in(3) {
+            text = with_characters(&mut random, &text);
+        }
         let mut rows = vec![0; (text.len() + 1) * 8];
         let mut table = lent::scan(&text, &mut rows);
         if random.one_in(2) {
@@ -130,7 +134,10 @@ fn hold_edit(
         .saturating_sub(start as usize)
         .min(400);
     let length = random.below(rest + 4);
-    let window = short::random_text(random, length);
+    let mut window = short::random_text(random, length);
+    if random.one_in(3) {
+        put_over(random, &mut window);
+    }
     let words = old.rows.len();
     let expected = edit(old, change, start, &window, words / 8);
     let new = memory.fresh(words);
@@ -166,7 +173,10 @@ fn hold_change(
     let grown = u64::from(old.length()) + u64::from(change.n) + u64::from(a);
     let makes = grown.saturating_sub(u64::from(change.b));
     let length = makes.min(70_000) as usize + usize::from(random.one_in(8));
-    let text = short::random_text(random, length);
+    let mut text = short::random_text(random, length);
+    if random.one_in(3) {
+        put_over(random, &mut text);
+    }
     let words = old.rows.len();
     let expected = changed(old, change, &text, words / 8);
     let new = memory.fresh(words);
