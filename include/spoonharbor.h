@@ -232,7 +232,7 @@ enum sh_method {
     SH_METHOD_PROBE_READ_KERNEL_STR = 15
 };
 
-/* Refusal numbers: 1 to 7 of the call, 11 to 15 of the scan, 21 to 32 of the parse. A later version may have more. */
+/* Refusal numbers: 1 to 7 of the call, 11 to 17 of the scan, 21 to 32 of the parse. A later version may have more. */
 enum sh_refusal {
     SH_REFUSED_TEXT_TOO_LONG = 1,     /* over SH_LONGEST_TEXT bytes */
     SH_REFUSED_BAD_BYTE = 2,          /* no valid UTF-8: its place is where the first character starts that is broken or cut by the end */
@@ -241,11 +241,13 @@ enum sh_refusal {
     SH_REFUSED_NO_NODE_ROOM = 5,      /* node room below row count */
     SH_REFUSED_EDIT_NOT_SENSIBLE = 6,
     SH_REFUSED_WINDOW_SHORT = 7,      /* show a longer window */
-    SH_REFUSED_NO_ROW_BEGINS = 11,    /* a byte that begins no row, also one of 128 or more; a lone < or >, no hex digit */
+    SH_REFUSED_NO_ROW_BEGINS = 11,    /* a byte that begins no row, also one of 128 or more */
     SH_REFUSED_OPEN_COMMENT = 12,
     SH_REFUSED_OPEN_STRING = 13,
     SH_REFUSED_BAD_ESCAPE = 14,
     SH_REFUSED_NUMBER_TOO_LARGE = 15, /* digits over 2^63 - 1 */
+    SH_REFUSED_LONE_SIGN = 16,        /* a lone < or > */
+    SH_REFUSED_NO_HEX_DIGIT = 17,     /* 0x without a hex digit */
     SH_REFUSED_WANTED = 21,           /* another kind was wanted: both are told */
     SH_REFUSED_NOT_TOP_LEVEL = 22,    /* not a top-level word */
     SH_REFUSED_NOT_MAP_FIELD = 23,
@@ -271,7 +273,7 @@ enum sh_map_field {
 /* The archive's version: SPOONHARBOR_VERSION of the header that it belongs to. */
 uint32_t spoonharbor_version(void);
 
-/* Scan a text into rows. Number 0 or 11 to 15: a table of SH_COUNT rows, which ends so. 4: as many rows as there is room for are
+/* Scan a text into rows. Number 0 or 11 to 17: a table of SH_COUNT rows, which ends so. 4: as many rows as there is room for are
  * written; SH_ROW_ROOM(text_length) words are always enough. 1, 2: the rows are untouched. 2 stands where the longest valid UTF-8 beginning
  * ends (RFC 3629: no overlong form, no surrogate, nothing above U+10FFFF). */
 void spoonharbor_scan(const uint8_t *text, size_t text_length, uint32_t *rows, size_t row_words, uint32_t answer[SH_WORDS]);
@@ -284,14 +286,14 @@ void spoonharbor_spelling(const uint8_t *text, size_t text_length, const uint32_
                           uint32_t row, uint32_t answer[SH_WORDS]);
 
 /* Parse a table into nodes: SH_COUNT of them, or a refusal that leaves node memory untouched. SH_NODE_ROOM of the row count suffices.
- * Refusals, the first of them in this order: 1, 2, 3, the table's own 11 to 15, 5, then 21 to 32 in reading order. */
+ * Refusals, the first of them in this order: 1, 2, 3, the table's own 11 to 17, 5, then 21 to 32 in reading order. */
 void spoonharbor_parse(const uint8_t *text, size_t text_length, const uint32_t *rows, size_t row_words, const uint32_t table[SH_WORDS],
                        uint32_t *nodes, size_t node_words, uint32_t answer[SH_WORDS]);
 
 /* Old bytes a to b (b not included) became n new ones, and the text is all of the new text. The new table is that of a fresh scan of it. One
  * call suffices: it finds the restart place itself, and never says 7. Refusals in this order: 3, 6 (a > b, b past the old text, or the text
  * is not as long as the change makes it), 1, 2 (of the bytes from the restart place on), which leave the new rows untouched, then 4 or 11
- * to 15 as a scan gives them. The text before the restart place is taken to be the old one's. After 2 there is no table, so keep the old one
+ * to 17 as a scan gives them. The text before the restart place is taken to be the old one's. After 2 there is no table, so keep the old one
  * with its text, and change whole characters. */
 void spoonharbor_change(const uint32_t *old_rows, size_t old_words, const uint32_t table[SH_WORDS], uint32_t a, uint32_t b, uint32_t n,
                         const uint8_t *text, size_t text_length, uint32_t *new_rows, size_t new_words, uint32_t answer[SH_WORDS]);
@@ -299,7 +301,7 @@ void spoonharbor_change(const uint32_t *old_rows, size_t old_words, const uint32
 /* The same for whoever does not hold the whole new text. The window is a part of it that starts at the restart place (offset `start`). The
  * new table is that of a fresh scan of the new text, or 7: show a longer window. Refusals in this order: 3; 6; 1; 7, the window ends before
  * a + n + 4 and not at the text's end; 2, in the window, whose end may cut a character unless it is the text's; 7, the window shows neither
- * where the old rows go on, nor a refusal, nor the text's end. These leave the new rows untouched; then 4 or 11 to 15 as a scan gives them.
+ * where the old rows go on, nor a refusal, nor the text's end. These leave the new rows untouched; then 4 or 11 to 17 as a scan gives them.
  *
  * How long a window: it must show all new bytes, the four behind them, and some way on (256 bytes mostly suffice). As long as the answer is
  * 7, show four times as much behind the new bytes, up to the text's end: a window to the text's end is never 7. Each call costs a pass over

@@ -115,7 +115,7 @@ next:
         "-" decimal { kind = 50; bits = spelt(start + 1, YYCURSOR, 10); goto number; }
         hex { kind = 50; bits = spelt(start + 2, YYCURSOR, 16); goto number; }
         "-" hex { kind = 50; bits = spelt(start + 3, YYCURSOR, 16); goto number; }
-        "-"? "0x" { why = 11; place = YYCURSOR; goto refused; }
+        "-"? "0x" { why = 17; place = YYCURSOR; goto refused; }
 
         "\"" ([^"\\\n] | "\\" ["\\n])* "\"" { kind = 49; goto row; }
         "\"" { goto broken; }
@@ -145,6 +145,7 @@ next:
         "<<" { kind = 47; goto row; }
 
         $ { kind = EOF_KIND; start = YYLIMIT; YYCURSOR = YYLIMIT; goto row; }
+        [<>] { why = 16; place = start; goto refused; }
         * { why = 11; place = start; goto refused; }
     */
 number:

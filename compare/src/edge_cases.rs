@@ -243,7 +243,10 @@ fn document_edges() -> Vec<EdgeCase> {
                 &[25, 0, 1, 1, 10, m],
             ]),
         ),
-        case(from, "0x", unscanned(11, 2)),
+        case(from, "0x", unscanned(17, 2)),
+        case(from, "0x<", unscanned(17, 2)),
+        case(from, "<=", unscanned(16, 0)),
+        case(from, "<", unscanned(16, 0)),
         case(
             from,
             "0X10",
@@ -339,7 +342,7 @@ fn scan_readings() -> Vec<EdgeCase> {
         case(
             "DECISIONS, a sign next to a comment",
             "a<=b",
-            Ending(vec![48], [11, 1, 1, 2]),
+            Ending(vec![48], [16, 1, 1, 2]),
         ),
         case(
             "DECISIONS, where numbers end",
@@ -368,7 +371,7 @@ fn scan_readings() -> Vec<EdgeCase> {
                 [52, 4, 4, 1, 5, 0],
             ]),
         ),
-        case("DECISIONS, where numbers end", "-0x", unscanned(11, 3)),
+        case("DECISIONS, where numbers end", "-0x", unscanned(17, 3)),
         case(
             "DECISIONS, where numbers end",
             "-0",

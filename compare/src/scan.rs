@@ -39,7 +39,7 @@ fn read(text: &str) -> Scan {
     while ending.is_none() && !ends_with_eof(&tokens) {
         match caught(|| lexer.next_token()) {
             Ok(Ok(token)) => tokens.push(token),
-            Ok(Err(error)) => ending = Some(refusal_of(error)),
+            Ok(Err(error)) => ending = Some(refusal_of(text, error)),
             Err(panic) => ending = Some(refusal_of_panic(text, &panic)),
         }
     }
@@ -105,13 +105,24 @@ fn lexical(number: u32, place: Place) -> Refusal {
     }
 }
 
-fn refusal_of((loc, message): LexError) -> Refusal {
-    lexical(number_of_message(&message), place_of(loc))
+fn refusal_of(text: &str, (loc, message): LexError) -> Refusal {
+    let number = match number_of_message(&message) {
+        11 if is_hex_without_digit(&text[..loc.offset]) => 17,
+        number => number,
+    };
+    lexical(number, place_of(loc))
+}
+
+/// Whether what stands in front of an invalid character is refused too: the original has one message for a byte that begins no
+/// row, in front of which all is read, and for `0x` without a digit.
+fn is_hex_without_digit(before: &str) -> bool {
+    before.ends_with("0x") && Lexer::new(before).tokenize().is_err()
 }
 
 fn number_of_message(message: &str) -> u32 {
     match message {
-        "Invalid character" | "Unexpected character '<'" | "Unexpected character '>'" => 11,
+        "Invalid character" => 11,
+        "Unexpected character '<'" | "Unexpected character '>'" => 16,
         "Unterminated comment" => 12,
         "Unterminated string literal" => 13,
         _ if message.starts_with("Invalid escape sequence: ") => 14,

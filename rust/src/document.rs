@@ -57,7 +57,7 @@ impl Document {
         self.rows().nth(row)
     }
 
-    /// The refusal, 11 to 15, at which the rows end; nothing if the whole text scans.
+    /// The refusal, 11 to 17, at which the rows end; nothing if the whole text scans.
     pub fn refusal(&self) -> Option<Refusal> {
         Refusal::from_words(&self.table)
     }
@@ -71,7 +71,7 @@ impl Document {
             .ok_or(at_start(Reason::NotWellFormed))
     }
 
-    /// The program's tree, or the first refusal: that of the rows (11 to 15), or one of 21 to 32.
+    /// The program's tree, or the first refusal: that of the rows (11 to 17), or one of 21 to 32.
     pub fn tree(&self) -> Result<Tree, Refusal> {
         let mut nodes = vec![0; self.count() * NODE_WORDS];
         let answer = lent::parse(

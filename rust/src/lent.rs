@@ -47,7 +47,7 @@ pub fn version() -> u32 {
     unsafe { ffi::spoonharbor_version() }
 }
 
-/// Scans a text into rows. Number 0 or 11 to 15: a table of so many rows, which ends so. 4: as many rows as there is room
+/// Scans a text into rows. Number 0 or 11 to 17: a table of so many rows, which ends so. 4: as many rows as there is room
 /// for are written. 1, and 2 where the bytes are not valid UTF-8: the rows are untouched.
 pub fn scan(text: &[u8], rows: &mut [u32]) -> Words {
     let mut answer = [0; 8];

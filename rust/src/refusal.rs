@@ -42,7 +42,7 @@ pub enum Reason {
     InsideCharacter,
     /// 7: the window is short.
     WindowShort,
-    /// 11: a byte that begins no row, also one of 128 or more; a lone `<` or `>`, or no hex digit behind `0x`.
+    /// 11: a byte that begins no row, also one of 128 or more.
     NoRowBegins,
     /// 12: a comment that is not closed.
     OpenComment,
@@ -52,6 +52,10 @@ pub enum Reason {
     BadEscape,
     /// 15: digits over 2^63 - 1.
     NumberTooLarge,
+    /// 16: a lone `<` or `>`.
+    LoneSign,
+    /// 17: `0x` without a hex digit; the place is behind the `x`.
+    NoHexDigit,
     /// 21: another kind was wanted.
     #[non_exhaustive]
     Wanted { wanted: Kind, found: Kind },
@@ -127,6 +131,8 @@ impl Reason {
             Reason::OpenString => 13,
             Reason::BadEscape => 14,
             Reason::NumberTooLarge => 15,
+            Reason::LoneSign => 16,
+            Reason::NoHexDigit => 17,
             Reason::Wanted { .. } => 21,
             Reason::NotTopLevel => 22,
             Reason::NotMapField => 23,
@@ -158,6 +164,8 @@ impl Reason {
             13 => Reason::OpenString,
             14 => Reason::BadEscape,
             15 => Reason::NumberTooLarge,
+            16 => Reason::LoneSign,
+            17 => Reason::NoHexDigit,
             21 => Reason::Wanted {
                 wanted: Kind::read(words[lent::FIRST]),
                 found: Kind::read(words[lent::SECOND]),
@@ -244,6 +252,10 @@ impl fmt::Display for Reason {
             Reason::NumberTooLarge => {
                 out.write_str("number too large: the most is 9223372036854775807")
             }
+            Reason::LoneSign => {
+                out.write_str("a lone '<' or '>': Solnix has no comparisons, and shifts are '<<' and '>>'")
+            }
+            Reason::NoHexDigit => out.write_str("expected a hex digit behind '0x'"),
             Reason::Wanted { wanted, found } => write!(out, "expected {wanted}, found {found}"),
             Reason::NotTopLevel => out.write_str("expected 'map', 'event' or 'unit'"),
             Reason::NotMapField => out.write_str("expected 'type', 'key', 'value', 'max' or '}'"),
@@ -285,7 +297,7 @@ mod tests {
 
     #[test]
     fn every_number_is_read_back() {
-        let numbers = (1..=7).chain(11..=15).chain(21..=32);
+        let numbers = (1..=7).chain(11..=17).chain(21..=32);
         for number in numbers {
             let words = [number, 4, 2, 3, 1, 2, 0, 0];
             let refusal = Refusal::from_words(&words).unwrap();

@@ -100,8 +100,8 @@ fn each_refusal_has_its_words() {
     let cases: [(&str, &str); 24] = [
         ("@", "1:1: nothing begins with '@'"),
         ("a \u{1}", "1:3: nothing begins with '\\x01'"),
-        ("a<b", "1:2: '<' stands alone: expected '<<'"),
-        ("a > b", "1:3: '>' stands alone: expected '>>'"),
+        ("a<b", "1:2: a lone '<': Solnix has no comparisons, and a shift is '<<'"),
+        ("a >= b", "1:3: a lone '>': Solnix has no comparisons, and a shift is '>>'"),
         ("-0xg", "1:4: expected a hex digit behind '0x'"),
         ("0x", "1:3: expected a hex digit behind '0x'"),
         ("a0x@", "1:4: nothing begins with '@'"),

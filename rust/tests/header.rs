@@ -180,6 +180,8 @@ fn refused_texts() -> Vec<String> {
         "\"",
         "\"\\t\"",
         "9223372036854775808",
+        "<",
+        "0x",
         "unit",
         "x",
         "map m{x",
@@ -213,7 +215,7 @@ fn refusals_are_the_librarys() {
         .chain(refused_texts().into_iter().map(read))
         .collect();
     let told: Vec<u32> = reasons.iter().map(|(number, _)| *number).collect();
-    let wanted: Vec<u32> = (1..=7).chain(11..=15).chain(21..=32).collect();
+    let wanted: Vec<u32> = (1..=7).chain(11..=17).chain(21..=32).collect();
     assert_eq!(told, wanted);
     let made = numbers(
         reasons

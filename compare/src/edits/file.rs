@@ -9,7 +9,7 @@ const HEADING: &str = "
 Edits and what is expected of the calls for them. compare/README.md says how this file is read; the program `edits` of compare/
 writes it, always the same.
 
-Rows and lexical refusals (11 to 15), and the rows that stand before a 4: the unchanged Rust's reading of the new text; where a
+Rows and lexical refusals (11 to 17), and the rows that stand before a 4: the unchanged Rust's reading of the new text; where a
 character of two bytes or more stands outside comments and strings, its reading of what stands in front, and 11 there.
 Restart places: the rule of LANGUAGE.md, over the unchanged Rust's rows of the old text.
 That a call is refused with 1, 2, 3, 4, 6 or 7: compare/src/model, LANGUAGE.md written down a second time.

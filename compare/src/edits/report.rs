@@ -18,7 +18,7 @@ const KINDS: [(Kind, &str); 11] = [
 ];
 
 /// Numbers that a call may be answered with.
-const NUMBERS: [u32; 12] = [0, 1, 2, 3, 4, 6, 7, 11, 12, 13, 14, 15];
+const NUMBERS: [u32; 14] = [0, 1, 2, 3, 4, 6, 7, 11, 12, 13, 14, 15, 16, 17];
 
 /// A call that writes rows is made as a change too.
 fn writes(call: &Call) -> bool {

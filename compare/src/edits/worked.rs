@@ -92,14 +92,14 @@ pub const WORKED: [Worked; 24] = [
         b"   <a;",
         (0, 0),
         b"",
-        &[(4, 7), (5, 11)],
+        &[(4, 7), (5, 16)],
     ),
     reading(
         "DECISIONS, `0x` at the window's end",
         b"  0xg;",
         (0, 0),
         b"",
-        &[(4, 7), (5, 11)],
+        &[(4, 7), (5, 17)],
     ),
     reading(
         "DECISIONS, 15 behind the digit too many",

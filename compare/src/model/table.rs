@@ -54,7 +54,7 @@ impl Lent<'_> {
         let eighth_words = self.rows[..rows.len() * 8]
             .chunks_exact(8)
             .map(|row| row[7]);
-        matches!(self.table[0], 0 | 11..=15)
+        matches!(self.table[0], 0 | 11..=17)
             && self.length() as usize <= LONGEST_TEXT
             && eighth_words.into_iter().all(|word| word == 0)
             && rows.iter().all(is_made)

@@ -8,8 +8,8 @@ use crate::report::memory_line;
 use crate::report::word_line;
 use crate::tally::CALLS;
 use crate::tally::CHANGES;
+use crate::tally::COUNTERS;
 use crate::tally::KINDS;
-use crate::tally::NOTHING;
 use crate::tally::Tally;
 use crate::words::first_other;
 use crate::words::told_words;
@@ -165,12 +165,12 @@ fn memory_compared(tally: Tally, memory: &[u32; WORDS], rows: &[u32; WORDS], cou
 
 // The counter of one of so many numbers, from a first on.
 fn counter(first: usize, n: u32, most: u32) -> usize
-    requires { ⌜ first ≤ 32 ⌝ }
+    requires { ⌜ first ≤ 33 ⌝ }
 {
     if n < most {
         first + n as usize
     } else {
-        NOTHING
+        COUNTERS
     }
 }
 
@@ -178,7 +178,7 @@ fn counter(first: usize, n: u32, most: u32) -> usize
 fn counted(before: Tally, now: Tally, kind: u32, number: u32) -> Tally {
     let agrees = before.differences == now.differences;
     now.held(CALLS, agrees)
-        .held(counter(0, number, 16), agrees)
+        .held(counter(0, number, 18), agrees)
         .held(counter(KINDS, kind, 11), agrees)
 }
 

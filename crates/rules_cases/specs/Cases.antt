@@ -145,11 +145,53 @@ cases =
           (25 ∷ 0 ∷ 1 ∷ 1 ∷ 10 ∷ 4294967295 ∷ 0 ∷ 0 ∷ []) ∷
           (29 ∷ 8 ∷ 4294967295 ∷ 1 ∷ 0 ∷ 0 ∷ 0 ∷ 0 ∷ []) ∷ [];
     }
-    -- [P] `0x` 11 at 2
+    -- [P] `0x` 17 at 2
     ∷ record {
       text = bytes "0x";
       rows = [];
-      refusal = 11 ∷ 2 ∷ 1 ∷ 3 ∷ [];
+      refusal = 17 ∷ 2 ∷ 1 ∷ 3 ∷ [];
+      nodes = [];
+    }
+    -- `-0x` 17 at 3
+    ∷ record {
+      text = bytes "-0x";
+      rows = [];
+      refusal = 17 ∷ 3 ∷ 1 ∷ 4 ∷ [];
+      nodes = [];
+    }
+    -- `0x<` 17 at 2, in front of a lone sign
+    ∷ record {
+      text = bytes "0x<";
+      rows = [];
+      refusal = 17 ∷ 2 ∷ 1 ∷ 3 ∷ [];
+      nodes = [];
+    }
+    -- `<=` 16 at 0
+    ∷ record {
+      text = bytes "<=";
+      rows = [];
+      refusal = 16 ∷ 0 ∷ 1 ∷ 1 ∷ [];
+      nodes = [];
+    }
+    -- `<` at the end 16
+    ∷ record {
+      text = bytes "<";
+      rows = [];
+      refusal = 16 ∷ 0 ∷ 1 ∷ 1 ∷ [];
+      nodes = [];
+    }
+    -- `>@` 16 at 0
+    ∷ record {
+      text = bytes ">@";
+      rows = [];
+      refusal = 16 ∷ 0 ∷ 1 ∷ 1 ∷ [];
+      nodes = [];
+    }
+    -- `@>` 11 at 0
+    ∷ record {
+      text = bytes "@>";
+      rows = [];
+      refusal = 11 ∷ 0 ∷ 1 ∷ 1 ∷ [];
       nodes = [];
     }
     -- [P] `0X10`: 0, then X10
@@ -398,11 +440,11 @@ cases =
       refusal = 11 ∷ 1 ∷ 1 ∷ 2 ∷ [];
       nodes = [];
     }
-    -- `0x`
+    -- `0x`, without a digit
     ∷ record {
       text = bytes "0x" ++ e-acute;
       rows = [];
-      refusal = 11 ∷ 2 ∷ 1 ∷ 3 ∷ [];
+      refusal = 17 ∷ 2 ∷ 1 ∷ 3 ∷ [];
       nodes = [];
     }
     -- a backslash

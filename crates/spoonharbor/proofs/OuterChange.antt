@@ -1,11 +1,10 @@
 -- Demand 3 at the outer face with the whole new text at hand, and at the call's own contract.
 use Prim.Native.Nat.{ℕ}
 use native.Mathlib.Omega.{arith}
-use mathlib.Core.Bool.{Bool, true, false, cond, not}
+use mathlib.Core.Bool.{true}
 use mathlib.Core.List.{List}
 use mathlib.Core.Path.{_≡_, refl, ap, sym, _∙_}
-use lib.Dec.{eqb}
-use lib.ListN.{length, drop, getD}
+use lib.ListN.{getD}
 use contract.Lifetimes.{Lfts}
 use borrow.Fn.Kinds.{Dens, endedOf}
 use denote.Triple.Clauses.{AtExit}
@@ -13,83 +12,24 @@ use Rattle.rules.specs.declared.Ending.{Ending}
 use Rattle.rules.specs.declared.Ending.the-variants as ending
 use Rattle.rules.specs.declared.Lexical.the-variants as lexical
 use Rattle.rules.specs.declared.Outer.the-variants as outer
-use Rattle.rules.specs.declared.Outer.the-variants.{NotWellFormed, EditNotSensible}
 use Rattle.rules.specs.declared.Table.{Table}
 use Rattle.rules.specs.declared.Told.{Told}
 use Rattle.rules.specs.declared.Told.the-variants.{Rows, Refused}
-use Rattle.rules.specs.Text.{startPlace}
-use Rattle.rules.specs.Rows.{rowsIn, wellFormed}
 use Rattle.rules.specs.Scan.{roomOf, scanTold}
-use Rattle.rules.specs.Edit.{restart, newLength, editTold, editLeaves}
 use Rattle.theory_edits.specs.Scanned as scanned
 use Rattle.theory_edits.specs.Change.{Change, oldText, newText, a, b, n}
 use Rattle.theory_edits.proofs.WellFormed.{scan-scanned, scan-valid}
-use Rattle.edit_change.specs.Change.{changeStart, changeWindow, changeTold, changeLeaves}
+use Rattle.edit_change.specs.Change.{changeTold, changeLeaves}
 use Rattle.edit_change.specs.Fresh.{NotSeven, IsFresh}
 use Rattle.edit_change.proofs.Never.{never-short}
 use Rattle.edit_change.proofs.Demand3.{change-fresh}
 use Rattle.answers.specs.Layout.{endingWords, toldWords, isEnding, tableOf}
-use Rattle.spoonharbor.specs.Alike.{Alike}
+use Rattle.answers.proofs.Table.{lent-table}
 use Rattle.spoonharbor.specs.OuterChange.{OuterTable, outerTells, outerLeaves}
 use Rattle.spoonharbor.specs.OuterParse.{OuterLent}
-use Rattle.spoonharbor.proofs.Alike.{told-alike, alike-well-formed, alike-edit-told, alike-edit-leaves}
 use Rattle.spoonharbor.proofs.Outer.{rows-told}
 use Rattle.spoonharbor.proofs.change.spoonharbor_change.Kinds as of-change
 use Rattle.spoonharbor.proofs.change.spoonharbor_change.Reads.{Post as ChangePost}
-
--- ---- tables that the words don't tell apart
-
-module _ (ws : List ℕ) {t u : Table} (s : Alike t u) (a b n : ℕ) (text : List ℕ) where
-  alike-start : changeStart ws t a ≡ changeStart ws u a
-  alike-start = ap (λ (k : ℕ). restart (rowsIn k ws) a .offset .0) (s .count)
-
-  -- 3 and 6, by whether the table is well formed and by its text's length
-  abbrev first : Bool → ℕ → Told → Told
-  first w k x =
-      cond (not w) (Refused NotWellFormed startPlace 0)
-      (cond (not (eqb (length text) (newLength k a b n))) (Refused EditNotSensible startPlace 0) x)
-
-  behind : (w : Bool) (k : ℕ) (x y : Told) → toldWords x ≡ toldWords y → toldWords (first w k x) ≡ toldWords (first w k y)
-  behind w k x y h = by w (eqb (length text) (newLength k a b n))
-    where
-      by : (p q : Bool)
-          → toldWords (cond (not p) (Refused NotWellFormed startPlace 0) (cond (not q) (Refused EditNotSensible startPlace 0) x))
-          ≡ toldWords (cond (not p) (Refused NotWellFormed startPlace 0) (cond (not q) (Refused EditNotSensible startPlace 0) y))
-      by false q = refl
-      by true false = refl
-      by true true = h
-
-  alike-told : (room : ℕ) → toldWords (changeTold ws t a b n text room) ≡ toldWords (changeTold ws u a b n text room)
-  unfolding changeTold changeWindow
-  alike-told room =
-      let x : ℕ → Told = λ k. editTold ws t a b n k (drop k text) room in
-      ap (λ (w : Bool). toldWords (first w (t .length) (x (changeStart ws t a)))) (alike-well-formed ws s)
-      ∙ ap (λ (k : ℕ). toldWords (first (wellFormed ws u) k (x (changeStart ws t a)))) (s .size)
-      ∙ ap (λ (k : ℕ). toldWords (first (wellFormed ws u) (u .length) (x k))) alike-start
-      ∙ behind (wellFormed ws u) (u .length) _ _ (alike-edit-told ws s a b n (changeStart ws u a) (drop (changeStart ws u a) text) room)
-
-  abbrev firstLeft : List ℕ → Bool → ℕ → List ℕ → List ℕ
-  firstLeft new w k ys = cond (not w) new (cond (not (eqb (length text) (newLength k a b n))) new ys)
-
-  alike-leaves : (new : List ℕ) → changeLeaves ws t a b n text new ≡ changeLeaves ws u a b n text new
-  unfolding changeLeaves changeWindow
-  alike-leaves new =
-      let ys : ℕ → List ℕ = λ k. editLeaves ws t a b n k (drop k text) new in
-      ap (λ (w : Bool). firstLeft new w (t .length) (ys (changeStart ws t a))) (alike-well-formed ws s)
-      ∙ ap (λ (k : ℕ). firstLeft new (wellFormed ws u) k (ys (changeStart ws t a))) (s .size)
-      ∙ ap (λ (k : ℕ). firstLeft new (wellFormed ws u) (u .length) (ys k)) alike-start
-      ∙ ap (firstLeft new (wellFormed ws u) (u .length))
-      (alike-edit-leaves ws s a b n (changeStart ws u a) (drop (changeStart ws u a) text) new)
-
--- lent the words in which a table was told, it answers and leaves as the call over that table does
-module _ (ws : List ℕ) (table : Table) (a b n : ℕ) (text : List ℕ) where
-  pub outer-change-tells : (room : ℕ)
-      → toldWords (changeTold ws (tableOf (toldWords (Rows table))) a b n text room) ≡ toldWords (changeTold ws table a b n text room)
-  outer-change-tells room = alike-told ws (told-alike table) a b n text room
-
-  pub outer-change-leaves : (new : List ℕ)
-      → changeLeaves ws (tableOf (toldWords (Rows table))) a b n text new ≡ changeLeaves ws table a b n text new
-  outer-change-leaves new = alike-leaves ws (told-alike table) a b n text new
 
 -- ---- the theorems
 
@@ -97,8 +37,8 @@ module _ (c : Change) (ws answer : List ℕ) (g : OuterTable (oldText c) ws answ
   tells-rows : scanTold (oldText c) (roomOf (g .lent)) ≡ Rows (scanned.tableOf (oldText c))
   tells-rows = rows-told (oldText c) (roomOf (g .lent)) (rw (g .scanned .told) at (g .table))
 
-  table-words : answer ≡ toldWords (Rows (scanned.tableOf (oldText c)))
-  table-words = g .scanned .told ∙ ap (λ (x : Told). toldWords x) tells-rows
+  table-is : tableOf answer ≡ scanned.tableOf (oldText c)
+  table-is = lent-table (scanned.tableOf (oldText c)) (g .scanned .told ∙ ap (λ (x : Told). toldWords x) tells-rows)
 
   fresh : IsFresh c ws (scanned.tableOf (oldText c))
   fresh =
@@ -110,10 +50,9 @@ module _ (c : Change) (ws answer : List ℕ) (g : OuterTable (oldText c) ws answ
   pub outer-change : (new : List ℕ) → OuterLent (newText c) new (outerLeaves c ws answer new) (outerTells c ws answer new)
   outer-change new = record {
     told =
-        rw table-words
-        (outer-change-tells ws (scanned.tableOf (oldText c)) _ _ _ (newText c) (roomOf new)
-        ∙ ap (λ (x : Told). toldWords x) (fresh .told (roomOf new)));
-    left = rw table-words (outer-change-leaves ws (scanned.tableOf (oldText c)) _ _ _ (newText c) new ∙ fresh .left new);
+        ap (λ (t : Table). toldWords (changeTold ws t (a c) (b c) (n c) (newText c) (roomOf new))) table-is
+        ∙ ap (λ (x : Told). toldWords x) (fresh .told (roomOf new));
+    left = ap (λ (t : Table). changeLeaves ws t (a c) (b c) (n c) (newText c) new) table-is ∙ fresh .left new;
   }
 
   -- Where its answer is a table's, the next change may be lent what it left and told.

@@ -92,7 +92,7 @@ module _ (t new : List ℕ) (r : Parsed) (m : List ℕ) where
     -- 1 and 2
     too-long : mostBytes < length t → Refused new r m (reason.Outer TextTooLong) startPlace → Answer
     bad-byte : length t ≤ mostBytes → valid t ≡ false → Refused new r m (reason.Outer BadByte) (placeAt t (validBytes t)) → Answer
-    -- 11 to 15, with which the scan ended
+    -- 11 to 17, with which the scan ended
     ends-refused : Readable t → (why : Lexical) (at : Cursor) → readEnding (scan t) ≡ ending.Refused why at
         → Refused new r m (reason.Lexical why) at
         → Answer

@@ -2,7 +2,7 @@
 
 use super::columns::{columns, is_mark, shows};
 use super::source::Source;
-use spoonharbor::{Document, Reason, Refusal};
+use spoonharbor::{Reason, Refusal};
 use std::io::{self, Write};
 
 /// The most cells of a source line that are shown, and how many of them stand before the place in a longer line.
@@ -36,7 +36,8 @@ fn words(text: &[u8], refusal: &Refusal) -> String {
     let offset = refusal.place.offset;
     let words = match refusal.reason {
         Reason::BadByte => text.get(offset).map(no_character),
-        Reason::NoRowBegins => no_row(text, offset),
+        Reason::NoRowBegins => character(text, offset).map(no_row),
+        Reason::LoneSign => character(text, offset).map(lone),
         _ => None,
     };
     words.unwrap_or_else(|| refusal.reason.to_string())
@@ -46,15 +47,12 @@ fn no_character(byte: &u8) -> String {
     format!("byte {byte} begins no UTF-8 character here: save the text as UTF-8")
 }
 
-/// Why nothing begins at this offset, if a character stands there or hex digits are missing.
-fn no_row(text: &[u8], offset: usize) -> Option<String> {
-    if is_hex_without_digits(text, offset) {
-        return Some("expected a hex digit behind '0x'".to_string());
-    }
-    Some(match character(text, offset)? {
-        sign @ ('<' | '>') => format!("'{sign}' stands alone: expected '{sign}{sign}'"),
-        letter => format!("nothing begins with {}", named(letter)),
-    })
+fn no_row(letter: char) -> String {
+    format!("nothing begins with {}", named(letter))
+}
+
+fn lone(sign: char) -> String {
+    format!("a lone '{sign}': Solnix has no comparisons, and a shift is '{sign}{sign}'")
 }
 
 /// The character that begins at this offset.
@@ -77,18 +75,6 @@ fn named(letter: char) -> String {
         }
         _ => format!("'{letter}'"),
     }
-}
-
-/// Whether the refused place is behind a `0x` without digits, which no row holds.
-fn is_hex_without_digits(text: &[u8], offset: usize) -> bool {
-    let Some(start) = offset.checked_sub(2) else {
-        return false;
-    };
-    let last_end = Document::open(text)
-        .ok()
-        .and_then(|document| document.rows().next_back())
-        .map_or(0, |row| row.end);
-    last_end <= start && text.get(start..offset) == Some(b"0x")
 }
 
 /// A line of the source as it is shown, and what stands below it before the caret.

@@ -1,32 +1,14 @@
--- Tables that the words of an answer don't tell apart, and demand 3 in those words: what the outer face's edit tells and leaves.
+-- Demand 3 in words: what the outer face's edit tells and leaves.
 use Prim.Native.Nat.{ℕ}
 use mathlib.Core.Bool.{true}
 use mathlib.Core.List.{List}
 use mathlib.Core.Path.{_≡_}
 use lib.ListN.{getD}
-use Rattle.rules.specs.declared.Cursor.{Cursor}
-use Rattle.rules.specs.declared.Lexical.{Lexical}
-use Rattle.rules.specs.declared.Ending.{Ending}
-use Rattle.rules.specs.declared.Ending.the-variants.{None, Refused}
-use Rattle.rules.specs.declared.Table.{Table}
 use Rattle.rules.specs.Text.{startPlace}
-use Rattle.rules.specs.Refusals.{lexicalNumber}
 use Rattle.rules.specs.Scan.{roomOf, scanTold, scanLeaves}
 use Rattle.rules.specs.Edit.{editTold, editLeaves}
 use Rattle.theory_edits.specs.Change.{Change, oldText, newText, a, b, n, starts, Window}
 use Rattle.answers.specs.Layout.{words, toldWords, isEnding, tableOf}
-
--- both none, or both refused with one number at one place
-pub data EndsAlike : Ending → Ending → Type 0 where
-  both-none : EndsAlike None None
-  both-refused : {x y : Lexical} {p : Cursor} → lexicalNumber x ≡ lexicalNumber y → EndsAlike (Refused x p) (Refused y p)
-
-pub record Alike (t u : Table) : Type 0 where
-  pub count : t .count ≡ u .count
-  pub size : t .length ≡ u .length
-  pub ending : EndsAlike (t .ending) (u .ending)
-
--- ---- demand 3 in words
 
 -- `spoonharbor_edit` for a change, lent the old rows `ws`, the old table's words `answer` and the window w
 module _ (c : Change) (ws answer w : List ℕ) where
