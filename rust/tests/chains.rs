@@ -115,7 +115,8 @@ fn edge(text: &str, offset: usize) -> usize {
     (0..=offset).rev().find(at_edge).unwrap_or(0)
 }
 
-/// One random edit that takes few bytes away, made on the document and on the text beside it. A range that cuts a character is refused first.
+/// One random edit that takes few bytes away, made on the document and on the text beside it. A range that cuts a character is refused
+/// first.
 fn step(random: &mut Random, typed: Typed, document: &mut Document, text: &mut String) {
     let start = random.below(text.len() + 1);
     let most = if random.one_in(20) { 100 } else { 4 };
@@ -280,4 +281,43 @@ fn spellings_are_the_library_s() {
             assert_eq!(spelt, part, "row {row} of {text:?}");
         }
     }
+}
+
+/// Bytes of each class: ASCII that matters to the scan, first bytes of each length, bytes behind them at both edges, and never valid ones.
+const BYTES: [u8; 24] = [
+    b'"', b'/', b'*', b'\n', b' ', b'a', 0x7f, 0x80, 0x8f, 0x90, 0x9f, 0xa0, 0xbf, 0xc0, 0xc2,
+    0xdf, 0xe0, 0xe1, 0xed, 0xef, 0xf0, 0xf3, 0xf4, 0xf5,
+];
+
+/// What is opened is what Rust takes for UTF-8; the rest is refused with 2 where Rust's valid part ends.
+#[test]
+fn what_is_opened_is_utf_8() {
+    let mut random = Random::new(25);
+    let mut opened = 0;
+    for _ in 0..200_000 {
+        let length = random.below(9);
+        let mut bytes: Vec<u8> = Vec::new();
+        for _ in 0..length {
+            match random.one_in(3) {
+                true => bytes.extend(CHARACTERS[random.below(5)].bytes()),
+                false => bytes.push(BYTES[random.below(BYTES.len())]),
+            }
+        }
+        let valid = std::str::from_utf8(&bytes).map_err(|error| error.valid_up_to());
+        match (Document::open(bytes.as_slice()), valid) {
+            (Ok(document), Ok(text)) => {
+                assert_eq!(document.text(), text);
+                opened += 1;
+            }
+            (Err(refusal), Err(valid_up_to)) => {
+                let before = &bytes[..valid_up_to];
+                let lines = before.split(|byte| *byte == b'\n');
+                let column = lines.clone().next_back().unwrap().len() + 1;
+                let wanted = [2, valid_up_to, lines.count(), column].map(|word| word as u32);
+                assert_eq!(refusal_numbers(&refusal), wanted, "{bytes:?}");
+            }
+            (answer, valid) => panic!("{bytes:?}: {answer:?}, {valid:?}"),
+        }
+    }
+    assert!(opened > 1_000 && opened < 199_000);
 }
