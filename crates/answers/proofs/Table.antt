@@ -1,5 +1,6 @@
 -- A table lent in the words in which it was told is that table, and words that tell none are refused by every call.
-use Prim.Native.Nat.{ℕ, _*_}
+use Prim.Native.Nat.{ℕ, zero, suc, _+_, _-_, _*_, _≤_}
+use native.Mathlib.Omega.{arith}
 use mathlib.Core.Bool.{Bool, true, false, _&&_}
 use mathlib.Core.List.{List}
 use mathlib.Core.Path.{_≡_, refl, ap, _∙_}
@@ -10,6 +11,7 @@ use Rattle.rules.specs.declared.Ending.{Ending}
 use Rattle.rules.specs.declared.Ending.the-variants.{None, Refused}
 use Rattle.rules.specs.declared.Table.{Table}
 use Rattle.rules.specs.declared.Told.the-variants.{Rows}
+use Rattle.rules.specs.Refusals.{lexicalNumber}
 use Rattle.rules.specs.Rows.{wellFormed}
 use Rattle.answers.specs.Layout.{endingWords, toldWords, isEnding, lexicalOf, lengthOf, tableOf}
 
@@ -31,6 +33,21 @@ told-table table = by (table .count) (table .length) (table .ending)
 -- So it is for words that are known to be the table's.
 pub lent-table : (table : Table) {answer : List ℕ} → answer ≡ toldWords (Rows table) → tableOf answer ≡ table
 lent-table table e = ap (λ (ws : List ℕ). tableOf ws) e ∙ told-table table
+
+-- And each number of 11 to 17 is that of the reason read from it, so that nothing else is taken for an ending.
+pub reason-again : (number : ℕ) → 11 ≤ number → number ≤ 17 → lexicalNumber (lexicalOf number) ≡ number
+unfolding lexicalOf
+reason-again number lo hi = let e : 11 + (number - 11) ≡ number = omega arith in rw (← e) (by (number - 11) (omega arith))
+  where
+    by : (k : ℕ) → k ≤ 6 → lexicalNumber (lexicalOf (11 + k)) ≡ 11 + k
+    by zero h = refl
+    by (suc zero) h = refl
+    by (suc (suc zero)) h = refl
+    by (suc (suc (suc zero))) h = refl
+    by (suc (suc (suc (suc zero)))) h = refl
+    by (suc (suc (suc (suc (suc zero))))) h = refl
+    by (suc (suc (suc (suc (suc (suc zero)))))) h = refl
+    by (suc (suc (suc (suc (suc (suc (suc k))))))) h = omega arith
 
 -- The table read from words whose first is no ending is not well formed, whatever rows are lent: every call answers 3.
 pub no-table : (ws answer : List ℕ) → isEnding (getD answer 0 0) ≡ false → wellFormed ws (tableOf answer) ≡ false
