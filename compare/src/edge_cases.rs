@@ -430,7 +430,7 @@ fn character_readings() -> Vec<EdgeCase> {
         case(outside, "a\u{e9}", Ending(vec![48], [11, 1, 1, 2])),
         case(outside, "a\u{ea}", Ending(vec![48], [11, 1, 1, 2])),
         case(outside, "1\u{e9}", Ending(vec![50], [11, 1, 1, 2])),
-        case(outside, "0x\u{e9}", unscanned(11, 2)),
+        case(outside, "0x\u{e9}", unscanned(17, 2)),
         case(outside, "\n\u{a0}", Ending(vec![], [11, 1, 2, 1])),
         case(
             outside,

@@ -138,7 +138,6 @@ fn characters_stand_in_comments_and_strings() {
         ("é", 0),
         ("aé", 1),
         ("1é", 1),
-        ("0xé", 2),
         ("/*°*/@", 6),
         ("\u{feff}", 0),
         ("a\u{a0}b", 1),
@@ -150,6 +149,8 @@ fn characters_stand_in_comments_and_strings() {
         assert_eq!(refusal.reason, Reason::NoRowBegins, "{text}");
         assert_eq!(refusal.place.offset, offset, "{text}");
     }
+    let bare = open("0xé").refusal().unwrap();
+    assert_eq!((bare.number(), bare.place.offset), (17, 2));
     let escape = open("\"\\é\"").refusal().unwrap();
     assert_eq!((escape.number(), escape.place.offset), (14, 1));
 }
