@@ -7,6 +7,7 @@ use crate::tree::Tree;
 use crate::LONGEST_TEXT;
 use std::fmt;
 use std::ops::Range;
+use std::sync::OnceLock;
 
 /// An open text and its rows. The text is valid UTF-8 and has at most 65,536 bytes; the rows are always those of a fresh reading, and
 /// each of them starts and ends between two characters, which is proved of the library. Offsets and columns count bytes.
@@ -21,6 +22,8 @@ pub struct Document {
     spare: Vec<u32>,
     /// What stands beside the rows, in the words in which the library told it.
     table: Words,
+    /// The tree, once it was asked for; a change takes it away.
+    tree: OnceLock<Result<Tree, Refusal>>,
 }
 
 impl Document {
@@ -39,6 +42,7 @@ impl Document {
             rows,
             spare: Vec::new(),
             table,
+            tree: OnceLock::new(),
         })
     }
 
@@ -71,8 +75,16 @@ impl Document {
             .ok_or(at_start(Reason::NotWellFormed))
     }
 
-    /// The program's tree, or the first refusal: that of the rows (11 to 17), or one of 21 to 32.
-    pub fn tree(&self) -> Result<Tree, Refusal> {
+    /// The program's tree, or the first refusal: that of the rows (11 to 17), or one of 21 to 32. The text is parsed when the tree is
+    /// first asked for, and again only behind a change.
+    pub fn tree(&self) -> Result<&Tree, Refusal> {
+        self.tree
+            .get_or_init(|| self.parsed())
+            .as_ref()
+            .map_err(|refusal| *refusal)
+    }
+
+    fn parsed(&self) -> Result<Tree, Refusal> {
         let mut nodes = vec![0; self.count() * NODE_WORDS];
         let answer = lent::parse(
             self.text.as_bytes(),
@@ -106,6 +118,7 @@ impl Document {
         taken(&table)?;
         self.text = text;
         self.table = table;
+        self.tree = OnceLock::new();
         std::mem::swap(&mut self.rows, &mut self.spare);
         Ok(())
     }

@@ -60,6 +60,17 @@ fn an_empty_text_is_a_program() {
 }
 
 #[test]
+fn a_tree_is_of_the_text_as_it_is() {
+    let mut document = open("unit u{}");
+    let before = document.tree().unwrap() as *const _;
+    assert_eq!(document.tree().unwrap() as *const _, before);
+    document.replace(7..8, "").unwrap();
+    assert_eq!(document.tree().unwrap_err().number(), 21);
+    document.replace(7..7, "a;}").unwrap();
+    assert_eq!(document.tree(), Ok(open("unit u{a;}").tree().unwrap()));
+}
+
+#[test]
 fn a_scan_that_is_refused_has_rows_up_to_there() {
     let document = open("a\n @b");
     assert_eq!(document.rows().len(), 1);

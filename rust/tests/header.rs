@@ -82,7 +82,8 @@ fn parsed(text: &str) -> Vec<(Vec<u32>, NodeKind)> {
     let mut nodes = vec![0; rows.len()];
     let answer = lent::parse(text.as_bytes(), &rows, &table, &mut nodes);
     assert_eq!(answer[lent::NUMBER], 0, "{text}");
-    let tree = Document::open(text).unwrap().tree().unwrap();
+    let document = Document::open(text).unwrap();
+    let tree = document.tree().unwrap();
     let words = nodes.chunks(lent::NODE_WORDS).map(<[u32]>::to_vec);
     let kinds = tree.nodes().iter().map(|node| node.kind);
     words.zip(kinds).collect()
