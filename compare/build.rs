@@ -9,11 +9,12 @@ use std::path::{Path, PathBuf};
 use std::process::Command;
 
 const BEFORE: &str = "SPOONHARBOR_BEFORE";
-const CALLS: [&str; 6] = [
+const CALLS: [&str; 7] = [
     "scan",
     "well_formed",
     "spelling",
     "parse",
+    "change",
     "edit",
     "restart",
 ];

@@ -1,4 +1,4 @@
-/* Scans a text, edits it, parses it, and prints what comes of each. Every call is here; C++ takes the file too. Installed:
+/* Scans a text, edits and changes it, parses it, and prints what comes of each. Every call is here; C++ takes the file too. Installed:
  *
  *     cc include/example.c $(pkg-config --cflags --libs spoonharbor) -o example && ./example
  */
@@ -22,7 +22,7 @@ struct document {
     uint32_t table[SH_WORDS];
 };
 
-/* The open document, and the one that the next edit writes. */
+/* The open document, and the one that the next edit or change writes. */
 static struct document documents[2];
 static struct document *opened = &documents[0], *spare = &documents[1];
 
@@ -40,15 +40,40 @@ static void write_changed(uint32_t a, uint32_t b, const char *with, uint32_t n) 
     spare->length = opened->length - (b - a) + n;
 }
 
-/* Bytes a to b become `with`. The window starts at the restart place; as long as it is short it shows four times as much behind the new
- * bytes, up to the text's end, where it is never short. Gives back the refusal number; below 11 the document is as it was. */
+/* Whether bytes a to b of the open document can become n others; if not, why. */
+static uint32_t refused(uint32_t a, uint32_t b, uint32_t n) {
+    if (a > b || b > opened->length) return SH_REFUSED_EDIT_NOT_SENSIBLE;
+    return opened->length - (b - a) + n > SH_LONGEST_TEXT ? SH_REFUSED_TEXT_TOO_LONG : 0;
+}
+
+/* What was written is opened, if it has rows. Gives back the refusal number; below 11 the document is as it was. */
+static uint32_t open_spare(void) {
+    uint32_t number = spare->table[SH_NUMBER];
+    if (number == 0 || number >= SH_REFUSED_NO_ROW_BEGINS) {
+        struct document *old = opened;
+        opened = spare;
+        spare = old;
+    }
+    return number;
+}
+
+/* Bytes a to b become `with`, by the whole new text: one call. */
+static uint32_t change(uint32_t a, uint32_t b, const char *with) {
+    uint32_t n = (uint32_t)strlen(with);
+    if (refused(a, b, n) != 0) return refused(a, b, n);
+    write_changed(a, b, with, n);
+    spoonharbor_change(opened->rows, ROW_ROOM, opened->table, a, b, n, spare->text, spare->length, spare->rows, ROW_ROOM, spare->table);
+    return open_spare();
+}
+
+/* Bytes a to b become `with`, by a part of the new text. The window starts at the restart place; as long as it is short it shows four times
+ * as much behind the new bytes, up to the text's end, where it is never short. */
 static uint32_t replace(uint32_t a, uint32_t b, const char *with) {
     uint32_t n = (uint32_t)strlen(with);
     uint32_t restart[SH_WORDS];
     spoonharbor_restart(opened->rows, ROW_ROOM, opened->table, a, restart);
     if (restart[SH_NUMBER] != 0) return restart[SH_NUMBER];
-    if (a > b || b > opened->length) return SH_REFUSED_EDIT_NOT_SENSIBLE;
-    if (opened->length - (b - a) + n > SH_LONGEST_TEXT) return SH_REFUSED_TEXT_TOO_LONG;
+    if (refused(a, b, n) != 0) return refused(a, b, n);
     write_changed(a, b, with, n);
 
     uint32_t start = restart[SH_OFFSET];
@@ -63,14 +88,7 @@ static uint32_t replace(uint32_t a, uint32_t b, const char *with) {
         calls++;
     } while (spare->table[SH_NUMBER] == SH_REFUSED_WINDOW_SHORT);
     printf("edit: %zu window bytes from %" PRIu32 " suffice, calls %d\n", window, start, calls);
-
-    uint32_t number = spare->table[SH_NUMBER];
-    if (number == 0 || number >= SH_REFUSED_NO_ROW_BEGINS) {
-        struct document *old = opened;
-        opened = spare;
-        spare = old;
-    }
-    return number;
+    return open_spare();
 }
 
 /* A refusal's line, if the answer is one. */
@@ -117,12 +135,23 @@ static void print_methods(const char *section) {
     printf("%s: kind %" PRIu32 ", %" PRIu32 " methods, load_u64 %" PRIu32 "\n", section, kind, size[SH_FIRST], allowed[SH_FIRST]);
 }
 
-/* A long text, in which a comment is opened: the window has to reach the text's end. */
+/* A long text, in which a comment is opened and closed: the window has to reach the text's end, and a change needs none. */
 static void open_comment(void) {
     static char text[60001];
     memset(text, ';', 60000);
     open_text(text);
     printf("open a comment in 60000 bytes: %" PRIu32 "\n", replace(0, 0, "/*"));
+    print_rows();
+    printf("close it behind 59998 of them: %" PRIu32 "\n", change(60000, 60000, "*/"));
+    print_rows();
+    printf("change 60005 to 60005: %" PRIu32 "\n", change(60005, 60005, "x"));
+}
+
+/* A text with characters of several bytes, which columns count one by one; and one that ends inside such a character. */
+static void open_characters(void) {
+    open_text("/* 0.1\xC2\xB0 */ \"\xCE\xA9\" @");
+    print_rows();
+    open_text("\"\xCE");
     print_rows();
 }
 
@@ -159,6 +188,7 @@ int main(void) {
     print_nodes();
 
     printf("replace 99 to 99: %" PRIu32 "\n", replace(99, 99, "x"));
+    open_characters();
     open_comment();
     print_methods("kprobe/encoder_read");
     return 0;

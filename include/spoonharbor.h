@@ -11,8 +11,12 @@
  * the same time. Parts of memory that are lent for writing must overlap neither each other nor what is lent for reading. A length of 0 is
  * fine (with any pointer that is not null). Lengths of rows and nodes are lent in words, not in rows or bytes.
  *
- * An answer is eight words, always all written. A table (what stands beside rows) is lent in the words in which a scan or an edit told
- * it, so keep them as they are.
+ * Texts are UTF-8, and all of a text is judged before any of it is read. Offsets, lengths and columns count bytes, so an editor that shows
+ * a caret counts characters for itself. Rows of a scanned text start and end between characters; so does the restart place of an edit.
+ * A table that no text has may be well formed and have rows that cut one: what such a row spells are bytes.
+ *
+ * An answer is eight words, always all written. A table (what stands beside rows) is lent in the words in which a scan, a change or an edit
+ * told it, so keep them as they are.
  *
  * Room. A text of n bytes has at most n + 1 rows, since every row but the text's end has a byte: SH_ROW_ROOM(n) words hold them. A tree has
  * at most as many nodes as the text has rows: SH_NODE_ROOM(rows) words suffice, and a parse asks for them.
@@ -32,7 +36,7 @@ extern "C" {
 
 /* This header's version, a byte for each part. `spoonharbor_version()` tells the archive's: hold them together once at the start. */
 #define SPOONHARBOR_VERSION_MAJOR 0
-#define SPOONHARBOR_VERSION_MINOR 2
+#define SPOONHARBOR_VERSION_MINOR 5
 #define SPOONHARBOR_VERSION_PATCH 0
 #define SPOONHARBOR_VERSION (SPOONHARBOR_VERSION_MAJOR * 65536u + SPOONHARBOR_VERSION_MINOR * 256u + SPOONHARBOR_VERSION_PATCH)
 
@@ -44,16 +48,16 @@ enum sh_answer_word {
     SH_NUMBER = 0, /* refusal number, 0 if none */
     SH_OFFSET = 1, /* the refusal's place: offset, line and column; 0 1 1 where the place is 0; beside number 0 the restart place, else all 0 */
     SH_LINE = 2,
-    SH_COLUMN = 3,
-    SH_FIRST = 4,  /* what 21 wanted, the field that 29 lacks, the block of 41; spelling: start; sets: the number */
+    SH_COLUMN = 3, /* one more than the bytes since the last newline: characters of two to four bytes count two to four, a tab one */
+    SH_FIRST = 4,  /* SH_REFUSED_WANTED: the kind that was wanted; SH_REFUSED_MAP_LACKS: the field; SH_REFUSED_BAD_BLOCK: the block; spelling: start; sets: the number */
     SH_SECOND = 5, /* SH_REFUSED_WANTED: the kind that was found; spelling: end */
     SH_COUNT = 6,  /* rows, nodes or blocks written */
-    SH_LENGTH = 7, /* scan, edit, load: the text's length; 0 where refused below 11 or from 40 on; store: the file's */
+    SH_LENGTH = 7, /* scan, change, edit, load: the text's length; 0 where refused below 11 or from 40 on; store: the file's */
     SH_WORDS = 8
 };
 
-/* The words of a row. Offsets count from 0, lines and columns from 1; the end is the offset behind the last byte. The value is 64-bit
- * two's complement, zero unless the kind is a number. The eighth word is zero. */
+/* The words of a row. Offsets count from 0, lines and columns from 1, and columns count bytes; the end is the offset behind the last byte.
+ * The value is 64-bit two's complement, zero unless the kind is a number. The eighth word is zero. */
 enum sh_row_word {
     SH_ROW_KIND = 0,
     SH_ROW_START = 1,
@@ -228,20 +232,22 @@ enum sh_method {
     SH_METHOD_PROBE_READ_KERNEL_STR = 15
 };
 
-/* Refusal numbers: 1 to 7 of the call, 11 to 15 of the scan, 21 to 32 of the parse. A later version may have more. */
+/* Refusal numbers: 1 to 7 of the call, 11 to 17 of the scan, 21 to 32 of the parse. A later version may have more. */
 enum sh_refusal {
     SH_REFUSED_TEXT_TOO_LONG = 1,     /* over SH_LONGEST_TEXT bytes */
-    SH_REFUSED_BAD_BYTE = 2,          /* a byte of 128 or more */
+    SH_REFUSED_BAD_BYTE = 2,          /* no valid UTF-8: its place is where the first character starts that is broken or cut by the end */
     SH_REFUSED_NOT_WELL_FORMED = 3,   /* table, row or set number */
     SH_REFUSED_NO_ROW_ROOM = 4,       /* more rows than lent room */
     SH_REFUSED_NO_NODE_ROOM = 5,      /* node room below row count */
     SH_REFUSED_EDIT_NOT_SENSIBLE = 6,
-    SH_REFUSED_WINDOW_SHORT = 7,
-    SH_REFUSED_NO_ROW_BEGINS = 11,    /* a byte that begins no row, a lone < or >, no hex digit */
+    SH_REFUSED_WINDOW_SHORT = 7,      /* show a longer window */
+    SH_REFUSED_NO_ROW_BEGINS = 11,    /* a byte that begins no row, also one of 128 or more */
     SH_REFUSED_OPEN_COMMENT = 12,
     SH_REFUSED_OPEN_STRING = 13,
     SH_REFUSED_BAD_ESCAPE = 14,
     SH_REFUSED_NUMBER_TOO_LARGE = 15, /* digits over 2^63 - 1 */
+    SH_REFUSED_LONE_SIGN = 16,        /* a lone < or > */
+    SH_REFUSED_NO_HEX_DIGIT = 17,     /* 0x without a hex digit */
     SH_REFUSED_WANTED = 21,           /* another kind was wanted: both are told */
     SH_REFUSED_NOT_TOP_LEVEL = 22,    /* not a top-level word */
     SH_REFUSED_NOT_MAP_FIELD = 23,
@@ -281,29 +287,39 @@ enum sh_map_field {
 /* The archive's version: SPOONHARBOR_VERSION of the header that it belongs to. */
 uint32_t spoonharbor_version(void);
 
-/* Scan a text into rows. Number 0 or 11 to 15: a table of SH_COUNT rows, which ends so. 4: as many rows as there is room for are
- * written; SH_ROW_ROOM(text_length) words are always enough. 1, 2: the rows are untouched. */
+/* Scan a text into rows. Number 0 or 11 to 17: a table of SH_COUNT rows, which ends so. 4: as many rows as there is room for are
+ * written; SH_ROW_ROOM(text_length) words are always enough. 1, 2: the rows are untouched. 2 stands where the longest valid UTF-8 beginning
+ * ends (RFC 3629: no overlong form, no surrogate, nothing above U+10FFFF). */
 void spoonharbor_scan(const uint8_t *text, size_t text_length, uint32_t *rows, size_t row_words, uint32_t answer[SH_WORDS]);
 
 /* 1 if a table is well formed, else 0. */
 uint32_t spoonharbor_well_formed(const uint32_t *rows, size_t row_words, const uint32_t table[SH_WORDS]);
 
-/* The part of the text that a row spells: bytes SH_FIRST to SH_SECOND. Refusals 1, 2, 3. */
+/* The part of the text that a row spells: bytes SH_FIRST to SH_SECOND, whole characters if the table is the text's own. Refusals 1, 2, 3. */
 void spoonharbor_spelling(const uint8_t *text, size_t text_length, const uint32_t *rows, size_t row_words, const uint32_t table[SH_WORDS],
                           uint32_t row, uint32_t answer[SH_WORDS]);
 
 /* Parse a table into nodes: SH_COUNT of them, or a refusal that leaves node memory untouched. SH_NODE_ROOM of the row count suffices.
- * Refusals, the first of them in this order: 1, 2, 3, the table's own 11 to 15, 5, then 21 to 32 in reading order. */
+ * Refusals, the first of them in this order: 1, 2, 3, the table's own 11 to 17, 5, then 21 to 32 in reading order. */
 void spoonharbor_parse(const uint8_t *text, size_t text_length, const uint32_t *rows, size_t row_words, const uint32_t table[SH_WORDS],
                        uint32_t *nodes, size_t node_words, uint32_t answer[SH_WORDS]);
 
-/* Old bytes a to b (b not included) became n new ones. The window is a part of the new text that starts at the restart place (offset
- * `start`). The new table is that of a fresh scan of the new text, or 7: show a longer window. Refusals in this order: 3, 6, 1, 2, 7,
- * which leave the new rows untouched, then 4 or 11 to 15 as a scan gives them.
+/* Old bytes a to b (b not included) became n new ones, and the text is all of the new text. The new table is that of a fresh scan of it. One
+ * call suffices: it finds the restart place itself, and never says 7. Refusals in this order: 3, 6 (a > b, b past the old text, or the text
+ * is not as long as the change makes it), 1, 2 (of the bytes from the restart place on), which leave the new rows untouched, then 4 or 11
+ * to 17 as a scan gives them. The text before the restart place is taken to be the old one's. After 2 there is no table, so keep the old one
+ * with its text, and change whole characters. */
+void spoonharbor_change(const uint32_t *old_rows, size_t old_words, const uint32_t table[SH_WORDS], uint32_t a, uint32_t b, uint32_t n,
+                        const uint8_t *text, size_t text_length, uint32_t *new_rows, size_t new_words, uint32_t answer[SH_WORDS]);
+
+/* The same for whoever does not hold the whole new text. The window is a part of it that starts at the restart place (offset `start`). The
+ * new table is that of a fresh scan of the new text, or 7: show a longer window. Refusals in this order: 3; 6; 1; 7, the window ends before
+ * a + n + 4 and not at the text's end; 2, in the window, whose end may cut a character unless it is the text's; 7, the window shows neither
+ * where the old rows go on, nor a refusal, nor the text's end. These leave the new rows untouched; then 4 or 11 to 17 as a scan gives them.
  *
- * How long a window: it must show all new bytes, and some way behind them (256 bytes mostly suffice). As long as the answer is 7, show
- * four times as much behind the new bytes, up to the text's end: a window to the text's end is never 7. Each call costs a pass over the
- * table, so growing byte by byte is slow: in 60 KB of text up to half a minute, where growing fourfold takes five calls and 2 ms. */
+ * How long a window: it must show all new bytes, the four behind them, and some way on (256 bytes mostly suffice). As long as the answer is
+ * 7, show four times as much behind the new bytes, up to the text's end: a window to the text's end is never 7. Each call costs a pass over
+ * the table, so growing byte by byte is slow: in 60 KB of text up to half a minute, where growing fourfold takes five calls and 2 ms. */
 void spoonharbor_edit(const uint32_t *old_rows, size_t old_words, const uint32_t table[SH_WORDS], uint32_t a, uint32_t b, uint32_t n,
                       uint32_t start, const uint8_t *window, size_t window_length, uint32_t *new_rows, size_t new_words,
                       uint32_t answer[SH_WORDS]);

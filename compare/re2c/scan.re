@@ -31,6 +31,28 @@ static uint64_t spelt(const unsigned char *p, const unsigned char *e, uint64_t b
     return value;
 }
 
+/* How many bytes the character behind a first byte has, by the table of RFC 3629; 0 where none stands there. */
+static size_t character(const uint8_t *p, size_t left) {
+    size_t size = *p < 0x80 ? 1 : *p < 0xC2 ? 0 : *p < 0xE0 ? 2 : *p < 0xF0 ? 3 : *p < 0xF5 ? 4 : 0;
+    uint8_t low = *p == 0xE0 ? 0xA0 : *p == 0xF0 ? 0x90 : 0x80;
+    uint8_t high = *p == 0xED ? 0x9F : *p == 0xF4 ? 0x8F : 0xBF;
+    if (size > left || (size > 1 && (p[1] < low || p[1] > high))) return 0;
+    for (size_t i = 2; i < size; i++)
+        if (p[i] < 0x80 || p[i] > 0xBF) return 0;
+    return size;
+}
+
+/* How long the longest beginning is that consists of characters. */
+static size_t valid_bytes(const uint8_t *text, size_t length) {
+    size_t valid = 0;
+    for (;;) {
+        while (valid < length && text[valid] < 128) valid++;
+        size_t size = valid < length ? character(text + valid, length - valid) : 0;
+        if (size == 0) return valid;
+        valid += size;
+    }
+}
+
 void re2c_scan(const uint8_t *text, size_t length, uint32_t *rows, size_t room, uint32_t answer[8]) {
     const unsigned char *YYCURSOR = text, *YYLIMIT = text + length, *YYMARKER = text;
     const unsigned char *line_start = text, *start;
@@ -42,7 +64,7 @@ void re2c_scan(const uint8_t *text, size_t length, uint32_t *rows, size_t room, 
         tell(answer, 1, 0, 1, 1, 0, 0);
         return;
     }
-    while (valid < length && text[valid] < 128) valid++;
+    valid = valid_bytes(text, length);
     if (valid < length) {
         for (place = text; place < text + valid; place++)
             if (*place == '\n') line++, line_start = place + 1;
@@ -93,7 +115,7 @@ next:
         "-" decimal { kind = 50; bits = spelt(start + 1, YYCURSOR, 10); goto number; }
         hex { kind = 50; bits = spelt(start + 2, YYCURSOR, 16); goto number; }
         "-" hex { kind = 50; bits = spelt(start + 3, YYCURSOR, 16); goto number; }
-        "-"? "0x" { why = 11; place = YYCURSOR; goto refused; }
+        "-"? "0x" { why = 17; place = YYCURSOR; goto refused; }
 
         "\"" ([^"\\\n] | "\\" ["\\n])* "\"" { kind = 49; goto row; }
         "\"" { goto broken; }
@@ -123,6 +145,7 @@ next:
         "<<" { kind = 47; goto row; }
 
         $ { kind = EOF_KIND; start = YYLIMIT; YYCURSOR = YYLIMIT; goto row; }
+        [<>] { why = 16; place = start; goto refused; }
         * { why = 11; place = start; goto refused; }
     */
 number:

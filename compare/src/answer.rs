@@ -6,7 +6,9 @@
 //!   lexical refusal. Line and column are the original's own, except Eof's: the
 //!   original has 0:0 there, so the position counted in the text stands instead.
 //! - The lexical refusal: number and place. 15 is a panic of the original;
-//!   `scan` says how its place is found.
+//!   `scan` says how its place is found. Where a character of two bytes or more
+//!   stands outside comments and strings, the original is asked about what stands
+//!   in front of it, and 11 stands there (`differences`).
 //! - The parse: its refusal with number, place and what is told (21: wanted and
 //!   found kind, 29: the field), or its nodes. `parse` says how the places of
 //!   the panics 28, 29 (type) and 31 are found, `nodes` which words are known.
@@ -91,8 +93,8 @@ pub fn answer(text: &[u8]) -> Answer {
         return Answer::NotCompared { number: 1 };
     }
     match std::str::from_utf8(text) {
-        Ok(text) if text.is_ascii() => on_deep_stack(|| ask(text)),
-        _ => Answer::NotCompared { number: 2 },
+        Ok(text) => on_deep_stack(|| ask(text)),
+        Err(_) => Answer::NotCompared { number: 2 },
     }
 }
 

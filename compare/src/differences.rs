@@ -1,4 +1,9 @@
-//! The two refusals of LANGUAGE.md that the original's parser does not know.
+//! Where LANGUAGE.md says something else than the original.
+//!
+//! 11: a character of two bytes or more outside comments and strings is refused. The original casts each of its bytes to a
+//! character of its own, takes it into an identifier, or panics.
+//!
+//! Two refusals are not known to the original's parser:
 //!
 //! 27: the original casts `max` and event lengths to 32 bits silently.
 //! 32: the original has no limit on nesting.
@@ -15,6 +20,37 @@ use crate::parser::{Token, TokenKind};
 pub struct Difference {
     pub number: u32,
     pub row: usize,
+}
+
+/// The offset of the first character of two bytes or more that stands outside comments and strings. Where the scan is refused
+/// before, what is found behind that is not used.
+pub fn first_character_outside(text: &str) -> Option<usize> {
+    let bytes = text.as_bytes();
+    let mut index = 0;
+    while index < bytes.len() && bytes[index] < 128 {
+        index += match &bytes[index..] {
+            [b'/', b'/', line @ ..] => 2 + before(line, b"\n"),
+            [b'/', b'*', inside @ ..] => 2 + before(inside, b"*/") + 2,
+            [b'"', inside @ ..] => 1 + string_length(inside),
+            _ => 1,
+        };
+    }
+    (index < bytes.len()).then_some(index)
+}
+
+/// How many bytes stand before an ending, all where there is none.
+fn before(bytes: &[u8], ending: &[u8]) -> usize {
+    let found = bytes.windows(ending.len()).position(|part| part == ending);
+    found.unwrap_or(bytes.len())
+}
+
+/// How many bytes a string has behind its opening quote: up to its closing one, or all. A backslash takes the next byte along.
+fn string_length(bytes: &[u8]) -> usize {
+    let mut index = 0;
+    while index < bytes.len() && bytes[index] != b'"' {
+        index += if bytes[index] == b'\\' { 2 } else { 1 };
+    }
+    index + 1
 }
 
 /// The constructs that may be open at once.
@@ -185,6 +221,31 @@ mod tests {
 
     fn difference(text: &str) -> Option<Difference> {
         first_named_difference(&scan(text).tokens)
+    }
+
+    #[test]
+    fn characters_inside_comments_and_strings_are_passed_over() {
+        for text in [
+            "",
+            "a",
+            "//\u{e9}",
+            "/*\u{20ac}*/ //",
+            "\"\\\"\u{e9}\"",
+            "/*\u{e9}",
+            "\"\u{e9}",
+            "\"\\",
+        ] {
+            assert_eq!(first_character_outside(text), None, "{text}");
+        }
+        for (text, offset) in [
+            ("\u{e9}", 0),
+            ("a/\u{e9}", 2),
+            ("//\n\u{e9}", 3),
+            ("/*/*/\u{e9}", 5),
+            ("\"//\"\u{e9}", 4),
+        ] {
+            assert_eq!(first_character_outside(text), Some(offset), "{text}");
+        }
     }
 
     #[test]

@@ -202,6 +202,7 @@ pub const SECTION_KINDS: [(&str, u32); 22] = [
 pub fn edge_cases() -> Vec<EdgeCase> {
     let mut cases = document_edges();
     cases.extend(scan_readings());
+    cases.extend(character_readings());
     cases.extend(wanted_readings());
     cases.extend(map_readings());
     cases.extend(event_readings());
@@ -243,7 +244,10 @@ fn document_edges() -> Vec<EdgeCase> {
                 &[25, 0, 1, 1, 10, m],
             ]),
         ),
-        case(from, "0x", unscanned(11, 2)),
+        case(from, "0x", unscanned(17, 2)),
+        case(from, "0x<", unscanned(17, 2)),
+        case(from, "<=", unscanned(16, 0)),
+        case(from, "<", unscanned(16, 0)),
         case(
             from,
             "0X10",
@@ -339,7 +343,7 @@ fn scan_readings() -> Vec<EdgeCase> {
         case(
             "DECISIONS, a sign next to a comment",
             "a<=b",
-            Ending(vec![48], [11, 1, 1, 2]),
+            Ending(vec![48], [16, 1, 1, 2]),
         ),
         case(
             "DECISIONS, where numbers end",
@@ -368,7 +372,7 @@ fn scan_readings() -> Vec<EdgeCase> {
                 [52, 4, 4, 1, 5, 0],
             ]),
         ),
-        case("DECISIONS, where numbers end", "-0x", unscanned(11, 3)),
+        case("DECISIONS, where numbers end", "-0x", unscanned(17, 3)),
         case(
             "DECISIONS, where numbers end",
             "-0",
@@ -395,6 +399,48 @@ fn scan_readings() -> Vec<EdgeCase> {
         ),
         case("DECISIONS, 1", " ".repeat(65_537), NotCompared(1)),
         case("DECISIONS, 2", [0x80], NotCompared(2)),
+    ]
+}
+
+/// Characters of two bytes and more. The original has a say inside comments and strings; outside of them 11 is LANGUAGE.md's.
+fn character_readings() -> Vec<EdgeCase> {
+    let inside = "LANGUAGE, characters in comments and strings";
+    let outside = "DIFFERENCES, 11 at a character outside of them";
+    let broken = "LANGUAGE, 2";
+    vec![
+        case(
+            inside,
+            "\"\u{e9}\"",
+            Rows(vec![[49, 0, 4, 1, 1, 0], [52, 4, 4, 1, 5, 0]]),
+        ),
+        case(inside, "/*\u{b0}*/@", Ending(vec![], [11, 6, 1, 7])),
+        case(inside, "\"\u{20ac}\n", unscanned(13, 4)),
+        case(inside, "\"\\\u{e9}\"", unscanned(14, 1)),
+        case(inside, "/*\u{1f600}", unscanned(12, 2)),
+        case(
+            inside,
+            unit("\n \"\u{e9}\""),
+            Refused([21, 9, 2, 2, 48, 49]),
+        ),
+        case(
+            inside,
+            unit("section \"\u{b0}\"; // \u{3b1} Cen\n a;"),
+            Accepted,
+        ),
+        case(outside, "a\u{e9}", Ending(vec![48], [11, 1, 1, 2])),
+        case(outside, "a\u{ea}", Ending(vec![48], [11, 1, 1, 2])),
+        case(outside, "1\u{e9}", Ending(vec![50], [11, 1, 1, 2])),
+        case(outside, "0x\u{e9}", unscanned(17, 2)),
+        case(outside, "\n\u{a0}", Ending(vec![], [11, 1, 2, 1])),
+        case(
+            outside,
+            "//\u{e9}\n/*\u{20ac}*/\u{1f600}",
+            Ending(vec![], [11, 12, 2, 8]),
+        ),
+        case(broken, b"@\xFF".as_slice(), NotCompared(2)),
+        case(broken, b"\"\xC3\"".as_slice(), NotCompared(2)),
+        case(broken, b"//\xED\xA0\x80".as_slice(), NotCompared(2)),
+        case(broken, b"//\xE2\x82".as_slice(), NotCompared(2)),
     ]
 }
 

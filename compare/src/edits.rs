@@ -1,10 +1,11 @@
 //! Edits with the answers that are expected of them, stored for a program that cannot run Rust.
 //!
 //! `worked` has the cases that papers state, `scenes` makes others, `expected` says what is expected of each call, `file` writes
-//! them down. README.md describes the form.
+//! them down, and `report` what the program must write of them. README.md describes the form.
 
 pub mod expected;
 pub mod file;
+pub mod report;
 pub mod scenes;
 pub mod worked;
 
@@ -13,6 +14,12 @@ use expected::Asked;
 
 /// Where the sample stands.
 pub const FILE: &str = concat!(env!("CARGO_MANIFEST_DIR"), "/../crates/replay_edits/stdin");
+
+/// Where it stands what the program writes of it.
+pub const REPORT: &str = concat!(env!("CARGO_MANIFEST_DIR"), "/../crates/replay_edits/stdout");
+
+/// Edits with their calls.
+pub type Edits = [(Asked, Vec<Call>)];
 
 /// What an edit is in the sample for; the file has the number.
 #[derive(Debug, Clone, Copy, PartialEq, Eq)]
@@ -81,6 +88,14 @@ const COUNTS: [(Kind, usize); 10] = [
     (Kind::Damaged, 70),
 ];
 
+/// How many more have characters of two bytes and more in the old text or among the new bytes.
+const WITH_CHARACTERS: [(Kind, usize); 4] = [
+    (Kind::InComment, 60),
+    (Kind::InString, 60),
+    (Kind::OldRefused, 40),
+    (Kind::Anywhere, 80),
+];
+
 /// The stored edits with their calls, always the same.
 pub fn stored() -> Vec<(Asked, Vec<Call>)> {
     let mut random = Random::new(1);
@@ -88,6 +103,11 @@ pub fn stored() -> Vec<(Asked, Vec<Call>)> {
     for (kind, count) in COUNTS {
         for _ in 0..count {
             edits.push(scenes::scene(&mut random, kind));
+        }
+    }
+    for (kind, count) in WITH_CHARACTERS {
+        for _ in 0..count {
+            edits.push(scenes::with_characters(&mut random, kind));
         }
     }
     edits

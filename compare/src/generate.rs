@@ -4,10 +4,12 @@
 //! (`soup`), programs made by the grammar (`programs`), damaged programs
 //! (`damage`), fields of maps and events (`fields`), numbers at their edges
 //! (`numbers`), nesting at its limit (`nesting`) and texts of limit length
-//! (`lengths`). Long probes as people write them (`probe`) are for times and for
+//! (`lengths`), and characters of two bytes and more in any of them (`characters`).
+//! Long probes as people write them (`probe`) are for times and for
 //! long chains of edits; `change` has what an edit puts into a text.
 
 pub mod change;
+pub mod characters;
 pub mod damage;
 pub mod fields;
 pub mod lengths;
@@ -24,8 +26,8 @@ use crate::edge_cases::{edge_cases, Expected};
 use random::Random;
 use std::collections::HashSet;
 
-/// `count` different texts, or the fixed ones alone if these are more. First the
-/// fixed ones: every text of at most two bytes, the edge cases, the fields, the numbers
+/// `count` different ASCII texts, or the fixed ones alone if these are more, and a tenth as many with characters of two
+/// bytes and more. First the fixed ones: every text of at most two bytes, the edge cases, the fields, the numbers
 /// and the nesting; then random ones. Texts of limit length are not among them.
 pub fn sample_texts(count: usize, seed: u64) -> Vec<Vec<u8>> {
     let mut random = Random::new(seed);
@@ -34,6 +36,14 @@ pub fn sample_texts(count: usize, seed: u64) -> Vec<Vec<u8>> {
     texts.retain(|text| seen.insert(text.clone()));
     while texts.len() < count {
         let text = random_text(&mut random);
+        if seen.insert(text.clone()) {
+            texts.push(text);
+        }
+    }
+    let all = texts.len() + count / 10;
+    while texts.len() < all {
+        let text = random_text(&mut random);
+        let text = characters::valid_with_characters(&mut random, &text);
         if seen.insert(text.clone()) {
             texts.push(text);
         }
@@ -51,11 +61,11 @@ pub fn fixed_texts() -> Vec<Vec<u8>> {
     texts
 }
 
-/// The edge cases without those that LANGUAGE.md answers with 1 or 2.
+/// The edge cases in ASCII, without those that LANGUAGE.md answers with 1 or 2.
 fn compared_edge_cases() -> impl Iterator<Item = Vec<u8>> {
     edge_cases()
         .into_iter()
-        .filter(|case| !matches!(case.expected, Expected::NotCompared(_)))
+        .filter(|case| !matches!(case.expected, Expected::NotCompared(_)) && case.text.is_ascii())
         .map(|case| case.text)
 }
 
@@ -95,7 +105,7 @@ mod tests {
     #[test]
     fn the_original_can_be_asked_about_every_text() {
         for text in sample_texts(5000, 1) {
-            assert!(text.is_ascii() && text.len() <= LONGEST_TEXT);
+            assert!(std::str::from_utf8(&text).is_ok() && text.len() <= LONGEST_TEXT);
         }
     }
 }

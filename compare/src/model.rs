@@ -9,6 +9,7 @@ pub mod lex;
 pub mod parse;
 pub mod scan;
 pub mod table;
+pub mod text;
 
 use crate::answer::{Place, Refusal, Row};
 

@@ -14,6 +14,48 @@ pub fn sample_file<'a>(cases: impl ExactSizeIterator<Item = (&'a [u8], &'a Answe
     file
 }
 
+/// What `replay_texts` writes of these answers where all agree.
+pub fn report(answers: &[Answer]) -> String {
+    let (mut rows, mut refusals, mut uncompared) = (0, 0, 0);
+    let (mut programs, mut declarations, mut nodes, mut unsaid) = (0, 0, 0, 0);
+    for answer in answers {
+        let Answer::Compared {
+            rows: own, parsed, ..
+        } = answer
+        else {
+            continue;
+        };
+        rows += own.len();
+        match parsed {
+            Parsed::NotScanned | Parsed::NotComparable { .. } => uncompared += 1,
+            Parsed::Refused(_) => refusals += 1,
+            Parsed::Accepted(tree) => {
+                programs += 1;
+                declarations += tree.declarations.len();
+                for node in tree.declarations.iter().flatten() {
+                    nodes += 1;
+                    unsaid += node.words().iter().filter(|word| word.is_none()).count();
+                }
+            }
+        }
+    }
+    let cases = answers.len();
+    let line = |what: &str, count: usize| format!("{what} {count}, agreed {count}\n");
+    [
+        format!("cases {cases} of {cases}\nbytes behind the last case 0\n"),
+        line("row counts", cases),
+        line("rows", rows),
+        line("endings", cases),
+        line("parse refusals", refusals),
+        line("programs", programs),
+        line("declarations", declarations),
+        line("nodes", nodes),
+        line("parses that only the language answers", uncompared),
+        format!("words that the sample does not say {unsaid}\ndiffering cases 0\n"),
+    ]
+    .concat()
+}
+
 fn write_case(file: &mut String, text: &[u8], answer: &Answer) {
     let Answer::Compared {
         rows,

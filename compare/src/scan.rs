@@ -1,6 +1,7 @@
 //! The original's scanner asked for the rows of a text and for its ending.
 
 use crate::answer::{Place, Refusal, Row};
+use crate::differences::first_character_outside;
 use crate::kinds::number_of;
 use crate::lexer::{LexError, Lexer};
 use crate::parser::{SourceLoc, Token, TokenKind};
@@ -15,15 +16,30 @@ pub struct Scan {
     pub ending: Option<Refusal>,
 }
 
-/// Scans an ASCII text.
+/// Scans a text. A character of two bytes or more outside comments and strings is 11, where the original casts its bytes
+/// (`differences`): it is asked about what stands in front of that character.
 pub fn scan(text: &str) -> Scan {
+    let Some(offset) = first_character_outside(text) else {
+        return read(text);
+    };
+    let mut scanned = read(&text[..offset]);
+    if scanned.ending.is_none() {
+        scanned.tokens.pop();
+        scanned.rows.pop();
+        scanned.ending = Some(lexical(11, counted_place(text, offset)));
+    }
+    scanned
+}
+
+/// What the original reads in a text.
+fn read(text: &str) -> Scan {
     let mut lexer = Lexer::new(text);
     let mut tokens: Vec<Token> = Vec::new();
     let mut ending = None;
     while ending.is_none() && !ends_with_eof(&tokens) {
         match caught(|| lexer.next_token()) {
             Ok(Ok(token)) => tokens.push(token),
-            Ok(Err(error)) => ending = Some(refusal_of(error)),
+            Ok(Err(error)) => ending = Some(refusal_of(text, error)),
             Err(panic) => ending = Some(refusal_of_panic(text, &panic)),
         }
     }
@@ -89,13 +105,24 @@ fn lexical(number: u32, place: Place) -> Refusal {
     }
 }
 
-fn refusal_of((loc, message): LexError) -> Refusal {
-    lexical(number_of_message(&message), place_of(loc))
+fn refusal_of(text: &str, (loc, message): LexError) -> Refusal {
+    let number = match number_of_message(&message) {
+        11 if is_hex_without_digit(&text[..loc.offset]) => 17,
+        number => number,
+    };
+    lexical(number, place_of(loc))
+}
+
+/// Whether what stands in front of an invalid character is refused too: the original has one message for a byte that begins no
+/// row, in front of which all is read, and for `0x` without a digit.
+fn is_hex_without_digit(before: &str) -> bool {
+    before.ends_with("0x") && Lexer::new(before).tokenize().is_err()
 }
 
 fn number_of_message(message: &str) -> u32 {
     match message {
-        "Invalid character" | "Unexpected character '<'" | "Unexpected character '>'" => 11,
+        "Invalid character" => 11,
+        "Unexpected character '<'" | "Unexpected character '>'" => 16,
         "Unterminated comment" => 12,
         "Unterminated string literal" => 13,
         _ if message.starts_with("Invalid escape sequence: ") => 14,
@@ -118,7 +145,8 @@ fn refusal_of_panic(text: &str, message: &str) -> Refusal {
 /// longest beginning that does not, that number, cut short, is the last token.
 fn place_of_overflowing_number(text: &str) -> Place {
     let shortest_panicking = least(text.len(), |length| {
-        caught(|| Lexer::new(&text[..length]).tokenize()).is_err()
+        let whole = text.floor_char_boundary(length);
+        caught(|| Lexer::new(&text[..whole]).tokenize()).is_err()
     });
     let tokens = Lexer::new(&text[..shortest_panicking - 1])
         .tokenize()
@@ -153,9 +181,32 @@ mod tests {
                 place(30, 2, 29),
             ),
             ("9223372036854775807 0x08000000000000000;", place(20, 1, 21)),
+            (
+                "/*\u{20ac}\u{e9}*/99999999999999999999//\u{20ac}",
+                place(9, 1, 10),
+            ),
         ];
         for (text, start) in texts {
             assert_eq!(scan(text).ending, Some(lexical(15, start)), "{text}");
+        }
+    }
+
+    /// What is 11 here is an identifier or a panic there.
+    #[test]
+    fn the_original_casts_each_byte_of_a_character() {
+        assert_eq!(read("\u{ea}").rows[0].end, 2);
+        assert!(caught(|| Lexer::new("\u{e9}").tokenize()).is_err());
+        assert!(caught(|| Lexer::new("a\u{e9}").tokenize()).is_err());
+        assert!(caught(|| Lexer::new("\u{a0}").tokenize()).is_err());
+        for (text, rows, offset) in [
+            ("\u{ea}", 0, 0),
+            ("a\u{ea}", 1, 1),
+            ("\"\u{ea}\"\u{ea}", 1, 4),
+        ] {
+            let scanned = scan(text);
+            assert_eq!(scanned.rows.len(), rows, "{text}");
+            let refused = lexical(11, counted_place(text, offset));
+            assert_eq!(scanned.ending, Some(refused), "{text}");
         }
     }
 }

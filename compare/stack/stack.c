@@ -27,6 +27,10 @@ static void edit(void) {
     spoonharbor_edit(rows, ROWS * SH_ROW_WORDS, table, 0, 0, 0, 0, text, length, new_rows, ROWS * SH_ROW_WORDS, answer);
 }
 
+static void change(void) {
+    spoonharbor_change(rows, ROWS * SH_ROW_WORDS, table, 0, 0, 0, text, length, new_rows, ROWS * SH_ROW_WORDS, answer);
+}
+
 static void well_formed(void) { answer[0] = spoonharbor_well_formed(rows, ROWS * SH_ROW_WORDS, table); }
 
 /* How many bytes of the stack a call takes. */
@@ -71,8 +75,11 @@ static void report(const char *what) {
     if (answer[SH_NUMBER] != 0) exit(1);
     size_t by_edit = used_by(edit) - empty;
     if (answer[SH_NUMBER] != 0) exit(1);
+    size_t by_change = used_by(change) - empty;
+    if (answer[SH_NUMBER] != 0) exit(1);
     size_t by_test = used_by(well_formed) - empty;
-    printf("%s: scan %zu, parse %zu, edit %zu, table test %zu bytes of stack\n", what, by_scan, by_parse, by_edit, by_test);
+    printf("%s: scan %zu, parse %zu, edit %zu, change %zu, table test %zu bytes of stack\n", what, by_scan, by_parse, by_edit, by_change,
+           by_test);
 }
 
 int main(void) {

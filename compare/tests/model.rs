@@ -4,9 +4,11 @@ use compare::agree::agree;
 use compare::answer::{answer, Answer, Parsed};
 use compare::deep::on_deep_stack;
 use compare::edits::worked;
+use compare::generate::change::new_characters;
+use compare::generate::characters::valid_with_characters;
 use compare::generate::random::Random;
 use compare::generate::{lengths, sample_texts, short};
-use compare::model::edit::{edit, restart, Change};
+use compare::model::edit::{change as changed, edit, restart, Change};
 use compare::model::parse::{parse, section_kind};
 use compare::model::table::Lent;
 use compare::model::{row_words, scan::scan, Told};
@@ -90,7 +92,7 @@ fn hold_edit_against_scan(old: &[u8], a: usize, b: usize, new_bytes: &[u8]) {
     let mut was_enough = false;
     for end in start as usize..=new.len() {
         let told = edit(lent, change, start, &new[start as usize..end], usize::MAX);
-        if told.is_table() {
+        if told.is_table() || told.refusal.map(|refusal| refusal.number) == Some(2) {
             assert_eq!(told, fresh, "{old:?} {a} {b} {new_bytes:?} {end}");
             was_enough = true;
         } else {
@@ -99,6 +101,7 @@ fn hold_edit_against_scan(old: &[u8], a: usize, b: usize, new_bytes: &[u8]) {
         }
     }
     assert!(was_enough);
+    assert_eq!(changed(lent, change, &new, usize::MAX), fresh);
 }
 
 #[test]
@@ -111,6 +114,20 @@ fn the_models_edit_is_its_fresh_scan() {
         let b = a + random.below(length - a + 1);
         let count = random.below(4);
         let new_bytes = short::random_text(&mut random, count);
+        hold_edit_against_scan(&old, a, b, &new_bytes);
+    }
+}
+
+#[test]
+fn the_models_edit_is_its_fresh_scan_among_characters() {
+    let mut random = Random::new(6);
+    for _ in 0..20_000 {
+        let length = random.below(6);
+        let old = short::random_text(&mut random, length);
+        let old = valid_with_characters(&mut random, &old);
+        let a = random.below(old.len() + 1);
+        let b = a + random.below(old.len() - a + 1);
+        let new_bytes = new_characters(&mut random);
         hold_edit_against_scan(&old, a, b, &new_bytes);
     }
 }

@@ -2,6 +2,7 @@
 #![cfg(re2c)]
 
 use compare::bench::other::re2c;
+use compare::generate::characters::with_characters;
 use compare::generate::random::Random;
 use compare::generate::{fixed_texts, random_text};
 use spoonharbor::lent;
@@ -24,5 +25,9 @@ fn hold(text: &[u8]) {
 fn the_same_rows() {
     fixed_texts().iter().for_each(|text| hold(text));
     let mut random = Random::new(5);
-    (0..20_000).for_each(|_| hold(&random_text(&mut random)));
+    for _ in 0..20_000 {
+        let text = random_text(&mut random);
+        hold(&text);
+        hold(&with_characters(&mut random, &text));
+    }
 }

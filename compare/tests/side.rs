@@ -14,7 +14,7 @@ fn no_difference(part: impl FnOnce() -> Compared + Send) -> Counts {
 fn scans_are_the_originals() {
     let counts = no_difference(|| scan::run(8_000, 3));
     assert!(counts.get("texts that the original was asked about") > 7_000);
-    for number in [1, 2, 11, 12, 13, 14, 15] {
+    for number in [1, 2, 11, 12, 13, 14, 15, 16, 17] {
         assert!(counts.get(&format!("refused {number}")) > 0, "{number}");
     }
 }
@@ -44,12 +44,29 @@ fn edits_are_fresh_scans() {
             "{number}"
         );
     }
+    for number in [0, 1, 2, 4, 6] {
+        assert!(
+            counts.get(&format!("any change, answered {number}")) > 0,
+            "{number}"
+        );
+    }
+    assert_eq!(counts.get("any change, answered 7"), 0);
+    assert!(counts.get("changes") > 10_000);
 }
 
 #[test]
 fn small_edits_are_fresh_scans() {
     let counts = no_difference(|| edit::run_small(2));
     assert!(counts.get("calls") > 1_000_000);
+}
+
+#[test]
+fn small_edits_of_characters_are_fresh_scans() {
+    let counts = no_difference(|| edit::run_parts(4));
+    assert!(counts.get("calls") > 500_000);
+    assert!(counts.get("fresh scan, by a part of the text") > 10_000);
+    assert!(counts.get("windows that end inside a character") > 10_000);
+    assert!(counts.get("fresh scan, which is 2") > 10_000);
 }
 
 #[test]

@@ -2,9 +2,9 @@
 
 use compare::answer::{answer, Answer};
 use compare::deep::on_deep_stack;
-use compare::edits::{file::edits_file, stored, FILE};
+use compare::edits::{file::edits_file, report::report as edits_report, stored, FILE, REPORT};
 use compare::generate::sample_texts;
-use compare::sample::sample_file;
+use compare::sample::{report, sample_file};
 
 fn read(file: &str) -> Vec<u8> {
     std::fs::read(file).unwrap_or_else(|error| panic!("{file}: {error}"))
@@ -12,8 +12,15 @@ fn read(file: &str) -> Vec<u8> {
 
 #[test]
 fn edits_are_as_written() {
-    let written = on_deep_stack(|| edits_file(&stored()));
+    let (written, counts) = on_deep_stack(|| {
+        let edits = stored();
+        (edits_file(&edits), edits_report(&edits))
+    });
     assert!(written == read(FILE), "write it again with `edits`");
+    assert!(
+        counts.as_bytes() == read(REPORT),
+        "write it again with `edits`"
+    );
 }
 
 #[test]
@@ -27,5 +34,13 @@ fn the_sample_is_as_written() {
         written.as_bytes() == read(here),
         "write it again with `sample 4000 1`"
     );
-    assert!(read(here) == read(replayed), "copy sample.txt there");
+    assert!(
+        read(here) == read(replayed),
+        "write it again with `sample 4000 1`"
+    );
+    let counted = concat!(env!("CARGO_MANIFEST_DIR"), "/../crates/replay_texts/stdout");
+    assert!(
+        report(&answers).as_bytes() == read(counted),
+        "write it again with `sample 4000 1`"
+    );
 }

@@ -41,7 +41,7 @@ fn check(text: Vec<u8>) {
     match ending {
         None => assert_eq!(rows.last().map(|row| row.kind), Some(EOF), "{text:?}"),
         Some(refusal) => {
-            assert!((11..=15).contains(&refusal.number));
+            assert!((11..=17).contains(&refusal.number));
             check_place(text, refusal.place);
             assert!(last_end <= refusal.place.offset, "{text:?}");
             assert!(rows.iter().all(|row| row.kind != EOF), "{text:?}");

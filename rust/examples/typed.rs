@@ -18,11 +18,11 @@ pub fn story() -> Result<String, Refusal> {
     let mut said = told(&document);
 
     let semicolon = text.find("\n    return").expect("the probe has a return");
-    document.replace(semicolon..semicolon, b";")?;
+    document.replace(semicolon..semicolon, ";")?;
     said += &told(&document);
 
     let size = text.find("1 << 10").expect("the map has a size");
-    document.replace(size..size + 7, b"1 << 12")?;
+    document.replace(size..size + 7, "1 << 12")?;
     assert!(document == Document::open(document.text())?);
     said += &told(&document);
     Ok(said)

@@ -1,6 +1,7 @@
 //! What the command does with its arguments.
 
 mod check;
+mod columns;
 mod message;
 mod output;
 mod rows;

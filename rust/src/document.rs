@@ -7,14 +7,10 @@ use crate::tree::Tree;
 use crate::LONGEST_TEXT;
 use std::fmt;
 use std::ops::Range;
+use std::sync::OnceLock;
 
-/// How many bytes behind the new ones the first window of an edit shows.
-const FIRST_WINDOW: usize = 256;
-
-/// How many times longer each further window is.
-const WINDOW_GROWTH: usize = 4;
-
-/// An open text and its rows. The text is ASCII and has at most 65,536 bytes; the rows are always those of a fresh reading.
+/// An open text and its rows. The text is valid UTF-8 and has at most 65,536 bytes; the rows are always those of a fresh reading, and
+/// each of them starts and ends between two characters, which is proved of the library. Offsets and columns count bytes.
 ///
 /// Two documents are equal if their texts, rows and refusals are.
 #[derive(Clone)]
@@ -22,27 +18,31 @@ pub struct Document {
     text: String,
     /// The rows' words, and behind them room that no row has.
     rows: Vec<u32>,
-    /// Where the next edit writes; it then changes places with `rows`.
+    /// Where the next change writes; it then changes places with `rows`.
     spare: Vec<u32>,
     /// What stands beside the rows, in the words in which the library told it.
     table: Words,
+    /// The tree, once it was asked for; a change takes it away.
+    tree: OnceLock<Result<Tree, Refusal>>,
 }
 
 impl Document {
-    /// Reads a text. Refused are a text that is too long (1) and one that is not ASCII (2). A text that scans only up to a
-    /// place is open with its rows up to there, and [`Document::refusal`] tells the rest.
+    /// Reads a text, which may be any bytes. Refused are a text that is too long (1) and one that is not valid UTF-8 (2, at the first
+    /// character that is broken or cut, as [`std::str::Utf8Error::valid_up_to`]). A text that scans only up to a place is open with its
+    /// rows up to there, and [`Document::refusal`] tells the rest.
     pub fn open(text: impl Into<Vec<u8>>) -> Result<Document, Refusal> {
         let text = text.into();
         let mut rows = vec![0; room_for(text.len().min(LONGEST_TEXT))];
         let table = lent::scan(&text, &mut rows);
         taken(&table)?;
-        // The library has taken the text, which is ASCII then.
+        // The library has taken the text, which is valid UTF-8 then.
         let text = String::from_utf8(text).map_err(|_| at_start(Reason::BadByte))?;
         Ok(Document {
             text,
             rows,
             spare: Vec::new(),
             table,
+            tree: OnceLock::new(),
         })
     }
 
@@ -61,21 +61,30 @@ impl Document {
         self.rows().nth(row)
     }
 
-    /// The refusal, 11 to 15, at which the rows end; nothing if the whole text scans.
+    /// The refusal, 11 to 17, at which the rows end; nothing if the whole text scans.
     pub fn refusal(&self) -> Option<Refusal> {
         Refusal::from_words(&self.table)
     }
 
     /// The part of the text that a row spells; empty for Eof. A row that is not there is 3. The rows are the document's own, so
-    /// nothing is tested anew: the answer is that of [`lent::spelling`], in a time that does not grow with the text.
+    /// nothing but the characters at both ends is tested anew: the answer is that of [`lent::spelling`], in a time that does not grow
+    /// with the text.
     pub fn spelling(&self, row: usize) -> Result<&str, Refusal> {
         self.row(row)
             .and_then(|row| self.text.get(row.span()))
             .ok_or(at_start(Reason::NotWellFormed))
     }
 
-    /// The program's tree, or the first refusal: that of the rows (11 to 15), or one of 21 to 32.
-    pub fn tree(&self) -> Result<Tree, Refusal> {
+    /// The program's tree, or the first refusal: that of the rows (11 to 17), or one of 21 to 32. The text is parsed when the tree is
+    /// first asked for, and again only behind a change.
+    pub fn tree(&self) -> Result<&Tree, Refusal> {
+        self.tree
+            .get_or_init(|| self.parsed())
+            .as_ref()
+            .map_err(|refusal| *refusal)
+    }
+
+    fn parsed(&self) -> Result<Tree, Refusal> {
         let mut nodes = vec![0; self.count() * NODE_WORDS];
         let answer = lent::parse(
             self.text.as_bytes(),
@@ -92,56 +101,47 @@ impl Document {
         }
     }
 
-    /// Puts new bytes in the place of the text's bytes in `range`. Refused are a range that is not in the text (6), a
-    /// change after which the text is too long (1), and new bytes that are not ASCII (2, with the place in the new text);
-    /// the document is then as it was.
-    pub fn replace(&mut self, range: Range<usize>, new_bytes: &[u8]) -> Result<(), Refusal> {
-        let change = self.change(&range, new_bytes.len())?;
-        let restart = lent::restart(self.row_words(), &self.table, change.a);
-        if let Some(refusal) = Refusal::from_words(&restart) {
-            return Err(refusal);
-        }
-        let new_length = self.text.len() - range.len() + new_bytes.len();
-        let words = room_for(new_length);
+    /// Puts a new text in the place of the text's bytes in `range`. Refused are a range that is not in the text (6), one that starts or
+    /// ends inside a character ([`Reason::InsideCharacter`], with the place of the first such end), and a change after which the text is
+    /// too long (1), in this order; the document is then as it was. The new text is never refused with 2: an editor that is sent a
+    /// character byte by byte keeps its bytes until they are whole.
+    pub fn replace(&mut self, range: Range<usize>, new: &str) -> Result<(), Refusal> {
+        let (before, behind) = self.kept(&range)?;
+        let change = change(range, self.text.len(), new.len())?;
+        let text = [before, new, behind].concat();
+        let words = room_for(text.len());
         if self.spare.len() < words {
             self.spare.resize(words, 0);
         }
-        let start = restart[lent::OFFSET];
-        let window = Window::new(&self.text, start as usize, range.clone(), new_bytes);
-        let table = edited(
-            Old {
-                rows: written(&self.rows, &self.table),
-                table: &self.table,
-            },
-            change,
-            start,
-            window,
-            &mut self.spare,
-        )?;
-        // The library has seen the new bytes in a window, and they are ASCII then, as the text is.
-        let new_text = std::str::from_utf8(new_bytes).map_err(|_| at_start(Reason::BadByte))?;
-        if self.text.get(range.clone()).is_none() {
-            return Err(at_start(Reason::EditNotSensible));
-        }
-        self.text.replace_range(range, new_text);
+        let rows = written(&self.rows, &self.table);
+        let table = lent::change(rows, &self.table, change, text.as_bytes(), &mut self.spare);
+        taken(&table)?;
+        self.text = text;
         self.table = table;
+        self.tree = OnceLock::new();
         std::mem::swap(&mut self.rows, &mut self.spare);
         Ok(())
     }
 
-    /// The change in the library's numbers, if the range and the new length are sensible.
-    fn change(&self, range: &Range<usize>, new_bytes: usize) -> Result<Change, Refusal> {
+    /// The text before a range and behind it, if the range lies in the text and cuts no character.
+    fn kept(&self, range: &Range<usize>) -> Result<(&str, &str), Refusal> {
         if range.start > range.end || range.end > self.text.len() {
             return Err(at_start(Reason::EditNotSensible));
         }
-        if new_bytes > LONGEST_TEXT || self.text.len() - range.len() + new_bytes > LONGEST_TEXT {
-            return Err(at_start(Reason::TextTooLong));
+        let part = |at: usize| {
+            self.text
+                .split_at_checked(at)
+                .ok_or_else(|| self.inside(at))
+        };
+        Ok((part(range.start)?.0, part(range.end)?.1))
+    }
+
+    /// The refusal of an offset that is inside a character.
+    fn inside(&self, offset: usize) -> Refusal {
+        Refusal {
+            reason: Reason::InsideCharacter,
+            place: Place::before(self.text.as_bytes(), offset),
         }
-        Ok(Change {
-            a: range.start as u32,
-            b: range.end as u32,
-            n: new_bytes as u32,
-        })
     }
 
     fn count(&self) -> usize {
@@ -173,67 +173,16 @@ impl fmt::Debug for Document {
     }
 }
 
-/// The table before an edit.
-struct Old<'a> {
-    rows: &'a [u32],
-    table: &'a Words,
-}
-
-/// The table behind an edit, whose rows then are in `new`; longer windows are shown until one suffices, as one to the text's
-/// end does.
-fn edited(
-    old: Old,
-    change: Change,
-    start: u32,
-    mut window: Window,
-    new: &mut [u32],
-) -> Result<Words, Refusal> {
-    loop {
-        let answer = lent::edit(old.rows, old.table, change, start, &window.bytes, new);
-        match taken(&answer) {
-            Err(refusal) if refusal.reason == Reason::WindowShort && window.grow() => {}
-            Err(refusal) => return Err(refusal),
-            Ok(()) => return Ok(answer),
-        }
+/// A change of a text of so many bytes in the library's numbers, if the new text is not too long.
+fn change(range: Range<usize>, length: usize, new_bytes: usize) -> Result<Change, Refusal> {
+    if new_bytes > LONGEST_TEXT || length - range.len() + new_bytes > LONGEST_TEXT {
+        return Err(at_start(Reason::TextTooLong));
     }
-}
-
-/// A part of the new text, which need not be there as a whole: it starts at the restart place, and goes some way behind the
-/// new bytes.
-struct Window<'a> {
-    bytes: Vec<u8>,
-    /// The old text's bytes behind what the window shows.
-    rest: &'a [u8],
-    /// How many of them the window showed last behind the new ones.
-    shown: usize,
-}
-
-impl<'a> Window<'a> {
-    fn new(old: &'a str, start: usize, range: Range<usize>, new_bytes: &[u8]) -> Window<'a> {
-        let old = old.as_bytes();
-        let mut window = Window {
-            bytes: [old.get(start..range.start).unwrap_or_default(), new_bytes].concat(),
-            rest: old.get(range.end..).unwrap_or_default(),
-            shown: 0,
-        };
-        window.show(FIRST_WINDOW);
-        window
-    }
-
-    fn show(&mut self, count: usize) {
-        let count = count.min(self.rest.len());
-        let (more, rest) = self.rest.split_at(count);
-        self.bytes.extend_from_slice(more);
-        self.rest = rest;
-        self.shown += count;
-    }
-
-    /// Makes the window longer; false if it ends the text already.
-    fn grow(&mut self) -> bool {
-        let goes_on = !self.rest.is_empty();
-        self.show(self.shown * (WINDOW_GROWTH - 1));
-        goes_on
-    }
+    Ok(Change {
+        a: range.start as u32,
+        b: range.end as u32,
+        n: new_bytes as u32,
+    })
 }
 
 /// The words of the rows that a table has.
@@ -247,7 +196,7 @@ fn room_for(length: usize) -> usize {
     (length + 1) * ROW_WORDS
 }
 
-/// Whether an answer of a scan or an edit is a table, which may end in a refusal from 11 on.
+/// Whether an answer of a scan or a change is a table, which may end in a refusal from 11 on.
 fn taken(answer: &Words) -> Result<(), Refusal> {
     match Refusal::from_words(answer) {
         Some(refusal) if refusal.number() < 11 => Err(refusal),

@@ -36,6 +36,20 @@ extern "C" {
         answer: *mut Words,
     );
 
+    pub fn spoonharbor_change(
+        old_rows: *const u32,
+        old_words: usize,
+        table: *const Words,
+        a: u32,
+        b: u32,
+        n: u32,
+        text: *const u8,
+        text_length: usize,
+        new_rows: *mut u32,
+        new_words: usize,
+        answer: *mut Words,
+    );
+
     pub fn spoonharbor_edit(
         old_rows: *const u32,
         old_words: usize,

@@ -1,7 +1,7 @@
 //! The library's calls over lent slices, as they are: every answer is eight words in the layout below.
 //!
 //! Every call answers for every argument, so nothing here can go wrong but what the answer says. Lengths travel with the
-//! slices; a table is lent in the words in which [`scan`] or [`edit`] told it.
+//! slices; a table is lent in the words in which [`scan`], [`change`] or [`edit`] told it.
 
 use crate::ffi;
 
@@ -14,7 +14,7 @@ pub const NUMBER: usize = 0;
 pub const OFFSET: usize = 1;
 /// The line of the refusal's place.
 pub const LINE: usize = 2;
-/// The column of the refusal's place.
+/// The column of the refusal's place, which counts bytes.
 pub const COLUMN: usize = 3;
 /// The wanted kind of 21, the field of 29, a spelling's start, or the number that was asked for.
 pub const FIRST: usize = 4;
@@ -22,7 +22,7 @@ pub const FIRST: usize = 4;
 pub const SECOND: usize = 5;
 /// How many rows or nodes were written.
 pub const COUNT: usize = 6;
-/// The text's length; 0 where a scan or an edit is refused below 11.
+/// The text's length; 0 where a scan, a change or an edit is refused below 11.
 pub const LENGTH: usize = 7;
 
 /// The words of a row: kind, start, end, line, column, value low, value high, zero.
@@ -47,8 +47,8 @@ pub fn version() -> u32 {
     unsafe { ffi::spoonharbor_version() }
 }
 
-/// Scans a text into rows. Number 0 or 11 to 15: a table of so many rows, which ends so. 4: as many rows as there is room
-/// for are written. 1, 2: the rows are untouched.
+/// Scans a text into rows. Number 0 or 11 to 17: a table of so many rows, which ends so. 4: as many rows as there is room
+/// for are written. 1, and 2 where the bytes are not valid UTF-8: the rows are untouched.
 pub fn scan(text: &[u8], rows: &mut [u32]) -> Words {
     let mut answer = [0; 8];
     // SAFETY: `text` is lent for reading and `rows` and `answer` for writing, with their own lengths.
@@ -70,7 +70,9 @@ pub fn well_formed(rows: &[u32], table: &Words) -> bool {
     unsafe { ffi::spoonharbor_well_formed(rows.as_ptr(), rows.len(), table) == 1 }
 }
 
-/// The part of the text that a row spells, from the word at [`FIRST`] to that at [`SECOND`]. Refusals 1, 2, 3.
+/// The part of the text that a row spells, from the word at [`FIRST`] to that at [`SECOND`]. Refusals 1, 2, 3. Rows of a scanned
+/// text start and end between characters. A table that no text has may be well formed and have a row that cuts one, so the part is bytes:
+/// whoever wants a `str` tests it.
 pub fn spelling(text: &[u8], rows: &[u32], table: &Words, row: u32) -> Words {
     let mut answer = [0; 8];
     // SAFETY: `text` and `rows`, with their own lengths, and `table` are lent for reading, `answer` for writing.
@@ -107,7 +109,7 @@ pub fn parse(text: &[u8], rows: &[u32], table: &Words, nodes: &mut [u32]) -> Wor
     answer
 }
 
-/// What an edit did: old bytes `a` to `b` (`b` not included) became `n` new ones.
+/// What became of a text: old bytes `a` to `b` (`b` not included) became `n` new ones.
 #[derive(Debug, Clone, Copy, PartialEq, Eq)]
 pub struct Change {
     pub a: u32,
@@ -115,8 +117,32 @@ pub struct Change {
     pub n: u32,
 }
 
-/// Writes the new table behind a change. The window is a part of the new text that starts at the restart place, whose offset
-/// is `start`. 7: show a longer window.
+/// Writes the new table behind a change, by all of the new text: that of a fresh scan. It is never 7, and 6 also where the text
+/// is not as long as the change makes it.
+pub fn change(old: &[u32], table: &Words, change: Change, text: &[u8], new: &mut [u32]) -> Words {
+    let mut answer = [0; 8];
+    // SAFETY: `old`, `table` and `text` are lent for reading, `new` and `answer` for writing, with their own lengths.
+    unsafe {
+        ffi::spoonharbor_change(
+            old.as_ptr(),
+            old.len(),
+            table,
+            change.a,
+            change.b,
+            change.n,
+            text.as_ptr(),
+            text.len(),
+            new.as_mut_ptr(),
+            new.len(),
+            &mut answer,
+        );
+    }
+    answer
+}
+
+/// The same by a part of the new text, for whoever does not hold all of it. The window is a part that starts at the restart
+/// place, whose offset is `start`. 7: show a longer window; it must show four bytes behind the new ones, or the text's end, before anything
+/// else of it is judged. Its end may cut a character.
 pub fn edit(
     old: &[u32],
     table: &Words,

@@ -1,20 +1,24 @@
 //! Spoonharbor for Rust: scanner, parser and edit call for Solnix probes.
 //!
-//! A [`Document`] holds a text and its rows. [`Document::replace`] changes bytes and patches the rows; the rows are then those
+//! A [`Document`] holds a text and its rows. [`Document::replace`] changes a part and patches the rows; the rows are then those
 //! that a fresh reading gives, which is proved of the library below. [`Document::tree`] parses.
+//!
+//! A text is valid UTF-8, and characters outside of ASCII stand in comments and strings. Offsets and columns count bytes; where a
+//! [`Row`] of a document starts and ends there are characters' edges, so a document spells it as `&str`.
 //!
 //! ```
 //! use spoonharbor::{Document, Kind};
 //!
 //! let mut document = Document::open("unit u{ x = 1; }")?;
-//! document.replace(8..9, b"counter")?;
+//! document.replace(8..9, "counter")?;
 //! assert_eq!(document.text(), "unit u{ counter = 1; }");
 //! assert_eq!(document.rows().nth(3).unwrap().kind, Kind::Identifier);
 //! assert_eq!(document.tree()?.len(), 5);
 //! # Ok::<(), spoonharbor::Refusal>(())
 //! ```
 //!
-//! [`lent`] has the library's calls themselves, over slices, for those who keep their own memory.
+//! [`lent`] has the library's calls themselves, over slices, for those who keep their own memory: a table there may be anyone's, so what
+//! its rows spell are bytes.
 
 mod document;
 mod ffi;

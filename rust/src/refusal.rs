@@ -28,7 +28,7 @@ pub enum MapField {
 pub enum Reason {
     /// 1: over 65,536 bytes.
     TextTooLong,
-    /// 2: a byte of 128 or more.
+    /// 2: not valid UTF-8; the place is where the first character starts that is broken or cut by the text's end.
     BadByte,
     /// 3: a table, a row or a set number that is not well formed.
     NotWellFormed,
@@ -38,9 +38,11 @@ pub enum Reason {
     NoNodeRoom,
     /// 6: an edit that is not sensible.
     EditNotSensible,
+    /// 6 as well, but told by [`crate::Document::replace`] alone: a range that starts or ends inside a character, at this place.
+    InsideCharacter,
     /// 7: the window is short.
     WindowShort,
-    /// 11: a byte that begins no row, a lone `<` or `>`, or no hex digit behind `0x`.
+    /// 11: a byte that begins no row, also one of 128 or more.
     NoRowBegins,
     /// 12: a comment that is not closed.
     OpenComment,
@@ -50,6 +52,10 @@ pub enum Reason {
     BadEscape,
     /// 15: digits over 2^63 - 1.
     NumberTooLarge,
+    /// 16: a lone `<` or `>`.
+    LoneSign,
+    /// 17: `0x` without a hex digit; the place is behind the `x`.
+    NoHexDigit,
     /// 21: another kind was wanted.
     #[non_exhaustive]
     Wanted { wanted: Kind, found: Kind },
@@ -118,13 +124,15 @@ impl Reason {
             Reason::NotWellFormed => 3,
             Reason::NoRowRoom => 4,
             Reason::NoNodeRoom => 5,
-            Reason::EditNotSensible => 6,
+            Reason::EditNotSensible | Reason::InsideCharacter => 6,
             Reason::WindowShort => 7,
             Reason::NoRowBegins => 11,
             Reason::OpenComment => 12,
             Reason::OpenString => 13,
             Reason::BadEscape => 14,
             Reason::NumberTooLarge => 15,
+            Reason::LoneSign => 16,
+            Reason::NoHexDigit => 17,
             Reason::Wanted { .. } => 21,
             Reason::NotTopLevel => 22,
             Reason::NotMapField => 23,
@@ -156,6 +164,8 @@ impl Reason {
             13 => Reason::OpenString,
             14 => Reason::BadEscape,
             15 => Reason::NumberTooLarge,
+            16 => Reason::LoneSign,
+            17 => Reason::NoHexDigit,
             21 => Reason::Wanted {
                 wanted: Kind::read(words[lent::FIRST]),
                 found: Kind::read(words[lent::SECOND]),
@@ -200,6 +210,18 @@ impl Place {
         column: 1,
     };
 
+    /// The place before the byte at `offset`: lines end with a newline, and columns count bytes.
+    pub(crate) fn before(text: &[u8], offset: usize) -> Place {
+        let before = text.get(..offset).unwrap_or(text);
+        let mut lines = before.rsplit(|&byte| byte == b'\n');
+        let column = lines.next().map_or(1, |line| line.len() + 1);
+        Place {
+            offset: before.len(),
+            line: lines.count() + 1,
+            column,
+        }
+    }
+
     pub(crate) fn from_words(words: &Words) -> Place {
         Place {
             offset: words[lent::OFFSET] as usize,
@@ -214,11 +236,12 @@ impl fmt::Display for Reason {
     fn fmt(&self, out: &mut fmt::Formatter<'_>) -> fmt::Result {
         match self {
             Reason::TextTooLong => out.write_str("the text is longer than 65,536 bytes"),
-            Reason::BadByte => out.write_str("a byte of 128 or more: texts are ASCII"),
+            Reason::BadByte => out.write_str("no UTF-8 character begins here"),
             Reason::NotWellFormed => out.write_str("not well formed"),
             Reason::NoRowRoom => out.write_str("more rows than there is room for"),
             Reason::NoNodeRoom => out.write_str("less room for nodes than rows"),
             Reason::EditNotSensible => out.write_str("the edit does not fit the text"),
+            Reason::InsideCharacter => out.write_str("the edit starts or ends inside a character"),
             Reason::WindowShort => out.write_str("the window shows too little of the text"),
             Reason::NoRowBegins => out.write_str("nothing can begin here"),
             Reason::OpenComment => out.write_str("this comment is not closed: expected '*/'"),
@@ -229,6 +252,10 @@ impl fmt::Display for Reason {
             Reason::NumberTooLarge => {
                 out.write_str("number too large: the most is 9223372036854775807")
             }
+            Reason::LoneSign => {
+                out.write_str("a lone '<' or '>': Solnix has no comparisons, and shifts are '<<' and '>>'")
+            }
+            Reason::NoHexDigit => out.write_str("expected a hex digit behind '0x'"),
             Reason::Wanted { wanted, found } => write!(out, "expected {wanted}, found {found}"),
             Reason::NotTopLevel => out.write_str("expected 'map', 'event' or 'unit'"),
             Reason::NotMapField => out.write_str("expected 'type', 'key', 'value', 'max' or '}'"),
@@ -270,7 +297,7 @@ mod tests {
 
     #[test]
     fn every_number_is_read_back() {
-        let numbers = (1..=7).chain(11..=15).chain(21..=32);
+        let numbers = (1..=7).chain(11..=17).chain(21..=32);
         for number in numbers {
             let words = [number, 4, 2, 3, 1, 2, 0, 0];
             let refusal = Refusal::from_words(&words).unwrap();
@@ -286,6 +313,28 @@ mod tests {
             assert!(refusal.to_string().starts_with("2:3: "));
         }
         assert_eq!(Refusal::from_words(&[0, 9, 9, 9, 9, 9, 9, 9]), None);
+    }
+
+    #[test]
+    fn places_count_bytes() {
+        let places = [
+            (0, 1, 1),
+            (1, 1, 2),
+            (2, 1, 3),
+            (3, 2, 1),
+            (5, 2, 3),
+            (6, 3, 1),
+        ];
+        for (offset, line, column) in places {
+            let wanted = Place {
+                offset,
+                line,
+                column,
+            };
+            assert_eq!(Place::before("°\n°\n".as_bytes(), offset), wanted);
+        }
+        assert_eq!(Place::before(b"", 0), Place::START);
+        assert_eq!(Place::before(b"", 9), Place::START);
     }
 
     #[test]

@@ -7,7 +7,8 @@ use std::iter::FusedIterator;
 use std::ops::Range;
 use std::slice;
 
-/// A row: what stands where. The value is 0 unless the kind is Number. A later version may tell more of it.
+/// A row: what stands where. Start, end and column count bytes. The value is 0 unless the kind is Number. A later version may tell more
+/// of it.
 #[derive(Debug, Clone, Copy, PartialEq, Eq, Hash)]
 #[non_exhaustive]
 pub struct Row {

@@ -41,14 +41,67 @@ fn a_line_is_shown_without_its_carriage_return() {
     assert_eq!(ran.status, 1);
 }
 
+/// The caret stands below the character, whatever stands before it: columns count bytes, and the caret's line what is seen.
+#[test]
+fn the_caret_stands_below_the_character() {
+    let cases = [
+        ("/* 5° */ @", "1:11", "@", "/* 5° */ @", "         ^"),
+        (
+            "\t/* αβ */\t@",
+            "1:13",
+            "@",
+            "\t/* αβ */\t@",
+            "\t        \t^",
+        ),
+        ("\"角度\" @", "1:10", "@", "\"角度\" @", "       ^"),
+        ("\"🔭\";@", "1:8", "@", "\"🔭\";@", "     ^"),
+        ("\"e\u{301}\" @", "1:7", "@", "\"e\u{301}\" @", "    ^"),
+        ("unit ° u{}", "1:6", "°", "unit ° u{}", "     ^"),
+        ("/*角*/ 角", "1:9", "角", "/*角*/ 角", "       ^"),
+        ("a\u{a0}b", "1:2", "\\u{a0}", "a\u{a0}b", " ^"),
+        ("a\u{301}b", "1:2", "\\u{301}", "a\u{301}b", "^"),
+    ];
+    let folder = Folder::new("characters");
+    for (text, place, named, shown, caret) in cases {
+        folder.file("t", text);
+        let ran = folder.run(&["check", "t"]);
+        let wanted =
+            format!("t:{place}: nothing begins with '{named}'\n    {shown}\n    {caret}\n");
+        assert_eq!((ran.out, ran.status), (wanted, 1), "{text:?}");
+    }
+    folder.file("t", "\u{feff}unit u{}");
+    let ran = folder.run(&["check", "t"]);
+    assert_eq!(
+        ran.out,
+        "t:1:1: nothing begins with a byte order mark: save the text without it\n    ?unit u{}\n    ^\n"
+    );
+    folder.file("t", "unit u{ // 0.1°\n section \"Ω\" x }");
+    let ran = folder.run(&["check", "t"]);
+    assert_eq!(
+        ran.out,
+        "t:2:15: expected ';', found identifier\n     section \"Ω\" x }\n                 ^\n"
+    );
+}
+
+#[test]
+fn characters_are_printed() {
+    let folder = Folder::new("printed");
+    folder.file("t", "unit u{ // 0.1°\n section \"Ω \u{202e}角\"; }");
+    let ran = folder.run(&["rows", "t"]);
+    assert!(ran.out.contains("string \"Ω ?角\"\n"), "{}", ran.out);
+    let ran = folder.run(&["tree", "t"]);
+    assert!(ran.out.contains("section \"Ω ?角\"  2:10\n"), "{}", ran.out);
+    assert_eq!(folder.run(&["check", "t"]).status, 0);
+}
+
 #[test]
 fn each_refusal_has_its_words() {
     let deep = format!("unit u{{{}1;}}", "(".repeat(65));
     let cases: [(&str, &str); 24] = [
         ("@", "1:1: nothing begins with '@'"),
         ("a \u{1}", "1:3: nothing begins with '\\x01'"),
-        ("a<b", "1:2: '<' stands alone: expected '<<'"),
-        ("a > b", "1:3: '>' stands alone: expected '>>'"),
+        ("a<b", "1:2: a lone '<': Solnix has no comparisons, and a shift is '<<'"),
+        ("a >= b", "1:3: a lone '>': Solnix has no comparisons, and a shift is '>>'"),
         ("-0xg", "1:4: expected a hex digit behind '0x'"),
         ("0x", "1:3: expected a hex digit behind '0x'"),
         ("a0x@", "1:4: nothing begins with '@'"),
@@ -128,7 +181,7 @@ fn texts_that_are_no_texts_are_refused() {
     let folder = Folder::new("texts");
     folder.file("long", vec![b'\n'; 65_537]);
     folder.file("longest", vec![b'\n'; 65_536]);
-    folder.file("degrees", "unit u{} // 5\u{b0}\n");
+    folder.file("degrees", b"unit u{} // \xc2\xb0 5\xb0\n");
     folder.file("bytes", (0..=255u8).rev().collect::<Vec<u8>>());
     folder.file("empty", "");
     for verb in ["check", "rows", "tree"] {
@@ -138,11 +191,14 @@ fn texts_that_are_no_texts_are_refused() {
         let ran = folder.run(&[verb, "degrees"]);
         assert_eq!(
             ran.out,
-            "degrees:1:14: byte 194 is not ASCII\n    unit u{} // 5??\n                 ^\n"
+            "degrees:1:17: byte 176 begins no UTF-8 character here: save the text as UTF-8\n    \
+             unit u{} // ° 5?\n                   ^\n"
         );
         assert_eq!(ran.status, 1);
         let ran = folder.run(&[verb, "bytes"]);
-        assert!(ran.out.starts_with("bytes:1:1: byte 255 is not ASCII\n"));
+        assert!(ran
+            .out
+            .starts_with("bytes:1:1: byte 255 begins no UTF-8 character"));
         assert_eq!(ran.status, 1);
         assert_eq!(folder.run(&[verb, "longest"]).status, 0);
         assert_eq!(folder.run(&[verb, "/dev/zero"]).status, 1);

@@ -60,6 +60,17 @@ fn an_empty_text_is_a_program() {
 }
 
 #[test]
+fn a_tree_is_of_the_text_as_it_is() {
+    let mut document = open("unit u{}");
+    let before = document.tree().unwrap() as *const _;
+    assert_eq!(document.tree().unwrap() as *const _, before);
+    document.replace(7..8, "").unwrap();
+    assert_eq!(document.tree().unwrap_err().number(), 21);
+    document.replace(7..7, "a;}").unwrap();
+    assert_eq!(document.tree(), Ok(open("unit u{a;}").tree().unwrap()));
+}
+
+#[test]
 fn a_scan_that_is_refused_has_rows_up_to_there() {
     let document = open("a\n @b");
     assert_eq!(document.rows().len(), 1);
@@ -88,10 +99,117 @@ fn texts_that_are_no_texts_are_refused() {
     assert_eq!((refusal.number(), refusal.place), (1, place(0, 1, 1)));
     let refusal = Document::open(vec![0xff; 1 << 20]).unwrap_err();
     assert_eq!(refusal.reason, Reason::TextTooLong);
-    let refusal = Document::open("a\n b\u{b0}").unwrap_err();
-    assert_eq!((refusal.number(), refusal.place), (2, place(4, 2, 3)));
-    let refusal = Document::open(vec![128]).unwrap_err();
+    let refusal = Document::open(b"/*\xc2\xb0*/\n b\xb0".as_slice()).unwrap_err();
+    assert_eq!((refusal.number(), refusal.place), (2, place(9, 2, 3)));
     assert_eq!(refusal.reason, Reason::BadByte);
+}
+
+/// 2 stands where Rust's own test of UTF-8 has the end of the valid part.
+#[test]
+fn broken_characters_are_refused_where_they_start() {
+    let broken: [&[u8]; 14] = [
+        b"\x80",
+        b"\xff",
+        b"\"\xc3",
+        b"\xc3\"",
+        b"\xe1\x80a",
+        b"// \xb0",
+        b"@\xff",
+        b"/*\xc2\xb0*/ \xc0\x80",
+        b"\xe0\x80\x80",
+        b"\xed\xa0\x80",
+        b"\xf0\x8f\xbf\xbf",
+        b"\xf4\x90\x80\x80",
+        b"\xf5\x80\x80\x80",
+        b"a\n\xf0\x9f\x98",
+    ];
+    for text in broken {
+        let refusal = Document::open(text).unwrap_err();
+        let wanted = std::str::from_utf8(text).unwrap_err().valid_up_to();
+        assert_eq!(refusal.reason, Reason::BadByte, "{text:?}");
+        assert_eq!(refusal.place.offset, wanted, "{text:?}");
+    }
+}
+
+const STARS: &str = "unit α/* 角 */u{ // 0.1°\n\tsection \"🔭 \\\"Ω\\\"\"; }";
+
+/// Characters stand in comments and strings; elsewhere they begin nothing. Columns count bytes.
+#[test]
+fn characters_stand_in_comments_and_strings() {
+    let text = STARS.replace('α', "");
+    let document = open(&text);
+    assert_eq!(document.refusal(), None);
+    let spelt: Vec<&str> = (0..8).map(|row| document.spelling(row).unwrap()).collect();
+    let string = "\"🔭 \\\"Ω\\\"\"";
+    assert_eq!(spelt, ["unit", "u", "{", "section", string, ";", "}", ""]);
+    assert_eq!(document.row(1).unwrap().place(), place(14, 1, 15));
+    assert_eq!(document.row(5).unwrap().column, 10 + string.len());
+    assert!(document.tree().is_ok());
+    let outside = [
+        ("é", 0),
+        ("aé", 1),
+        ("1é", 1),
+        ("/*°*/@", 6),
+        ("\u{feff}", 0),
+        ("a\u{a0}b", 1),
+        ("// \u{2028}°\n°", 9),
+        (STARS, 5),
+    ];
+    for (text, offset) in outside {
+        let refusal = open(text).refusal().unwrap();
+        assert_eq!(refusal.reason, Reason::NoRowBegins, "{text}");
+        assert_eq!(refusal.place.offset, offset, "{text}");
+    }
+    let bare = open("0xé").refusal().unwrap();
+    assert_eq!((bare.number(), bare.place.offset), (17, 2));
+    let escape = open("\"\\é\"").refusal().unwrap();
+    assert_eq!((escape.number(), escape.place.offset), (14, 1));
+}
+
+#[test]
+fn characters_are_typed() {
+    let mut document = open("unit u{}");
+    document.replace(8..8, "// 0.1°").unwrap();
+    assert_eq!(document, open("unit u{}// 0.1°"));
+    document.replace(14..16, "😀").unwrap();
+    assert_eq!(document, open("unit u{}// 0.1😀"));
+    document.replace(8..10, "").unwrap();
+    assert_eq!(document, open("unit u{} 0.1😀"));
+    assert_eq!(document.refusal().unwrap().place.offset, 12);
+    document.replace(9..16, "\"角\"").unwrap();
+    assert_eq!(document.spelling(4), Ok("\"角\""));
+    assert_eq!(document, open("unit u{} \"角\""));
+}
+
+/// A range that starts or ends inside a character is refused at its first such end, and nothing changes; also where the bytes that are
+/// left would be another character.
+#[test]
+fn a_range_inside_a_character_is_refused() {
+    let mut document = open("/*éê\n 😀*/");
+    let before = document.clone();
+    let ranges = [
+        (3..4, place(3, 1, 4)),
+        (2..3, place(3, 1, 4)),
+        (3..5, place(3, 1, 4)),
+        (3..3, place(3, 1, 4)),
+        (6..9, place(9, 2, 3)),
+        (9..12, place(9, 2, 3)),
+        (0..11, place(11, 2, 5)),
+    ];
+    for (range, at) in ranges {
+        for new in ["", "x", "°"] {
+            let refusal = document.replace(range.clone(), new).unwrap_err();
+            assert_eq!(refusal.reason, Reason::InsideCharacter);
+            assert_eq!((refusal.number(), refusal.place), (6, at), "{range:?}");
+            assert_eq!(document, before);
+        }
+    }
+    let long = " ".repeat(LONGEST_TEXT);
+    let refusal = document.replace(3..4, &long).unwrap_err();
+    assert_eq!(refusal.reason, Reason::InsideCharacter);
+    let refusal = document.replace(3..99, "").unwrap_err();
+    assert_eq!(refusal.reason, Reason::EditNotSensible);
+    assert_eq!(document, before);
 }
 
 #[test]
@@ -194,17 +312,17 @@ fn a_parse_that_is_refused_says_what_was_wanted() {
 #[test]
 fn a_replacement_is_a_fresh_reading() {
     let mut document = open(LISTER_TEXT);
-    document.replace(13..14, b"12").unwrap();
+    document.replace(13..14, "12").unwrap();
     assert_eq!(document, open("unit u{\n x+=-12;\n}\n"));
-    document.replace(0..0, b"/*").unwrap();
+    document.replace(0..0, "/*").unwrap();
     assert_eq!(document.refusal().unwrap().reason, Reason::OpenComment);
     assert_eq!(document, open("/*unit u{\n x+=-12;\n}\n"));
     let end = document.text().len();
-    document.replace(end..end, b"*/ map").unwrap();
+    document.replace(end..end, "*/ map").unwrap();
     assert_eq!(document.rows().len(), 2);
-    document.replace(0..document.text().len(), b"").unwrap();
+    document.replace(0..document.text().len(), "").unwrap();
     assert_eq!(document, open(""));
-    document.replace(0..0, b"").unwrap();
+    document.replace(0..0, "").unwrap();
     assert_eq!(document, open(""));
 }
 
@@ -214,37 +332,36 @@ fn a_refused_replacement_changes_nothing() {
     let before = document.clone();
     let backwards = std::ops::Range { start: 5, end: 4 };
     for range in [backwards, 8..9, 9..9, usize::MAX - 1..usize::MAX] {
-        let refusal = document.replace(range, b"x").unwrap_err();
+        let refusal = document.replace(range, "x").unwrap_err();
         assert_eq!(refusal.number(), 6);
         assert_eq!(document, before);
     }
+    let blanks = " ".repeat(1 << 20);
     let refusal = document
-        .replace(8..8, &[b' '; LONGEST_TEXT - 7])
+        .replace(8..8, &blanks[..LONGEST_TEXT - 7])
         .unwrap_err();
     assert_eq!((refusal.number(), refusal.place), (1, place(0, 1, 1)));
     assert_eq!(document, before);
-    let refusal = document.replace(0..8, &vec![b' '; 1 << 20]).unwrap_err();
+    let refusal = document.replace(0..8, &blanks).unwrap_err();
     assert_eq!(refusal.number(), 1);
-    let refusal = document.replace(4..4, "\n\u{b0}".as_bytes()).unwrap_err();
-    assert_eq!((refusal.number(), refusal.place), (2, place(5, 2, 1)));
     assert_eq!(document, before);
-    document.replace(8..8, &[b' '; LONGEST_TEXT - 8]).unwrap();
+    document.replace(8..8, &blanks[..LONGEST_TEXT - 8]).unwrap();
     assert_eq!(document.text().len(), LONGEST_TEXT);
     assert_eq!(document, Document::open(document.text()).unwrap());
 }
 
-/// An edit whose end is far behind every first window.
+/// A change whose end is far behind the new bytes.
 #[test]
-fn windows_grow_as_far_as_needed() {
+fn changes_reach_as_far_as_needed() {
     let mut text = "a /* b */ ".to_string();
     text.push_str(&"c ".repeat(20_000));
     text.push_str("*/ d");
     let mut document = open(&text);
-    document.replace(7..9, b"").unwrap();
+    document.replace(7..9, "").unwrap();
     text.replace_range(7..9, "");
     assert_eq!(document, open(&text));
     assert_eq!(document.rows().len(), 3);
-    document.replace(2..4, b"\"").unwrap();
+    document.replace(2..4, "\"").unwrap();
     text.replace_range(2..4, "\"");
     assert_eq!(document, open(&text));
     assert_eq!(document.refusal().unwrap().reason, Reason::OpenString);

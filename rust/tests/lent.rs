@@ -39,6 +39,10 @@ fn a_scan_that_is_refused_at_once_leaves_the_rows_alone() {
     let mut rows = vec![CANARY; 800];
     assert_eq!(lent::scan(&[b'a'; 65_537], &mut rows), refused(1));
     assert_eq!(lent::scan(b"\n\x80", &mut rows), [2, 1, 2, 1, 0, 0, 0, 0]);
+    assert_eq!(
+        lent::scan(b"\"\xe1\x80a", &mut rows),
+        [2, 1, 1, 2, 0, 0, 0, 0]
+    );
     assert!(rows.iter().all(|word| *word == CANARY));
     assert_eq!(lent::scan(b"", &mut []), refused(4));
     assert_eq!(lent::scan(b"@", &mut []), [11, 0, 1, 1, 0, 0, 0, 1]);
@@ -63,6 +67,8 @@ fn tables_are_judged() {
         assert_eq!(lent::parse(TEXT, &rows, &table, &mut memory), refused(3));
         let change = Change { a: 0, b: 0, n: 0 };
         let answer = lent::edit(&rows, &table, change, 0, TEXT, &mut memory);
+        assert_eq!(answer, refused(3));
+        let answer = lent::change(&rows, &table, change, TEXT, &mut memory);
         assert_eq!(answer, refused(3));
         assert!(memory.iter().all(|word| *word == CANARY));
     }
@@ -96,6 +102,20 @@ fn spellings_are_parts_of_the_text() {
         lent::spelling(b"a\x80", &rows, &table, 0),
         [2, 1, 1, 2, 0, 0, 0, 0]
     );
+}
+
+/// A table that no text has may be well formed and cut a character: what its row spells are bytes.
+#[test]
+fn anyones_rows_may_cut_a_character() {
+    let text = "\"é\"".as_bytes();
+    let rows = [[48, 0, 2, 1, 1, 0, 0, 0], [52, 4, 4, 1, 5, 0, 0, 0]].concat();
+    let table = [0, 0, 0, 0, 0, 0, 2, 4];
+    assert!(lent::well_formed(&rows, &table));
+    let told = lent::spelling(text, &rows, &table, 0);
+    assert_eq!(told, [0, 0, 0, 0, 0, 2, 0, 0]);
+    let part = &text[told[lent::FIRST] as usize..told[lent::SECOND] as usize];
+    assert_eq!(part, b"\"\xc3");
+    assert!(std::str::from_utf8(part).is_err());
 }
 
 #[test]
@@ -136,10 +156,12 @@ fn an_edit_answers_as_document_01_says() {
         (answer, memory.clone())
     };
     let untouched = vec![CANARY; 80];
-    assert_eq!(
-        answer_to(12, &new[12..15], 80),
-        (refused(7), untouched.clone())
-    );
+    for end in 15..19 {
+        assert_eq!(
+            answer_to(12, &new[12..end], 80),
+            (refused(7), untouched.clone())
+        );
+    }
     assert_eq!(
         answer_to(11, &new[11..16], 80),
         (refused(6), untouched.clone())
@@ -150,17 +172,117 @@ fn an_edit_answers_as_document_01_says() {
     );
     assert_eq!(
         answer_to(12, b"-1\xff", 80),
+        (refused(7), untouched.clone())
+    );
+    assert_eq!(
+        answer_to(12, b"-1\xff;\n}\n", 80),
         ([2, 14, 2, 7, 0, 0, 0, 0], untouched)
     );
-    let (answer, written) = answer_to(12, &new[12..16], 80);
+    let (answer, written) = answer_to(12, &new[12..19], 80);
     let (fresh_rows, fresh) = scanned(new);
     assert_eq!(answer, fresh);
     assert_eq!(written[..72], fresh_rows[..72]);
     assert!(written[72..].iter().all(|word| *word == CANARY));
-    let (answer, written) = answer_to(12, &new[12..16], 40);
+    let (answer, written) = answer_to(12, &new[12..19], 40);
     assert_eq!(answer, [4, 0, 1, 1, 0, 0, 5, 0]);
     assert_eq!(written[..40], fresh_rows[..40]);
     assert!(written[40..].iter().all(|word| *word == CANARY));
+}
+
+/// What an edit answers to a window of so many bytes, from the text's start on, with room for all rows.
+fn edited(old: &[u8], change: Change, window: &[u8]) -> Words {
+    let (rows, table) = scanned(old);
+    lent::edit(&rows, &table, change, 0, window, &mut [CANARY; 80])
+}
+
+/// 7 of the four bytes comes before 2, the other 7 behind it; a character that the window's end cuts is not held against it.
+#[test]
+fn windows_are_judged_when_they_show_four_bytes_behind_the_new_ones() {
+    let inserted = |n| Change { a: 0, b: 0, n };
+    let seven = refused(7);
+    assert_eq!(edited(b"\"", inserted(1), b"\x80"), seven);
+    let replaced = Change { a: 0, b: 1, n: 1 };
+    let two = [2, 1, 1, 2, 0, 0, 0, 0];
+    assert_eq!(
+        edited("é😀".as_bytes(), replaced, b"\"\xa9\xf0\x9f\x98"),
+        two
+    );
+    assert_eq!(edited("😀".as_bytes(), inserted(0), b"\xf0\x9f\x98"), seven);
+    assert_eq!(edited("€".as_bytes(), inserted(2), b"*/\xe2\x82"), seven);
+    assert_eq!(edited(b"\"\"", inserted(0), b"\""), seven);
+    assert_eq!(edited(b"", inserted(0), b""), [0, 0, 0, 0, 0, 0, 1, 0]);
+    assert_eq!(
+        edited("\"😀".as_bytes(), inserted(0), b"\"\xf0\x9f\x98"),
+        seven
+    );
+    assert_eq!(edited(b"", inserted(1), b"\xc3"), [2, 0, 1, 1, 0, 0, 0, 0]);
+    assert_eq!(
+        edited(b"\"", inserted(1), b"\xc3\""),
+        [2, 0, 1, 1, 0, 0, 0, 0]
+    );
+    let eleven = [11, 1, 2, 1, 0, 0, 0, 5];
+    assert_eq!(
+        edited("\n😀".as_bytes(), inserted(0), b"\n\xf0\x9f\x98"),
+        eleven
+    );
+}
+
+#[test]
+fn a_change_is_the_edit_to_the_texts_end() {
+    let (rows, table) = scanned(TEXT);
+    let change = Change { a: 13, b: 14, n: 2 };
+    let new = b"unit u{\n x+=-12;\n}\n";
+    let mut memory = vec![CANARY; 80];
+    let mut answer_to = |change, text: &[u8], room: usize| {
+        memory.fill(CANARY);
+        let answer = lent::change(&rows, &table, change, text, &mut memory[..room]);
+        (answer, memory.clone())
+    };
+    let untouched = vec![CANARY; 80];
+    let (fresh_rows, fresh) = scanned(new);
+    let (answer, written) = answer_to(change, new, 80);
+    assert_eq!(answer, fresh);
+    assert_eq!(written[..72], fresh_rows[..72]);
+    assert!(written[72..].iter().all(|word| *word == CANARY));
+    let (answer, written) = answer_to(change, new, 40);
+    assert_eq!(answer, [4, 0, 1, 1, 0, 0, 5, 0]);
+    assert_eq!(written[..40], fresh_rows[..40]);
+    assert!(written[40..].iter().all(|word| *word == CANARY));
+    // a text that is not as long as the change makes it, and one whose bytes are no UTF-8 behind the restart place
+    for text in [&new[..18], b"unit u{\n x+=-12;\n}\n\n", b"", TEXT] {
+        let answer = answer_to(change, text, 80);
+        assert_eq!(answer, (refused(6), untouched.clone()), "{text:?}");
+    }
+    let answer = answer_to(change, b"unit u{\n x+=-1\xff;\n}\n", 80);
+    assert_eq!(answer, ([2, 14, 2, 7, 0, 0, 0, 0], untouched.clone()));
+    // numbers that make no change of the text, whatever the new text's length
+    for (a, b, n) in [(14, 13, 1), (0, 19, 1), (19, 19, 0), (u32::MAX, 0, 0)] {
+        for text in [TEXT, b"", b";"] {
+            let answer = answer_to(Change { a, b, n }, text, 80);
+            assert_eq!(answer, (refused(6), untouched.clone()), "{a} {b} {n}");
+        }
+    }
+}
+
+#[test]
+fn a_change_to_more_than_the_limit_is_refused() {
+    let (rows, table) = scanned(TEXT);
+    let mut memory = vec![CANARY; 80];
+    let longest = [TEXT, &[b' '; 65_536 - 18]].concat();
+    let longer = [TEXT, &[b' '; 65_537 - 18]].concat();
+    let change = |n: usize| Change {
+        a: 18,
+        b: 18,
+        n: n as u32,
+    };
+    let answer = lent::change(&rows, &table, change(65_536 - 18), &longest, &mut memory);
+    assert_eq!(answer, [0, 0, 0, 0, 0, 0, 9, 65_536]);
+    memory.fill(CANARY);
+    let answer = lent::change(&rows, &table, change(65_537 - 18), &longer, &mut memory);
+    assert_eq!(answer, refused(1));
+    let answer = lent::change(&rows, &table, change(65_536 - 18), &longer, &mut memory);
+    assert_eq!(answer, refused(6));
+    assert!(memory.iter().all(|word| *word == CANARY));
 }
 
 #[test]
@@ -197,6 +319,11 @@ fn numbers_at_their_edges_are_answered() {
             );
             let answer = lent::edit(&rows, &table, change, u32::MAX, TEXT, &mut memory);
             assert_eq!(answer, refused(6), "{change:?}");
+            let answer = lent::change(&rows, &table, change, b"?", &mut memory);
+            assert!(
+                [1, 2, 6, 11].contains(&answer[lent::NUMBER]),
+                "{change:?} {answer:?}"
+            );
         }
     }
     assert!(memory.iter().all(|word| *word == CANARY));

@@ -10,7 +10,7 @@ use compare::bench::other::{edit_before, parse_before, scan_before, well_formed_
 use compare::bench::rounds::{report, timed, Rounds, Side};
 use compare::bench::texts::{dense_text, middle_of_a_name};
 use compare::deep::on_deep_stack;
-use compare::generate::probe::probe_text;
+use compare::generate::probe::{half_greek, probe_text};
 use compare::lexer::Lexer;
 use compare::parser::{parse_program, Parser, Token};
 use spoonharbor::lent::{self, Change, Words};
@@ -19,6 +19,8 @@ use std::hint::black_box;
 
 const SEED: u64 = 7;
 const PROBE: usize = 60_000;
+/// The bytes of a probe that has about as many as the others when its comments are half Greek.
+const GREEK: usize = 54_000;
 const WINDOW: usize = 256;
 const KEYSTROKES: usize = 1_000;
 
@@ -42,10 +44,16 @@ fn main() {
             scans("probes", &probe_text(length, SEED), rounds);
         }
         scans("dense text", &dense_text(PROBE, SEED), rounds);
+        greek(&probe_text(GREEK, SEED), rounds);
         for length in [1 << 10, 8 << 10, PROBE, 64 << 10] {
             parses(&probe_text(length, SEED), rounds);
         }
-        typed(&probe_text(PROBE, SEED), rounds);
+        typed("", &probe_text(PROBE, SEED), rounds);
+        typed(
+            ", comments half Greek",
+            &half_greek(&probe_text(GREEK, SEED)),
+            rounds,
+        );
         replaced("the probes", &probe_text(PROBE, SEED), rounds);
         replaced("65,536 newlines", &vec![b'\n'; 64 << 10], rounds);
         keystrokes(&probe_text(PROBE, SEED), rounds);
@@ -79,7 +87,11 @@ fn tokens_of(text: &[u8]) -> Vec<Token> {
 
 /// The original's reading of a text, as a side.
 fn original(text: &[u8]) -> Side<'_> {
-    Side::new("the Rust", || {
+    original_named("the Rust", text)
+}
+
+fn original_named<'a>(name: &str, text: &'a [u8]) -> Side<'a> {
+    Side::new(name, || {
         black_box(Lexer::new(text_of(black_box(text))).tokenize().is_ok());
     })
 }
@@ -132,6 +144,25 @@ fn scans(what: &str, text: &[u8], rounds: Rounds) {
     );
 }
 
+/// A probe whose comments are half Greek beside the same probe in ASCII.
+fn greek(probe: &[u8], rounds: Rounds) {
+    let text = half_greek(probe);
+    let (rows, _) = scanned(&text);
+    assert_eq!(rows.len(), scanned(probe).0.len(), "the same rows");
+    let sides = vec![
+        original(&text),
+        fresh("library", &text),
+        original_named("the Rust, the same in ASCII", probe),
+        fresh("library, the same in ASCII", probe),
+    ];
+    let heading = format!(
+        "scan, {} bytes of probes, comments half Greek, {} rows",
+        text.len(),
+        rows.len() / 8
+    );
+    report(&heading, "byte", text.len(), sides, &["the Rust"], rounds);
+}
+
 fn parses(text: &[u8], rounds: Rounds) {
     let tokens = tokens_of(text);
     let (rows, table) = scanned(text);
@@ -173,7 +204,7 @@ fn parses(text: &[u8], rounds: Rounds) {
 }
 
 /// One byte typed in the middle of a probe, and what its parts cost.
-fn typed(old: &[u8], rounds: Rounds) {
+fn typed(what: &str, old: &[u8], rounds: Rounds) {
     let (rows, table) = scanned(old);
     let at = middle_of_a_name(old);
     let new = [&old[..at], b"x", &old[at..]].concat();
@@ -193,6 +224,7 @@ fn typed(old: &[u8], rounds: Rounds) {
         "the edit is a fresh scan"
     );
     let mut other = row_memory(&new);
+    let mut whole = row_memory(&new);
     let mut copied = row_memory(&new);
     #[cfg(before)]
     let mut own = row_memory(&new);
@@ -221,7 +253,16 @@ fn typed(old: &[u8], rounds: Rounds) {
                 &mut other,
             ));
         }),
-        Side::new("  of it the table test", || {
+        Side::new("library, change by the whole new text", || {
+            black_box(lent::change(
+                black_box(&rows),
+                &table,
+                change,
+                black_box(&new),
+                &mut whole,
+            ));
+        }),
+        Side::new("  of each the table test", || {
             black_box(lent::well_formed(black_box(&rows), &table));
         }),
         Side::new("a copy of the rows (memcpy)", || {
@@ -229,8 +270,9 @@ fn typed(old: &[u8], rounds: Rounds) {
             black_box(&mut copied);
         }),
     ];
+    // Before there were characters of two bytes and more, such a text was refused.
     #[cfg(before)]
-    {
+    if old.is_ascii() {
         sides.push(Side::new("before, edit", || {
             black_box(edit_before(
                 black_box(&rows),
@@ -246,10 +288,17 @@ fn typed(old: &[u8], rounds: Rounds) {
         }));
     }
     let heading = format!(
-        "one byte typed in the middle of {} bytes, window of {WINDOW}",
+        "one byte typed in the middle of {} bytes{what}, window of {WINDOW}",
         old.len()
     );
-    report(&heading, "byte", new.len(), sides, &["the Rust"], rounds);
+    report(
+        &heading,
+        "byte",
+        new.len(),
+        sides,
+        &["the Rust", "before, edit"],
+        rounds,
+    );
 }
 
 /// A whole text replaced by itself.
@@ -315,7 +364,7 @@ fn keystrokes(text: &[u8], rounds: Rounds) {
         timed(|| {
             for k in 0..KEYSTROKES {
                 document
-                    .replace(at + k..at + k, b"x")
+                    .replace(at + k..at + k, "x".as_ref())
                     .expect("a byte is typed");
             }
         })

@@ -1,9 +1,11 @@
-//! Writes the stored sample of edits, crates/replay_edits/stdin, in the form that README.md describes; always the same file.
+//! Writes the stored sample of edits, crates/replay_edits/stdin, in the form that README.md describes, always the same file, and
+//! beside it the counts that the program must write of it.
 //! Prints how many calls have which answer.
 
 use compare::deep::on_deep_stack;
 use compare::edits::file::edits_file;
-use compare::edits::{stored, FILE};
+use compare::edits::report::report;
+use compare::edits::{stored, FILE, REPORT};
 use std::collections::BTreeMap;
 use std::process::ExitCode;
 
@@ -31,5 +33,6 @@ fn write_edits() -> std::io::Result<()> {
     let file = edits_file(&edits);
     println!("edits: {}", edits.len());
     println!("{} bytes", file.len());
+    std::fs::write(REPORT, report(&edits))?;
     std::fs::write(FILE, file)
 }

@@ -1,15 +1,21 @@
-//! Writes compare/sample.txt: `sample COUNT SEED`. The file holds COUNT texts
-//! with the original's answers in the form that README.md describes; the same
-//! numbers give the same file. Prints how many texts had which outcome.
+//! Writes compare/sample.txt: `sample COUNT SEED`. The file holds COUNT ASCII texts
+//! and a tenth as many with characters of two bytes and more, with the original's
+//! answers in the form that README.md describes; the same numbers give the same file.
+//! Writes the copy that crates/replay_texts reads, and the counts that it must write.
+//! Prints how many texts had which outcome.
 
 use compare::answer::{answer, Answer, Parsed};
 use compare::deep::on_deep_stack;
 use compare::generate::sample_texts;
-use compare::sample::sample_file;
+use compare::sample::{report, sample_file};
 use std::collections::BTreeMap;
 use std::process::ExitCode;
 
 const FILE: &str = concat!(env!("CARGO_MANIFEST_DIR"), "/sample.txt");
+
+/// The program that reads the sample: a copy of it, and the counts that it must write.
+const REPLAYED: &str = concat!(env!("CARGO_MANIFEST_DIR"), "/../crates/replay_texts/stdin");
+const REPORT: &str = concat!(env!("CARGO_MANIFEST_DIR"), "/../crates/replay_texts/stdout");
 
 fn main() -> ExitCode {
     let arguments: Vec<String> = std::env::args().skip(1).collect();
@@ -40,6 +46,8 @@ fn write_sample(count: usize, seed: u64) -> std::io::Result<()> {
     let file = sample_file(cases);
     print_counts(&answers);
     println!("{} bytes", file.len());
+    std::fs::write(REPLAYED, &file)?;
+    std::fs::write(REPORT, report(&answers))?;
     std::fs::write(FILE, file)
 }
 

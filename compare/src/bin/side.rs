@@ -7,21 +7,23 @@ use std::process::ExitCode;
 use std::time::Instant;
 
 const USAGE: &str = "\
-usage: side scan [TEXTS [SEED]]      rows, values, refusals, every lent word
-       side parse [TEXTS [SEED]]     nodes, refusals, every lent word
-       side edit [CALLS [SEED]]      random edits at every window length
-       side small [LENGTH]           every edit of every text of at most LENGTH bytes over 16 bytes, at every window length
+usage: side scan [TEXTS [SEED]]      rows, values, refusals, every lent word, of so many ASCII texts and as many with characters
+       side parse [TEXTS [SEED]]     nodes, refusals, every lent word, of so many ASCII texts and as many with characters
+       side edit [CALLS [SEED]]      random edits at every window length, and as changes
+       side small [LENGTH]           every edit of every text of at most LENGTH bytes over 16 bytes, at every window length, and as a change
+       side parts [LENGTH]           the same over 11 bytes with parts of characters, old and new bytes together at most LENGTH
        side chains [EDITS [SEED]]    edits one after the other on documents of up to 60,000 bytes
        side tables [TABLES [SEED]]   tables with words changed, sets, sections
        side full                     all of them, at length
 ";
 
 /// The counts of a full run.
-const FULL: [(&str, u64); 6] = [
+const FULL: [(&str, u64); 7] = [
     ("scan", 1_000_000),
     ("parse", 1_000_000),
     ("edit", 20_000_000),
     ("small", 3),
+    ("parts", 6),
     ("chains", 40_000),
     ("tables", 1_000_000),
 ];
@@ -74,6 +76,7 @@ fn run(part: &str, count: u64, seed: u64) -> Compared {
         "parse" => parse::run(count, seed),
         "edit" => edit::run(count, seed),
         "small" => edit::run_small(count.min(6) as u32),
+        "parts" => edit::run_parts(count.min(8) as u32),
         "chains" => chains::run(count, seed),
         _ => tables::run(count, seed),
     }

@@ -1,7 +1,7 @@
 //! The stored edits written down: numbers behind letters, and texts as they are behind their length.
 
 use super::expected::Asked;
-use super::Call;
+use super::{Call, Edits};
 use crate::answer::Row;
 
 /// Where the expectations come from; it stands at the file's head.
@@ -9,14 +9,15 @@ const HEADING: &str = "
 Edits and what is expected of the calls for them. compare/README.md says how this file is read; the program `edits` of compare/
 writes it, always the same.
 
-Rows and lexical refusals (11 to 15), and the rows that stand before a 4: the unchanged Rust's reading of the new text.
+Rows and lexical refusals (11 to 17), and the rows that stand before a 4: the unchanged Rust's reading of the new text; where a
+character of two bytes or more stands outside comments and strings, its reading of what stands in front, and 11 there.
 Restart places: the rule of LANGUAGE.md, over the unchanged Rust's rows of the old text.
 That a call is refused with 1, 2, 3, 4, 6 or 7: compare/src/model, LANGUAGE.md written down a second time.
 Edits of kind 0: numbers and restart places besides by hand, from LANGUAGE.md and DECISIONS.md (compare/src/edits/worked.rs).
 ";
 
 /// The whole file.
-pub fn edits_file(edits: &[(Asked, Vec<Call>)]) -> Vec<u8> {
+pub fn edits_file(edits: &Edits) -> Vec<u8> {
     let mut file = format!("spoonharbor-edits 1 {}\n", edits.len()).into_bytes();
     write_part(&mut file, 'H', HEADING.as_bytes());
     for (asked, calls) in edits {

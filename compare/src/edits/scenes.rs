@@ -2,8 +2,10 @@
 
 use super::expected::{original, Asked, MOST_WORDS};
 use super::{Call, Edit, Kind};
+use crate::generate::change::{new_bytes, new_characters};
+use crate::generate::characters::valid_with_characters;
 use crate::generate::random::Random;
-use crate::generate::{change::new_bytes, damage, programs, short, soup};
+use crate::generate::{damage, programs, short, soup};
 
 const COMMENTS: [&[u8]; 7] = [
     b"/* a b */",
@@ -22,6 +24,20 @@ const STRINGS: [&[u8]; 6] = [
     b"\"\\\"\"",
     b"\"\\\\\"",
     b"\"/* */\"",
+];
+
+const COMMENTS_WITH_CHARACTERS: [&[u8]; 4] = [
+    "/* \u{b0}C */".as_bytes(),
+    "// \u{3b1} Cen\n".as_bytes(),
+    "/*\u{20ac}*/".as_bytes(),
+    "//\u{1f600}\n".as_bytes(),
+];
+
+const STRINGS_WITH_CHARACTERS: [&[u8]; 4] = [
+    "\"\u{b0}\"".as_bytes(),
+    "\"\\n\u{3a9}a\"".as_bytes(),
+    "\"\u{20ac}\"".as_bytes(),
+    "\"\u{1f600}\"".as_bytes(),
 ];
 
 /// Pieces that no reading goes past, unless it stands in a comment or string.
@@ -54,6 +70,27 @@ pub fn scene(random: &mut Random, kind: Kind) -> (Asked, Vec<Call>) {
     }
 }
 
+/// An edit of a kind in a text with characters of two bytes and more, which it may break or join, with its calls.
+pub fn with_characters(random: &mut Random, kind: Kind) -> (Asked, Vec<Call>) {
+    let bytes = new_characters(random);
+    let edit = match kind {
+        Kind::InComment => inside(random, kind, &COMMENTS_WITH_CHARACTERS, &bytes),
+        Kind::InString => inside(random, kind, &STRINGS_WITH_CHARACTERS, &bytes),
+        Kind::OldRefused => {
+            let old = refused_with_characters(random);
+            anywhere(random, kind, &old, 5, &bytes)
+        }
+        _ => {
+            let old = text(random);
+            let old = valid_with_characters(random, &old);
+            anywhere(random, kind, &old, 5, &bytes)
+        }
+    };
+    let asked = Asked::new(edit);
+    let calls = calls(random, &asked);
+    (asked, calls)
+}
+
 fn sensible(random: &mut Random, kind: Kind) -> Edit {
     match kind {
         Kind::AtStart => {
@@ -66,8 +103,14 @@ fn sensible(random: &mut Random, kind: Kind) -> Edit {
             let a = old.len() - random.below(old.len().min(4) + 1);
             Edit::of(kind, &old, a, old.len(), &new_bytes(random))
         }
-        Kind::InComment => inside(random, kind, &COMMENTS),
-        Kind::InString => inside(random, kind, &STRINGS),
+        Kind::InComment => {
+            let bytes = new_bytes(random);
+            inside(random, kind, &COMMENTS, &bytes)
+        }
+        Kind::InString => {
+            let bytes = new_bytes(random);
+            inside(random, kind, &STRINGS, &bytes)
+        }
         Kind::Opening => {
             let old = text(random);
             let bytes = random.pick(&OPENINGS);
@@ -121,26 +164,40 @@ fn between(random: &mut Random, pieces: &[&'static [u8]]) -> [Vec<u8>; 3] {
 fn refused_text(random: &mut Random) -> Vec<u8> {
     loop {
         let text = between(random, &REFUSED).concat();
-        let told = original(&text).expect("every text here is ASCII and short enough");
-        if told.refusal.is_some() {
+        if is_refused(&text) {
             return text;
         }
     }
 }
 
+/// The same with characters of two bytes and more, which may be what is refused.
+fn refused_with_characters(random: &mut Random) -> Vec<u8> {
+    loop {
+        let text = refused_text(random);
+        let text = valid_with_characters(random, &text);
+        if is_refused(&text) {
+            return text;
+        }
+    }
+}
+
+fn is_refused(text: &[u8]) -> bool {
+    let told = original(text).expect("every text here is UTF-8 and short enough");
+    told.refusal.is_some()
+}
+
 /// An edit in one of these pieces.
-fn inside(random: &mut Random, kind: Kind, pieces: &[&'static [u8]]) -> Edit {
+fn inside(random: &mut Random, kind: Kind, pieces: &[&'static [u8]], bytes: &[u8]) -> Edit {
     let parts = between(random, pieces);
     let (from, length) = (parts[0].len(), parts[1].len());
     let first = random.below(length + 1);
     let count = random.below((length - first).min(3) + 1);
-    let bytes = new_bytes(random);
     Edit::of(
         kind,
         &parts.concat(),
         from + first,
         from + first + count,
-        &bytes,
+        bytes,
     )
 }
 
@@ -205,7 +262,7 @@ fn outside(random: &mut Random) -> (Asked, Vec<Call>) {
     (asked, vec![call])
 }
 
-/// Numbers in the wrong order or past the text; the longest new text, one byte more, and far more; a byte of 128 or more. From
+/// Numbers in the wrong order or past the text; the longest new text, one byte more, and far more; a broken character. From
 /// 8 on the edit stays as it is.
 fn put_outside(edit: &mut Edit, shape: usize) {
     let length = edit.old.len() as u32;
@@ -216,7 +273,7 @@ fn put_outside(edit: &mut Edit, shape: usize) {
         3 => edit.n = 65_536 - (length - (edit.b - edit.a)),
         4 => edit.n = 65_537 - (length - (edit.b - edit.a)),
         5 => {
-            edit.new_bytes.extend("\u{e9}".bytes());
+            edit.new_bytes.push(0xE9);
             edit.n = edit.new_bytes.len() as u32;
         }
         6 | 7 => edit.n = u32::MAX,
@@ -228,7 +285,7 @@ fn put_outside(edit: &mut Edit, shape: usize) {
 fn damaged(random: &mut Random) -> (Asked, Vec<Call>) {
     loop {
         let old = match random.below(10) {
-            0 => "unit \u{e9} {}".as_bytes().to_vec(),
+            0 => b"unit \xE9 {}".to_vec(),
             _ => text(random),
         };
         let bytes = new_bytes(random);

@@ -35,15 +35,15 @@ const fn reading(
     }
 }
 
-pub const WORKED: [Worked; 14] = [
+pub const WORKED: [Worked; 24] = [
     Worked {
         restart: 12,
         ..reading(
-            "LANGUAGE, four bytes suffice and three are short",
+            "LANGUAGE, seven bytes suffice and six are short",
             LISTER_TEXT,
             (13, 14),
             b"12",
-            &[(4, 0), (3, 7)],
+            &[(7, 0), (6, 7), (5, 7), (4, 7)],
         )
     },
     Worked {
@@ -68,10 +68,10 @@ pub const WORKED: [Worked; 14] = [
     },
     reading(
         "DECISIONS, a `/` last in the window may be a meeting",
-        b"/\"",
+        b"    /\"",
         (0, 0),
         b"",
-        &[(1, 13)],
+        &[(4, 7), (5, 13)],
     ),
     reading(
         "DECISIONS, no meeting lies before a + n",
@@ -82,38 +82,38 @@ pub const WORKED: [Worked; 14] = [
     ),
     reading(
         "DECISIONS, no meeting lies at the window's end",
-        b"/",
+        b"    /",
         (0, 0),
         b"",
-        &[(0, 7)],
+        &[(4, 7), (5, 0)],
     ),
     reading(
         "DECISIONS, a lone `<` at the window's end",
-        b"/",
+        b"   <a;",
         (0, 0),
-        b"<",
-        &[(1, 7), (2, 11)],
+        b"",
+        &[(4, 7), (5, 16)],
     ),
     reading(
         "DECISIONS, `0x` at the window's end",
-        b"/",
+        b"  0xg;",
         (0, 0),
-        b"0x",
-        &[(2, 7), (3, 11)],
+        b"",
+        &[(4, 7), (5, 17)],
     ),
     reading(
-        "DECISIONS, 15 at the digit too many",
-        b"9\\8a",
-        (1, 1),
-        b"99999999999999999999",
+        "DECISIONS, 15 behind the digit too many",
+        b"999999999999999999999a;",
+        (0, 0),
+        b"",
         &[(21, 7), (22, 15)],
     ),
     reading(
         "DECISIONS, columns move on one line",
-        b"/\n",
+        b"/;;;;\n",
         (0, 0),
         b"*",
-        &[(2, 0)],
+        &[(4, 7), (5, 0)],
     ),
     Worked {
         restart: 1,
@@ -147,11 +147,81 @@ pub const WORKED: [Worked; 14] = [
         )
     },
     reading(
-        "DECISIONS, 2 before 7",
-        b"a",
+        "DECISIONS, 2 behind the 7 of judging",
+        b"\"",
         (0, 0),
-        "\u{e9}b".as_bytes(),
+        b"\x80",
+        &[(1, 7), (2, 2)],
+    ),
+    reading(
+        "DECISIONS, 2 before the other 7",
+        "\u{e9}\u{1f600}".as_bytes(),
+        (0, 1),
+        b"\"",
+        &[(4, 7), (5, 2), (6, 2)],
+    ),
+    reading(
+        "DECISIONS, three bytes past the new ones are short",
+        "\u{1f600}".as_bytes(),
+        (0, 0),
+        b"",
+        &[(3, 7), (4, 11)],
+    ),
+    reading(
+        "DECISIONS, the four bytes stand behind the new ones",
+        "\u{20ac}".as_bytes(),
+        (0, 0),
+        b"*/",
+        &[(4, 7), (5, 11)],
+    ),
+    reading(
+        "DECISIONS, ASCII texts need the four bytes too",
+        b"\"\"",
+        (0, 0),
+        b"",
+        &[(1, 7), (2, 0)],
+    ),
+    reading(
+        "DECISIONS, the text's end excuses",
+        b"",
+        (0, 0),
+        b"",
+        &[(0, 0)],
+    ),
+    reading(
+        "DECISIONS, a character that the window's end cuts",
+        "\"\u{1f600}".as_bytes(),
+        (0, 0),
+        b"",
+        &[(4, 7), (5, 13)],
+    ),
+    reading(
+        "DECISIONS, a character that the text's end cuts",
+        b"",
+        (0, 0),
+        b"\xC3",
         &[(1, 2)],
+    ),
+    reading(
+        "DECISIONS, 2 at the start of the broken character",
+        b"\"",
+        (0, 0),
+        b"\xC3",
+        &[(2, 2)],
+    ),
+    reading(
+        "DECISIONS, 11 is decided by a character's first byte",
+        "\n\u{1f600}".as_bytes(),
+        (0, 0),
+        b"",
+        &[(4, 11), (5, 11)],
+    ),
+    reading(
+        "LANGUAGE, a character typed into a comment",
+        "/*\u{b0}*/a".as_bytes(),
+        (2, 2),
+        "\u{3b1}".as_bytes(),
+        &[(7, 7), (8, 7), (9, 0)],
     ),
 ];
 

@@ -220,9 +220,44 @@ fn operand(random: &mut Random) -> String {
     }
 }
 
+/// A probe with every other word of its comments in Greek letters.
+pub fn half_greek(probe: &[u8]) -> Vec<u8> {
+    let mut text = String::new();
+    let (mut words, mut comment) = (0, None);
+    for (at, byte) in probe.iter().enumerate() {
+        comment = match (comment, &probe[at..]) {
+            (None, [b'/', opening @ (b'/' | b'*'), ..]) => Some(*opening),
+            (Some(b'/'), [b'\n', ..]) | (Some(b'*'), [b'*', b'/', ..]) => None,
+            (comment, _) => comment,
+        };
+        words += usize::from(*byte == b' ');
+        text.push(match byte {
+            b'a'..=b'z' if comment.is_some() && words % 2 == 1 => greek_letter(*byte),
+            _ => char::from(*byte),
+        });
+    }
+    text.into_bytes()
+}
+
+/// A Greek letter for each of ours.
+fn greek_letter(byte: u8) -> char {
+    char::from_u32(u32::from('α') + u32::from(byte - b'a')).expect("there are as many")
+}
+
 #[cfg(test)]
 mod tests {
     use super::*;
+
+    #[test]
+    fn a_probe_stays_a_program_in_greek() {
+        let text = half_greek(&probe_text(50_000, 3));
+        assert!(text.len() > 51_000 && text.len() < 65_536, "{}", text.len());
+        let Answer::Compared { parsed, .. } = answer(&text) else {
+            panic!("it is UTF-8 and short enough")
+        };
+        assert!(matches!(parsed, Parsed::Accepted(_)));
+    }
+
     use crate::answer::{answer, Answer, Parsed};
 
     #[test]
@@ -240,7 +275,7 @@ mod tests {
             assert_eq!(text.len(), length);
             assert_eq!(text, probe_text(length, seed));
             let Answer::Compared { parsed, .. } = answer(&text) else {
-                panic!("a probe is ASCII and short enough")
+                panic!("a probe is UTF-8 and short enough")
             };
             assert!(matches!(parsed, Parsed::Accepted(_)), "{length}");
         }

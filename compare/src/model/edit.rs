@@ -1,8 +1,9 @@
-//! The edit: the new table from the old one and a window of the new text.
+//! The edit: the new table from the old one and a window of the new text; and the change, which has all of it.
 
 use super::lex::{opens_gap, piece, Piece, Shown};
 use super::scan::{eof, row};
 use super::table::Lent;
+use super::text::{shown_bytes, valid_bytes};
 use super::{behind, refusal, Told, START};
 use crate::answer::{Place, Refusal, Row, LONGEST_TEXT};
 
@@ -13,6 +14,9 @@ pub struct Change {
     pub b: u32,
     pub n: u32,
 }
+
+/// So many bytes behind the new ones a window must show, or the text's end, before it is judged.
+const JUDGING: u64 = 4;
 
 /// Where a reading of the window ends.
 enum End {
@@ -43,18 +47,26 @@ pub fn edit(old: Lent, change: Change, start: u32, window: &[u8], room: usize) -
     if new_length > LONGEST_TEXT as u64 {
         return Told::refused(1, START);
     }
-    if let Some(bad) = window.iter().position(|byte| *byte >= 128) {
-        return Told::refused(2, behind(restart, &window[..bad]));
+    let whole = window_end == new_length;
+    if !whole && window_end < u64::from(a) + u64::from(n) + JUDGING {
+        return Told::refused(7, START);
+    }
+    let valid = if whole {
+        valid_bytes(window)
+    } else {
+        shown_bytes(window)
+    };
+    if valid < window.len() {
+        return Told::refused(2, behind(restart, &window[..valid]));
     }
     let shown = Shown {
         bytes: window,
-        whole: window_end == new_length,
+        whole,
     };
     let (new_rows, end) = look(&rows, change, restart, shown);
     let mut told: Vec<Row> = rows[..kept(&rows, a)].to_vec();
     told.extend(new_rows);
     let ending = match end {
-        _ if window_end < u64::from(a) + u64::from(n) => return Told::refused(7, START),
         End::Short => return Told::refused(7, START),
         End::Own(ending) => ending,
         End::Meets(index, place) => {
@@ -67,6 +79,21 @@ pub fn edit(old: Lent, change: Change, start: u32, window: &[u8], room: usize) -
         }
     };
     Told::in_room(told, new_length as u32, ending, room)
+}
+
+/// What a change to this text with this room answers and writes.
+pub fn change(old: Lent, change: Change, text: &[u8], room: usize) -> Told {
+    let Change { a, b, n } = change;
+    if !old.is_well_formed() {
+        return Told::refused(3, START);
+    }
+    let makes = i64::from(old.length()) - (i64::from(b) - i64::from(a)) + i64::from(n);
+    if a > b || b > old.length() || text.len() as i64 != makes {
+        return Told::refused(6, START);
+    }
+    let rows = old.all_rows().expect("a well-formed table's rows are lent");
+    let start = restart_in(&rows, a).offset;
+    edit(old, change, start, &text[start as usize..], room)
 }
 
 /// Where the window of an edit at `a` must start, or the refusal: 3, 6.

@@ -161,7 +161,7 @@ fn number(shown: Shown, sign: usize) -> Option<Piece> {
     let end = shown.run(digits, |byte| char::from(byte).is_digit(base))?;
     if end == digits {
         return Some(Refused {
-            number: 11,
+            number: 17,
             place: end,
         });
     }
@@ -242,6 +242,10 @@ fn sign(shown: Shown) -> Option<Piece> {
     match first {
         b'>' if shown.at(1)? == Some(b'>') => row(46, 2),
         b'<' if shown.at(1)? == Some(b'<') => row(47, 2),
+        b'<' | b'>' => Some(Refused {
+            number: 16,
+            place: 0,
+        }),
         _ => Some(Refused {
             number: 11,
             place: 0,

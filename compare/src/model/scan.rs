@@ -1,6 +1,7 @@
 //! The scan of a text into lent room.
 
 use super::lex::{piece, Piece, Shown};
+use super::text::valid_bytes;
 use super::{behind, refusal, Told, START};
 use crate::answer::{Place, Refusal, Row, LONGEST_TEXT};
 
@@ -9,14 +10,15 @@ pub fn scan(text: &[u8], room: usize) -> Told {
     if text.len() > LONGEST_TEXT {
         return Told::refused(1, START);
     }
-    if let Some(bad) = text.iter().position(|byte| *byte >= 128) {
-        return Told::refused(2, behind(START, &text[..bad]));
+    let valid = valid_bytes(text);
+    if valid < text.len() {
+        return Told::refused(2, behind(START, &text[..valid]));
     }
     let (rows, ending) = read(text);
     Told::in_room(rows, text.len() as u32, ending, room)
 }
 
-/// The rows of an ASCII text, and the refusal that they end in.
+/// The rows of a text that is valid, and the refusal that they end in.
 pub fn read(text: &[u8]) -> (Vec<Row>, Option<Refusal>) {
     let mut rows = Vec::new();
     let mut place = START;

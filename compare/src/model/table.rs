@@ -1,5 +1,6 @@
 //! When a table is well formed, and how a row is spelt.
 
+use super::text::valid_bytes;
 use super::{behind, refusal, row_of, START};
 use crate::answer::{Place, Refusal, Row, LONGEST_TEXT};
 
@@ -53,7 +54,7 @@ impl Lent<'_> {
         let eighth_words = self.rows[..rows.len() * 8]
             .chunks_exact(8)
             .map(|row| row[7]);
-        matches!(self.table[0], 0 | 11..=15)
+        matches!(self.table[0], 0 | 11..=17)
             && self.length() as usize <= LONGEST_TEXT
             && eighth_words.into_iter().all(|word| word == 0)
             && rows.iter().all(is_made)
@@ -96,8 +97,9 @@ impl Lent<'_> {
         if text.len() > LONGEST_TEXT {
             return Err(refusal(1, START));
         }
-        if let Some(bad) = text.iter().position(|byte| *byte >= 128) {
-            return Err(refusal(2, behind(START, &text[..bad])));
+        let valid = valid_bytes(text);
+        if valid < text.len() {
+            return Err(refusal(2, behind(START, &text[..valid])));
         }
         if !self.is_well_formed() || self.length() as usize != text.len() {
             return Err(refusal(3, START));

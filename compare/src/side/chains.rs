@@ -3,7 +3,8 @@
 
 use super::{same, shown, Compared, Counts, Difference};
 use crate::answer::{answer, Answer, Refusal};
-use crate::generate::probe::probe_text;
+use crate::generate::characters::character;
+use crate::generate::probe::{half_greek, probe_text};
 use crate::generate::random::Random;
 use crate::generate::{short, spelling};
 use spoonharbor::Document;
@@ -34,8 +35,8 @@ fn chain(
     steps: u64,
     counts: &mut Counts,
 ) -> Result<(), Difference> {
-    let mut text = probe_text(length, random.below(1 << 20) as u64);
-    let mut document = Document::open(text.clone()).expect("a probe is ASCII and short enough");
+    let mut text = opened(random, length);
+    let mut document = Document::open(text.clone()).expect("a probe is UTF-8 and short enough");
     // What takes the edits back since which the document does not scan, the last one last.
     let mut undos: Vec<Edit> = Vec::new();
     for step in 0..steps {
@@ -51,10 +52,10 @@ fn chain(
             undos.push(undoing(&edit, &text));
         }
         let Edit { range, new } = edit;
-        let asked = || format!("step {step} of a chain, {range:?} into {}", shown(&new));
-        same(document.replace(range.clone(), &new), Ok(()), asked)?;
-        text.splice(range.clone(), new.iter().copied());
-        let fresh = Document::open(text.clone()).expect("an edited text is ASCII and short enough");
+        let asked = || format!("step {step} of a chain, {range:?} into {new:?}");
+        same(document.replace(range.clone(), new.as_ref()), Ok(()), asked)?;
+        text.replace_range(range.clone(), &new);
+        let fresh = Document::open(text.clone()).expect("an edited text is UTF-8 and short enough");
         if document != fresh {
             return same(format!("{document:?}"), format!("{fresh:?}"), asked);
         }
@@ -72,35 +73,47 @@ fn chain(
     Ok(())
 }
 
+/// A probe of about this length, or one whose comments are half Greek.
+fn opened(random: &mut Random, length: usize) -> String {
+    let seed = random.below(1 << 20) as u64;
+    let text = match random.below(2) {
+        0 => probe_text(length, seed),
+        _ => half_greek(&probe_text(length / 4 * 3, seed)),
+    };
+    String::from_utf8(text).expect("a probe is UTF-8")
+}
+
 /// New bytes in the place of a part of the text.
 struct Edit {
     range: std::ops::Range<usize>,
-    new: Vec<u8>,
+    new: String,
 }
 
 /// The edit that takes an edit of this text back.
-fn undoing(edit: &Edit, text: &[u8]) -> Edit {
+fn undoing(edit: &Edit, text: &str) -> Edit {
     let start = edit.range.start;
     Edit {
         range: start..start + edit.new.len(),
-        new: text[edit.range.clone()].to_vec(),
+        new: text[edit.range.clone()].to_string(),
     }
 }
 
-/// An edit of few bytes, somewhere; a text that has grown longer than it was loses more.
-fn random_edit(random: &mut Random, text: &[u8], length: usize) -> Edit {
-    let start = random.below(text.len() + 1);
+/// An edit of few characters, somewhere; a text that has grown longer than it was loses more.
+fn random_edit(random: &mut Random, text: &str, length: usize) -> Edit {
+    let start = text.floor_char_boundary(random.below(text.len() + 1));
     let most = if text.len() > length { 40 } else { 3 };
-    let end = (start + random.below(most)).min(text.len());
-    let new = match random.below(10) {
-        0 | 1 => Vec::new(),
+    let end = text.ceil_char_boundary((start + random.below(most)).min(text.len()));
+    let ascii = |bytes| String::from_utf8(bytes).expect("these bytes are ASCII");
+    let new = match random.below(11) {
+        0 | 1 => String::new(),
         2..=5 => {
             let count = 1 + random.below(3);
-            short::random_text(random, count)
+            ascii(short::random_text(random, count))
         }
-        6 => short::quoting_text(random),
-        7 | 8 => spelling::any_token(random).as_bytes().to_vec(),
-        _ => b"*/\"; ".to_vec(),
+        6 => ascii(short::quoting_text(random)),
+        7 | 8 => spelling::any_token(random).to_string(),
+        9 => character(random).to_string(),
+        _ => "*/\"; ".to_string(),
     };
     Edit {
         range: start..end,
@@ -111,7 +124,7 @@ fn random_edit(random: &mut Random, text: &[u8], length: usize) -> Edit {
 fn hold_against_original(document: &Document, counts: &mut Counts) -> Result<(), Difference> {
     let text = document.text();
     let Answer::Compared { rows, ending, .. } = answer(text.as_bytes()) else {
-        unreachable!("every document is ASCII and short enough")
+        unreachable!("every document is UTF-8 and short enough")
     };
     let asked = || format!("a document, as the original, {}", shown(text.as_bytes()));
     let here: Vec<[i64; 6]> = document

@@ -1,11 +1,12 @@
-//! The library's edit against the model's at every window length, against a fresh scan by the library, and by the original.
+//! The library's edit against the model's at every window length, and its change, against a fresh scan by the library, and by the original.
 
 use super::{memory_with, same, shown, Compared, Counts, Difference, Memory};
 use crate::answer::{answer, Answer};
-use crate::generate::change::new_bytes;
+use crate::generate::change::{new_bytes, new_characters};
+use crate::generate::characters::{put_over, valid_with_characters};
 use crate::generate::random::Random;
 use crate::generate::{damage, random_text, short};
-use crate::model::edit::{edit, restart, Change};
+use crate::model::edit::{change as changed, edit, restart, Change};
 use crate::model::table::Lent;
 use crate::model::{refusal_words, Told};
 use spoonharbor::lent::{self, Words};
@@ -14,16 +15,27 @@ use spoonharbor::lent::{self, Words};
 /// join, a plain sign, a blank, a newline, and a byte that begins no row.
 const SMALL: &[u8; 16] = b"ax09n\"\\/*-=<; \n@";
 
-/// Random edits of random texts, each at every window length, until so many calls were made.
+/// Bytes with which short texts show what an edit does to characters: what opens and closes strings and comments, a blank, a
+/// newline, the first byte of a character of two, three and four bytes, two bytes that go on, of which the first does not go on behind
+/// the third of these, and one that no character has.
+const PARTS: &[u8; 11] = b"\"/* \n\xC3\xE2\xF0\x80\x9F\xFF";
+
+/// Random edits of random texts, every other with characters of two bytes and more, each at every window length and as a change,
+/// until so many calls were made.
 pub fn run(calls: u64, seed: u64) -> Compared {
     let mut counts = Counts::default();
     let mut holder = Holder::default();
     let mut random = Random::new(seed);
     while counts.get("calls") < calls {
-        let old = old_text(&mut random);
+        let mut old = old_text(&mut random);
+        let mut new_bytes = new_bytes(&mut random);
+        if random.one_in(2) {
+            old = valid_with_characters(&mut random, &old);
+            new_bytes = new_characters(&mut random);
+            counts.add("edits with characters");
+        }
         let a = random.below(old.len() + 1);
         let b = a + random.below((old.len() - a).min(6) + 1);
-        let new_bytes = new_bytes(&mut random);
         holder.hold(&old, a, b, &new_bytes, Asking::Original, &mut counts)?;
         holder.hold_outside(&mut random, &old, &mut counts)?;
     }
@@ -31,31 +43,73 @@ pub fn run(calls: u64, seed: u64) -> Compared {
 }
 
 /// Every edit of every text of at most `length` bytes over sixteen bytes, each with no, every one and every two new bytes, each
-/// at every window length.
+/// at every window length and as a change; and edits apart.
 pub fn run_small(length: u32) -> Compared {
     let mut counts = Counts::default();
     let mut holder = Holder::default();
+    for old in (0..=length).flat_map(|length| small_texts(SMALL, length)) {
+        holder.hold_every(&old, old.len(), SMALL, 2, &mut counts)?;
+    }
+    run_apart(&mut holder, SMALL, length, &mut counts)?;
+    Ok(counts)
+}
+
+/// The same over eleven bytes, characters and their parts among them, where a text has at most `length` bytes together with its new
+/// ones. Texts that are no UTF-8 have no table and are not edited.
+pub fn run_parts(length: u32) -> Compared {
+    let mut counts = Counts::default();
+    let mut holder = Holder::default();
     for old_length in 0..=length {
-        for old in small_texts(old_length) {
-            for new_length in 0..=2 {
-                for new_bytes in small_texts(new_length) {
-                    for a in 0..=old.len() {
-                        for b in a..=old.len() {
-                            holder.hold(&old, a, b, &new_bytes, Asking::Library, &mut counts)?;
-                        }
-                    }
+        for old in small_texts(PARTS, old_length).filter(|old| is_valid(old)) {
+            let most = (length - old_length).min(2);
+            holder.hold_every(&old, old.len(), PARTS, most, &mut counts)?;
+        }
+    }
+    run_apart(&mut holder, PARTS, length.saturating_sub(1), &mut counts)?;
+    Ok(counts)
+}
+
+/// Bytes that stand behind an edit, so many that a window behind them can be judged.
+const PADS: [&[u8]; 2] = [b"    ", b"aaaa"];
+
+/// Every edit in every text that stands in front of a pad, behind which every text stands in which windows end; both have at
+/// most `length` bytes together with the new ones.
+fn run_apart(
+    holder: &mut Holder,
+    alphabet: &[u8],
+    length: u32,
+    counts: &mut Counts,
+) -> Result<(), Difference> {
+    for (pad, front) in PADS
+        .iter()
+        .flat_map(|pad| (0..=length).map(move |front| (pad, front)))
+    {
+        for (left, behind) in (0..=length - front)
+            .flat_map(|behind| small_texts(alphabet, front).map(move |left| (left, behind)))
+        {
+            for right in small_texts(alphabet, behind) {
+                let old = [&left[..], pad, &right[..]].concat();
+                if is_valid(&old) {
+                    let most = (length - front - behind).min(2);
+                    holder.hold_every(&old, left.len(), alphabet, most, counts)?;
+                    counts.add("old texts apart");
                 }
             }
         }
     }
-    Ok(counts)
+    Ok(())
 }
 
-/// Every text of this length over `SMALL`.
-fn small_texts(length: u32) -> impl Iterator<Item = Vec<u8>> {
-    (0..SMALL.len().pow(length)).map(move |index| {
+fn is_valid(text: &[u8]) -> bool {
+    std::str::from_utf8(text).is_ok()
+}
+
+/// Every text of this length over an alphabet.
+fn small_texts(alphabet: &[u8], length: u32) -> impl Iterator<Item = Vec<u8>> + '_ {
+    let size = alphabet.len();
+    (0..size.pow(length)).map(move |index| {
         (0..length)
-            .map(|digit| SMALL[index / SMALL.len().pow(digit) % SMALL.len()])
+            .map(|digit| alphabet[index / size.pow(digit) % size])
             .collect()
     })
 }
@@ -100,7 +154,26 @@ impl Holder {
         self.rows.truncate(self.table[lent::COUNT] as usize * 8);
     }
 
-    /// Holds one edit at every window length.
+    /// Holds every edit in so many first bytes of a text that puts at most so many bytes of an alphabet in.
+    fn hold_every(
+        &mut self,
+        old: &[u8],
+        last: usize,
+        alphabet: &[u8],
+        most: u32,
+        counts: &mut Counts,
+    ) -> Result<(), Difference> {
+        for new_bytes in (0..=most).flat_map(|length| small_texts(alphabet, length)) {
+            for a in 0..=last {
+                for b in a..=last {
+                    self.hold(old, a, b, &new_bytes, Asking::Library, counts)?;
+                }
+            }
+        }
+        Ok(())
+    }
+
+    /// Holds one edit at every window length, and as a change.
     fn hold(
         &mut self,
         old: &[u8],
@@ -125,8 +198,45 @@ impl Holder {
         for end in start as usize..=new.len() {
             self.hold_window(old, change, &new, start as usize..end, &fresh, counts)?;
         }
+        self.hold_change(old, change, &new, &fresh, counts)?;
         counts.add("edits");
         Ok(())
+    }
+
+    /// Holds one change: the model's answer, which is the fresh scan's; room in plenty, exactly full, and one short.
+    fn hold_change(
+        &mut self,
+        old: &[u8],
+        change: Change,
+        new: &[u8],
+        (fresh_table, fresh_rows): &(Words, Vec<u32>),
+        counts: &mut Counts,
+    ) -> Result<(), Difference> {
+        let asked = || format!("{change:?} of {} into {}", shown(old), shown(new));
+        let count = fresh_rows.len() / 8;
+        for room in [count + 1, count, count.saturating_sub(1)] {
+            let words = room * 8 + 5;
+            let expected = changed(self.lent(), change, new, room);
+            let (answer, written) = self.call_change(change, new, words);
+            same(answer, expected.words(), asked)?;
+            same(written, &memory_with(&expected, words)[..], asked)?;
+            if room >= count {
+                same(&answer, fresh_table, asked)?;
+                same(&written[..fresh_rows.len()], &fresh_rows[..], asked)?;
+            }
+            counts.add("calls");
+            counts.add("changes");
+        }
+        Ok(())
+    }
+
+    /// The library's answer to a change and what it left in so many words.
+    fn call_change(&mut self, change: Change, text: &[u8], words: usize) -> (Words, &[u32]) {
+        let Change { a, b, n } = change;
+        let memory = self.memory.fresh(words);
+        let change = lent::Change { a, b, n };
+        let answer = lent::change(&self.rows, &self.table, change, text, memory);
+        (answer, memory)
     }
 
     /// The restart place, which must be the model's.
@@ -175,6 +285,12 @@ impl Holder {
         same(answer, expected.words(), asked)?;
         same(written, &memory_with(&expected, words)[..], asked)?;
         counts.add("calls");
+        if new
+            .get(window.end)
+            .is_some_and(|byte| matches!(byte, 128..=191))
+        {
+            counts.add("windows that end inside a character");
+        }
         if answer[lent::NUMBER] == 7 {
             counts.add("window short");
             return Ok(());
@@ -182,6 +298,12 @@ impl Holder {
         same(&answer, fresh_table, asked)?;
         same(&written[..fresh_rows.len()], &fresh_rows[..], asked)?;
         counts.add("fresh scan");
+        if window.end < new.len() {
+            counts.add("fresh scan, by a part of the text");
+        }
+        if answer[lent::NUMBER] == 2 {
+            counts.add("fresh scan, which is 2");
+        }
         let count = fresh_rows.len() / 8;
         for room in [count, count.saturating_sub(1)] {
             let expected = edit(self.lent(), change, start, &new[window.clone()], room);
@@ -202,7 +324,7 @@ impl Holder {
         (answer, memory)
     }
 
-    /// Holds calls that are not sensible, too long or not ASCII, and windows that lie.
+    /// Holds calls that are not sensible, too long or no UTF-8, and windows that lie.
     fn hold_outside(
         &mut self,
         random: &mut Random,
@@ -225,9 +347,8 @@ impl Holder {
         };
         let length = random.below(old.len() + 4);
         let mut window = short::random_text(random, length);
-        if length > 0 && random.one_in(4) {
-            let at = random.below(length);
-            window[at] = 128 + random.below(128) as u8;
+        if random.one_in(2) {
+            put_over(random, &mut window);
         }
         let room = random.below(self.rows.len() / 8 + 4);
         let words = room * 8 + random.below(8);
@@ -244,6 +365,44 @@ impl Holder {
         same(written, &memory_with(&expected, words)[..], asked)?;
         counts.add("calls");
         counts.add(format!("any call, answered {}", answer[lent::NUMBER]));
+        self.hold_change_outside(random, old, change, words, counts)
+    }
+
+    /// Holds a change whose text lies: mostly it is as long as the change makes it, or nearly.
+    fn hold_change_outside(
+        &mut self,
+        random: &mut Random,
+        old: &[u8],
+        change: Change,
+        words: usize,
+        counts: &mut Counts,
+    ) -> Result<(), Difference> {
+        let Change { a, b, n } = change;
+        let makes =
+            i64::from(self.table[lent::LENGTH]) - i64::from(b) + i64::from(a) + i64::from(n);
+        let near = makes + random.below(5) as i64 - 2;
+        let length = match random.below(4) {
+            0 => near,
+            _ => makes,
+        };
+        let length = length.clamp(0, 65_600) as usize;
+        let mut text = short::random_text(random, length);
+        if random.one_in(2) {
+            put_over(random, &mut text);
+        }
+        let expected = changed(self.lent(), change, &text, words / 8);
+        let (answer, written) = self.call_change(change, &text, words);
+        let asked = || {
+            format!(
+                "{change:?} into {}, {words} words, of {}",
+                shown(&text),
+                shown(old)
+            )
+        };
+        same(answer, expected.words(), asked)?;
+        same(written, &memory_with(&expected, words)[..], asked)?;
+        counts.add("calls");
+        counts.add(format!("any change, answered {}", answer[lent::NUMBER]));
         Ok(())
     }
 }
@@ -262,20 +421,20 @@ fn hold_scan_against_original(
     (table, rows): &(Words, Vec<u32>),
     counts: &mut Counts,
 ) -> Result<(), Difference> {
-    let Answer::Compared {
-        rows: original_rows,
-        ending,
-        ..
-    } = answer(text)
-    else {
-        unreachable!("every text here is ASCII and short enough")
-    };
-    let original = Told {
-        rows: original_rows,
-        length: text.len() as u32,
-        refusal: ending,
-    };
     let asked = || format!("scan, as the original, {}", shown(text));
+    let original = match answer(text) {
+        Answer::Compared { rows, ending, .. } => Told {
+            rows,
+            length: text.len() as u32,
+            refusal: ending,
+        },
+        Answer::NotCompared { number } => {
+            counts.add(format!(
+                "new texts that the original is not asked about, refused {number}"
+            ));
+            return same(table[lent::NUMBER], number, asked);
+        }
+    };
     same(*table, original.words(), asked)?;
     same(&rows[..], &memory_with(&original, rows.len())[..], asked)?;
     counts.add("new texts that the original was asked about");

@@ -3,6 +3,7 @@
 use super::{same, shown, Compared, Counts, Difference, Memory, CANARY};
 use crate::agree::agree;
 use crate::answer::{answer, Answer, Parsed, Refusal};
+use crate::generate::characters::with_characters;
 use crate::generate::random::Random;
 use crate::generate::{damage, fixed_texts, lengths, nesting, programs, random_text, soup};
 use crate::model::parse::{parse, NodeWords};
@@ -10,7 +11,8 @@ use crate::model::refusal_words;
 use crate::model::table::Lent;
 use spoonharbor::lent::{self, Words};
 
-/// Every fixed text, the texts of limit length, and random programs, whole and damaged, up to `count`.
+/// Every fixed text, the texts of limit length, and random programs, whole and damaged, up to `count`; then as many with characters of
+/// two bytes and more.
 pub fn run(count: u64, seed: u64) -> Compared {
     let mut counts = Counts::default();
     let mut memory = Memory::default();
@@ -24,6 +26,12 @@ pub fn run(count: u64, seed: u64) -> Compared {
     while counts.get("texts") < count {
         let text = program(&mut random);
         hold(&text, &mut memory, &mut counts)?;
+    }
+    for _ in 0..count {
+        let text = program(&mut random);
+        let text = with_characters(&mut random, &text);
+        hold(&text, &mut memory, &mut counts)?;
+        counts.add("texts with characters");
     }
     Ok(counts)
 }
@@ -93,13 +101,12 @@ fn hold_against_original(
     counts: &mut Counts,
 ) -> Result<(), Difference> {
     let asked = || format!("parse, as the original, {}", shown(text));
-    let Answer::Compared {
-        ending,
-        parsed: original,
-        ..
-    } = answer(text)
-    else {
-        unreachable!("every text here is ASCII and short enough")
+    let (ending, original) = match answer(text) {
+        Answer::Compared { ending, parsed, .. } => (ending, parsed),
+        Answer::NotCompared { number: told } => {
+            counts.add(format!("not asked, refused {told}"));
+            return same(number(parsed), told, asked);
+        }
     };
     match original {
         Parsed::NotScanned => {
@@ -117,6 +124,9 @@ fn hold_against_original(
         Parsed::Accepted(tree) => match parsed {
             Ok(nodes) => {
                 counts.add("accepted");
+                if !text.is_ascii() {
+                    counts.add("accepted, with characters");
+                }
                 counts.add_many("nodes", nodes.len() as u64);
                 same(agree(nodes, &tree), Ok(()), asked)
             }

@@ -2,31 +2,48 @@
 
 use super::{memory_with, same, shown, Compared, Counts, Difference, Memory};
 use crate::answer::{answer, Answer};
+use crate::differences::first_character_outside;
+use crate::generate::characters::with_characters;
 use crate::generate::random::Random;
 use crate::generate::{fixed_texts, lengths, random_text};
 use crate::model::{refusal_words, scan::scan, Told};
 use spoonharbor::lent;
 
-/// Every fixed text, the texts of limit length, and random ones up to `count`.
+/// Every fixed text, the texts of limit length, and random ones up to `count`; then as many with characters of two bytes and more.
 pub fn run(count: u64, seed: u64) -> Compared {
     let mut counts = Counts::default();
     let mut memory = Memory::default();
     for text in fixed_texts() {
-        hold(&text, true, &mut memory, &mut counts)?;
+        hold(&text, &mut memory, &mut counts)?;
     }
     for text in lengths::texts() {
-        hold(&text, true, &mut memory, &mut counts)?;
+        hold(&text, &mut memory, &mut counts)?;
     }
     let mut random = Random::new(seed);
     while counts.get("texts") < count {
         let mut text = random_text(&mut random);
-        hold(&text, true, &mut memory, &mut counts)?;
+        hold(&text, &mut memory, &mut counts)?;
         if random.one_in(50) {
             spoil(&mut random, &mut text);
-            hold(&text, false, &mut memory, &mut counts)?;
+            hold(&text, &mut memory, &mut counts)?;
         }
     }
+    for _ in 0..count {
+        let text = random_text(&mut random);
+        let text = with_characters(&mut random, &text);
+        hold(&text, &mut memory, &mut counts)?;
+        counts.add(kind_of(&text));
+    }
     Ok(counts)
+}
+
+/// Where a text's characters of two bytes and more stand.
+fn kind_of(text: &[u8]) -> &'static str {
+    match std::str::from_utf8(text).map(first_character_outside) {
+        Err(_) => "with characters, broken",
+        Ok(None) => "with characters, all in comments and strings",
+        Ok(Some(_)) => "with characters, also outside comments and strings",
+    }
 }
 
 /// Puts a byte of 128 or more somewhere.
@@ -37,16 +54,9 @@ fn spoil(random: &mut Random, text: &mut Vec<u8>) {
 }
 
 /// Holds the scan of one text, with room in plenty, exactly full, one short, half and none, and words that are no whole row.
-fn hold(
-    text: &[u8],
-    is_ascii: bool,
-    memory: &mut Memory,
-    counts: &mut Counts,
-) -> Result<(), Difference> {
+fn hold(text: &[u8], memory: &mut Memory, counts: &mut Counts) -> Result<(), Difference> {
     let told = scan(text, usize::MAX);
-    if is_ascii {
-        hold_against_original(text, &told, counts)?;
-    }
+    hold_against_original(text, &told, counts)?;
     let rows = told.rows.len();
     for room in [rows + 3, rows, rows.saturating_sub(1), rows / 2, 0] {
         for remainder in [0, 7] {
@@ -86,7 +96,9 @@ fn hold_against_original(text: &[u8], model: &Told, counts: &mut Counts) -> Resu
     let asked = || format!("scan, as the original, {}", shown(text));
     let original = match answer(text) {
         Answer::NotCompared { number } => {
-            counts.add("texts that the original takes and LANGUAGE.md refuses");
+            counts.add(format!(
+                "texts that the original is not asked about, refused {number}"
+            ));
             return same(table[0], number, asked);
         }
         Answer::Compared { rows, ending, .. } => Told {

@@ -1,10 +1,11 @@
-//! Tables from outside: the table test, spelling, restart, parse and edit of tables with words changed, against the model.
+//! Tables from outside: the table test, spelling, restart, parse, edit and change of tables with words changed, against the model.
 
 use super::{memory_with, same, shown, Compared, Counts, Difference, Memory, CANARY};
+use crate::generate::characters::{put_over, with_characters};
 use crate::generate::random::Random;
 use crate::generate::{random_text, short};
 use crate::method_sets::{kind_of_section, mask_of, PROGRAM_KINDS};
-use crate::model::edit::{edit, restart, Change};
+use crate::model::edit::{change as changed, edit, restart, Change};
 use crate::model::parse::parse;
 use crate::model::refusal_words;
 use crate::model::table::Lent;
@@ -17,6 +18,9 @@ pub fn run(count: u64, seed: u64) -> Compared {
     let mut random = Random::new(seed);
     for _ in 0..count {
         let mut text = random_text(&mut random);
+        if random.one_in(3) {
+            text = with_characters(&mut random, &text);
+        }
         let mut rows = vec![0; (text.len() + 1) * 8];
         let mut table = lent::scan(&text, &mut rows);
         if random.one_in(2) {
@@ -108,7 +112,8 @@ fn hold(
     same(answer, expected, asked)?;
     same(&*nodes, &written[..], asked)?;
 
-    hold_edit(random, lent_table, a, memory, counts)
+    hold_edit(random, lent_table, a, memory, counts)?;
+    hold_change(random, lent_table, a, memory, counts)
 }
 
 /// An edit of a table that no text need have.
@@ -129,7 +134,10 @@ fn hold_edit(
         .saturating_sub(start as usize)
         .min(400);
     let length = random.below(rest + 4);
-    let window = short::random_text(random, length);
+    let mut window = short::random_text(random, length);
+    if random.one_in(3) {
+        put_over(random, &mut window);
+    }
     let words = old.rows.len();
     let expected = edit(old, change, start, &window, words / 8);
     let new = memory.fresh(words);
@@ -144,6 +152,45 @@ fn hold_edit(
     same(&*new, &memory_with(&expected, words)[..], asked)?;
     counts.add(format!(
         "edit of any table, answered {}",
+        answer[lent::NUMBER]
+    ));
+    Ok(())
+}
+
+/// A change of a table that no text need have, to a text that mostly is as long as the change makes it.
+fn hold_change(
+    random: &mut Random,
+    old: Lent,
+    a: u32,
+    memory: &mut Memory,
+    counts: &mut Counts,
+) -> Result<(), Difference> {
+    let change = Change {
+        a,
+        b: a + random.below(4) as u32,
+        n: random.below(4) as u32,
+    };
+    let grown = u64::from(old.length()) + u64::from(change.n) + u64::from(a);
+    let makes = grown.saturating_sub(u64::from(change.b));
+    let length = makes.min(70_000) as usize + usize::from(random.one_in(8));
+    let mut text = short::random_text(random, length);
+    if random.one_in(3) {
+        put_over(random, &mut text);
+    }
+    let words = old.rows.len();
+    let expected = changed(old, change, &text, words / 8);
+    let new = memory.fresh(words);
+    let numbers = lent::Change {
+        a: change.a,
+        b: change.b,
+        n: change.n,
+    };
+    let answer = lent::change(old.rows, old.table, numbers, &text, new);
+    let asked = || format!("{change:?} into {} on {old:?}", shown(&text));
+    same(answer, expected.words(), asked)?;
+    same(&*new, &memory_with(&expected, words)[..], asked)?;
+    counts.add(format!(
+        "change of any table, answered {}",
         answer[lent::NUMBER]
     ));
     Ok(())

@@ -8,7 +8,7 @@ use lib.Dec.{eqb, leb}
 use Rattle.rules.specs.Rows.{atEnd, atStart, wordsPerRow}
 use Rattle.rules.specs.declared.Cursor.{Cursor}
 use Rattle.rules.specs.declared.Lexical.{Lexical}
-use Rattle.rules.specs.declared.Lexical.the-variants.{NoRowBegins, OpenComment, OpenString, BadEscape, NumberTooLarge}
+use Rattle.rules.specs.declared.Lexical.the-variants.{NoRowBegins, LoneSign, NoHexDigit, OpenComment, OpenString, BadEscape, NumberTooLarge}
 use Rattle.rules.specs.declared.Ending.{Ending}
 use Rattle.rules.specs.declared.Ending.the-variants as ending
 use Rattle.rules.specs.declared.Outer.{Outer}
@@ -79,14 +79,17 @@ parsedWords (parsed.Refused why p) = reasonWords why p
 
 -- ---- a table that is lent in the words in which it was told
 
--- 0, or 11 to 15; the three reasons for 11 have one number, and the first of them stands for it
+-- 0, or 11 to 17
 unfoldable pub isEnding : ℕ → Bool
-isEnding number = cond (eqb number 0) true (leb 11 number && leb number 15)
+isEnding number = cond (eqb number 0) true (leb 11 number && leb number 17)
 
+-- the reason whose number it is
 unfoldable pub lexicalOf : ℕ → Lexical
 lexicalOf number =
     cond (eqb number 12) OpenComment
-    (cond (eqb number 13) OpenString (cond (eqb number 14) BadEscape (cond (eqb number 15) NumberTooLarge NoRowBegins)))
+    (cond (eqb number 13) OpenString
+    (cond (eqb number 14) BadEscape
+    (cond (eqb number 15) NumberTooLarge (cond (eqb number 16) LoneSign (cond (eqb number 17) NoHexDigit NoRowBegins)))))
 
 abbrev pub endingOf : List ℕ → Ending
 endingOf ws =

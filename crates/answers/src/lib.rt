@@ -32,6 +32,8 @@ fn lexical_of(number: u32) -> Lexical
         13 => Lexical::OpenString,
         14 => Lexical::BadEscape,
         15 => Lexical::NumberTooLarge,
+        16 => Lexical::LoneSign,
+        17 => Lexical::NoHexDigit,
         _ => Lexical::NoRowBegins,
     }
 }
@@ -46,7 +48,7 @@ fn is_ending(number: u32) -> bool
     if number < 11 {
         return false;
     }
-    number <= 15
+    number <= 17
 }
 
 // ---- answers into eight words

@@ -1,40 +1,30 @@
 -- What an edit tells and leaves, by the order of its refusals.
--- the pass tells a short window
 use mathlib.Core.Path.{_≡_, refl, sym, ap, subst, _∙_}
-use mathlib.Core.Bool.{Bool, true, false, _&&_}
+use mathlib.Core.Bool.{Bool, true, false, not, _&&_}
 use mathlib.Core.List.{List, _++_}
 use Prim.Native.Nat.{ℕ, suc, _+_, _*_, _≤_, _<_}
 use native.Mathlib.Omega.{arith}
 use lib.ListN.{length, take}
-use lib.Dec.{eqb, leb}
+use lib.Dec.{eqb, leb, ltb}
 use borrow.Author.Tests.{lt-ltb, le-ltb, leb-true, eqb-true}
 use Rattle.rules.specs.declared.Cursor.{Cursor}
 use Rattle.rules.specs.declared.Outer.the-variants.{TextTooLong, BadByte, NotWellFormed, EditNotSensible, WindowShort}
 use Rattle.rules.specs.declared.Table.{Table}
 use Rattle.rules.specs.declared.Told.{Told}
 use Rattle.rules.specs.declared.Told.the-variants.{Refused}
-use Rattle.rules.specs.Text.{mostBytes, startPlace, validBytes, over}
-use Rattle.rules.specs.Rows.{Row, rowsIn, wellFormed}
+use Rattle.rules.specs.Text.{mostBytes, startPlace, over}
+use Rattle.rules.specs.Rows.{rowsIn, wellFormed}
 use Rattle.rules.specs.Scan.{told, laid}
-use Rattle.rules.specs.Edit.{Seen, sees, over′, met, short, isShort, kept, lastEnd, restart, newLength, sensible, ends, windowShort, newRows, newEnding, editTold, editLeaves}
+use Rattle.rules.specs.Edit.{isShort, kept, lastEnd, restart, newLength, sensible, ends, judging, unjudged, windowBytes, windowShort, newRows, newEnding, editTold, editLeaves}
 use Rattle.laws.proofs.Tests.{both-true}
 use Rattle.rows.specs.Shape.{rowNo}
 use Rattle.rows.proofs.Inside.{fine}
-use Rattle.laws.proofs.Valid.{is-valid, is-bad}
+use Rattle.laws.proofs.Valid.{is-window-valid, is-window-bad}
 use Rattle.edit_carry.specs.Moves.{Ended}
 use Rattle.edit_carry.proofs.Kept.{kept-inside, kept-rows}
-use Rattle.edit_sight.specs.Sight.{sightOf}
 use Rattle.edit.specs.declared.Job.{Job}
-use Rattle.edit.specs.Job.{sensibleAt, oldRows, sizeAfter, Ready, jobSeen, jobRows, jobEnding, jobSight, isShortSight, rereadTold, rereadLeaves}
+use Rattle.edit.specs.Job.{sensibleAt, jobOf, oldRows, sizeAfter, Tested, Ready, jobSeen, jobRows, jobEnding, rereadTold, rereadLeaves}
 use Rattle.edit.proofs.Facts.{ended}
-use Rattle.edit.proofs.Jobs.{sight-same}
-
-short-same : (olds : List Row) (least b : ℕ) (w : List ℕ) (p : Cursor) (x : Seen) → isShort x ≡ isShortSight (sightOf olds least b w p x)
-unfolding isShort sightOf
-short-same olds least b w p (sees r s) = short-same olds least b w p s
-short-same olds least b w p (over′ e) = refl
-short-same olds least b w p (met m) = refl
-short-same olds least b w p short = refl
 
 -- ---- 7, and then the rows
 
@@ -47,40 +37,37 @@ module _ {ws : List ℕ} {j : Job} {w : List ℕ} (r : Ready ws j w) where
   pub whole-by : (x y : ℕ) → x ≡ j .begin .offset .0 → y ≡ sizeAfter j → eqb (x + length w) y ≡ wholeOf
   whole-by x y e f = rw (e, f, r .begin)
 
-  short-by : (whole : Bool) → isShort (jobSeen ws j w whole) ≡ isShortSight (jobSight ws j w whole)
-  short-by whole = short-same (oldRows ws j) (j .a + j .n) (j .b) w (j .begin) (jobSeen ws j w whole) ∙ ap isShortSight (sight-same r whole)
+  -- it shows too little to be judged
+  abbrev pub early : Bool
+  early = unjudged (oldRows ws j) (j .table .length) (j .a) (j .b) (j .n) w
 
-  -- the window ends before a + n, or shows too little
-  short-window : Bool
-  short-window = windowShort (oldRows ws j) (j .table .ending) (j .table .length) (j .a) (j .b) (j .n) w
-
-  early : j .begin .offset .0 + length w < j .a + j .n → short-window ≡ true
-  unfolding windowShort short-window
-  early h = rw (lt-ltb _ _ (subst (λ (p : Cursor). p .offset .0 + length w < j .a + j .n) (r .begin) h))
-
-  late : j .a + j .n ≤ j .begin .offset .0 + length w → (whole : Bool) → whole ≡ wholeOf → short-window ≡ isShortSight (jobSight ws j w whole)
-  unfolding windowShort short-window jobSeen
-  late h whole e =
-      rw (le-ltb _ _ (subst (λ (p : Cursor). j .a + j .n ≤ p .offset .0 + length w) (r .begin) h))
-      (ap (λ (q : Bool). isShort (jobSeen ws j w q)) (sym e) ∙ short-by whole)
+  pub early-by : (x y : ℕ) (q : Bool) → x ≡ j .begin .offset .0 → y ≡ j .a + j .n → q ≡ wholeOf → (ltb (x + length w) (y + judging) && not q) ≡ early
+  unfolding unjudged
+  early-by x y q e f g = rw (e, f, g, r .begin)
 
   module _ (m : ℕ) (new : List ℕ) where
-    refused-7 : short-window ≡ true → (Refused WindowShort startPlace 0 ≡ rereadTold ws j w m) × (new ≡ rereadLeaves ws j w new)
-    unfolding rereadTold rereadLeaves short-window
-    refused-7 e = rw e (refl, refl)
+    abbrev Reread : Told → List ℕ → Type 0
+    Reread x ys = (x ≡ rereadTold ws j w m) × (ys ≡ rereadLeaves ws j w new)
 
-    pub reread-early : j .begin .offset .0 + length w < j .a + j .n → (Refused WindowShort startPlace 0 ≡ rereadTold ws j w m) × (new ≡ rereadLeaves ws j w new)
-    reread-early h = refused-7 (early h)
+    pub reread-early : early ≡ true → Reread (Refused WindowShort startPlace 0) new
+    unfolding rereadTold rereadLeaves
+    reread-early e = rw e (refl, refl)
 
-    module _ (h : j .a + j .n ≤ j .begin .offset .0 + length w) (whole : Bool) (e : whole ≡ wholeOf) where
-      pub reread-short : isShortSight (jobSight ws j w whole) ≡ true → (Refused WindowShort startPlace 0 ≡ rereadTold ws j w m) × (new ≡ rereadLeaves ws j w new)
-      reread-short f = refused-7 (late h whole e ∙ f)
+    module _ (late : early ≡ false) (whole : Bool) (e : whole ≡ wholeOf) where
+      pub reread-bad : windowBytes whole w < length w → Reread (Refused BadByte (over (j .begin) (take (windowBytes whole w) w)) 0) new
+      unfolding rereadTold rereadLeaves
+      reread-bad h = rw (late, ← e, is-window-bad whole w h, r .begin) (refl, refl)
 
-      pub reread-rows : isShortSight (jobSight ws j w whole) ≡ false → (size : ℕ) → size ≡ sizeAfter j → (x : Told) (ys : List ℕ) →
-          (x ≡ told size m (kept (j .a) (oldRows ws j) ++ jobRows ws j w whole) (jobEnding ws j w whole)) × (ys ≡ laid (kept (j .a) (oldRows ws j) ++ jobRows ws j w whole) new) →
-          (x ≡ rereadTold ws j w m) × (ys ≡ rereadLeaves ws j w new)
-      unfolding rereadTold rereadLeaves short-window newRows newEnding jobRows jobEnding jobSeen
-      reread-rows f size g x ys q = rw (late h whole e ∙ f) (rw (← e, ← g) q)
+      module _ (good : length w ≤ windowBytes whole w) where
+        pub reread-short : isShort (jobSeen ws j w whole) ≡ true → Reread (Refused WindowShort startPlace 0) new
+        unfolding rereadTold rereadLeaves windowShort jobSeen
+        reread-short f = rw (late, ← e, is-window-valid whole w good, f) (refl, refl)
+
+        pub reread-rows : isShort (jobSeen ws j w whole) ≡ false → (size : ℕ) → size ≡ sizeAfter j → (x : Told) (ys : List ℕ) →
+            (x ≡ told size m (kept (j .a) (oldRows ws j) ++ jobRows ws j w whole) (jobEnding ws j w whole)) × (ys ≡ laid (kept (j .a) (oldRows ws j) ++ jobRows ws j w whole) new) →
+            Reread x ys
+        unfolding rereadTold rereadLeaves windowShort newRows newEnding jobRows jobEnding jobSeen
+        reread-rows f size g x ys q = rw (late, ← e, is-window-valid whole w good, f) (rw (← g) q)
 
 -- ---- the call
 
@@ -115,50 +102,63 @@ module _ (len a b n begin start size : ℕ) where
         fits = leb-true (start + size) (newLength len a b n) (z .1);
       }
 
-module _ (ws : List ℕ) (t : Table) (a b n start : ℕ) (w : List ℕ) where
-  abbrev olds : List Row
-  olds = rowsIn (t .count) ws
+-- what an edit tells and leaves
+abbrev pub Edited : List ℕ → Table → (a b n start : ℕ) → List ℕ → ℕ → List ℕ → Told → List ℕ → Type 0
+Edited ws t a b n start w m new x ys = (x ≡ editTold ws t a b n start w m) × (ys ≡ editLeaves ws t a b n start w new)
 
-  abbrev pub Edited : ℕ → List ℕ → Told → List ℕ → Type 0
-  Edited m new x ys = (x ≡ editTold ws t a b n start w m) × (ys ≡ editLeaves ws t a b n start w new)
+module _ (ws : List ℕ) (t : Table) (a b n : ℕ) where
+  pub job-by : (k : ℕ) → k ≡ length (kept a (rowsIn (t .count) ws)) → (p : Cursor) → p ≡ restart (rowsIn (t .count) ws) a
+      → record { table = t; a = a; b = b; n = n; kept = k; begin = p } ≡ jobOf ws t a b n
+  job-by k e p f = rw (e, f)
 
-  pub edit-3 : (m : ℕ) (new : List ℕ) → wellFormed ws t ≡ false → Edited m new (Refused NotWellFormed startPlace 0) new
+  pub edit-3 : (start : ℕ) (w : List ℕ) (m : ℕ) (new : List ℕ) → wellFormed ws t ≡ false
+      → Edited ws t a b n start w m new (Refused NotWellFormed startPlace 0) new
   unfolding editTold editLeaves
-  edit-3 m new e = rw e (refl, refl)
+  edit-3 start w m new e = rw e (refl, refl)
 
-  module _ (f : wellFormed ws t ≡ true) (offset : ℕ) (p : offset ≡ restart olds a .offset .0) where
-    pub edit-6 : (m : ℕ) (new : List ℕ) → sensibleAt (t .length) a b n offset start (length w) ≡ false → Edited m new (Refused EditNotSensible startPlace 0) new
-    unfolding editTold editLeaves sensible sensibleAt
-    edit-6 m new e = rw (f, rw p at e) (refl, refl)
+  -- the job of a tested table serves as the table and the numbers
+  module _ (j : Job) (s : j ≡ jobOf ws t a b n) where
+    pub tested-by : wellFormed ws t ≡ true → Tested ws j
+    tested-by f = subst (Tested ws) (sym s) (record { fine = f; kept = refl; begin = refl })
 
-    module _ (s : sensibleAt (t .length) a b n offset start (length w) ≡ true) where
-      pub edit-1 : (m : ℕ) (new : List ℕ) → mostBytes < newLength (t .length) a b n → Edited m new (Refused TextTooLong startPlace 0) new
-      unfolding editTold editLeaves sensible sensibleAt
-      edit-1 m new h = rw (f, rw p at s, lt-ltb mostBytes (newLength (t .length) a b n) h) (refl, refl)
+    pub edited-by : (start : ℕ) (w : List ℕ) (m : ℕ) (new : List ℕ) (x : Told) (ys : List ℕ)
+        → Edited ws (j .table) (j .a) (j .b) (j .n) start w m new x ys → Edited ws t a b n start w m new x ys
+    edited-by start w m new x ys = subst (λ (i : Job). Edited ws (i .table) (i .a) (i .b) (i .n) start w m new x ys) s
 
-      module _ (h : newLength (t .length) a b n ≤ mostBytes) where
-        pub edit-2 : (m : ℕ) (new : List ℕ) → validBytes w < length w → Edited m new (Refused BadByte (over (restart olds a) (take (validBytes w) w)) 0) new
-        unfolding editTold editLeaves sensible sensibleAt
-        edit-2 m new l = rw (f, rw p at s, le-ltb mostBytes (newLength (t .length) a b n) h, is-bad w l) (refl, refl)
+module _ {ws : List ℕ} {j : Job} (t : Tested ws j) (start : ℕ) (w : List ℕ) where
+  abbrev JobEdited : ℕ → List ℕ → Told → List ℕ → Type 0
+  JobEdited = Edited ws (j .table) (j .a) (j .b) (j .n) start w
 
-        module _ (k : ℕ) (q : k ≡ length (kept a olds)) (c : Cursor) (g : c ≡ restart olds a) where
-          abbrev pub jobOf : Job
-          jobOf = record { table = t; a = a; b = b; n = n; kept = k; begin = c }
+  abbrev pub senses : Bool
+  senses = sensibleAt (j .table .length) (j .a) (j .b) (j .n) (j .begin .offset .0) start (length w)
 
-          pub ready-by : Ready ws jobOf w
-          ready-by =
-              let x = sensible-by (t .length) a b n offset start (length w) s in
-              record {
-                fine = f;
-                kept = q;
-                begin = g;
-                order = x .order;
-                inside = x .inside;
-                fits = omega (arith, x .same, x .fits, p, ap (λ (z : Cursor). z .offset .0) g);
-                short = h;
-              }
+  senses-by : sensible (oldRows ws j) (j .table .length) (j .a) (j .b) (j .n) start w ≡ senses
+  unfolding sensible sensibleAt
+  senses-by = rw (t .begin)
 
-          pub edit-rest : (m : ℕ) (new : List ℕ) → length w ≤ validBytes w → (x : Told) (ys : List ℕ) →
-              (x ≡ rereadTold ws jobOf w m) × (ys ≡ rereadLeaves ws jobOf w new) → Edited m new x ys
-          unfolding editTold editLeaves sensible sensibleAt rereadTold rereadLeaves
-          edit-rest m new l x ys z = rw (f, rw p at s, le-ltb mostBytes (newLength (t .length) a b n) h, is-valid w l) z
+  pub edit-6 : (m : ℕ) (new : List ℕ) → senses ≡ false → JobEdited m new (Refused EditNotSensible startPlace 0) new
+  unfolding editTold editLeaves
+  edit-6 m new e = rw (t .fine, senses-by, e) (refl, refl)
+
+  module _ (s : senses ≡ true) where
+    pub edit-1 : (m : ℕ) (new : List ℕ) → mostBytes < sizeAfter j → JobEdited m new (Refused TextTooLong startPlace 0) new
+    unfolding editTold editLeaves
+    edit-1 m new h = rw (t .fine, senses-by, s, lt-ltb mostBytes (sizeAfter j) h) (refl, refl)
+
+    module _ (h : sizeAfter j ≤ mostBytes) where
+      pub ready-by : Ready ws j w
+      ready-by =
+          let x = sensible-by (j .table .length) (j .a) (j .b) (j .n) (j .begin .offset .0) start (length w) s in
+          record {
+            fine = t .fine;
+            kept = t .kept;
+            begin = t .begin;
+            order = x .order;
+            inside = x .inside;
+            fits = omega (arith, x .same, x .fits);
+            short = h;
+          }
+
+      pub edit-rest : (m : ℕ) (new : List ℕ) (x : Told) (ys : List ℕ) → (x ≡ rereadTold ws j w m) × (ys ≡ rereadLeaves ws j w new) → JobEdited m new x ys
+      unfolding editTold editLeaves rereadTold rereadLeaves
+      edit-rest m new x ys z = rw (t .fine, senses-by, s, le-ltb mostBytes (sizeAfter j) h) z

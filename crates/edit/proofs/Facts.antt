@@ -1,4 +1,4 @@
--- What a well-formed table gives the edit: starts rise, and what is moved from one of its rows on fits.
+-- What a well-formed table gives the edit: starts and ends rise, and what is moved from one of its rows on fits.
 use mathlib.Core.Path.{_≡_, refl, sym}
 use mathlib.Core.Bool.{true, not, _&&_, _||_}
 use mathlib.Core.List.{List}
@@ -19,8 +19,8 @@ use Rattle.rows.specs.Shape.{rowNo, behind}
 use Rattle.laws.proofs.Tests.{both-true}
 use Rattle.rows.proofs.Inside
 use Rattle.rows.proofs.Inside.{Fine, Ends, Broken, clean, broken, row-sound, in-order}
-use Rattle.edit_carry.specs.Moves.{MovesPlace, MovesRow, MovesEnding, none, refused, Ended}
-use Rattle.edit_sight.specs.Sight.{Rising}
+use Rattle.edit_carry.specs.Moves.{EndsRise, MovesPlace, MovesRow, MovesEnding, none, refused, Ended}
+use Rattle.scan_walk.specs.Meeting.{Rising}
 
 -- ---- lines
 
@@ -54,14 +54,23 @@ lines-self p = record { line = le-refl (p .line .0); column = λ z. refl }
 -- ---- the rows of a well-formed table
 
 module _ {ws : List ℕ} {t : Table} (f : Fine ws t) where
+  -- a row ends before a later one starts
+  later : (i j : ℕ) → i < j → j < t .count → rowNo ws i .end ≤ rowNo ws j .start
+  later i j h l = let k : suc (i + (j - suc i)) ≡ j = omega arith in rw k at (in-order f i (j - suc i) (rw k l))
+
   pub rising : Rising ws (t .count)
   rising = record { rises = λ i j h l. pick i j h l (ℕ-discrete i j) }
     where
       pick : (i j : ℕ) → i ≤ j → j < t .count → Dec (i ≡ j) → rowNo ws i .start ≤ rowNo ws j .start
       pick i j h l (yes e) = rw e (le-refl (rowNo ws j .start))
-      pick i j h l (no e) =
-          let k : suc (i + (j - suc i)) ≡ j = omega arith in
-          omega (arith, row-sound f i (omega arith) .ordered, rw k at (in-order f i (j - suc i) (rw k l)))
+      pick i j h l (no e) = omega (arith, row-sound f i (omega arith) .ordered, later i j (omega arith) l)
+
+  pub ends-rise : EndsRise ws (t .count)
+  ends-rise = record { rises = λ i j h l. pick i j h l (ℕ-discrete i j) }
+    where
+      pick : (i j : ℕ) → i ≤ j → j < t .count → Dec (i ≡ j) → rowNo ws i .end ≤ rowNo ws j .end
+      pick i j h l (yes e) = rw e (le-refl (rowNo ws j .end))
+      pick i j h l (no e) = omega (arith, row-sound f j l .ordered, later i j (omega arith) l)
 
   pub ended : (i : ℕ) → i < t .count → Ended (rowNo ws i)
   ended i h =

@@ -1,37 +1,38 @@
--- An edit whose numbers are sensible: what its parts ask of it holds, and what they write is what is seen.
--- a place whose counters are small has room
+-- An edit whose numbers are sensible: what its parts ask of it holds, and what is written is what is seen, by how the walk stops.
 use mathlib.Core.Path.{_≡_, sym, ap, subst, _∙_}
-use mathlib.Core.Bool.{Bool}
-use mathlib.Core.List.{List, [], _++_, map}
-use Prim.Native.Nat.{ℕ, zero, suc, _+_, _-_, _*_, _^_, _≤_, _<_}
-use native.Mathlib.Nat.{add-zero}
+use mathlib.Core.Bool.{Bool, true, false}
+use mathlib.Core.List.{List, [], _++_}
+use Prim.Native.Nat.{ℕ, zero, suc, _+_, _*_, _^_, _≤_, _<_}
 use native.Mathlib.Omega.{arith}
 use lib.ListN.{length, take, drop}
 use lib.Seq.{drop-cons, length-take-le}
 use Rattle.rules.specs.declared.Cursor.{Cursor}
-use Rattle.rules.specs.Text.{mostBytes, startPlace, over, Roomy}
+use Rattle.rules.specs.declared.Ending.{Ending}
+use Rattle.rules.specs.Text.{mostBytes, startPlace, Roomy}
 use Rattle.rules.specs.Rows.{Row, rowIn, rowsIn, rowPlace, wordsOf}
 use Rattle.rules.specs.Scan.{roomOf, laid}
-use Rattle.rules.specs.Edit.{Seen, look, kept, endPlace, lastEnd, restart, from, firstPlace, carryRow, carryEnding, meets, windowPlace, seen, seenRows}
-use Rattle.laws.proofs.Places.{over-offset, roomy-less, roomy-over}
-use Rattle.scan_reader.specs.declared.Spot.{Spot}
-use Rattle.scan_reader.specs.Read.{onward, Ahead}
-use Rattle.rows.specs.Shape.{rowNo}
+use Rattle.rules.specs.Edit.{isShort, kept, endPlace, lastEnd, restart, firstPlace, meets, windowPlace, seen}
+use Rattle.laws.proofs.Places.{roomy-less, roomy-over}
 use Rattle.laws.proofs.Rows.{rows-length, rows-at, take-rows, laid-all}
+use Rattle.scan_reader.specs.declared.Spot.{Spot}
+use Rattle.scan_reader.specs.Read.{onward}
+use Rattle.rows.specs.Shape.{rowNo}
 use Rattle.rows.proofs.Inside
 use Rattle.rows.proofs.Inside.{Fine, fine, row-sound, few-rows}
 use Rattle.edit_carry.proofs.Kept.{keptCount, kept-inside, kept-rows, kept-below, behind-rows}
-use Rattle.edit_sight.specs.declared.Sight.the-variants.{Met, Over}
-use Rattle.edit_sight.specs.Sight.{Sightable, meetsAt, placeIn, startOf, sightOf, seenFrom}
-use Rattle.scan.specs.declared.Stop.the-variants as stops
-use Rattle.scan.specs.Writing.{written, spotFrom, rowsOf, stopOf, wroteOf, leaves}
+use Rattle.scan_walk.specs.declared.Olds.{Olds}
+use Rattle.scan_walk.specs.declared.Stop.the-variants.{Met, Over}
+use Rattle.scan_walk.specs.declared.Walked.{Walked}
+use Rattle.scan_walk.specs.Meeting.{meetsAt}
+use Rattle.scan_walk.specs.Walk.{Walkable, placeIn, rowsSeen, seenFrom, walkSeen, walkRows, walkOf}
 use Rattle.edit.specs.declared.Job.{Job}
-use Rattle.edit.specs.Job.{Ready, oldRows, jobSeen, jobRows, jobEnding, jobSight, tailTold, tailOf, rowsBefore, rowsBehind, endingBehind, Meets}
-use Rattle.edit.proofs.Joins.{Joins, Reaches, join}
+use Rattle.edit.specs.declared.Tail.the-variants.{Full}
+use Rattle.edit.specs.Job.{Ready, Follows, oldRows, oldsOf, jobSeen, jobRows, jobEnding, tailTold, rowsBehind, endingBehind}
 use Rattle.edit.proofs.Facts.{rising, moves-row, moves-ending}
-use Rattle.edit.proofs.Tails.{tail-over}
-use Rattle.edit.proofs.Seens.{Mets, Lies, lies, Meeting, meeting, over-reaches, MetBy, met-by, over-by, seen-few}
+use Rattle.edit.proofs.Tails.{full-before}
+use Rattle.edit.proofs.Seens.{Shown, shown, shown-few, shown-whole, isLacking, meetsOf, stopOf, seen-few, begins, by-lacking, by-over, Meeting, by-met}
 
+-- a place whose counters are small has room
 roomy : (n : ℕ) (c : Cursor) → n ≤ 2 ^ 31 + mostBytes → c .offset .0 ≤ mostBytes + 1 → c .line .0 ≤ mostBytes + 1 → c .column .0 ≤ mostBytes + 1 → Roomy n c
 roomy n c h a b d = record { offset = omega arith; line = omega arith; column = omega arith }
 
@@ -87,11 +88,8 @@ module _ {ws : List ℕ} {j : Job} {w : List ℕ} (r : Ready ws j w) where
   room-window : Roomy (length w) (j .begin)
   room-window = roomy-less (2 ^ 31 + length w) (length w) (j .begin) (omega arith) room-begin
 
-  pub ahead : Ahead w (startOf (j .begin))
-  ahead = record { inside = omega arith; roomy = roomy-less (length w) (length w - 0) (j .begin) (omega arith) room-window }
-
-  pub sightable : Sightable ws (j .table .count) (j .kept) (j .a + j .n) (j .b) w (j .begin)
-  sightable =
+  can-walk : Walkable ws (oldsOf j) w (j .begin)
+  can-walk =
       record {
         lent = sound .lent;
         few = few-kept;
@@ -104,129 +102,116 @@ module _ {ws : List ℕ} {j : Job} {w : List ℕ} (r : Ready ws j w) where
         roomy = room-window;
       }
 
+  pub walkable : (o : Olds) → o ≡ oldsOf j → Walkable ws o w (j .begin)
+  walkable o d = rw d can-walk
+
   -- ---- what is seen
 
-  pub seen-same : (whole : Bool) → jobSeen ws j w whole ≡ seenFrom (oldRows ws j) (j .a + j .n) (j .b) w (j .begin) whole
-  unfolding jobSeen seen meets windowPlace seenFrom meetsAt placeIn
-  seen-same whole = rw (r .begin)
-
-  -- what is seen and what is written up to an index go together
-  joined : (whole : Bool) (u : ℕ) → Reaches (j .begin .offset .0) u (length w) (jobSeen ws j w whole) →
-      Joins (spotFrom w (startOf (j .begin))) (j .begin .offset .0) u (jobSeen ws j w whole) (written w (startOf (j .begin)) u whole)
-  unfolding seenFrom written placeIn onward
-  joined whole u h =
-      let p = j .begin in
-      let k = p .offset .0 in
-      let e : look (placeIn p w) (meetsAt (oldRows ws j) (j .a + j .n) (j .b)) whole 0 (k + 0) w ≡ jobSeen ws j w whole =
-      ap (λ (z : ℕ). look (placeIn p w) (meetsAt (oldRows ws j) (j .a + j .n) (j .b)) whole 0 z w) (add-zero k) ∙ sym (seen-same whole) in
-      subst (λ (x : Seen). Joins (spotFrom w (startOf p)) k u x (written w (startOf p) u whole)) e
-      (join (placeIn p w) (meetsAt (oldRows ws j) (j .a + j .n) (j .b)) whole k u (length w) (spotFrom w (startOf p)) (same p) (offset p) 0 0 w (omega arith)
-      (subst (Reaches k u (length w)) (sym e) h))
-    where
-      same : (p : Cursor) (i : ℕ) → over p (take (p .offset .0 + i - p .offset .0) w) ≡ over p (take (i - 0) w)
-      same p i = let a : p .offset .0 + i - p .offset .0 ≡ i = omega arith in let b : i - 0 ≡ i = omega arith in rw (a, b)
-
-      offset : (p : Cursor) (i : ℕ) → i ≤ length w → over p (take (i - 0) w) .offset .0 ≡ p .offset .0 + i
-      offset p i h = let b : i - 0 ≡ i = omega arith in over-offset p (take (i - 0) w) ∙ rw (b, length-take-le i w h)
-
   module _ (whole : Bool) where
-    pub sight-same : sightOf (oldRows ws j) (j .a + j .n) (j .b) w (j .begin) (jobSeen ws j w whole) ≡ jobSight ws j w whole
-    unfolding jobSight
-    sight-same = ap (sightOf (oldRows ws j) (j .a + j .n) (j .b) w (j .begin)) (seen-same whole)
+    abbrev begin : ℕ
+    begin = j .begin .offset .0
 
-    -- no meeting: the window's rows are all
-    pub over-tail : jobSight ws j w whole ≡ Over → (tail : List ℕ) →
-        (tailOf (wroteOf tail (written w (startOf (j .begin)) (length w + 1) whole)) ≡ tailTold (roomOf tail) (jobRows ws j w whole) (jobEnding ws j w whole))
-        × (leaves tail (written w (startOf (j .begin)) (length w + 1) whole) ≡ laid (jobRows ws j w whole) tail)
-    unfolding jobRows jobEnding leaves
-    over-tail e tail =
-        let x = jobSeen ws j w whole in
-        let y = written w (startOf (j .begin)) (length w + 1) whole in
-        let h = over-reaches (oldRows ws j) (j .a + j .n) (j .b) w (j .begin) x (sight-same ∙ e) in
-        let o = over-by (oldRows ws j) (j .table .ending) (j .a) (j .b) (j .n) w (spotFrom w (startOf (j .begin))) (j .begin .offset .0) (length w + 1) (j .a + j .n) (j .begin) x y (sight-same ∙ e) (joined whole (length w + 1) h) in (
-          tail-over tail y (jobEnding ws j w whole) (o .closes) ∙ ap (λ (z : List Row). tailTold (roomOf tail) z (jobEnding ws j w whole)) (sym (o .rows-over)),
-          ap (λ (z : List Row). laid z tail) (sym (o .rows-over)),
-        )
+    abbrev end : ℕ
+    end = j .begin .offset .0 + length w
 
-    module _ (s : Spot) (row : ℕ) (e : jobSight ws j w whole ≡ Met s row) where
-      there : Meeting (oldRows ws j) (j .a + j .n) (j .b) w (j .begin) (jobSeen ws j w whole) s row
-      unfolding seenFrom
-      there =
-          meeting (oldRows ws j) (j .a + j .n) (j .b) w (j .begin) (jobSeen ws j w whole)
-          (subst (Mets (Lies (meetsAt (oldRows ws j) (j .a + j .n) (j .b)) (j .begin .offset .0) (j .begin .offset .0 + length w))) (sym (seen-same whole))
-          (lies (placeIn (j .begin) w) (meetsAt (oldRows ws j) (j .a + j .n) (j .b)) whole 0 (j .begin .offset .0) w))
-          s row (sight-same ∙ e)
+    -- a walk over the window sees it
+    seen-same : walkSeen ws (oldsOf j) w (j .begin) whole ≡ jobSeen ws j w whole
+    unfolding jobSeen seen meets windowPlace seenFrom meetsAt placeIn
+    seen-same = rw (r .begin)
 
-      row-there : row < j .table .count
-      row-there = rw (rows-length (j .table .count) ws) at (there .there)
+    is-shown : Shown (meetsOf ws j w) whole begin end (jobSeen ws j w whole)
+    unfolding seenFrom
+    is-shown = subst (Shown (meetsOf ws j w) whole begin end) seen-same (shown (placeIn (j .begin) w) (meetsOf ws j w) whole 0 begin w)
 
-      at-spot : s .at ≡ there .at
-      unfolding onward
-      at-spot = ap (λ (z : Spot). z .at) (there .spot) ∙ omega arith
-
-      by : MetBy (oldRows ws j) (j .table .ending) (j .a) (j .b) (j .n) w (spotFrom w (startOf (j .begin))) (j .begin .offset .0) (there .at) (jobSeen ws j w whole) (written w (startOf (j .begin)) (there .at) whole)
-      by =
-          met-by (oldRows ws j) (j .table .ending) (j .a) (j .b) (j .n) w (spotFrom w (startOf (j .begin))) (j .begin .offset .0) (there .at) (j .a + j .n) (j .begin) (jobSeen ws j w whole)
-          (written w (startOf (j .begin)) (there .at) whole) s row (sight-same ∙ e) (joined whole (there .at) (there .reaches))
-
-      -- the place of the meeting, in the old text and in the new
-      place-old : firstPlace (from (j .begin .offset .0 + there .at + j .b - (j .a + j .n)) (oldRows ws j)) ≡ rowPlace (rowNo ws row)
-      unfolding firstPlace
-      place-old =
-          ap firstPlace (there .olds-there ∙ drop-cons (oldRows ws j) row (rowIn []) (there .there))
-          ∙ ap rowPlace (rows-at (j .table .count) ws (rowIn []) row row-there)
-
-      place-new : windowPlace (oldRows ws j) (j .table .ending) (j .a) (j .b) (j .n) w (j .begin .offset .0 + there .at) ≡ s .cursor
-      unfolding windowPlace onward
-      place-new =
-          let z : j .begin .offset .0 + there .at - j .begin .offset .0 ≡ there .at = omega arith in
-          rw (← r .begin) (rw z (sym (ap (λ (q : Spot). q .cursor) (there .spot))))
-
-      pub met-rows : jobRows ws j w whole ≡ rowsBefore w j whole s ++ rowsBehind ws (j .table) row (s .cursor)
-      unfolding jobRows rowsBefore rowsBehind
-      met-rows =
-          by .rows-met
-          ∙ ap (λ (z : List Row). rowsOf (written w (startOf (j .begin)) (there .at) whole) ++ z)
-          (ap (λ (z : Cursor). map (carryRow z (windowPlace (oldRows ws j) (j .table .ending) (j .a) (j .b) (j .n) w (j .begin .offset .0 + there .at))) (from (j .begin .offset .0 + there .at + j .b - (j .a + j .n)) (oldRows ws j))) place-old
-          ∙ ap (λ (z : Cursor). map (carryRow (rowPlace (rowNo ws row)) z) (from (j .begin .offset .0 + there .at + j .b - (j .a + j .n)) (oldRows ws j))) place-new
-          ∙ ap (map (carryRow (rowPlace (rowNo ws row)) (s .cursor))) (there .olds-there))
-          ∙ ap (λ (u : ℕ). rowsOf (written w (startOf (j .begin)) u whole) ++ map (carryRow (rowPlace (rowNo ws row)) (s .cursor)) (drop row (oldRows ws j))) (sym at-spot)
-
-      pub met-ending : jobEnding ws j w whole ≡ endingBehind ws (j .table) row (s .cursor)
-      unfolding jobEnding endingBehind
-      met-ending =
-          by .ending-met
-          ∙ ap (λ (z : Cursor). carryEnding z (windowPlace (oldRows ws j) (j .table .ending) (j .a) (j .b) (j .n) w (j .begin .offset .0 + there .at)) (j .table .ending)) place-old
-          ∙ ap (λ (z : Cursor). carryEnding (rowPlace (rowNo ws row)) z (j .table .ending)) place-new
-
-      room-spot : Roomy (2 ^ 31) (s .cursor)
-      unfolding onward
-      room-spot =
-          let n : 2 ^ 31 + length (take (there .at) w) ≡ 2 ^ 31 + there .at = rw (length-take-le (there .at) w (omega (arith, there .inside))) in
-          subst (Roomy (2 ^ 31)) (sym (ap (λ (q : Spot). q .cursor) (there .spot)))
-          (roomy-over (2 ^ 31) (j .begin) (take (there .at) w) (roomy-less (2 ^ 31 + length w) (2 ^ 31 + length (take (there .at) w)) (j .begin) (omega (arith, n, there .inside)) room-begin))
-
-      pub met-meets : Meets ws j w whole s row
-      met-meets =
-          record {
-            ahead = ahead;
-            stop =
-                ap (λ (u : ℕ). stopOf (written w (startOf (j .begin)) u whole)) at-spot
-                ∙ by .stop-met
-                ∙ ap stops.At (ap (onward w (startOf (j .begin))) (omega arith) ∙ sym (there .spot));
-            follows =
-                record {
-                  lent = sound .lent;
-                  there = row-there;
-                  rows = moves-row sound row row-there (s .cursor) room-spot;
-                  ending = moves-ending sound row row-there (s .cursor) room-spot;
-                };
-          }
+    -- a window that ends the text is not short
+    pub whole-long : whole ≡ true → isShort (jobSeen ws j w whole) ≡ false
+    whole-long e = shown-whole (meetsOf ws j w) whole begin end (jobSeen ws j w whole) is-shown e
 
     -- so many rows fit a count
     pub few-all : j .kept + length (jobRows ws j w whole) < 2 ^ 32
-    unfolding jobRows seenFrom
+    unfolding jobRows
     few-all =
-        let q = seen-few (oldRows ws j) (j .table .ending) (j .a) (j .b) (j .n) w (placeIn (j .begin) w) (meetsAt (oldRows ws j) (j .a + j .n) (j .b)) whole 0 (j .begin .offset .0) w in
-        let z = subst (λ (x : Seen). length (seenRows (oldRows ws j) (j .table .ending) (j .a) (j .b) (j .n) w x) ≤ length w + 1 + length (oldRows ws j)) (sym (seen-same whole)) q in
-        omega (arith, z, rows-length (j .table .count) ws, few-rows sound, sound .short, few-kept, short-window)
+        let x = jobSeen ws j w whole in
+        let z = shown-few (meetsOf ws j w) whole begin end x (omega arith) is-shown in
+        omega (arith, seen-few ws j w x, z, rows-length (j .table .count) ws, few-rows sound, sound .short, few-kept, short-window)
+
+    -- ---- by how the walk stops
+
+    -- the rows that it writes
+    abbrev pub ours : List Row
+    ours = walkRows ws (oldsOf j) w (j .begin) whole
+
+    pub walked-by : (o : Olds) → o ≡ oldsOf j → (x : Walked) (tail left : List ℕ) →
+        (x ≡ walkOf ws o w (j .begin) whole) × (left ≡ laid (walkRows ws o w (j .begin) whole) tail) →
+        (x ≡ walkOf ws (oldsOf j) w (j .begin) whole) × (left ≡ laid ours tail)
+    walked-by o d x tail left q = rw d at q
+
+    module _ (x : Walked) (e : x ≡ walkOf ws (oldsOf j) w (j .begin) whole) where
+      pub counted : x .count ≡ length ours
+      unfolding walkOf
+      counted = ap (λ (z : Walked). z .count) e
+
+      stopped : stopOf ws j w (jobSeen ws j w whole) ≡ x .stop
+      unfolding walkOf
+      stopped = ap (stopOf ws j w) (sym seen-same) ∙ sym (ap (λ (z : Walked). z .stop) e)
+
+      ours-seen : rowsSeen (jobSeen ws j w whole) ≡ ours
+      unfolding walkRows
+      ours-seen = ap rowsSeen (sym seen-same)
+
+      pub short-by : isShort (jobSeen ws j w whole) ≡ isLacking (x .stop)
+      short-by = by-lacking ws j w (jobSeen ws j w whole) ∙ ap isLacking stopped
+
+      -- they found no room
+      pub full-by : (tail : List ℕ) → roomOf tail < length ours →
+          (Full ≡ tailTold (roomOf tail) (jobRows ws j w whole) (jobEnding ws j w whole))
+          × (laid ours tail ≡ laid (jobRows ws j w whole) tail)
+      unfolding jobRows
+      full-by tail h =
+          let q = begins ws j w (jobSeen ws j w whole) in
+          rw (q .all, ours-seen) (full-before ours (q .others) (jobEnding ws j w whole) tail h)
+
+      -- the text is over
+      pub over-by : (y : Ending) → x .stop ≡ Over y → (jobRows ws j w whole ≡ ours) × (jobEnding ws j w whole ≡ y)
+      unfolding jobRows jobEnding
+      over-by y f = let q = by-over ws j w (jobSeen ws j w whole) y (stopped ∙ f) in (q .0 ∙ ours-seen, q .1)
+
+      -- an old row meets
+      module _ (s : Spot) (row : ℕ) (f : x .stop ≡ Met s row) where
+        there : Meeting ws j w (jobSeen ws j w whole) s row
+        there = by-met ws j w (r .begin) whole begin (jobSeen ws j w whole) (omega arith) is-shown s row (stopped ∙ f)
+
+        row-there : row < j .table .count
+        row-there = rw (rows-length (j .table .count) ws) at (there .there)
+
+        place-old : firstPlace (drop row (oldRows ws j)) ≡ rowPlace (rowNo ws row)
+        unfolding firstPlace
+        place-old =
+            ap firstPlace (drop-cons (oldRows ws j) row (rowIn []) (there .there))
+            ∙ ap rowPlace (rows-at (j .table .count) ws (rowIn []) row row-there)
+
+        pub met-rows : jobRows ws j w whole ≡ ours ++ rowsBehind ws (j .table) row (s .cursor)
+        unfolding jobRows rowsBehind
+        met-rows = there .rows-met ∙ rw (place-old, ours-seen)
+
+        pub met-ending : jobEnding ws j w whole ≡ endingBehind ws (j .table) row (s .cursor)
+        unfolding jobEnding endingBehind
+        met-ending = there .ending-met ∙ rw place-old
+
+        room-spot : Roomy (2 ^ 31) (s .cursor)
+        unfolding onward
+        room-spot =
+            let t = take (there .at) w in
+            let n : 2 ^ 31 + length t ≡ 2 ^ 31 + there .at = rw (length-take-le (there .at) w (omega (arith, there .inside))) in
+            subst (Roomy (2 ^ 31)) (sym (ap (λ (q : Spot). q .cursor) (there .spot)))
+            (roomy-over (2 ^ 31) (j .begin) t
+            (roomy-less (2 ^ 31 + length w) (2 ^ 31 + length t) (j .begin) (omega (arith, n, there .inside)) room-begin))
+
+        pub met-follows : Follows ws (j .table) row (s .cursor)
+        met-follows =
+            record {
+              lent = sound .lent;
+              there = row-there;
+              rows = moves-row sound row row-there (s .cursor) room-spot;
+              ending = moves-ending sound row row-there (s .cursor) room-spot;
+            }

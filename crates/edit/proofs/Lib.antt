@@ -1,5 +1,4 @@
--- What the proofs of this crate use, from joined lists up to the whole call; and how tight the calls' contracts are.
-pub mod Joins
+-- What the proofs of this crate use, from what is seen of a window up to the whole call; and how tight the calls' contracts are.
 pub mod Facts
 pub mod Tails
 pub mod Seens

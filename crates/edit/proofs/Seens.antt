@@ -1,29 +1,30 @@
--- What is seen of a window: where a meeting lies, how many rows there are, and the rows and the ending by what is written.
--- ---- the rows from a start on are the last ones
-use mathlib.Core.Path.{_≡_, refl, sym, ap, subst, _∙_}
-use mathlib.Core.Bool.{Bool, true, false, cond, not, _&&_}
+-- What is seen of a window: how many rows, where a meeting lies, that bytes which end the text are not short; and, by how a walk stops, the
+-- rows and the ending of the new table.
+use mathlib.Core.Path.{_≡_, refl, sym, ap, _∙_}
+use mathlib.Core.Bool.{Bool, true, false, cond, not, _&&_, _||_}
 use mathlib.Core.List.{List, [], _∷_, _++_, map}
 use Prim.Native.Nat.{ℕ, zero, suc, pred, _+_, _-_, _≤_, _<_}
 use native.Mathlib.Nat.{le-refl}
 use native.Mathlib.Omega.{arith}
 use lib.ListN.{length, drop, length-map}
-use lib.Dec.{eqb, leb}
+use lib.Dec.{eqb, leb, ltb}
 use Rattle.rules.specs.declared.Cursor.{Cursor}
 use Rattle.rules.specs.declared.Ending.{Ending}
 use Rattle.rules.specs.declared.Ending.the-variants as ending
-use Rattle.rules.specs.Rows.{Row, eofRow}
-use Rattle.rules.specs.Lex.{Item, item, known, blank, comment, row, refused, end, unknown}
-use Rattle.rules.specs.Edit.{Seen, sees, over′, met, short, look, opens, from, some, firstPlace, carryRow, carryEnding, oldOffset, windowPlace, seenRows, seenEnding}
+use Rattle.rules.specs.Rows.{Row, rowAt, eofRow}
+use Rattle.rules.specs.Lex.{Item, item, piece, decidedAt, known, blank, comment, row, refused, end, unknown}
+use Rattle.rules.specs.Edit.{Seen, sees, over′, met, short, isShort, look, opens, from, some, firstPlace, carryRow, carryEnding, oldOffset, restart, windowPlace, seenRows, seenEnding}
 use Rattle.laws.proofs.Tests.{both-true}
 use Rattle.scan_reader.specs.declared.Spot.{Spot}
 use Rattle.scan_reader.specs.Read.{onward}
-use Rattle.edit_sight.specs.declared.Sight.the-variants.{Met, Over}
-use Rattle.edit_sight.specs.Sight.{meetsAt, startOf, sightOf}
-use Rattle.scan.specs.declared.Stop.the-variants as stops
-use Rattle.scan.specs.Writing.{Writing, rowsOf, stopOf}
-use Rattle.edit.proofs.Joins.{Joins, rows, meets, ends, refuses, lacks, Reaches, lookNext, look-next, look-meets}
-use Rattle.edit.proofs.Tails.{Closes}
-use Rattle.edit.proofs.Tails
+use Rattle.scan_walk.specs.declared.Stop.{Stop}
+use Rattle.scan_walk.specs.declared.Stop.the-variants.{Met, Over, Short}
+use Rattle.edit.specs.declared.Job.{Job}
+use Rattle.scan_walk.specs.Meeting.{meetsAt}
+use Rattle.scan_walk.specs.Walk.{startOf, rowsSeen, stopSeen}
+use Rattle.edit.specs.Job.{oldRows}
+
+-- ---- the rows from a start on are the last ones
 
 from-few : (m : ℕ) (rs : List Row) → length (from m rs) ≤ length rs
 unfolding from
@@ -34,7 +35,7 @@ from-few m (r ∷ rs) = pick (eqb (r .start) m) (from-few m rs)
     pick true h = le-refl (suc (length rs))
     pick false h = omega arith
 
-pub from-drop : (m : ℕ) (rs : List Row) → from m rs ≡ drop (length rs - length (from m rs)) rs
+from-drop : (m : ℕ) (rs : List Row) → from m rs ≡ drop (length rs - length (from m rs)) rs
 unfolding from
 from-drop m [] = refl
 from-drop m (r ∷ rs) = pick (eqb (r .start) m) (from-drop m rs) (from-few m rs)
@@ -49,168 +50,214 @@ unfolding some
 some-length [] e = absurd (let z : _≡_ {A = ℕ} 0 1 = cc in omega arith)
 some-length (r ∷ rs) e = omega arith
 
--- ---- where a meeting lies
+-- ---- what can be seen of bytes from offset k to e
 
--- what holds of the offset of a meeting
-unfoldable pub Mets : (ℕ → Type 0) → Seen → Type 0
-Mets P (sees r s) = Mets P s
-Mets P (met m) = P m
-Mets P (over′ e) = Unit
-Mets P short = Unit
-
-mets-more : (P Q : ℕ → Type 0) → ((m : ℕ) → P m → Q m) → (x : Seen) → Mets P x → Mets Q x
-unfolding Mets
-mets-more P Q f (sees r s) h = mets-more P Q f s h
-mets-more P Q f (met m) h = f m h
-mets-more P Q f (over′ e) h = tt
-mets-more P Q f short h = tt
-
--- it is one, and lies in the bytes
+-- a meeting lies in the bytes
 pub record Lies (meet : ℕ → Bool) (k e m : ℕ) : Type 0 where
   pub meeting : meet m ≡ true
   pub low : k ≤ m
   pub high : m < e
 
+module _ (meet : ℕ → Bool) (whole : Bool) where
+  -- each row but the last takes a byte, and bytes that end the text are not short
+  unfoldable pub Shown : (k e : ℕ) → Seen → Type 0
+  Shown k e (sees r s) = (k ≤ e) × Shown (suc k) e s
+  Shown k e (over′ x) = Unit
+  Shown k e (met m) = Lies meet k e m
+  Shown k e short = whole ≡ false
+
+  shown-less : (k e : ℕ) (x : Seen) → Shown (suc k) e x → Shown k e x
+  unfolding Shown
+  shown-less k e (sees r s) h = (omega (arith, h .0), shown-less (suc k) e s (h .1))
+  shown-less k e (over′ x) h = tt
+  shown-less k e (met m) h = record { meeting = h .meeting; low = omega (arith, h .low); high = h .high }
+  shown-less k e short h = h
+
+  pub shown-few : (k e : ℕ) (x : Seen) → k ≤ e + 1 → Shown k e x → k + length (rowsSeen x) ≤ e + 1
+  unfolding Shown rowsSeen
+  shown-few k e (sees r s) l h = omega (arith, shown-few (suc k) e s (omega (arith, h .0)) (h .1))
+  shown-few k e (over′ x) l h = omega arith
+  shown-few k e (met m) l h = omega arith
+  shown-few k e short l h = omega arith
+
+  pub shown-whole : (k e : ℕ) (x : Seen) → Shown k e x → whole ≡ true → isShort x ≡ false
+  unfolding Shown isShort
+  shown-whole k e (sees r s) h w = shown-whole (suc k) e s (h .1) w
+  shown-whole k e (over′ x) h w = refl
+  shown-whole k e (met m) h w = refl
+  shown-whole k e short h w = sym w ∙ h
+
 module _ (pos : ℕ → Cursor) (meet : ℕ → Bool) (whole : Bool) where
-  pub lies : (n k : ℕ) (s : List ℕ) → Mets (Lies meet k (k + length s)) (look pos meet whole n k s)
-  unfolding look Mets lookNext
-  lies n k [] = pick whole
+  -- bytes that end the text show what stands at their front
+  not-known : (b : ℕ) (s : List ℕ) (x : Item) → item whole (b ∷ s) ≡ x → (known (piece (b ∷ s)) ≡ x → ⊥) → whole ≡ false
+  unfolding item
+  not-known b s x f h = pick whole f
     where
-      pick : (p : Bool) → Mets (Lies meet k (k + 0)) (cond p (sees (eofRow (pos k)) (over′ ending.None)) short)
-      pick true = tt
-      pick false = tt
-  lies (suc n) k (b ∷ s) = mets-more (Lies meet (suc k) (suc k + length s)) (Lies meet k (k + suc (length s))) (λ m h. record { meeting = h .meeting; low = omega (arith, h .low); high = omega (arith, h .high) }) (look pos meet whole n (suc k) s) (lies n (suc k) s)
-  lies zero k (b ∷ s) =
+      pick : (v : Bool) → cond (v || ltb (decidedAt (piece (b ∷ s))) (length (b ∷ s))) (known (piece (b ∷ s))) unknown ≡ x → v ≡ false
+      pick true g = absurd (h g)
+      pick false g = refl
+
+  abbrev ShownTo : ℕ → ℕ → Seen → Type 0
+  ShownTo = Shown meet whole
+
+  pub shown : (n k : ℕ) (s : List ℕ) → ShownTo k (k + length s) (look pos meet whole n k s)
+  unfolding look Shown
+  shown n k [] = pick whole
+    where
+      pick : (p : Bool) → Shown meet p k (k + 0) (cond p (sees (eofRow (pos k)) (over′ ending.None)) short)
+      pick true = (omega arith, tt)
+      pick false = refl
+  shown (suc n) k (b ∷ s) =
+      let e : suc k + length s ≡ k + suc (length s) = omega arith in
+      shown-less meet whole k (k + suc (length s)) (look pos meet whole n (suc k) s) (rw e at (shown n (suc k) s))
+  shown zero k (b ∷ s) =
       pick (meet k && not (opens (b ∷ s))) refl
-      (λ n. mets-more (Lies meet (suc k) (suc k + length s)) (Lies meet k (k + suc (length s))) (λ m h. record { meeting = h .meeting; low = omega (arith, h .low); high = omega (arith, h .high) }) (look pos meet whole n (suc k) s) (lies n (suc k) s))
+      (λ n. let e : suc k + length s ≡ k + suc (length s) = omega arith in rw e at (shown n (suc k) s))
     where
-      by : (x : Item) → ((n : ℕ) → Mets (Lies meet k (k + suc (length s))) (look pos meet whole n (suc k) s)) → Mets (Lies meet k (k + suc (length s))) (lookNext pos meet whole x k s)
-      by (known blank) r = r 0
-      by (known (comment n d)) r = r (pred n)
-      by (known (row kind n bits d)) r = r (pred n)
-      by (known (refused why p d)) r = tt
-      by end r = tt
-      by unknown r = tt
+      all : ℕ
+      all = k + suc (length s)
 
-      pick : (m : Bool) → (meet k && not (opens (b ∷ s))) ≡ m → ((n : ℕ) → Mets (Lies meet k (k + suc (length s))) (look pos meet whole n (suc k) s)) →
-          Mets (Lies meet k (k + suc (length s))) (look pos meet whole 0 k (b ∷ s))
-      pick true f r =
-          subst (Mets (Lies meet k (k + suc (length s)))) (sym (look-meets pos meet whole b s k f))
-          (record { meeting = both-true (meet k) (not (opens (b ∷ s))) f .0; low = le-refl k; high = omega arith })
-      pick false f r = subst (Mets (Lies meet k (k + suc (length s)))) (sym (look-next pos meet whole b s k (item whole (b ∷ s)) f refl)) (by (item whole (b ∷ s)) r)
+      by : (x : Item) → item whole (b ∷ s) ≡ x → ((n : ℕ) → ShownTo (suc k) all (look pos meet whole n (suc k) s)) →
+          ShownTo k all (elim x as (λ _. Seen) [
+            | known p ↦ elim p as (λ _. Seen) [
+              | blank ↦ look pos meet whole zero (suc k) s
+              | comment n d ↦ look pos meet whole (pred n) (suc k) s
+              | row kind n bits d ↦ sees (rowAt (pos k) kind (k + n) bits) (look pos meet whole (pred n) (suc k) s)
+              | refused why p d ↦ over′ (ending.Refused why (pos (k + p)))
+            ]
+            | end ↦ short
+            | unknown ↦ short
+          ])
+      by (known blank) f r = shown-less meet whole k all (look pos meet whole 0 (suc k) s) (r 0)
+      by (known (comment n d)) f r = shown-less meet whole k all (look pos meet whole (pred n) (suc k) s) (r (pred n))
+      by (known (row kind n bits d)) f r = (omega arith, r (pred n))
+      by (known (refused why p d)) f r = tt
+      by end f r = not-known b s end f (λ z. let y : _≡_ {A = ℕ} 0 1 = cc in omega arith)
+      by unknown f r = not-known b s unknown f (λ z. let y : _≡_ {A = ℕ} 0 1 = cc in omega arith)
 
--- ---- by what the pass tells
+      pick : (m : Bool) → (meet k && not (opens (b ∷ s))) ≡ m → ((n : ℕ) → ShownTo (suc k) all (look pos meet whole n (suc k) s)) →
+          ShownTo k all (look pos meet whole 0 k (b ∷ s))
+      pick true f r = rw (look, f) (record { meeting = both-true (meet k) (not (opens (b ∷ s))) f .0; low = le-refl k; high = omega arith })
+      pick false f r = rw (look, f) (by (item whole (b ∷ s)) refl r)
 
-module _ (olds : List Row) (least b : ℕ) (w : List ℕ) (p : Cursor) where
-  -- a meeting: the index in the window, and the old row
+-- ---- the rows and the ending, by how a walk stops
+
+-- it stopped for want of bytes
+unfoldable pub isLacking : Stop → Bool
+isLacking (Met s r) = false
+isLacking (Over e) = false
+isLacking Short = true
+
+module _ (ws : List ℕ) (j : Job) (w : List ℕ) where
+  abbrev olds : List Row
+  olds = oldRows ws j
+
+  -- the rows and the ending of what is seen, with the old rows from a meeting on
+  abbrev rowsOf : Seen → List Row
+  rowsOf = seenRows olds (j .table .ending) (j .a) (j .b) (j .n) w
+
+  abbrev endingOf : Seen → Ending
+  endingOf = seenEnding olds (j .table .ending) (j .a) (j .b) (j .n) w
+
+  -- where an old row meets, and how a walk stops there
+  abbrev pub meetsOf : ℕ → Bool
+  meetsOf = meetsAt olds (j .a + j .n) (j .b)
+
+  abbrev pub stopOf : Seen → Stop
+  stopOf = stopSeen olds (j .a + j .n) (j .b) w (j .begin)
+
+  -- what stands at m, in the old text and in the new
+  abbrev old-at : ℕ → ℕ
+  old-at = oldOffset olds (j .table .ending) (j .a) (j .b) (j .n) w
+
+  abbrev old-from : ℕ → List Row
+  old-from m = from (old-at m) olds
+
+  abbrev place-at : ℕ → Cursor
+  place-at = windowPlace olds (j .table .ending) (j .a) (j .b) (j .n) w
+
+  -- old rows stand behind those that are seen
+  pub seen-few : (x : Seen) → length (rowsOf x) ≤ length (rowsSeen x) + length olds
+  unfolding seenRows rowsSeen
+  seen-few (sees r s) = omega (arith, seen-few s)
+  seen-few (over′ x) = omega arith
+  seen-few (met m) =
+      omega (arith, length-map (old-from m) (carryRow (firstPlace (old-from m)) (place-at m)), from-few (old-at m) olds)
+  seen-few short = omega arith
+
+  pub record Begins (x : Seen) : Type 0 where
+    pub others : List Row
+    pub all : rowsOf x ≡ rowsSeen x ++ others
+
+  pub begins : (x : Seen) → Begins x
+  unfolding seenRows rowsSeen
+  begins (sees r s) = let h = begins s in record { others = h .others; all = ap (_∷_ r) (h .all) }
+  begins (over′ x) = record { others = []; all = refl }
+  begins (met m) = record { others = rowsOf (met m); all = refl }
+  begins short = record { others = []; all = refl }
+
+  pub by-lacking : (x : Seen) → isShort x ≡ isLacking (stopOf x)
+  unfolding isShort stopSeen isLacking
+  by-lacking (sees r s) = by-lacking s
+  by-lacking (over′ x) = refl
+  by-lacking (met m) = refl
+  by-lacking short = refl
+
+  -- the text is over
+  pub by-over : (x : Seen) (y : Ending) → stopOf x ≡ Over y → (rowsOf x ≡ rowsSeen x) × (endingOf x ≡ y)
+  unfolding seenRows seenEnding rowsSeen stopSeen
+  by-over (sees r s) y q = let h = by-over s y q in (ap (_∷_ r) (h .0), h .1)
+  by-over (over′ x) y q = (refl, cc)
+  by-over (met m) y q = absurd (let z : _≡_ {A = ℕ} 0 1 = cc in omega arith)
+  by-over short y q = absurd (let z : _≡_ {A = ℕ} 0 1 = cc in omega arith)
+
+  -- an old row meets at an index of the window, and the rows from it on follow
   pub record Meeting (x : Seen) (s : Spot) (r : ℕ) : Type 0 where
     pub at : ℕ
     pub inside : at < length w
-    pub spot : s ≡ onward w (startOf p) at
+    pub spot : s ≡ onward w (startOf (j .begin)) at
     pub there : r < length olds
-    pub olds-there : from (p .offset .0 + at + b - least) olds ≡ drop r olds
-    pub reaches : Reaches (p .offset .0) at (length w) x
+    pub rows-met : rowsOf x ≡ rowsSeen x ++ map (carryRow (firstPlace (drop r olds)) (s .cursor)) (drop r olds)
+    pub ending-met : endingOf x ≡ carryEnding (firstPlace (drop r olds)) (s .cursor) (j .table .ending)
 
-  meeting-of : (m : ℕ) → Lies (meetsAt olds least b) (p .offset .0) (p .offset .0 + length w) m → (s : Spot) (r : ℕ) → sightOf olds least b w p (met m) ≡ Met s r → Meeting (met m) s r
-  unfolding sightOf Reaches meetsAt
-  meeting-of m l s r e =
-      let k = p .offset .0 in
-      let z : k + (m - k) ≡ m = omega (arith, l .low) in
-      let f = from (m + b - least) olds in
-      let q = both-true (leb least m) (some f) (l .meeting) in
-      let y : r ≡ length olds - length f = cc in
-      record {
-        at = m - k;
-        inside = omega (arith, l .low, l .high);
-        spot = cc;
-        there = omega (arith, some-length f (q .1), from-few (m + b - least) olds);
-        olds-there = ap (λ (j : ℕ). from (j + b - least) olds) z ∙ from-drop (m + b - least) olds ∙ ap (λ (j : ℕ). drop j olds) (sym y);
-        reaches = sym z;
-      }
+  module _ (begin : j .begin ≡ restart olds (j .a)) where
+    meeting : (m : ℕ) → Lies meetsOf (j .begin .offset .0) (j .begin .offset .0 + length w) m →
+        (s : Spot) (r : ℕ) → stopOf (met m) ≡ Met s r → Meeting (met m) s r
+    unfolding seenRows seenEnding rowsSeen stopSeen meetsAt windowPlace onward
+    meeting m l s r q =
+        let i = m - j .begin .offset .0 in
+        let f = old-from m in
+        let g = both-true (leb (j .a + j .n) m) (some f) (l .meeting) in
+        let y : r ≡ length olds - length f = cc in
+        let z : s ≡ onward w (startOf (j .begin)) i = cc in
+        let v : f ≡ drop r olds = from-drop (old-at m) olds ∙ ap (λ (k : ℕ). drop k olds) (sym y) in
+        let u : place-at m ≡ s .cursor = rw (← begin) (sym (ap (λ (c : Spot). c .cursor) z)) in
+        record {
+          at = i;
+          inside = omega (arith, l .low, l .high);
+          spot = z;
+          there = omega (arith, some-length f (g .1), from-few (old-at m) olds);
+          rows-met =
+              ap (λ (c : Cursor). map (carryRow (firstPlace f) c) f) u
+              ∙ ap (λ (rs : List Row). map (carryRow (firstPlace rs) (s .cursor)) rs) v;
+          ending-met =
+              ap (λ (c : Cursor). carryEnding (firstPlace f) c (j .table .ending)) u
+              ∙ ap (λ (rs : List Row). carryEnding (firstPlace rs) (s .cursor) (j .table .ending)) v;
+        }
 
-  pub meeting : (x : Seen) → Mets (Lies (meetsAt olds least b) (p .offset .0) (p .offset .0 + length w)) x → (s : Spot) (r : ℕ) → sightOf olds least b w p x ≡ Met s r → Meeting x s r
-  unfolding sightOf Reaches Mets
-  meeting (sees q x) l s r e =
-      let m = meeting x l s r e in
-      record { at = m .at; inside = m .inside; spot = m .spot; there = m .there; olds-there = m .olds-there; reaches = m .reaches }
-  meeting (met m) l s r e = meeting-of m l s r e
-  meeting (over′ x) l s r e = absurd (let z : _≡_ {A = ℕ} 0 1 = cc in omega arith)
-  meeting short l s r e = absurd (let z : _≡_ {A = ℕ} 0 1 = cc in omega arith)
-
-  -- no meeting: the writing stops behind the window
-  pub over-reaches : (x : Seen) → sightOf olds least b w p x ≡ Over → Reaches (p .offset .0) (length w + 1) (length w) x
-  unfolding sightOf Reaches
-  over-reaches (sees r x) e = over-reaches x e
-  over-reaches (met m) e = absurd (let z : _≡_ {A = ℕ} 0 1 = cc in omega arith)
-  over-reaches (over′ x) e = omega arith
-  over-reaches short e = absurd (let z : _≡_ {A = ℕ} 0 1 = cc in omega arith)
-
--- ---- the rows and the ending, by what is written
-
-module _ (olds : List Row) (e : Ending) (a b n : ℕ) (w : List ℕ) (spots : ℕ → Spot) (k u : ℕ) where
-  -- the old rows from the meeting on, moved
-  abbrev carriedRows : List Row
-  carriedRows = map (carryRow (firstPlace (from (oldOffset olds e a b n w (k + u)) olds)) (windowPlace olds e a b n w (k + u))) (from (oldOffset olds e a b n w (k + u)) olds)
-
-  abbrev carriedEnding : Ending
-  carriedEnding = carryEnding (firstPlace (from (oldOffset olds e a b n w (k + u)) olds)) (windowPlace olds e a b n w (k + u)) e
-
-  pub record MetBy (x : Seen) (y : Writing) : Type 0 where
-    pub rows-met : seenRows olds e a b n w x ≡ rowsOf y ++ carriedRows
-    pub ending-met : seenEnding olds e a b n w x ≡ carriedEnding
-    pub stop-met : stopOf y ≡ stops.At (spots u)
-
-  pub record OverBy (x : Seen) (y : Writing) : Type 0 where
-    pub rows-over : seenRows olds e a b n w x ≡ rowsOf y
-    pub closes : Closes (stopOf y) (seenEnding olds e a b n w x)
-
-  module _ (least : ℕ) (p : Cursor) where
-    pub met-by : (x : Seen) (y : Writing) (s : Spot) (r : ℕ) → sightOf olds least b w p x ≡ Met s r → Joins spots k u x y → MetBy x y
-    unfolding sightOf seenRows seenEnding rowsOf stopOf
-    met-by x y s r q (rows {r = h} {s = x′} {w = y′} j) =
-        let m = met-by x′ y′ s r q j in
-        record { rows-met = ap (_∷_ h) (m .rows-met); ending-met = m .ending-met; stop-met = m .stop-met }
-    met-by x y s r q meets = record { rows-met = refl; ending-met = refl; stop-met = refl }
-    met-by x y s r q ends = absurd (let z : _≡_ {A = ℕ} 0 1 = cc in omega arith)
-    met-by x y s r q refuses = absurd (let z : _≡_ {A = ℕ} 0 1 = cc in omega arith)
-    met-by x y s r q lacks = absurd (let z : _≡_ {A = ℕ} 0 1 = cc in omega arith)
-
-    pub over-by : (x : Seen) (y : Writing) → sightOf olds least b w p x ≡ Over → Joins spots k u x y → OverBy x y
-    unfolding sightOf seenRows seenEnding rowsOf stopOf
-    over-by x y q (rows {r = h} {s = x′} {w = y′} j) =
-        let m = over-by x′ y′ q j in
-        record { rows-over = ap (_∷_ h) (m .rows-over); closes = m .closes }
-    over-by x y q meets = absurd (let z : _≡_ {A = ℕ} 0 1 = cc in omega arith)
-    over-by x y q ends = record { rows-over = refl; closes = Tails.ends }
-    over-by x y q refuses = record { rows-over = refl; closes = Tails.refuses }
-    over-by x y q lacks = absurd (let z : _≡_ {A = ℕ} 0 1 = cc in omega arith)
-
--- ---- how many rows
-
-module _ (olds : List Row) (e : Ending) (a b n : ℕ) (w : List ℕ) (pos : ℕ → Cursor) (meet : ℕ → Bool) (whole : Bool) where
-  -- a row for each byte, one for the end, and the old rows
-  pub seen-few : (i k : ℕ) (s : List ℕ) → length (seenRows olds e a b n w (look pos meet whole i k s)) ≤ length s + 1 + length olds
-  unfolding look seenRows lookNext
-  seen-few i k [] = pick whole
-    where
-      pick : (p : Bool) → length (seenRows olds e a b n w (cond p (sees (eofRow (pos k)) (over′ ending.None)) short)) ≤ 0 + 1 + length olds
-      pick true = omega arith
-      pick false = omega arith
-  seen-few (suc i) k (c ∷ s) = omega (arith, seen-few i (suc k) s)
-  seen-few zero k (c ∷ s) = pick (meet k && not (opens (c ∷ s))) refl (λ i. seen-few i (suc k) s)
-    where
-      by : (x : Item) → ((i : ℕ) → length (seenRows olds e a b n w (look pos meet whole i (suc k) s)) ≤ length s + 1 + length olds) →
-          length (seenRows olds e a b n w (lookNext pos meet whole x k s)) ≤ suc (length s) + 1 + length olds
-      by (known blank) r = omega (arith, r 0)
-      by (known (comment i d)) r = omega (arith, r (pred i))
-      by (known (row kind i bits d)) r = omega (arith, r (pred i))
-      by (known (refused why p d)) r = omega arith
-      by end r = omega arith
-      by unknown r = omega arith
-
-      pick : (m : Bool) → (meet k && not (opens (c ∷ s))) ≡ m → ((i : ℕ) → length (seenRows olds e a b n w (look pos meet whole i (suc k) s)) ≤ length s + 1 + length olds) →
-          length (seenRows olds e a b n w (look pos meet whole 0 k (c ∷ s))) ≤ suc (length s) + 1 + length olds
-      pick true f r =
-          rw (look-meets pos meet whole c s k f)
-          (omega (arith, length-map (from (oldOffset olds e a b n w k) olds) (carryRow (firstPlace (from (oldOffset olds e a b n w k) olds)) (windowPlace olds e a b n w k)), from-few (oldOffset olds e a b n w k) olds))
-      pick false f r = rw (look-next pos meet whole c s k (item whole (c ∷ s)) f refl) (by (item whole (c ∷ s)) r)
+    pub by-met : (whole : Bool) (k : ℕ) (x : Seen) → j .begin .offset .0 ≤ k → Shown meetsOf whole k (j .begin .offset .0 + length w) x →
+        (s : Spot) (r : ℕ) → stopOf x ≡ Met s r → Meeting x s r
+    unfolding seenRows seenEnding rowsSeen stopSeen Shown
+    by-met whole k (sees c x) h l s r q =
+        let m = by-met whole (suc k) x (omega arith) (l .1) s r q in
+        record {
+          at = m .at;
+          inside = m .inside;
+          spot = m .spot;
+          there = m .there;
+          rows-met = ap (_∷_ c) (m .rows-met);
+          ending-met = m .ending-met;
+        }
+    by-met whole k (met m) h l s r q = meeting m (record { meeting = l .meeting; low = omega (arith, l .low); high = l .high }) s r q
+    by-met whole k (over′ x) h l s r q = absurd (let z : _≡_ {A = ℕ} 0 1 = cc in omega arith)
+    by-met whole k short h l s r q = absurd (let z : _≡_ {A = ℕ} 0 1 = cc in omega arith)

@@ -1,4 +1,4 @@
--- What is written behind the kept rows: by how the writing of the window's rows stopped, and with old rows behind them.
+-- What is written behind the kept rows: the window's rows, and old rows behind them.
 -- x more behind s, within m
 use mathlib.Core.Path.{_≡_, refl, sym, ap, subst, _∙_}
 use mathlib.Core.Bool.{Bool, true, false, cond}
@@ -10,11 +10,9 @@ use lib.ListN.{length, take, drop, length-append, length-drop, length-map}
 use lib.Dec.{leb}
 use lib.Seq.{take-at, drop-at}
 use borrow.Rule.Slice.PartMut.{putMid}
-use borrow.Author.Tests.{le-leb, lt-leb, leb-true, leb-false}
+use borrow.Author.Tests.{le-leb, lt-leb, leb-false}
 use Rattle.rules.specs.declared.Cursor.{Cursor}
-use Rattle.rules.specs.declared.Lexical.{Lexical}
 use Rattle.rules.specs.declared.Ending.{Ending}
-use Rattle.rules.specs.declared.Ending.the-variants as ending
 use Rattle.rules.specs.declared.Outer.the-variants.{NoRowRoom}
 use Rattle.rules.specs.declared.Table.{Table}
 use Rattle.rules.specs.declared.Told.{Told}
@@ -26,14 +24,9 @@ use Rattle.rules.specs.Edit.{carryRow}
 use Rattle.rows.specs.Shape.{rowNo}
 use Rattle.laws.proofs.Lists.{lent-tail, back-tail}
 use Rattle.laws.proofs.Rows.{rows-length, words-length, take-rows, drop-rows, told-full, room-behind, laid-append, laid-front, laid-part, laid-all}
-use Rattle.scan_reader.specs.declared.Spot.{Spot}
-use Rattle.scan.specs.declared.Stop.{Stop}
-use Rattle.scan.specs.declared.Stop.the-variants as stops
-use Rattle.scan.specs.declared.Wrote.{Wrote}
-use Rattle.scan.specs.Writing.{Writing, rowsOf, stopOf, wrote, wroteOf}
 use Rattle.edit.specs.declared.Tail.{Tail}
 use Rattle.edit.specs.declared.Tail.the-variants.{Rows, Full}
-use Rattle.edit.specs.Job.{tailTold, tailOf, isAt, rowsBehind, endingBehind, behindOf, FewBehind, tellOf, TellsFit}
+use Rattle.edit.specs.Job.{tailTold, rowsBehind, endingBehind, behindOf, FewBehind, tellOf, TellsFit}
 
 pub leb-behind : (s x m : ℕ) → s ≤ m → leb x (m - s) ≡ leb (s + x) m
 leb-behind s x m h = pick (decLe (s + x) m)
@@ -42,66 +35,12 @@ leb-behind s x m h = pick (decLe (s + x) m)
     pick (yes p) = rw (le-leb (s + x) m p, le-leb x (m - s) (omega arith))
     pick (no p) = rw (lt-leb (s + x) m (omega arith), lt-leb x (m - s) (omega arith))
 
-module _ (w : Wrote) where
-  pub tail-end : w .stop ≡ stops.End → Rows (w .count) ending.None ≡ tailOf w
-  unfolding tailOf
-  tail-end e = rw (e, tailOf)
-
-  pub tail-refused : {why : Lexical} {p : Cursor} → w .stop ≡ stops.Refused why p → Rows (w .count) (ending.Refused why p) ≡ tailOf w
-  unfolding tailOf
-  tail-refused e = rw (e, tailOf)
-
-  pub tail-at : {s : Spot} → w .stop ≡ stops.At s → Full ≡ tailOf w
-  unfolding tailOf
-  tail-at e = rw (e, tailOf)
-
-  pub tail-full : w .stop ≡ stops.Full → Full ≡ tailOf w
-  unfolding tailOf
-  tail-full e = rw (e, tailOf)
-
-  pub tail-unknown : w .stop ≡ stops.Unknown → Full ≡ tailOf w
-  unfolding tailOf
-  tail-unknown e = rw (e, tailOf)
-
--- how the writing stops where no old rows follow
-pub data Closes : Stop → Ending → Type 0 where
-  ends : Closes stops.End ending.None
-  refuses : {why : Lexical} {p : Cursor} → Closes (stops.Refused why p) (ending.Refused why p)
-
--- then it is what is told
-pub tail-over : (ws : List ℕ) (w : Writing) (e : Ending) → Closes (stopOf w) e → tailOf (wroteOf ws w) ≡ tailTold (roomOf ws) (rowsOf w) e
-unfolding wroteOf wrote tailOf tailTold
-tail-over ws w e c = go (stopOf w) e c (leb (length (rowsOf w)) (roomOf ws))
-  where
-    go : (x : Stop) (e : Ending) → Closes x e → (p : Bool) →
-        tailOf (cond p (record { count = length (rowsOf w); stop = x }) (record { count = roomOf ws; stop = stops.Full })) ≡ cond p (Rows (length (rowsOf w)) e) Full
-    go x e ends true = refl
-    go x e refuses true = refl
-    go x e c false = refl
+-- all find room
+pub tail-all : (m : ℕ) (rows : List Row) (e : Ending) → length rows ≤ m → Rows (length rows) e ≡ tailTold m rows e
+unfolding tailTold
+tail-all m rows e h = rw (le-leb (length rows) m h)
 
 -- ---- old rows behind the window's
-
--- the window's rows found room, or did not
-module _ (m : ℕ) (ys : List Row) (s : Spot) (w : Wrote) (e : w ≡ wrote m ys (stops.At s)) where
-  by : Bool → Wrote
-  by p = cond p (record { count = length ys; stop = stops.At s }) (record { count = m; stop = stops.Full })
-
-  pub at-count : isAt (w .stop) ≡ true → (length ys ≤ m) × (w .count ≡ length ys)
-  unfolding wrote by
-  at-count = rw e (pick (leb (length ys) m) refl)
-    where
-      pick : (p : Bool) → leb (length ys) m ≡ p → isAt (by p .stop) ≡ true →
-          (length ys ≤ m) × (by p .count ≡ length ys)
-      pick true f h = (leb-true (length ys) m f, refl)
-      pick false f h = absurd (let z : _≡_ {A = ℕ} 0 1 = cc in omega arith)
-
-  pub at-full : isAt (w .stop) ≡ false → m < length ys
-  unfolding wrote by
-  at-full = rw e (pick (leb (length ys) m) refl)
-    where
-      pick : (p : Bool) → leb (length ys) m ≡ p → isAt (by p .stop) ≡ false → m < length ys
-      pick true f h = absurd (let z : _≡_ {A = ℕ} 0 1 = cc in omega arith)
-      pick false f h = leb-false (length ys) m f
 
 module _ (ys zs : List Row) (e : Ending) (ws : List ℕ) where
   -- the window's rows find no room

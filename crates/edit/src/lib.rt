@@ -4,8 +4,6 @@ use edit_carry::carry_rows;
 use edit_carry::copy_rows;
 use edit_carry::kept_rows;
 use edit_carry::place_behind;
-use edit_sight::Sight;
-use edit_sight::see;
 use rows::shape::row_at;
 use rows::shape::row_place;
 use rows::shape::wide;
@@ -18,23 +16,22 @@ use rules::Table;
 use rules::Told;
 use rules::limit;
 use rules::row;
-use scan::Stop;
-use scan::write_rows;
 use scan_place::pass;
-use scan_place::valid_bytes;
-use scan_reader::Spot;
+use scan_place::window_bytes;
+use scan_walk::Olds;
+use scan_walk::Stop;
+use scan_walk::walk;
 ghost use mathlib.Core.Path.{_≡_};
+ghost use mathlib.Core.Bool.{true};
 ghost use mathlib.Core.List.{_++_};
 ghost use Prim.Native.Nat.{_+_, _*_, _≤_};
 ghost use lib.ListN.{length};
 ghost use Rattle.rules.specs.Text.{startPlace};
 ghost use Rattle.rules.specs.declared.Told.the-variants as tells;
+ghost use Rattle.rules.specs.Rows.{wellFormed};
 ghost use Rattle.rules.specs.Scan.{roomOf, laid, told};
-ghost use Rattle.rules.specs.Edit.{newLength, kept, editTold, editLeaves, restartTold};
-ghost use Rattle.scan_reader.specs.Read.{Ahead};
-ghost use Rattle.edit_sight.specs.Sight.{startOf};
-ghost use Rattle.scan.specs.Writing.{written, wroteOf, leaves};
-ghost use Rattle.edit.specs.Job.{sensibleAt, oldRows, Ready, jobRows, jobEnding, isShortSight, isAt, tailTold, tailOf, rowsBefore, rowsBehind, endingBehind, FewBehind, behindOf, Follows, Meets, Seeing, TellsFit, tellOf, rereadTold, rereadLeaves};
+ghost use Rattle.rules.specs.Edit.{newLength, kept, isShort, editTold, editLeaves, restartTold};
+ghost use Rattle.edit.specs.Job.{sensibleAt, jobOf, oldRows, oldsOf, Tested, Ready, Showing, jobSeen, jobRows, jobEnding, tailTold, rowsBehind, endingBehind, FewBehind, behindOf, Follows, TellsFit, tellOf, rereadTold, rereadLeaves};
 
 // An edit of a table: old bytes a to b become n new ones, so many rows are kept, and reading restarts at a place.
 pub struct Job {
@@ -53,14 +50,14 @@ pub enum Tail {
 }
 
 // A refusal that wrote nothing.
-fn refused(why: Outer) -> Told
+pub fn refused(why: Outer) -> Told
     ensures { λ r. ⌜ r ≡ tells.Refused why startPlace 0 ⌝ }
 {
     Told::Refused(why, Cursor::start(), 0)
 }
 
 // How long the new text is.
-fn new_length(length: u32, a: u32, b: u32, n: u32) -> u64
+pub fn new_length(length: u32, a: u32, b: u32, n: u32) -> u64
     requires { ⌜ (a ≤ b) × (b ≤ length) ⌝ }
     ensures { λ r. ⌜ r ≡ newLength length a b n ⌝ }
 {
@@ -88,48 +85,35 @@ fn sensible(length: u32, a: u32, b: u32, n: u32, begin: u32, start: u32, size: u
     size as u64 <= most - from
 }
 
-// Whether the writing stopped at a spot.
-fn stands(stop: Stop) -> bool
-    ensures { λ r. ⌜ r ≡ isAt stop ⌝ }
+// The old rows that the window of an edit may meet, and how they are moved.
+fn olds_of(job: Job) -> Olds
+    ensures { λ r. ⌜ r ≡ oldsOf job ⌝ }
 {
-    match stop {
-        Stop::At(_) => true,
-        Stop::End => false,
-        Stop::Refused(_, _) => false,
-        Stop::Full => false,
-        Stop::Unknown => false,
+    let table = job.table;
+    let least = wide(job.a) + wide(job.n);
+    Olds {
+        count: table.count as usize,
+        first: job.kept,
+        least,
+        b: job.b,
     }
 }
 
-// Whether a window is short.
-fn is_short(seen: Sight) -> bool
-    ensures { λ r. ⌜ r ≡ isShortSight seen ⌝ }
+// Whether the window shows too little: where it does not end the text, a walk that has no room says so.
+fn is_short(old: &[u32], job: Job, window: &[u8], whole: bool) -> bool
+    requires { ⌜ Ready (now old) job (now window) ⌝ }
+    ensures { λ r. ⌜ r ≡ isShort (jobSeen (now (old .entry)) job (now (window .entry)) whole) ⌝ }
 {
-    match seen {
-        Sight::Met(_, _) => false,
-        Sight::Over => false,
-        Sight::Short => true,
+    if whole {
+        return false;
     }
-}
-
-// The window's rows behind the kept ones, where no old rows follow.
-fn fill_over(window: &[u8], begin: Cursor, whole: bool, tail: &mut [u32]) -> Tail
-    requires { ⌜ Ahead (now window) (startOf begin) ⌝ }
-    ensures { λ r. ⌜ (r ≡ tailOf (wroteOf (now (tail .entry)) (written (now (window .entry)) (startOf begin) (length (now (window .entry)) + 1) whole))) × (now (tail .exit) ≡ leaves (now (tail .entry)) (written (now (window .entry)) (startOf begin) (length (now (window .entry)) + 1) whole)) ⌝ }
-{
-    let from = Spot {
-        at: 0,
-        cursor: begin,
-    };
-    let wrote = write_rows(window, from, window.len() + 1, whole, tail);
-    let count = wrote.count;
-    let stop = wrote.stop;
+    let mut none: [u32; 1] = [0];
+    let begin = job.begin;
+    let stop = walk(old, olds_of(job), window, begin, whole, &mut none).stop;
     match stop {
-        Stop::End => Tail::Rows(count, Ending::None),
-        Stop::Refused(why, place) => Tail::Rows(count, Ending::Refused(why, place)),
-        Stop::At(_) => Tail::Full,
-        Stop::Full => Tail::Full,
-        Stop::Unknown => Tail::Full,
+        Stop::Met(_, _) => false,
+        Stop::Over(_) => false,
+        Stop::Short => true,
     }
 }
 
@@ -161,53 +145,27 @@ fn behind(n: usize, tail: Tail) -> Tail
     }
 }
 
-// The window's rows behind the kept ones, up to a meeting, and behind them the old rows from there on, moved.
-fn fill_met(
-    old: &[u32],
-    job: Job,
-    window: &[u8],
-    whole: bool,
-    spot: Spot,
-    row: usize,
-    tail: &mut [u32],
-) -> Tail
-    requires { ⌜ Meets (now old) job (now window) whole spot row ⌝ }
-    ensures { λ r. ⌜ (r ≡ tailTold (roomOf (now (tail .entry))) (rowsBefore (now (window .entry)) job whole spot ++ rowsBehind (now (old .entry)) (job .table) row (spot .cursor)) (endingBehind (now (old .entry)) (job .table) row (spot .cursor))) × (now (tail .exit) ≡ laid (rowsBefore (now (window .entry)) job whole spot ++ rowsBehind (now (old .entry)) (job .table) row (spot .cursor)) (now (tail .entry))) ⌝ }
-{
-    let cursor = job.begin;
-    let from = Spot { at: 0, cursor };
-    let until = spot.at;
-    let wrote = write_rows(window, from, until, whole, tail);
-    let stop = wrote.stop;
-    if !stands(stop) {
-        return Tail::Full;
-    }
-    let count = wrote.count;
-    let base = count * row::WORDS;
-    let table = job.table;
-    let p = spot.cursor;
-    behind(count, follow(old, table, row, p, &mut tail[base..]))
-}
-
-// The rows behind the kept ones, by what the pass over the window saw.
-fn fill_tail(
-    old: &[u32],
-    job: Job,
-    window: &[u8],
-    whole: bool,
-    seen: Sight,
-    tail: &mut [u32],
-) -> Tail
-    requires { ⌜ Seeing (now old) job (now window) whole seen ⌝ }
+// The rows behind the kept ones: those of the window, and from a meeting on the old rows, moved.
+fn fill_tail(old: &[u32], job: Job, window: &[u8], whole: bool, tail: &mut [u32]) -> Tail
+    requires { ⌜ Showing (now old) job (now window) whole ⌝ }
     ensures { λ r. ⌜ (r ≡ tailTold (roomOf (now (tail .entry))) (jobRows (now (old .entry)) job (now (window .entry)) whole) (jobEnding (now (old .entry)) job (now (window .entry)) whole)) × (now (tail .exit) ≡ laid (jobRows (now (old .entry)) job (now (window .entry)) whole) (now (tail .entry))) ⌝ }
 {
-    match seen {
-        Sight::Met(spot, row) => fill_met(old, job, window, whole, spot, row, tail),
-        Sight::Over => {
-            let begin = job.begin;
-            fill_over(window, begin, whole, tail)
+    let begin = job.begin;
+    let walked = walk(old, olds_of(job), window, begin, whole, tail);
+    let count = walked.count;
+    if tail.len() / row::WORDS < count {
+        return Tail::Full;
+    }
+    let stop = walked.stop;
+    match stop {
+        Stop::Met(spot, row) => {
+            let base = count * row::WORDS;
+            let table = job.table;
+            let p = spot.cursor;
+            behind(count, follow(old, table, row, p, &mut tail[base..]))
         }
-        Sight::Short => Tail::Full,
+        Stop::Over(ending) => Tail::Rows(count, ending),
+        Stop::Short => Tail::Full,
     }
 }
 
@@ -227,16 +185,8 @@ fn tell(kept: usize, tail: Tail, size: u32, room: usize) -> Told
 }
 
 // The kept rows, and the rows behind them.
-fn fill(
-    old: &[u32],
-    job: Job,
-    window: &[u8],
-    whole: bool,
-    seen: Sight,
-    size: u32,
-    new: &mut [u32],
-) -> Told
-    requires { ⌜ Seeing (now old) job (now window) whole seen ⌝ }
+fn fill(old: &[u32], job: Job, window: &[u8], whole: bool, size: u32, new: &mut [u32]) -> Told
+    requires { ⌜ Showing (now old) job (now window) whole ⌝ }
     ensures { λ r. ⌜ (r ≡ told size (roomOf (now (new .entry))) (kept (job .a) (oldRows (now (old .entry)) job) ++ jobRows (now (old .entry)) job (now (window .entry)) whole) (jobEnding (now (old .entry)) job (now (window .entry)) whole)) × (now (new .exit) ≡ laid (kept (job .a) (oldRows (now (old .entry)) job) ++ jobRows (now (old .entry)) job (now (window .entry)) whole) (now (new .entry))) ⌝ }
 {
     let kept = job.kept;
@@ -247,11 +197,12 @@ fn fill(
     }
     copy_rows(old, kept, new);
     let base = kept * row::WORDS;
-    let tail = fill_tail(old, job, window, whole, seen, &mut new[base..]);
+    let tail = fill_tail(old, job, window, whole, &mut new[base..]);
     tell(kept, tail, size, room)
 }
 
-// The window is read, and the rows are written, of an edit that is sensible.
+// The window of a sensible edit is judged and read, and the rows are written: 7 where it shows too little to be judged, 2, 7 where it
+// shows neither a meeting place nor a refusal nor the text's end.
 fn reread(old: &[u32], job: Job, window: &[u8], new: &mut [u32]) -> Told
     requires { ⌜ Ready (now old) job (now window) ⌝ }
     ensures { λ r. ⌜ (r ≡ rereadTold (now (old .entry)) job (now (window .entry)) (roomOf (now (new .entry)))) × (now (new .exit) ≡ rereadLeaves (now (old .entry)) job (now (window .entry)) (now (new .entry))) ⌝ }
@@ -260,25 +211,60 @@ fn reread(old: &[u32], job: Job, window: &[u8], new: &mut [u32]) -> Told
     let begin = job.begin;
     let size = new_length(table.length, job.a, job.b, job.n);
     let end = wide(begin.offset.0) + window.len() as u64;
-    let least = wide(job.a) + wide(job.n);
-    if end < least {
-        return refused(Outer::WindowShort);
-    }
     let whole = end == size;
-    let seen = see(
-        old,
-        table.count as usize,
-        job.kept,
-        least,
-        job.b,
-        window,
-        begin,
-        whole,
-    );
-    if is_short(seen) {
+    let olds = olds_of(job);
+    if (end < olds.least + limit::JUDGING) & !whole {
         return refused(Outer::WindowShort);
     }
-    fill(old, job, window, whole, seen, size as u32, new)
+    let valid = window_bytes(window, whole);
+    if valid < window.len() {
+        return Told::Refused(Outer::BadByte, pass(window, begin, valid), 0);
+    }
+    if is_short(old, job, window, whole) {
+        return refused(Outer::WindowShort);
+    }
+    fill(old, job, window, whole, size as u32, new)
+}
+
+// The job of an edit of a tested table: so many rows are kept, and reading restarts behind them.
+pub fn job_of(old: &[u32], table: Table, a: u32, b: u32, n: u32) -> Job
+    requires { ⌜ wellFormed (now old) table ≡ true ⌝ }
+    ensures { λ r. ⌜ r ≡ jobOf (now (old .entry)) table a b n ⌝ }
+{
+    let kept = kept_rows(old, table.count as usize, a);
+    let begin = place_behind(old, kept);
+    Job {
+        table,
+        a,
+        b,
+        n,
+        kept,
+        begin,
+    }
+}
+
+// The edit of a tested table.
+pub fn edit_tested(old: &[u32], job: Job, start: u32, window: &[u8], new: &mut [u32]) -> Told
+    requires { ⌜ Tested (now old) job ⌝ }
+    ensures { λ r. ⌜ (r ≡ editTold (now (old .entry)) (job .table) (job .a) (job .b) (job .n) start (now (window .entry)) (roomOf (now (new .entry)))) × (now (new .exit) ≡ editLeaves (now (old .entry)) (job .table) (job .a) (job .b) (job .n) start (now (window .entry)) (now (new .entry))) ⌝ }
+{
+    let begin = job.begin;
+    let length = job.table.length;
+    if !sensible(
+        length,
+        job.a,
+        job.b,
+        job.n,
+        begin.offset.0,
+        start,
+        window.len(),
+    ) {
+        return refused(Outer::EditNotSensible);
+    }
+    if limit::MOST_BYTES_U64 < new_length(length, job.a, job.b, job.n) {
+        return refused(Outer::TextTooLong);
+    }
+    reread(old, job, window, new)
 }
 
 // The edit: old bytes a to b become n new ones, and the window, from offset `start` of the new text on, shows enough of it.
@@ -297,28 +283,7 @@ pub fn edit(
     if !well_formed(old, table) {
         return refused(Outer::NotWellFormed);
     }
-    let kept = kept_rows(old, table.count as usize, a);
-    let begin = place_behind(old, kept);
-    let length = table.length;
-    if !sensible(length, a, b, n, begin.offset.0, start, window.len()) {
-        return refused(Outer::EditNotSensible);
-    }
-    if limit::MOST_BYTES_U64 < new_length(length, a, b, n) {
-        return refused(Outer::TextTooLong);
-    }
-    let valid = valid_bytes(window);
-    if valid < window.len() {
-        return Told::Refused(Outer::BadByte, pass(window, begin, valid), 0);
-    }
-    let job = Job {
-        table,
-        a,
-        b,
-        n,
-        kept,
-        begin,
-    };
-    reread(old, job, window, new)
+    edit_tested(old, job_of(old, table, a, b, n), start, window, new)
 }
 
 // Where the window of an edit at a must start.

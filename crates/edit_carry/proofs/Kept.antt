@@ -1,33 +1,22 @@
--- Kept rows: they are the first ones, each ends below a, and the place behind them is behind the last.
--- ---- counting them
+-- Kept rows: they are the first ones, each ends below a and the next does not, so halving finds them; the place behind them is behind the
+-- last.
 use mathlib.Core.Path.{_≡_, refl, ap, _∙_}
 use mathlib.Core.Bool.{Bool, true, false, cond}
 use mathlib.Core.List.{List, [], _∷_}
 use Prim.Native.Nat.{ℕ, zero, suc, _+_, _*_, _≤_, _<_}
 use native.Mathlib.Nat.{not-suc-le-zero, le-of-suc-le-suc, le-refl}
+use native.Mathlib.Decide.{decLe}
 use native.Mathlib.Omega.{arith}
 use lib.ListN.{length, take, drop, getD}
 use lib.Seq.{drop-drop}
 use lib.Dec.{ltb}
-use borrow.Author.Tests.{lt-ltb, le-ltb, ltb-true}
+use borrow.Author.Tests.{ltb-true, ltb-false}
 use Rattle.rules.specs.declared.Cursor.{Cursor}
 use Rattle.rules.specs.Rows.{Row, rowIn, rowsIn}
 use Rattle.rules.specs.Edit.{kept, endPlace, lastEnd}
 use Rattle.rows.specs.Shape.{rowNo}
-use Rattle.laws.proofs.Rows.{rows-length, rows-at, take-rows, rest, rest-cons, rest-none}
-
-module _ (a : ℕ) (ws : List ℕ) (count i : ℕ) where
-  pub kept-more : i < count → rowNo ws i .end < a → length (kept a (rest ws count i)) ≡ suc (length (kept a (rest ws count (i + 1))))
-  unfolding kept
-  kept-more h e = rw (rest-cons ws count i h) (rw (kept, lt-ltb (rowNo ws i .end) a e))
-
-  pub kept-stop : i < count → a ≤ rowNo ws i .end → length (kept a (rest ws count i)) ≡ 0
-  unfolding kept
-  kept-stop h e = rw (rest-cons ws count i h) (rw (kept, le-ltb (rowNo ws i .end) a e))
-
-  pub kept-none : count ≤ i → length (kept a (rest ws count i)) ≡ 0
-  unfolding kept
-  kept-none h = rw (rest-none ws count i h)
+use Rattle.laws.proofs.Rows.{rows-length, rows-at, take-rows}
+use Rattle.edit_carry.specs.Moves.{EndsRise}
 
 -- ---- the first ones
 
@@ -60,6 +49,17 @@ kept-ends a (r ∷ rs) d i h = pick (ltb (r .end) a) refl i h (kept-ends a rs d)
     pick true e zero h f = ltb-true (r .end) a e
     pick true e (suc i) h f = f i (le-of-suc-le-suc h)
 
+kept-stop : (a : ℕ) (rs : List Row) (d : Row) → length (kept a rs) < length rs → a ≤ getD rs (length (kept a rs)) d .end
+unfolding kept
+kept-stop a [] d h = absurd (not-suc-le-zero h)
+kept-stop a (r ∷ rs) d h = pick (ltb (r .end) a) refl h (kept-stop a rs d)
+  where
+    pick : (p : Bool) → ltb (r .end) a ≡ p → length (cond p (r ∷ kept a rs) []) < suc (length rs) →
+        (length (kept a rs) < length rs → a ≤ getD rs (length (kept a rs)) d .end) →
+        a ≤ getD (r ∷ rs) (length (cond p (r ∷ kept a rs) [])) d .end
+    pick false e h f = ltb-false (r .end) a e
+    pick true e h f = f (le-of-suc-le-suc h)
+
 module _ (a : ℕ) (ws : List ℕ) (count : ℕ) where
   -- as many as are kept
   abbrev pub keptCount : ℕ
@@ -75,6 +75,47 @@ module _ (a : ℕ) (ws : List ℕ) (count : ℕ) where
   kept-below i h =
       let l : i < count = omega (arith, kept-inside) in
       rw (rows-at count ws (rowIn []) i l) at (kept-ends a (rowsIn count ws) (rowIn []) i h)
+
+  kept-next : keptCount < count → a ≤ rowNo ws keptCount .end
+  kept-next h =
+      rw (rows-at count ws (rowIn []) keptCount h) at (kept-stop a (rowsIn count ws) (rowIn []) (rw (rows-length count ws) h))
+
+  -- ---- found by halving
+
+  -- as many as are kept lie between low and high
+  pub record Between (low high : ℕ) : Type 0 where
+    pub order : low ≤ high
+    pub inside : high ≤ count
+    pub below : (i : ℕ) → i < low → rowNo ws i .end < a
+    pub stop : high < count → a ≤ rowNo ws high .end
+
+  pub between-all : Between 0 count
+  between-all = record { order = omega arith; inside = le-refl count; below = λ i h. absurd (not-suc-le-zero h); stop = λ h. omega arith }
+
+  module _ (low high middle : ℕ) (b : Between low high) (l : low ≤ middle) (h : middle < high) where
+    pub between-low : a ≤ rowNo ws middle .end → Between low middle
+    between-low e = record { order = l; inside = omega (arith, b .inside); below = b .below; stop = λ _. e }
+
+    pub between-high : EndsRise ws count → rowNo ws middle .end < a → Between (middle + 1) high
+    between-high r e =
+        record {
+          order = omega arith;
+          inside = b .inside;
+          below = λ i o. omega (arith, e, r .rises i middle (omega arith) (omega (arith, b .inside)));
+          stop = b .stop;
+        }
+
+  -- low and high have met
+  pub between-none : (low high : ℕ) → Between low high → high ≤ low → low ≡ keptCount
+  between-none low high b h = pick (decLe keptCount low) (decLe low keptCount)
+    where
+      same : low ≡ high
+      same = omega (arith, b .order)
+
+      pick : Dec (keptCount ≤ low) → Dec (low ≤ keptCount) → low ≡ keptCount
+      pick (yes x) (yes y) = omega arith
+      pick (no x) y = absurd (omega (arith, kept-below low (omega arith), rw (← same) at (b .stop) (omega (arith, kept-inside))))
+      pick (yes x) (no y) = absurd (omega (arith, b .below keptCount (omega arith), kept-next (omega (arith, b .inside))))
 
 -- ---- the place behind them
 

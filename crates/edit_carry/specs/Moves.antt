@@ -1,13 +1,19 @@
--- When a place, a row and an ending can be moved: what stood at o stands at p, and nothing wraps.
--- a counter x moves from o to p
+-- When rows can be found by their ends; when a place, a row and an ending can be moved: what stood at o stands at p, and nothing wraps.
 use mathlib.Core.Path.{_≡_}
+use mathlib.Core.List.{List}
 use Prim.Native.Nat.{ℕ, _+_, _-_, _^_, _≤_, _<_}
 use Rattle.rules.specs.declared.Cursor.{Cursor}
 use Rattle.rules.specs.declared.Lexical.{Lexical}
 use Rattle.rules.specs.declared.Ending.{Ending}
 use Rattle.rules.specs.declared.Ending.the-variants.{None, Refused}
 use Rattle.rules.specs.Rows.{Row, rowPlace}
+use Rattle.rows.specs.Shape.{rowNo}
 
+-- the ends of rows do not fall
+pub record EndsRise (ws : List ℕ) (count : ℕ) : Type 0 where
+  pub rises : (i j : ℕ) → i ≤ j → j < count → rowNo ws i .end ≤ rowNo ws j .end
+
+-- a counter x moves from o to p
 pub record Moves (o p x : ℕ) : Type 0 where
   pub behind : o ≤ x
   pub room : x - o + p < 2 ^ 32

@@ -14,21 +14,24 @@ ghost use Rattle.rules.specs.Text.{startPlace};
 ghost use Rattle.rules.specs.Rows.{rowWords, rowsIn, wordsOf};
 ghost use Rattle.rules.specs.Edit.{kept, lastEnd, carry, carryRow, carryEnding};
 ghost use Rattle.rows.specs.Shape.{asRow, rowNo};
-ghost use Rattle.edit_carry.specs.Moves.{Moves, MovesPlace, MovesRow, MovesEnding, Ended};
+ghost use Rattle.edit_carry.specs.Moves.{EndsRise, Moves, MovesPlace, MovesRow, MovesEnding, Ended};
 
-// How many of the first rows end below a.
+// How many of the first rows end below a, found by halving.
 pub fn kept_rows(old: &[u32], count: usize, a: u32) -> usize
-    requires { ⌜ count * 8 ≤ length (now old) ⌝ }
+    requires { ⌜ (count * 8 ≤ length (now old)) × EndsRise (now old) count ⌝ }
     ensures { λ r. ⌜ r ≡ length (kept a (rowsIn count (now (old .entry)))) ⌝ }
 {
-    let mut i = 0;
-    while i < count {
-        if a <= old[i * row::WORDS + row::END] {
-            return i;
+    let mut low = 0;
+    let mut high = count;
+    while low < high {
+        let middle = low + (high - low) / 2;
+        if a <= old[middle * row::WORDS + row::END] {
+            high = middle;
+        } else {
+            low = middle + 1;
         }
-        i += 1;
     }
-    i
+    low
 }
 
 // The place behind the first n rows.

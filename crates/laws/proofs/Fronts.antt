@@ -1,7 +1,7 @@
--- Laws of the front of a list, the bytes that meet a test: how long it is, at an index of a text, of two lists joined, and in a line.
-use mathlib.Core.Path.{_≡_, refl, sym, ap, _∙_}
+-- Laws of the front of a list, the bytes that meet a test: how long it is, at an index of a text, and in a line.
+use mathlib.Core.Path.{_≡_, refl, sym, _∙_}
 use mathlib.Core.Bool.{Bool, true, false, true≢false}
-use mathlib.Core.List.{List, [], _∷_, _++_}
+use mathlib.Core.List.{List, [], _∷_}
 use Prim.Native.Nat.{ℕ, zero, suc, _+_, _≤_, _<_}
 use native.Mathlib.Nat.{zero-add}
 use native.Mathlib.Decide.{decLt}
@@ -23,6 +23,14 @@ module _ (p : ℕ → Bool) where
   unfolding front
   front-out b s e = rw (front, e)
 
+  -- what is left of a front behind its first byte
+  pub front-rest : (b : ℕ) (s : List ℕ) (n : ℕ) → suc n ≤ front p (b ∷ s) → n ≤ front p s
+  front-rest b s n h = by (p b) refl
+    where
+      by : (q : Bool) → p b ≡ q → n ≤ front p s
+      by true e = omega (arith, front-in b s e)
+      by false e = absurd (let y : ⊥ = omega (arith, front-out b s e) in y)
+
   pub front-le : (s : List ℕ) → front p s ≤ length s
   unfolding front
   front-le [] = omega arith
@@ -31,12 +39,6 @@ module _ (p : ℕ → Bool) where
       by : (q : Bool) → p b ≡ q → front p s ≤ length s → front p (b ∷ s) ≤ suc (length s)
       by true e h = rw (front-in b s e) (omega arith)
       by false e h = rw (front-out b s e) (omega arith)
-
-  -- a test that every byte meets has the whole list for its front
-  pub front-each : (s : List ℕ) → ((k : ℕ) → k < length s → p (getD s k 0) ≡ true) → front p s ≡ length s
-  unfolding front
-  front-each [] h = refl
-  front-each (b ∷ s) h = front-in b s (h 0 (omega arith)) ∙ ap suc (front-each s (λ k l. h (suc k) (omega arith)))
 
 -- a narrower test has a shorter front
 pub front-mono : (p q : ℕ → Bool) → ((b : ℕ) → p b ≡ true → q b ≡ true) → (s : List ℕ) → front p s ≤ front q s
@@ -68,35 +70,6 @@ module _ (p : ℕ → Bool) (t : List ℕ) (i : ℕ) where
   pub front-end : length t ≤ i → front p (drop i t) ≡ 0
   unfolding front
   front-end h = rw (drop-of-length-le t h)
-
--- ---- two lists joined
-
-module _ (p : ℕ → Bool) where
-  -- every byte of the first meets the test
-  pub front-join : (u v : List ℕ) → front p u ≡ length u → front p (u ++ v) ≡ length u + front p v
-  front-join [] v h = omega arith
-  front-join (b ∷ u) v h = by (p b) refl (front-join u v)
-    where
-      by : (q : Bool) → p b ≡ q → (front p u ≡ length u → front p (u ++ v) ≡ length u + front p v) → front p (b ∷ (u ++ v)) ≡ suc (length u) + front p v
-      by true e ih =
-          let y : front p (b ∷ u) ≡ suc (front p u) = front-in p b u e in
-          let k : front p (u ++ v) ≡ length u + front p v = ih (omega arith) in
-          front-in p b (u ++ v) e ∙ omega arith
-      by false e ih = let y : front p (b ∷ u) ≡ 0 = front-out p b u e in omega arith
-
-  -- one does not
-  pub front-stop : (u v : List ℕ) → front p u < length u → front p (u ++ v) ≡ front p u
-  front-stop [] v h = absurd (none h)
-    where
-      none : front p [] < 0 → ⊥
-      none k = omega arith
-  front-stop (b ∷ u) v h = by (p b) refl (front-stop u v)
-    where
-      by : (q : Bool) → p b ≡ q → (front p u < length u → front p (u ++ v) ≡ front p u) → front p (b ∷ (u ++ v)) ≡ front p (b ∷ u)
-      by true e ih =
-          let y : front p (b ∷ u) ≡ suc (front p u) = front-in p b u e in
-          front-in p b (u ++ v) e ∙ ap suc (ih (omega arith)) ∙ sym y
-      by false e ih = front-out p b (u ++ v) e ∙ sym (front-out p b u e)
 
 -- what is left of a front behind n of its bytes
 pub front-drop : (p : ℕ → Bool) (n : ℕ) (s : List ℕ) → n ≤ front p s → front p s ≡ n + front p (drop n s)

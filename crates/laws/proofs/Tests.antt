@@ -25,6 +25,10 @@ both-true p q = and-eq-true-iff p q .0
 pub true-both : {p q : Bool} → p ≡ true → q ≡ true → (p && q) ≡ true
 true-both {p} {q} e f = rw (e, f)
 
+pub either : {C : Type 0} (p q : Bool) → (p || q) ≡ true → (p ≡ true → C) → (q ≡ true → C) → C
+either true q h f g = f refl
+either false q h f g = g h
+
 pub neither : (p q : Bool) → (p || q) ≡ false → (p ≡ false) × (q ≡ false)
 neither true q e = absurd (true≢false e)
 neither false q e = (refl, e)

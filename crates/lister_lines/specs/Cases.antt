@@ -73,8 +73,8 @@ cases =
 pub right : map (λ (c : Case). listed (c .text)) cases ≡ map (λ (c : Case). c .printed) cases
 unfolding
     Lines.digits Lines.decimal Lines.signed Lines.spaced Lines.heading Lines.rowLine Lines.nodeLine Lines.refusalLine Lines.lines Lines.room
-    Lines.listedRows Lines.listedNodes Lines.listedParse Lines.listedTree Lines.listedScan Lines.listedText Lines.listed Text.front Text.validBytes
-    Text.valid Text.isBlank Text.newlines Text.lineAt Text.columnAt Text.placeAt Text.textJudged Text.moved Text.over Text.along Kinds.isMade Kinds.reserved
+    Lines.listedRows Lines.listedNodes Lines.listedParse Lines.listedTree Lines.listedScan Lines.listedText Lines.listed Text.front Text.utf8 Text.met
+    Text.lineIn Text.charAt Text.validFrom Text.validBytes Text.valid Text.isBlank Text.newlines Text.lineAt Text.columnAt Text.placeAt Text.textJudged Text.moved Text.over Text.along Kinds.isMade Kinds.reserved
     Kinds.signs Kinds.sameBytes Kinds.kindIn Kinds.lengthIn Rows.rowWords Rows.rowIn Rows.rowsIn Rows.wordsOf Rows.bitsOf Rows.valueBits Rows.rowAt Rows.eofRow Rows.rowPlace Rows.every
     Rows.chained Rows.lengthFits Rows.spansFit Rows.valueFits Rows.placeFits Rows.linesFit Rows.rowFits Rows.follows Rows.lastRow Rows.endsBehind
     Rows.isEof Rows.eofLast Rows.endingFits Rows.rowsFit Rows.wellFormed Rows.spelling Lex.lineComment Lex.beforeClose Lex.blockComment Lex.isDigit

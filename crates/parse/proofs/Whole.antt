@@ -114,7 +114,7 @@ module _ (t ws : List ℕ) (n : ℕ) (m : List ℕ) (asks : AsksWhole t ws n m) 
       names-told t ws n .tells .kinds (n - 1) (omega arith) ∙ asks .closed (n - 1) e
 
   -- no more nodes than rows
-  pub nodes-fit : (p : Tree) (j : ℕ) → readingOf t ws n ≡ ok p j → size p ≤ n
+  nodes-fit : (p : Tree) (j : ℕ) → readingOf t ws n ≡ ok p j → size p ≤ n
   nodes-fit p j e =
       let h = all-ok (λ q k. (k ≡ width q) × (k ≤ length own)) (Parse.parse own) p j (ends-parse own (n - 1) last-in last-kind) e in
       omega (arith, h, nodes-within-rows p, names-told t ws n .tells .long)

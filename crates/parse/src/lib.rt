@@ -29,7 +29,7 @@ ghost use Rattle.parse_nodes.specs.Names.{Spans};
 ghost use Rattle.parse.specs.Program.{TopMet, ProgramMet, AsksTable, AsksWhole, readingOf, Final};
 
 // A map, an event or a unit at the row.
-fn top(text: &[u8], rows: &[u32], count: usize, nodes: &mut [u32], row: usize, node: usize) -> Got
+fn top(text: &[u8], rows: &[u32], count: u32, nodes: &mut [u32], row: u32, node: u32) -> Got
     requires { ⌜ AsksOpen (now rows) count row node 64 × Spans (now text) (now rows) count ⌝ }
     ensures { λ r. ⌜ TopMet (now (text .entry)) (now (rows .entry)) count row node (now (nodes .entry)) (now (nodes .exit)) r ⌝ }
 {
@@ -43,11 +43,11 @@ fn top(text: &[u8], rows: &[u32], count: usize, nodes: &mut [u32], row: usize, n
     if k == EVENT {
         return parse_events::event(rows, count, nodes, row, node);
     }
-    Got::Refused(Syntax::NotTopLevel, row)
+    Got::Refused(Syntax::NotTopLevel, row as usize)
 }
 
 // The program of the rows.
-fn program(text: &[u8], rows: &[u32], count: usize, nodes: &mut [u32]) -> Got
+fn program(text: &[u8], rows: &[u32], count: u32, nodes: &mut [u32]) -> Got
     requires { ⌜ AsksTable (now text) (now rows) count ⌝ }
     ensures { λ r. ⌜ ProgramMet (now (text .entry)) (now (rows .entry)) count (now (nodes .entry)) (now (nodes .exit)) r ⌝ }
 {
@@ -82,14 +82,14 @@ fn outer(why: Outer) -> Parsed
 }
 
 // The program of a sound table with no refused ending, into enough room.
-fn twice(text: &[u8], rows: &[u32], count: usize, nodes: &mut [u32]) -> Parsed
+fn twice(text: &[u8], rows: &[u32], count: u32, nodes: &mut [u32]) -> Parsed
     requires { ⌜ AsksWhole (now text) (now rows) count (now nodes) ⌝ }
     ensures { λ r. ⌜ Final (now (rows .entry)) (readingOf (now (text .entry)) (now (rows .entry)) count) (now (nodes .entry)) (now (nodes .exit)) r ⌝ }
 {
     match program(text, rows, count, &mut nodes[..0]) {
         Got::Done(t) => {
             program(text, rows, count, nodes);
-            Parsed::Nodes(t.node as u32)
+            Parsed::Nodes(t.node)
         }
         Got::Refused(why, r) => Parsed::Refused(
             Reason::Syntax(why),
@@ -119,5 +119,5 @@ pub fn parse(text: &[u8], rows: &[u32], table: Table, nodes: &mut [u32]) -> Pars
     if nodes.len() / node::WORDS < count {
         return outer(Outer::NoNodeRoom);
     }
-    twice(text, rows, count, nodes)
+    twice(text, rows, table.count, nodes)
 }

@@ -25,7 +25,7 @@ ghost use Rattle.parse_events.specs.Shapes.{LengthFound, TypeFound, Shap
 
 // A field's facts and the row behind it.
 pub struct Shape {
-    pub row: usize,
+    pub row: u32,
     pub form: u32,
     pub element: u32,
     pub length: u32,
@@ -34,11 +34,11 @@ pub struct Shape {
 // A field's shape, or why there is none and the row where.
 pub enum Shaped {
     Done(Shape),
-    Refused(Syntax, usize),
+    Refused(Syntax, u32),
 }
 
 // The length at the row, `]` and `;`, of a field of a form and element.
-fn length_at(rows: &[u32], count: usize, row: usize, form: u32, element: u32) -> Shaped
+fn length_at(rows: &[u32], count: u32, row: u32, form: u32, element: u32) -> Shaped
     requires { ⌜ Asks (now rows) count row 0 0 ⌝ }
     ensures { λ r. ⌜ LengthFound (now (rows .entry)) count row form element r ⌝ }
 {
@@ -46,7 +46,7 @@ fn length_at(rows: &[u32], count: usize, row: usize, form: u32, element: u32) ->
     if k1 != NUMBER {
         return Shaped::Refused(Syntax::Wanted(NUMBER, k1), row);
     }
-    let at = row * row::WORDS;
+    let at = (row as usize) * row::WORDS;
     if rows[at + row::HIGH] != 0 {
         return Shaped::Refused(Syntax::OutOfRange, row);
     }
@@ -70,7 +70,7 @@ fn length_at(rows: &[u32], count: usize, row: usize, form: u32, element: u32) ->
 }
 
 // The type at the row, with a length or without, and `;`.
-fn typed_at(rows: &[u32], count: usize, row: usize, kind: u32) -> Shaped
+fn typed_at(rows: &[u32], count: u32, row: u32, kind: u32) -> Shaped
     requires { ⌜ AsksType (now rows) count row kind ⌝ }
     ensures { λ r. ⌜ TypeFound (now (rows .entry)) count row r ⌝ }
 {
@@ -97,7 +97,7 @@ fn typed_at(rows: &[u32], count: usize, row: usize, kind: u32) -> Shaped
 }
 
 // What stands behind a field's colon.
-fn shape_at(rows: &[u32], count: usize, row: usize) -> Shaped
+fn shape_at(rows: &[u32], count: u32, row: u32) -> Shaped
     requires { ⌜ Asks (now rows) count row 0 0 ⌝ }
     ensures { λ r. ⌜ ShapeFound (now (rows .entry)) count row r ⌝ }
 {
@@ -117,29 +117,28 @@ fn shape_at(rows: &[u32], count: usize, row: usize) -> Shaped
 }
 
 // A field at the row.
-fn field(rows: &[u32], count: usize, nodes: &mut [u32], row: usize, node: usize) -> Got
+fn field(rows: &[u32], count: u32, nodes: &mut [u32], row: u32, node: u32) -> Got
     requires { ⌜ Asks (now rows) count row node 0 ⌝ }
     ensures { λ r. ⌜ Answers (λ ts. eventField ts row) (now (rows .entry)) count row node (now (nodes .entry)) (now (nodes .exit)) r ⌝ }
 {
     let k1 = parse_nodes::kind_at(rows, count, row);
     if k1 != IDENTIFIER {
-        return Got::Refused(Syntax::Wanted(IDENTIFIER, k1), row);
+        return Got::Refused(Syntax::Wanted(IDENTIFIER, k1), row as usize);
     }
     let colon = row + 1;
     let k2 = parse_nodes::kind_at(rows, count, colon);
     if k2 != COLON {
-        return Got::Refused(Syntax::Wanted(COLON, k2), colon);
+        return Got::Refused(Syntax::Wanted(COLON, k2), colon as usize);
     }
     match shape_at(rows, count, colon + 1) {
         Shaped::Done(f) => {
-            let name = row as u32;
             parse_nodes::store(
                 nodes,
                 node,
                 Words {
                     kind: node_kind::EVENT_FIELD,
-                    place: name,
-                    name,
+                    place: row,
+                    name: row,
                     children: 0,
                     fact0: f.form,
                     fact1: f.element,
@@ -155,12 +154,12 @@ fn field(rows: &[u32], count: usize, nodes: &mut [u32], row: usize, node: usize)
                 things: 0,
             })
         }
-        Shaped::Refused(why, r) => Got::Refused(why, r),
+        Shaped::Refused(why, r) => Got::Refused(why, r as usize),
     }
 }
 
 // The fields of the event whose word is at the row, up to `}`, and the event's node.
-fn fields(rows: &[u32], count: usize, nodes: &mut [u32], row: usize, node: usize) -> Got
+fn fields(rows: &[u32], count: u32, nodes: &mut [u32], row: u32, node: u32) -> Got
     requires { ⌜ AsksOpen (now rows) count row node 0 × (row + 1 + 1 < count) ⌝ }
     ensures { λ r. ⌜ FieldsMet (now (rows .entry)) count row node (now (nodes .entry)) (now (nodes .exit)) r ⌝ }
 {
@@ -177,7 +176,7 @@ fn fields(rows: &[u32], count: usize, nodes: &mut [u32], row: usize, node: usize
         let at = s.row;
         if parse_nodes::kind_at(rows, count, at) == RBRACE {
             let n = s.node;
-            parse_nodes::close(nodes, n, node_kind::EVENT, name, name as u32, s.things);
+            parse_nodes::close(nodes, n, node_kind::EVENT, name, name, s.things);
             return Got::Done(At {
                 row: at + 1,
                 node: n + 1,
@@ -198,19 +197,19 @@ fn fields(rows: &[u32], count: usize, nodes: &mut [u32], row: usize, node: usize
 }
 
 // The event whose word is at the row.
-pub fn event(rows: &[u32], count: usize, nodes: &mut [u32], row: usize, node: usize) -> Got
+pub fn event(rows: &[u32], count: u32, nodes: &mut [u32], row: u32, node: u32) -> Got
     requires { ⌜ AsksOpen (now rows) count row node 0 ⌝ }
     ensures { λ r. ⌜ Answers (λ ts. eventAt ts row) (now (rows .entry)) count row node (now (nodes .entry)) (now (nodes .exit)) r ⌝ }
 {
     let name = row + 1;
     let k1 = parse_nodes::kind_at(rows, count, name);
     if k1 != IDENTIFIER {
-        return Got::Refused(Syntax::Wanted(IDENTIFIER, k1), name);
+        return Got::Refused(Syntax::Wanted(IDENTIFIER, k1), name as usize);
     }
     let open = name + 1;
     let k2 = parse_nodes::kind_at(rows, count, open);
     if k2 != LBRACE {
-        return Got::Refused(Syntax::Wanted(LBRACE, k2), open);
+        return Got::Refused(Syntax::Wanted(LBRACE, k2), open as usize);
     }
     fields(rows, count, nodes, row, node)
 }

@@ -68,13 +68,13 @@ fn binary_node(k: u32) -> u32
 }
 
 // The end of a call: s stands behind the receiver, at the dot; m is the next node, and next the row behind the call.
-fn call_end(nodes: &mut [u32], s: At, m: usize, count: u32, next: usize) -> Got
-    requires { ⌜ (s .place ≤ 65536) × ((s .row ≤ 65536) × ((m ≤ 65537) × (count ≤ 65536))) ⌝ }
+fn call_end(nodes: &mut [u32], s: At, m: u32, count: u32, next: u32) -> Got
+    requires { ⌜ (s .row ≤ 65536) × ((m ≤ 65537) × (count ≤ 65536)) ⌝ }
     ensures { λ r. ⌜ CallEnd (s .variable) s m count next (now (nodes .entry)) (now (nodes .exit)) r ⌝ }
 {
     if s.variable {
         let name = s.row + 1;
-        parse_nodes::close(nodes, m, node_kind::CALL, s.place, name as u32, count + 1);
+        parse_nodes::close(nodes, m, node_kind::CALL, s.place, name, count + 1);
         return Got::Done(At {
             row: next,
             node: m + 1,
@@ -83,7 +83,7 @@ fn call_end(nodes: &mut [u32], s: At, m: usize, count: u32, next: usize) -> Got
             things: 0,
         });
     }
-    Got::Refused(Syntax::CallOnOther, s.row + 1)
+    Got::Refused(Syntax::CallOnOther, (s.row + 1) as usize)
 }
 
 // The state behind a field of what s stands behind, at the dot.
@@ -93,7 +93,7 @@ fn field_end(nodes: &mut [u32], s: At) -> At
 {
     let name = s.row + 1;
     let n = s.node;
-    parse_nodes::close(nodes, n, node_kind::FIELD, name, name as u32, 1);
+    parse_nodes::close(nodes, n, node_kind::FIELD, name, name, 1);
     At {
         row: name + 1,
         node: n + 1,
@@ -104,7 +104,7 @@ fn field_end(nodes: &mut [u32], s: At) -> At
 }
 
 // Whether a variable or a number stands at a row, and neither a dot nor an operator of `mul` behind it.
-fn is_lone(rows: &[u32], count: usize, row: usize) -> bool
+fn is_lone(rows: &[u32], count: u32, row: u32) -> bool
     requires { ⌜ (count * 8 ≤ length (now rows)) × (row ≤ 65537) ⌝ }
     ensures { λ r. ⌜ r ≡ isLone (kindWord (now (rows .entry)) count row) (kindWord (now (rows .entry)) count (row + 1)) ⌝ }
 {
@@ -114,7 +114,7 @@ fn is_lone(rows: &[u32], count: usize, row: usize) -> bool
 }
 
 // The state behind the number at a row, or behind a variable if no number stands there.
-fn leaf(rows: &[u32], count: usize, nodes: &mut [u32], row: usize, node: usize) -> At
+fn leaf(rows: &[u32], count: u32, nodes: &mut [u32], row: u32, node: u32) -> At
     requires { ⌜ (count * 8 ≤ length (now rows)) × ((row ≤ 65537) × (node ≤ 65537)) ⌝ }
     ensures { λ r. ⌜ Leaf (now (rows .entry)) count row node (now (nodes .entry)) (now (nodes .exit)) r ⌝ }
 {
@@ -123,22 +123,15 @@ fn leaf(rows: &[u32], count: usize, nodes: &mut [u32], row: usize, node: usize) 
             nodes,
             row,
             node,
-            rows[row * WORDS + LOW],
-            rows[row * WORDS + HIGH],
+            rows[(row as usize) * WORDS + LOW],
+            rows[(row as usize) * WORDS + HIGH],
         );
     }
     parse_nodes::variable(nodes, row, node)
 }
 
 // An expression: a shift, and operands of `mul` behind signs.
-pub fn add(
-    rows: &[u32],
-    count: usize,
-    nodes: &mut [u32],
-    row: usize,
-    node: usize,
-    left: usize,
-) -> Got
+pub fn add(rows: &[u32], count: u32, nodes: &mut [u32], row: u32, node: u32, left: usize) -> Got
     requires { ⌜ Asks (now rows) count row node left ⌝ }
     ensures { λ r. ⌜ Answers (λ ts. add ts (inner ts left) row) (now (rows .entry)) count row node (now (nodes .entry)) (now (nodes .exit)) r ⌝ }
 {
@@ -166,7 +159,7 @@ pub fn add(
 }
 
 // An operand of `mul`, and further ones behind shifts.
-fn shift(rows: &[u32], count: usize, nodes: &mut [u32], row: usize, node: usize, left: usize) -> Got
+fn shift(rows: &[u32], count: u32, nodes: &mut [u32], row: u32, node: u32, left: usize) -> Got
     requires { ⌜ Asks (now rows) count row node left ⌝ }
     ensures { λ r. ⌜ Answers (λ ts. shift ts (inner ts left) row) (now (rows .entry)) count row node (now (nodes .entry)) (now (nodes .exit)) r ⌝ }
 {
@@ -194,7 +187,7 @@ fn shift(rows: &[u32], count: usize, nodes: &mut [u32], row: usize, node: usize,
 }
 
 // An operand, and further ones behind `*`, `/` and `%`; a lone variable or number is written at once.
-fn mul(rows: &[u32], count: usize, nodes: &mut [u32], row: usize, node: usize, left: usize) -> Got
+fn mul(rows: &[u32], count: u32, nodes: &mut [u32], row: u32, node: u32, left: usize) -> Got
     requires { ⌜ Asks (now rows) count row node left ⌝ }
     ensures { λ r. ⌜ Answers (λ ts. mul ts (inner ts left) row) (now (rows .entry)) count row node (now (nodes .entry)) (now (nodes .exit)) r ⌝ }
 {
@@ -225,13 +218,13 @@ fn mul(rows: &[u32], count: usize, nodes: &mut [u32], row: usize, node: usize, l
 }
 
 // An operand behind any number of stars.
-fn unary(rows: &[u32], count: usize, nodes: &mut [u32], row: usize, node: usize, left: usize) -> Got
+fn unary(rows: &[u32], count: u32, nodes: &mut [u32], row: u32, node: u32, left: usize) -> Got
     requires { ⌜ Asks (now rows) count row node left ⌝ }
     ensures { λ r. ⌜ Answers (λ ts. unary ts (inner ts left) row) (now (rows .entry)) count row node (now (nodes .entry)) (now (nodes .exit)) r ⌝ }
 {
     if parse_nodes::kind_at(rows, count, row) == STAR {
         if left == 0 {
-            return Got::Refused(Syntax::TooDeep, row);
+            return Got::Refused(Syntax::TooDeep, row as usize);
         }
         match unary(rows, count, nodes, row + 1, node, left - 1) {
             Got::Done(t) => {
@@ -246,18 +239,18 @@ fn unary(rows: &[u32], count: usize, nodes: &mut [u32], row: usize, node: usize,
 }
 
 // A number, a variable or a group.
-fn atom(rows: &[u32], count: usize, nodes: &mut [u32], row: usize, node: usize, left: usize) -> Got
+fn atom(rows: &[u32], count: u32, nodes: &mut [u32], row: u32, node: u32, left: usize) -> Got
     requires { ⌜ Asks (now rows) count row node left ⌝ }
     ensures { λ r. ⌜ Answers (λ ts. atom ts (inner ts left) row) (now (rows .entry)) count row node (now (nodes .entry)) (now (nodes .exit)) r ⌝ }
 {
     let k = parse_nodes::kind_at(rows, count, row);
     if k == NUMBER {
-        let at = row * WORDS;
+        let at = (row as usize) * WORDS;
         return Got::Done(parse_nodes::number(nodes, row, node, rows[at + LOW], rows[at + HIGH]));
     }
     if k == LPAREN {
         if left == 0 {
-            return Got::Refused(Syntax::TooDeep, row);
+            return Got::Refused(Syntax::TooDeep, row as usize);
         }
         match add(rows, count, nodes, row + 1, node, left - 1) {
             Got::Done(t) => {
@@ -272,7 +265,7 @@ fn atom(rows: &[u32], count: usize, nodes: &mut [u32], row: usize, node: usize, 
                         things: 0,
                     });
                 }
-                return Got::Refused(Syntax::Wanted(RPAREN, found), j);
+                return Got::Refused(Syntax::Wanted(RPAREN, found), j as usize);
             }
             Got::Refused(why, r) => {
                 return Got::Refused(why, r);
@@ -282,11 +275,11 @@ fn atom(rows: &[u32], count: usize, nodes: &mut [u32], row: usize, node: usize, 
     if k == IDENTIFIER {
         return Got::Done(parse_nodes::variable(nodes, row, node));
     }
-    Got::Refused(Syntax::Wanted(IDENTIFIER, k), row)
+    Got::Refused(Syntax::Wanted(IDENTIFIER, k), row as usize)
 }
 
 // An atom with its fields and calls.
-fn prim(rows: &[u32], count: usize, nodes: &mut [u32], row: usize, node: usize, left: usize) -> Got
+fn prim(rows: &[u32], count: u32, nodes: &mut [u32], row: u32, node: u32, left: usize) -> Got
     requires { ⌜ Asks (now rows) count row node left ⌝ }
     ensures { λ r. ⌜ Answers (λ ts. prim ts (inner ts left) row) (now (rows .entry)) count row node (now (nodes .entry)) (now (nodes .exit)) r ⌝ }
 {
@@ -313,7 +306,7 @@ fn prim(rows: &[u32], count: usize, nodes: &mut [u32], row: usize, node: usize, 
 }
 
 // A field or a call behind what s stands behind, whose dot is at s's row.
-fn post(rows: &[u32], count: usize, nodes: &mut [u32], s: At, left: usize) -> Got
+fn post(rows: &[u32], count: u32, nodes: &mut [u32], s: At, left: usize) -> Got
     requires { ⌜ AsksAt (now rows) count s left ⌝ }
     ensures { λ r. ⌜ Onward (λ ts t. post ts (inner ts left) t (s .row)) (now (rows .entry)) count s (now (nodes .entry)) (now (nodes .exit)) r ⌝ }
 {
@@ -321,7 +314,7 @@ fn post(rows: &[u32], count: usize, nodes: &mut [u32], s: At, left: usize) -> Go
     let n = s.node;
     let k = parse_nodes::kind_at(rows, count, name);
     if k != IDENTIFIER {
-        return Got::Refused(Syntax::Wanted(IDENTIFIER, k), name);
+        return Got::Refused(Syntax::Wanted(IDENTIFIER, k), name as usize);
     }
     let open = name + 1;
     if parse_nodes::kind_at(rows, count, open) != LPAREN {
@@ -335,7 +328,7 @@ fn post(rows: &[u32], count: usize, nodes: &mut [u32], s: At, left: usize) -> Go
             let close = a.row;
             let found = parse_nodes::kind_at(rows, count, close);
             if found != RPAREN {
-                return Got::Refused(Syntax::Wanted(RPAREN, found), close);
+                return Got::Refused(Syntax::Wanted(RPAREN, found), close as usize);
             }
             call_end(nodes, s, a.node, a.things, close + 1)
         }
@@ -344,12 +337,12 @@ fn post(rows: &[u32], count: usize, nodes: &mut [u32], s: At, left: usize) -> Go
 }
 
 // Arguments behind the parenthesis at `row`.
-fn args(rows: &[u32], count: usize, nodes: &mut [u32], row: usize, node: usize, left: usize) -> Got
+fn args(rows: &[u32], count: u32, nodes: &mut [u32], row: u32, node: u32, left: usize) -> Got
     requires { ⌜ AsksOpen (now rows) count row node left ⌝ }
     ensures { λ r. ⌜ Answers (λ ts. args ts (inner ts left) row) (now (rows .entry)) count (row + 1) node (now (nodes .entry)) (now (nodes .exit)) r ⌝ }
 {
     if left == 0 {
-        return Got::Refused(Syntax::TooDeep, row);
+        return Got::Refused(Syntax::TooDeep, row as usize);
     }
     let mut s = match add(rows, count, nodes, row + 1, node, left - 1) {
         Got::Done(t) => parse_nodes::counted(t, t.place, 1),

@@ -39,7 +39,7 @@ ghost use Rattle.parse_maps.specs.Steps.{bitsAt, AsksRow, ShiftFound, Ch
 
 // What the fields so far give, 0 for none, `limit` one more than max; and the next row.
 pub struct Facts {
-    pub row: usize,
+    pub row: u32,
     pub maptype: u32,
     pub key: u32,
     pub value: u32,
@@ -49,27 +49,27 @@ pub struct Facts {
 // What the fields give with one field more, or why not and the row where.
 pub enum Found {
     Done(Facts),
-    Refused(Syntax, usize),
+    Refused(Syntax, u32),
 }
 
 // The value of a max so far, and the next row.
 pub struct Sum {
-    pub row: usize,
+    pub row: u32,
     pub bits: u64,
 }
 
 // The value of a max with one shift more, or why not and the row where.
 pub enum Summed {
     Done(Sum),
-    Refused(Syntax, usize),
+    Refused(Syntax, u32),
 }
 
 // The value's bits of the number at a row of the table.
-fn bits_at(rows: &[u32], row: usize) -> u64
+fn bits_at(rows: &[u32], row: u32) -> u64
     requires { ⌜ row * 8 + 8 ≤ length (now rows) ⌝ }
     ensures { λ r. ⌜ r ≡ bitsAt (now (rows .entry)) row ⌝ }
 {
-    let at = row * row::WORDS;
+    let at = (row as usize) * row::WORDS;
     (rows[at + row::HIGH] as u64) * limit::ABOVE_WORD + (rows[at + row::LOW] as u64)
 }
 
@@ -88,7 +88,7 @@ fn shifted(kind: u32, x: u64, c: u64) -> u64
 }
 
 // A shift whose sign is at the sum's row.
-fn shift_step(rows: &[u32], count: usize, s: Sum, kind: u32) -> Summed
+fn shift_step(rows: &[u32], count: u32, s: Sum, kind: u32) -> Summed
     requires { ⌜ AsksRow (now rows) count (s .row) kind ⌝ }
     ensures { λ r. ⌜ ShiftFound (now (rows .entry)) count s r ⌝ }
 {
@@ -108,7 +108,7 @@ fn shift_step(rows: &[u32], count: usize, s: Sum, kind: u32) -> Summed
 }
 
 // A number and shifts by numbers, from the row on.
-fn chain(rows: &[u32], count: usize, row: usize) -> Summed
+fn chain(rows: &[u32], count: u32, row: u32) -> Summed
     requires { ⌜ Asks (now rows) count row 0 0 ⌝ }
     ensures { λ r. ⌜ ChainFound (now (rows .entry)) count row r ⌝ }
 {
@@ -139,7 +139,7 @@ fn chain(rows: &[u32], count: usize, row: usize) -> Summed
 }
 
 // `max` at the fields' row.
-fn max_field(rows: &[u32], count: usize, f: Facts) -> Found
+fn max_field(rows: &[u32], count: u32, f: Facts) -> Found
     requires { ⌜ AsksRow (now rows) count (f .row) KeywordMax ⌝ }
     ensures { λ r. ⌜ RowsFound (now (rows .entry)) count f r ⌝ }
 {
@@ -174,7 +174,7 @@ fn max_field(rows: &[u32], count: usize, f: Facts) -> Found
 }
 
 // `key` or `value`, which the kind says, at the fields' row.
-fn typed_field(rows: &[u32], count: usize, f: Facts, kind: u32) -> Found
+fn typed_field(rows: &[u32], count: u32, f: Facts, kind: u32) -> Found
     requires { ⌜ AsksRow (now rows) count (f .row) kind × (isTyped kind ≡ true) ⌝ }
     ensures { λ r. ⌜ RowsFound (now (rows .entry)) count f r ⌝ }
 {
@@ -240,7 +240,7 @@ fn type_number(word: &[u8]) -> u32
 }
 
 // `type` at the fields' row. The rows' spellings lie inside the text.
-fn type_field(text: &[u8], rows: &[u32], count: usize, f: Facts) -> Found
+fn type_field(text: &[u8], rows: &[u32], count: u32, f: Facts) -> Found
     requires { ⌜ AsksRow (now rows) count (f .row) KeywordType × Spans (now text) (now rows) count ⌝ }
     ensures { λ r. ⌜ FieldFound (now (text .entry)) (now (rows .entry)) count f r ⌝ }
 {
@@ -259,8 +259,9 @@ fn type_field(text: &[u8], rows: &[u32], count: usize, f: Facts) -> Found
     if k3 != IDENTIFIER {
         return Found::Refused(Syntax::Wanted(IDENTIFIER, k3), name);
     }
-    let a = rows[name * row::WORDS + row::START] as usize;
-    let e = rows[name * row::WORDS + row::END] as usize;
+    let words = (name as usize) * row::WORDS;
+    let a = rows[words + row::START] as usize;
+    let e = rows[words + row::END] as usize;
     let number = type_number(&text[a..e]);
     let end = name + 1;
     if number == 0 {
@@ -280,7 +281,7 @@ fn type_field(text: &[u8], rows: &[u32], count: usize, f: Facts) -> Found
 }
 
 // A field at the fields' row.
-fn field(text: &[u8], rows: &[u32], count: usize, f: Facts) -> Found
+fn field(text: &[u8], rows: &[u32], count: u32, f: Facts) -> Found
     requires { ⌜ Asks (now rows) count (f .row) 0 0 × Spans (now text) (now rows) count ⌝ }
     ensures { λ r. ⌜ FieldFound (now (text .entry)) (now (rows .entry)) count f r ⌝ }
 {
@@ -299,7 +300,7 @@ fn field(text: &[u8], rows: &[u32], count: usize, f: Facts) -> Found
 }
 
 // Fields from the row on, up to `}`, which is not taken.
-fn fields(text: &[u8], rows: &[u32], count: usize, row: usize) -> Found
+fn fields(text: &[u8], rows: &[u32], count: u32, row: u32) -> Found
     requires { ⌜ Asks (now rows) count row 0 0 × Spans (now text) (now rows) count ⌝ }
     ensures { λ r. ⌜ FieldsFound (now (text .entry)) (now (rows .entry)) count row r ⌝ }
 {
@@ -349,18 +350,17 @@ fn lacks(f: Facts) -> u32
 }
 
 // The map's node, whose name is at a row, from fields that lack nothing.
-fn map_node(nodes: &mut [u32], node: usize, name: usize, f: Facts)
-    requires { ⌜ (node ≤ 65537) × ((name ≤ 65537) × ((1 ≤ f .limit) × (f .limit ≤ 4294967296))) ⌝ }
+fn map_node(nodes: &mut [u32], node: u32, name: u32, f: Facts)
+    requires { ⌜ (node ≤ 65537) × ((1 ≤ f .limit) × (f .limit ≤ 4294967296)) ⌝ }
     ensures { λ _. ⌜ now (nodes .exit) ≡ sets (now (nodes .entry)) (8 * node) (nodeWords (factNode NodeMap name name 0 (f .maptype) (f .key) (f .value) (pred (f .limit)))) ⌝ }
 {
-    let at = name as u32;
     parse_nodes::store(
         nodes,
         node,
         Words {
             kind: node_kind::MAP,
-            place: at,
-            name: at,
+            place: name,
+            name,
             children: 0,
             fact0: f.maptype,
             fact1: f.key,
@@ -371,33 +371,26 @@ fn map_node(nodes: &mut [u32], node: usize, name: usize, f: Facts)
 }
 
 // The map whose word is at the row.
-pub fn map(
-    text: &[u8],
-    rows: &[u32],
-    count: usize,
-    nodes: &mut [u32],
-    row: usize,
-    node: usize,
-) -> Got
+pub fn map(text: &[u8], rows: &[u32], count: u32, nodes: &mut [u32], row: u32, node: u32) -> Got
     requires { ⌜ AsksOpen (now rows) count row node 0 × Spans (now text) (now rows) count ⌝ }
     ensures { λ r. ⌜ MapMet (now (text .entry)) (now (rows .entry)) count row node (now (nodes .entry)) (now (nodes .exit)) r ⌝ }
 {
     let name = row + 1;
     let k1 = parse_nodes::kind_at(rows, count, name);
     if k1 != IDENTIFIER {
-        return Got::Refused(Syntax::Wanted(IDENTIFIER, k1), name);
+        return Got::Refused(Syntax::Wanted(IDENTIFIER, k1), name as usize);
     }
     let open = name + 1;
     let k2 = parse_nodes::kind_at(rows, count, open);
     if k2 != LBRACE {
-        return Got::Refused(Syntax::Wanted(LBRACE, k2), open);
+        return Got::Refused(Syntax::Wanted(LBRACE, k2), open as usize);
     }
     match fields(text, rows, count, open + 1) {
         Found::Done(f) => {
             let next = f.row + 1;
             let missing = lacks(f);
             if missing != 0 {
-                return Got::Refused(Syntax::MapLacks(missing), next);
+                return Got::Refused(Syntax::MapLacks(missing), next as usize);
             }
             map_node(nodes, node, name, f);
             Got::Done(At {
@@ -408,6 +401,6 @@ pub fn map(
                 things: 0,
             })
         }
-        Found::Refused(why, r) => Got::Refused(why, r),
+        Found::Refused(why, r) => Got::Refused(why, r as usize),
     }
 }

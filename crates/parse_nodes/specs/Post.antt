@@ -67,7 +67,6 @@ pub record AsksAt (ws : List ℕ) (n : ℕ) (s : At) (d : ℕ) : Type 0 where
   pub lent : n * 8 ≤ length ws
   pub inside : s .row < n
   pub few : s .node ≤ s .row
-  pub place : s .place ≤ s .row
   pub short : n ≤ 65537
   pub nest : d ≤ 64
 

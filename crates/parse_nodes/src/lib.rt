@@ -16,14 +16,15 @@ ghost use Rattle.parse_nodes.specs.Post.{kindWord, stateAt, listAt};
 // Where the parser stands: the next row, the next node, the place of what was read, whether that is a variable, and how many things
 // it has if it is a list.
 pub struct At {
-    pub row: usize,
-    pub node: usize,
-    pub place: usize,
+    pub row: u32,
+    pub node: u32,
+    pub place: u32,
     pub variable: bool,
     pub things: u32,
 }
 
-// What was read, or why not and the row where.
+// What was read, or why not and the row where. That row is as wide as the last two fields of a state, so that both answers are passed on
+// by the same moves.
 pub enum Got {
     Done(At),
     Refused(Syntax, usize),
@@ -42,11 +43,15 @@ pub struct Words {
 }
 
 // The kind of row i of a table of so many rows, and Eof past the last.
-pub fn kind_at(rows: &[u32], count: usize, i: usize) -> u32
+pub fn kind_at(rows: &[u32], count: u32, i: u32) -> u32
     requires { ⌜ (count * 8 ≤ length (now rows)) ⌝ }
     ensures { λ r. ⌜ r ≡ kindWord (now (rows .entry)) count i ⌝ }
 {
-    if i < count { rows[i * row::WORDS] } else { EOF }
+    if i < count {
+        rows[(i as usize) * row::WORDS]
+    } else {
+        EOF
+    }
 }
 
 // A word, if there is room.
@@ -89,11 +94,11 @@ fn store_whole(nodes: &mut [u32], at: usize, w: Words)
 }
 
 // Node n, as far as there is room.
-pub fn store(nodes: &mut [u32], n: usize, w: Words)
+pub fn store(nodes: &mut [u32], n: u32, w: Words)
     requires { ⌜ n ≤ 65537 ⌝ }
     ensures { λ _. ⌜ now (nodes .exit) ≡ sets (now (nodes .entry)) (8 * n) (nodeWords (factNode (w .kind) (w .place) (w .name) (w .children) (w .fact0) (w .fact1) (w .fact2) (w .fact3))) ⌝ }
 {
-    let at = node::WORDS * n;
+    let at = node::WORDS * (n as usize);
     if nodes.len() <= at {
         return;
     }
@@ -105,8 +110,8 @@ pub fn store(nodes: &mut [u32], n: usize, w: Words)
 }
 
 // Node n with no facts; `name` is a row, or MISSING.
-pub fn close(nodes: &mut [u32], n: usize, kind: u32, place: usize, name: u32, children: u32)
-    requires { ⌜ (n ≤ 65537) × (place ≤ 65537) ⌝ }
+pub fn close(nodes: &mut [u32], n: u32, kind: u32, place: u32, name: u32, children: u32)
+    requires { ⌜ n ≤ 65537 ⌝ }
     ensures { λ _. ⌜ now (nodes .exit) ≡ sets (now (nodes .entry)) (8 * n) (nodeWords (node kind place name children)) ⌝ }
 {
     store(
@@ -114,7 +119,7 @@ pub fn close(nodes: &mut [u32], n: usize, kind: u32, place: usize, name: u32, ch
         n,
         Words {
             kind,
-            place: place as u32,
+            place,
             name,
             children,
             fact0: 0,
@@ -126,8 +131,8 @@ pub fn close(nodes: &mut [u32], n: usize, kind: u32, place: usize, name: u32, ch
 }
 
 // The state behind a nameless node that is written at t, over what was read up to t.
-pub fn shut(nodes: &mut [u32], t: At, kind: u32, place: usize, children: u32) -> At
-    requires { ⌜ (t .node ≤ 65537) × (place ≤ 65537) ⌝ }
+pub fn shut(nodes: &mut [u32], t: At, kind: u32, place: u32, children: u32) -> At
+    requires { ⌜ t .node ≤ 65537 ⌝ }
     ensures { λ r. ⌜ (r ≡ stateAt (t .row) (t .node + 1) place) × (now (nodes .exit) ≡ sets (now (nodes .entry)) (8 * t .node) (nodeWords (node kind place missing children))) ⌝ }
 {
     let n = t.node;
@@ -142,8 +147,8 @@ pub fn shut(nodes: &mut [u32], t: At, kind: u32, place: usize, children: u32) ->
 }
 
 // The state behind a nameless node over what was read up to t, and behind the row that ends it.
-pub fn ended(nodes: &mut [u32], t: At, kind: u32, place: usize, children: u32) -> At
-    requires { ⌜ (t .node ≤ 65537) × ((place ≤ 65537) × (t .row ≤ 65537)) ⌝ }
+pub fn ended(nodes: &mut [u32], t: At, kind: u32, place: u32, children: u32) -> At
+    requires { ⌜ (t .node ≤ 65537) × (t .row ≤ 65537) ⌝ }
     ensures { λ r. ⌜ (r ≡ stateAt (t .row + 1) (t .node + 1) place) × (now (nodes .exit) ≡ sets (now (nodes .entry)) (8 * t .node) (nodeWords (node kind place missing children))) ⌝ }
 {
     let s = shut(nodes, t, kind, place, children);
@@ -157,11 +162,11 @@ pub fn ended(nodes: &mut [u32], t: At, kind: u32, place: usize, children: u32) -
 }
 
 // The state behind a variable at a row.
-pub fn variable(nodes: &mut [u32], row: usize, n: usize) -> At
+pub fn variable(nodes: &mut [u32], row: u32, n: u32) -> At
     requires { ⌜ (row ≤ 65537) × (n ≤ 65537) ⌝ }
     ensures { λ r. ⌜ (r ≡ record { row = row + 1; node = n + 1; place = row; variable = true; things = 0 }) × (now (nodes .exit) ≡ sets (now (nodes .entry)) (8 * n) (nodeWords (node NodeVariable row row 0))) ⌝ }
 {
-    close(nodes, n, node_kind::VARIABLE, row, row as u32, 0);
+    close(nodes, n, node_kind::VARIABLE, row, row, 0);
     At {
         row: row + 1,
         node: n + 1,
@@ -172,7 +177,7 @@ pub fn variable(nodes: &mut [u32], row: usize, n: usize) -> At
 }
 
 // The state behind a number at a row, with its value's words.
-pub fn number(nodes: &mut [u32], row: usize, n: usize, low: u32, high: u32) -> At
+pub fn number(nodes: &mut [u32], row: u32, n: u32, low: u32, high: u32) -> At
     requires { ⌜ (row ≤ 65537) × (n ≤ 65537) ⌝ }
     ensures { λ r. ⌜ (r ≡ stateAt (row + 1) (n + 1) row) × (now (nodes .exit) ≡ sets (now (nodes .entry)) (8 * n) (nodeWords (factNode NodeNumber row missing 0 low high 0 0))) ⌝ }
 {
@@ -181,7 +186,7 @@ pub fn number(nodes: &mut [u32], row: usize, n: usize, low: u32, high: u32) -> A
         n,
         Words {
             kind: node_kind::NUMBER,
-            place: row as u32,
+            place: row,
             name: MISSING,
             children: 0,
             fact0: low,
@@ -200,7 +205,7 @@ pub fn number(nodes: &mut [u32], row: usize, n: usize, low: u32, high: u32) -> A
 }
 
 // The state t as one behind a list of so many things, with another place.
-pub fn counted(t: At, place: usize, things: u32) -> At
+pub fn counted(t: At, place: u32, things: u32) -> At
     ensures { λ r. ⌜ r ≡ listAt (t .row) (t .node) place things ⌝ }
 {
     At {

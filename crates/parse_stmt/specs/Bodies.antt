@@ -41,12 +41,11 @@ BodyAnswers f kind ws n i nd m m′ r = (ts : List Tok) → Tells ts ws n → Bo
 
 -- ---- behind a then body
 
--- what is asked there: g is the guard's row
-pub record AsksElse (ws : List ℕ) (n : ℕ) (s : At) (g d : ℕ) : Type 0 where
+-- what is asked there
+pub record AsksElse (ws : List ℕ) (n : ℕ) (s : At) (d : ℕ) : Type 0 where
   pub lent : n * 8 ≤ length ws
   pub inside : s .row ≤ n
   pub few : s .node ≤ s .row
-  pub guard : g ≤ s .row
   pub short : n ≤ 65537
   pub nest : d ≤ 64
 

@@ -74,12 +74,12 @@ fn assign_node(k: u32) -> u32
 }
 
 // The state behind a named node with one child, over what was read up to t, and behind the row that ends it.
-fn named_end(nodes: &mut [u32], t: At, kind: u32, name: usize) -> At
-    requires { ⌜ (t .node ≤ 65537) × ((name ≤ 65537) × (t .row ≤ 65537)) ⌝ }
+fn named_end(nodes: &mut [u32], t: At, kind: u32, name: u32) -> At
+    requires { ⌜ (t .node ≤ 65537) × (t .row ≤ 65537) ⌝ }
     ensures { λ r. ⌜ (r ≡ stateAt (t .row + 1) (t .node + 1) name) × (now (nodes .exit) ≡ sets (now (nodes .entry)) (8 * t .node) (nodeWords (node kind name name 1))) ⌝ }
 {
     let n = t.node;
-    parse_nodes::close(nodes, n, kind, name, name as u32, 1);
+    parse_nodes::close(nodes, n, kind, name, name, 1);
     At {
         row: t.row + 1,
         node: n + 1,
@@ -90,33 +90,26 @@ fn named_end(nodes: &mut [u32], t: At, kind: u32, name: usize) -> At
 }
 
 // `reg`, `imm` or `heap` at the row: name `=` expression `;`.
-fn declare(
-    rows: &[u32],
-    count: usize,
-    nodes: &mut [u32],
-    row: usize,
-    node: usize,
-    left: usize,
-) -> Got
+fn declare(rows: &[u32], count: u32, nodes: &mut [u32], row: u32, node: u32, left: usize) -> Got
     requires { ⌜ AsksOpen (now rows) count row node left ⌝ }
     ensures { λ r. ⌜ Answers (λ ts. stmtBy ts left (body ts left) declaring row) (now (rows .entry)) count row node (now (nodes .entry)) (now (nodes .exit)) r ⌝ }
 {
     let name = row + 1;
     let k1 = parse_nodes::kind_at(rows, count, name);
     if k1 != IDENTIFIER {
-        return Got::Refused(Syntax::Wanted(IDENTIFIER, k1), name);
+        return Got::Refused(Syntax::Wanted(IDENTIFIER, k1), name as usize);
     }
     let sign = name + 1;
     let k2 = parse_nodes::kind_at(rows, count, sign);
     if k2 != EQUALS {
-        return Got::Refused(Syntax::Wanted(EQUALS, k2), sign);
+        return Got::Refused(Syntax::Wanted(EQUALS, k2), sign as usize);
     }
     match parse_expr::add(rows, count, nodes, sign + 1, node, left) {
         Got::Done(t) => {
             let j = t.row;
             let k3 = parse_nodes::kind_at(rows, count, j);
             if k3 != SEMICOLON {
-                return Got::Refused(Syntax::Wanted(SEMICOLON, k3), j);
+                return Got::Refused(Syntax::Wanted(SEMICOLON, k3), j as usize);
             }
             let kind = decl_node(parse_nodes::kind_at(rows, count, row));
             Got::Done(named_end(nodes, t, kind, name))
@@ -126,7 +119,7 @@ fn declare(
 }
 
 // `return` at the row: expression `;`.
-fn give(rows: &[u32], count: usize, nodes: &mut [u32], row: usize, node: usize, left: usize) -> Got
+fn give(rows: &[u32], count: u32, nodes: &mut [u32], row: u32, node: u32, left: usize) -> Got
     requires { ⌜ AsksOpen (now rows) count row node left ⌝ }
     ensures { λ r. ⌜ Answers (λ ts. stmtBy ts left (body ts left) returning row) (now (rows .entry)) count row node (now (nodes .entry)) (now (nodes .exit)) r ⌝ }
 {
@@ -136,7 +129,7 @@ fn give(rows: &[u32], count: usize, nodes: &mut [u32], row: usize, node: usize, 
             let j = t.row;
             let k = parse_nodes::kind_at(rows, count, j);
             if k != SEMICOLON {
-                return Got::Refused(Syntax::Wanted(SEMICOLON, k), j);
+                return Got::Refused(Syntax::Wanted(SEMICOLON, k), j as usize);
             }
             Got::Done(parse_nodes::ended(nodes, t, node_kind::RETURN, place, 1))
         }
@@ -145,7 +138,7 @@ fn give(rows: &[u32], count: usize, nodes: &mut [u32], row: usize, node: usize, 
 }
 
 // The value and `;` behind the target t, whose sign is at t's row.
-fn assigned(rows: &[u32], count: usize, nodes: &mut [u32], t: At, left: usize) -> Got
+fn assigned(rows: &[u32], count: u32, nodes: &mut [u32], t: At, left: usize) -> Got
     requires { ⌜ AsksAt (now rows) count t left ⌝ }
     ensures { λ r. ⌜ Onward (λ ts e. assignBy ts left (body ts left) true e (t .row)) (now (rows .entry)) count t (now (nodes .entry)) (now (nodes .exit)) r ⌝ }
 {
@@ -157,7 +150,7 @@ fn assigned(rows: &[u32], count: usize, nodes: &mut [u32], t: At, left: usize) -
             let j = u.row;
             let end = parse_nodes::kind_at(rows, count, j);
             if end != SEMICOLON {
-                return Got::Refused(Syntax::Wanted(SEMICOLON, end), j);
+                return Got::Refused(Syntax::Wanted(SEMICOLON, end), j as usize);
             }
             Got::Done(parse_nodes::ended(nodes, u, assign_node(k), t.place, 2))
         }
@@ -166,14 +159,7 @@ fn assigned(rows: &[u32], count: usize, nodes: &mut [u32], t: At, left: usize) -
 }
 
 // An expression, or one and `=` or `+=` and another; then `;`.
-fn effect(
-    rows: &[u32],
-    count: usize,
-    nodes: &mut [u32],
-    row: usize,
-    node: usize,
-    left: usize,
-) -> Got
+fn effect(rows: &[u32], count: u32, nodes: &mut [u32], row: u32, node: u32, left: usize) -> Got
     requires { ⌜ Asks (now rows) count row node left ⌝ }
     ensures { λ r. ⌜ Answers (λ ts. stmtBy ts left (body ts left) expression row) (now (rows .entry)) count row node (now (nodes .entry)) (now (nodes .exit)) r ⌝ }
 {
@@ -185,7 +171,7 @@ fn effect(
                 return assigned(rows, count, nodes, t, left);
             }
             if k != SEMICOLON {
-                return Got::Refused(Syntax::Wanted(SEMICOLON, k), j);
+                return Got::Refused(Syntax::Wanted(SEMICOLON, k), j as usize);
             }
             Got::Done(parse_nodes::ended(nodes, t, node_kind::EXPRESSION, t.place, 1))
         }
@@ -195,12 +181,12 @@ fn effect(
 
 // What stands behind `if`: guard ( name ) and the row of a brace, or why not.
 pub enum Opened {
-    Brace(usize),
-    Refused(Syntax, usize),
+    Brace(u32),
+    Refused(Syntax, u32),
 }
 
 // `guard ( name ) {` behind the `if` at the row.
-fn head(rows: &[u32], count: usize, row: usize) -> Opened
+fn head(rows: &[u32], count: u32, row: u32) -> Opened
     requires { ⌜ (count * 8 ≤ length (now rows)) × ((row < count) × (count ≤ 65537)) ⌝ }
     ensures { λ r. ⌜ HeadSays (now (rows .entry)) count row r ⌝ }
 {
@@ -233,14 +219,7 @@ fn head(rows: &[u32], count: usize, row: usize) -> Opened
 }
 
 // A statement.
-pub fn stmt(
-    rows: &[u32],
-    count: usize,
-    nodes: &mut [u32],
-    row: usize,
-    node: usize,
-    left: usize,
-) -> Got
+pub fn stmt(rows: &[u32], count: u32, nodes: &mut [u32], row: u32, node: u32, left: usize) -> Got
     requires { ⌜ Asks (now rows) count row node left ⌝ }
     ensures { λ r. ⌜ Answers (λ ts. stmt ts left (body ts left) row) (now (rows .entry)) count row node (now (nodes .entry)) (now (nodes .exit)) r ⌝ }
 {
@@ -258,33 +237,26 @@ pub fn stmt(
 }
 
 // `if` at the row.
-fn branch(
-    rows: &[u32],
-    count: usize,
-    nodes: &mut [u32],
-    row: usize,
-    node: usize,
-    left: usize,
-) -> Got
+fn branch(rows: &[u32], count: u32, nodes: &mut [u32], row: u32, node: u32, left: usize) -> Got
     requires { ⌜ AsksOpen (now rows) count row node left ⌝ }
     ensures { λ r. ⌜ Answers (λ ts. stmtBy ts left (body ts left) branching row) (now (rows .entry)) count row node (now (nodes .entry)) (now (nodes .exit)) r ⌝ }
 {
     match head(rows, count, row) {
         Opened::Brace(brace) => {
             let name = row + 3;
-            parse_nodes::close(nodes, node, node_kind::VARIABLE, name, name as u32, 0);
+            parse_nodes::close(nodes, node, node_kind::VARIABLE, name, name, 0);
             match body(rows, count, nodes, brace, node + 1, left, node_kind::THEN) {
                 Got::Done(t) => otherwise(rows, count, nodes, t, row + 1, left),
                 Got::Refused(why, r) => Got::Refused(why, r),
             }
         }
-        Opened::Refused(why, r) => Got::Refused(why, r),
+        Opened::Refused(why, r) => Got::Refused(why, r as usize),
     }
 }
 
 // Behind a then body at t: an else body, if there is one, and the node of the `if` whose guard is at `guard`.
-fn otherwise(rows: &[u32], count: usize, nodes: &mut [u32], t: At, guard: usize, left: usize) -> Got
-    requires { ⌜ AsksElse (now rows) count t guard left ⌝ }
+fn otherwise(rows: &[u32], count: u32, nodes: &mut [u32], t: At, guard: u32, left: usize) -> Got
+    requires { ⌜ AsksElse (now rows) count t left ⌝ }
     ensures { λ r. ⌜ Elsewise (λ ts w l. elseBy ts left (body ts left) (eqb (kindAt ts (t .row)) KeywordElse) w (thenBody l) (t .row)) (now (rows .entry)) count t guard (now (nodes .entry)) (now (nodes .exit)) r ⌝ }
 {
     let j = t.row;
@@ -295,7 +267,7 @@ fn otherwise(rows: &[u32], count: usize, nodes: &mut [u32], t: At, guard: usize,
     let brace = j + 1;
     let k = parse_nodes::kind_at(rows, count, brace);
     if k != LBRACE {
-        return Got::Refused(Syntax::Wanted(LBRACE, k), brace);
+        return Got::Refused(Syntax::Wanted(LBRACE, k), brace as usize);
     }
     match body(rows, count, nodes, brace, n, left, node_kind::ELSE) {
         Got::Done(u) => Got::Done(parse_nodes::shut(nodes, u, node_kind::IF, guard, 3)),
@@ -306,10 +278,10 @@ fn otherwise(rows: &[u32], count: usize, nodes: &mut [u32], t: At, guard: usize,
 // The body whose brace is at the row: its statements, and its node, of a kind: then or else.
 fn body(
     rows: &[u32],
-    count: usize,
+    count: u32,
     nodes: &mut [u32],
-    row: usize,
-    node: usize,
+    row: u32,
+    node: u32,
     left: usize,
     kind: u32,
 ) -> Got
@@ -317,7 +289,7 @@ fn body(
     ensures { λ r. ⌜ BodyAnswers (λ ts. body ts left row) kind (now (rows .entry)) count row node (now (nodes .entry)) (now (nodes .exit)) r ⌝ }
 {
     if left == 0 {
-        return Got::Refused(Syntax::TooDeep, row);
+        return Got::Refused(Syntax::TooDeep, row as usize);
     }
     let mut s = At {
         row: row + 1,

@@ -64,14 +64,14 @@ fn kind_of_string(text: &[u8], a: usize, e: usize) -> u32
 }
 
 // The kind, if there is one, or that of the section whose string is at the row.
-fn first_kind(text: &[u8], rows: &[u32], row: usize, kind: u32) -> u32
+fn first_kind(text: &[u8], rows: &[u32], row: u32, kind: u32) -> u32
     requires { ⌜ AsksString (now text) (now rows) row ⌝ }
     ensures { λ r. ⌜ r ≡ firstOf kind (fromSection (sectionText (spelt (now (text .entry)) (now (rows .entry)) row))) ⌝ }
 {
     if kind != NO_SECTION {
         return kind;
     }
-    let at = row * row::WORDS;
+    let at = (row as usize) * row::WORDS;
     let a = rows[at + row::START] as usize;
     let e = rows[at + row::END] as usize;
     kind_of_string(text, a, e)
@@ -84,7 +84,6 @@ fn with_text(text: &[u8], rows: &[u32], nodes: &mut [u32], u: Contents, word: u3
 {
     let here = u.at;
     let string = here.row + 1;
-    let name = string as u32;
     let n = here.node;
     let at = At {
         row: string + 1 + 1,
@@ -94,14 +93,14 @@ fn with_text(text: &[u8], rows: &[u32], nodes: &mut [u32], u: Contents, word: u3
         things: here.things + 1,
     };
     if word == LICENSE {
-        parse_nodes::close(nodes, n, node_kind::LICENSE, string, name, 0);
+        parse_nodes::close(nodes, n, node_kind::LICENSE, string, string, 0);
         return Contents {
             at,
             kind: u.kind,
-            licence: name,
+            licence: string,
         };
     }
-    parse_nodes::close(nodes, n, node_kind::SECTION, string, name, 0);
+    parse_nodes::close(nodes, n, node_kind::SECTION, string, string, 0);
     Contents {
         at,
         kind: first_kind(text, rows, string, u.kind),
@@ -113,7 +112,7 @@ fn with_text(text: &[u8], rows: &[u32], nodes: &mut [u32], u: Contents, word: u3
 fn text_item(
     text: &[u8],
     rows: &[u32],
-    count: usize,
+    count: u32,
     nodes: &mut [u32],
     u: Contents,
     word: u32,
@@ -125,18 +124,18 @@ fn text_item(
     let string = here.row + 1;
     let k1 = parse_nodes::kind_at(rows, count, string);
     if k1 != STRING {
-        return Went::Refused(Syntax::Wanted(STRING, k1), string);
+        return Went::Refused(Syntax::Wanted(STRING, k1), string as usize);
     }
     let end = string + 1;
     let k2 = parse_nodes::kind_at(rows, count, end);
     if k2 != SEMICOLON {
-        return Went::Refused(Syntax::Wanted(SEMICOLON, k2), end);
+        return Went::Refused(Syntax::Wanted(SEMICOLON, k2), end as usize);
     }
     Went::Done(with_text(text, rows, nodes, u, word))
 }
 
 // A statement, a section or a licence at the contents' row.
-fn item(text: &[u8], rows: &[u32], count: usize, nodes: &mut [u32], u: Contents) -> Went
+fn item(text: &[u8], rows: &[u32], count: u32, nodes: &mut [u32], u: Contents) -> Went
     requires { ⌜ AsksItem (now text) (now rows) count u ⌝ }
     ensures { λ r. ⌜ ItemMet (now (text .entry)) (now (rows .entry)) count u (now (nodes .entry)) (now (nodes .exit)) r ⌝ }
 {
@@ -160,14 +159,7 @@ fn item(text: &[u8], rows: &[u32], count: usize, nodes: &mut [u32], u: Contents)
 }
 
 // The contents from the row on, up to `}`, which is not taken.
-fn items(
-    text: &[u8],
-    rows: &[u32],
-    count: usize,
-    nodes: &mut [u32],
-    row: usize,
-    node: usize,
-) -> Went
+fn items(text: &[u8], rows: &[u32], count: u32, nodes: &mut [u32], row: u32, node: u32) -> Went
     requires { ⌜ Asks (now rows) count row node 64 × Spans (now text) (now rows) count ⌝ }
     ensures { λ r. ⌜ ItemsMet (now (text .entry)) (now (rows .entry)) count row node (now (nodes .entry)) (now (nodes .exit)) r ⌝ }
 {
@@ -210,7 +202,7 @@ fn kind_or_unknown(kind: u32) -> u32
 }
 
 // The node of the unit whose word is at a row, over its contents, and the state behind it.
-fn unit_node(nodes: &mut [u32], row: usize, u: Contents) -> At
+fn unit_node(nodes: &mut [u32], row: u32, u: Contents) -> At
     requires { ⌜ (row < 65537) × ((u .at .row ≤ 65537) × (u .at .node ≤ 65537)) ⌝ }
     ensures { λ r. ⌜ (r ≡ stateAt (u .at .row + 1) (u .at .node + 1) row) × (now (nodes .exit) ≡ sets (now (nodes .entry)) (8 * u .at .node) (nodeWords (factNode NodeUnit row (row + 1) (u .at .things) (cond (eqb (u .kind) unset) 10 (u .kind)) (u .licence) 0 0))) ⌝ }
 {
@@ -221,8 +213,8 @@ fn unit_node(nodes: &mut [u32], row: usize, u: Contents) -> At
         n,
         Words {
             kind: node_kind::UNIT,
-            place: row as u32,
-            name: (row + 1) as u32,
+            place: row,
+            name: row + 1,
             children: here.things,
             fact0: kind_or_unknown(u.kind),
             fact1: u.licence,
@@ -240,26 +232,19 @@ fn unit_node(nodes: &mut [u32], row: usize, u: Contents) -> At
 }
 
 // The unit whose word is at the row.
-pub fn unit(
-    text: &[u8],
-    rows: &[u32],
-    count: usize,
-    nodes: &mut [u32],
-    row: usize,
-    node: usize,
-) -> Got
+pub fn unit(text: &[u8], rows: &[u32], count: u32, nodes: &mut [u32], row: u32, node: u32) -> Got
     requires { ⌜ AsksOpen (now rows) count row node 64 × Spans (now text) (now rows) count ⌝ }
     ensures { λ r. ⌜ UnitMet (now (text .entry)) (now (rows .entry)) count row node (now (nodes .entry)) (now (nodes .exit)) r ⌝ }
 {
     let name = row + 1;
     let k1 = parse_nodes::kind_at(rows, count, name);
     if k1 != IDENTIFIER {
-        return Got::Refused(Syntax::Wanted(IDENTIFIER, k1), name);
+        return Got::Refused(Syntax::Wanted(IDENTIFIER, k1), name as usize);
     }
     let open = name + 1;
     let k2 = parse_nodes::kind_at(rows, count, open);
     if k2 != LBRACE {
-        return Got::Refused(Syntax::Wanted(LBRACE, k2), open);
+        return Got::Refused(Syntax::Wanted(LBRACE, k2), open as usize);
     }
     match items(text, rows, count, nodes, open + 1, node) {
         Went::Done(u) => Got::Done(unit_node(nodes, row, u)),

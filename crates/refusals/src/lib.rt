@@ -21,18 +21,18 @@ pub fn outer_number(why: Outer) -> u32
     }
 }
 
-// The number of a lexical refusal, 11 to 15.
+// The number of a lexical refusal, 11 to 17.
 pub fn lexical_number(why: Lexical) -> u32
     ensures { λ r. ⌜ r ≡ lexicalNumber why ⌝ }
 {
     match why {
         Lexical::NoRowBegins => 11,
-        Lexical::LoneSign => 11,
-        Lexical::NoHexDigit => 11,
         Lexical::OpenComment => 12,
         Lexical::OpenString => 13,
         Lexical::BadEscape => 14,
         Lexical::NumberTooLarge => 15,
+        Lexical::LoneSign => 16,
+        Lexical::NoHexDigit => 17,
     }
 }
 

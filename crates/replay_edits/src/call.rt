@@ -1,4 +1,5 @@
-// A call of the sample: the window and the memory that it is lent, what it tells and leaves, held against what is expected.
+// A call of the sample: the window and the memory that it is lent, what it tells and leaves, held against what is expected; and the same
+// edit as a change, where rows are expected of it.
 use crate::change::BYTES;
 use crate::change::Edit;
 use crate::change::WORDS;
@@ -6,8 +7,9 @@ use crate::part::number;
 use crate::report::memory_line;
 use crate::report::word_line;
 use crate::tally::CALLS;
+use crate::tally::CHANGES;
+use crate::tally::COUNTERS;
 use crate::tally::KINDS;
-use crate::tally::NOTHING;
 use crate::tally::Tally;
 use crate::words::first_other;
 use crate::words::told_words;
@@ -91,6 +93,30 @@ fn told_by(
     )
 }
 
+// The change call, with the first so many words lent.
+fn changed_by(
+    old: &[u32],
+    table: Table,
+    edit: Edit,
+    words: u32,
+    text: &[u8],
+    memory: &mut [u32],
+) -> Told {
+    let end = fewer(memory.len(), words);
+    edit_change::change(old, table, edit.a, edit.b, edit.n, text, &mut memory[..end])
+}
+
+// Whether a call of which this number is expected writes rows: all, those that have room, or those before a lexical refusal.
+fn writes(number: u32) -> bool {
+    if number == 0 {
+        return true;
+    }
+    if number == 4 {
+        return true;
+    }
+    11 <= number
+}
+
 // Word i of memory behind a call that wrote so many of these rows.
 fn expected(rows: &[u32; WORDS], count: u32, i: usize) -> u32 {
     if WORDS <= i {
@@ -139,12 +165,12 @@ fn memory_compared(tally: Tally, memory: &[u32; WORDS], rows: &[u32; WORDS], cou
 
 // The counter of one of so many numbers, from a first on.
 fn counter(first: usize, n: u32, most: u32) -> usize
-    requires { ⌜ first ≤ 32 ⌝ }
+    requires { ⌜ first ≤ 33 ⌝ }
 {
     if n < most {
         first + n as usize
     } else {
-        NOTHING
+        COUNTERS
     }
 }
 
@@ -152,11 +178,32 @@ fn counter(first: usize, n: u32, most: u32) -> usize
 fn counted(before: Tally, now: Tally, kind: u32, number: u32) -> Tally {
     let agrees = before.differences == now.differences;
     now.held(CALLS, agrees)
-        .held(counter(0, number, 16), agrees)
+        .held(counter(0, number, 18), agrees)
         .held(counter(KINDS, kind, 11), agrees)
 }
 
-// The sample's next call.
+// The edit of a call as a change by the whole new text, where the call writes rows: the same is expected of it.
+fn change_compared(
+    tally: Tally,
+    old: &[u32; WORDS],
+    table: Table,
+    edit: Edit,
+    call: Call,
+    text: &[u8],
+    rows: &[u32; WORDS],
+) -> Tally {
+    let theirs = call.told;
+    if !writes(theirs[0]) {
+        return tally;
+    }
+    let mut memory = [UNTOUCHED; WORDS];
+    let told = changed_by(old, table, edit, call.words, text, &mut memory);
+    let told_too = words_compared(tally, &told_words(told), &theirs);
+    let now = memory_compared(told_too, &memory, rows, theirs[4]);
+    now.held(CHANGES, tally.differences == now.differences)
+}
+
+// The sample's next call, and its edit as a change.
 fn call_compared(
     sample: &[u8],
     tally: Tally,
@@ -164,6 +211,7 @@ fn call_compared(
     table: Table,
     edit: Edit,
     text: &[u8; BYTES],
+    size: usize,
     rows: &[u32; WORDS],
 ) -> Tally {
     let call = call_at(sample, tally.at);
@@ -176,7 +224,9 @@ fn call_compared(
     let theirs = call.told;
     let told_too = words_compared(begun, &told_words(told), &theirs);
     let now = memory_compared(told_too, &memory, rows, theirs[4]);
-    counted(begun, now, edit.kind, theirs[0])
+    let held = counted(begun, now, edit.kind, theirs[0]);
+    let new = replay_input::first(text, size as u64);
+    change_compared(held, old, table, edit, call, new, rows)
 }
 
 // The sample's calls of an edit.
@@ -187,16 +237,17 @@ pub fn calls_compared(
     table: Table,
     edit: Edit,
     text: &[u8; BYTES],
+    size: usize,
     rows: &[u32; WORDS],
 ) -> Tally {
-    let size = count(sample, letter(sample, tally.at, b'C'));
-    let mut now = tally.moved(size.next);
+    let calls = count(sample, letter(sample, tally.at, b'C'));
+    let mut now = tally.moved(calls.next);
     let mut i: u64 = 0;
-    while i < size.value {
+    while i < calls.value {
         if now.at == LOST {
             return now;
         }
-        now = call_compared(sample, now, old, table, edit, text, rows);
+        now = call_compared(sample, now, old, table, edit, text, size, rows);
         i += 1;
     }
     now

@@ -1,6 +1,7 @@
 // Holds the edit call against a stored sample of edits: reads the sample on standard input, scans each old text, asks where the window
-// of its edit starts, makes the calls, and writes how many agree with what is expected in answer, rows and memory. `cargo run --release
-// --offline --bin edits` in compare/ writes `stdin`, which says at its head where each expectation comes from.
+// of its edit starts, makes the calls, and writes how many agree with what is expected in answer, rows and memory. Where a call writes
+// rows, its edit is made as a change too, of which the same is expected. `cargo run --release --offline --bin edits` in compare/ writes
+// `stdin`, which says at its head where each expectation comes from.
 use call::calls_compared;
 use call::words_compared;
 use change::BYTES;
@@ -55,7 +56,7 @@ fn edit_compared(sample: &[u8], tally: Tally) -> Tally {
     let table = scanned(part::bytes_of(sample, before), &mut old);
     let edit = change::edit_at(sample, change::damaged(sample, before.end, &mut old));
     let new = part::part_at(sample, edit.next, b'N');
-    change::edited(
+    let size = change::edited(
         &mut text,
         part::bytes_of(sample, before),
         edit,
@@ -69,7 +70,7 @@ fn edit_compared(sample: &[u8], tally: Tally) -> Tally {
         edit.a,
     );
     let now = begun.moved(change::rows_read(sample, begun.at, &mut rows));
-    calls_compared(sample, now, &old, table, edit, &text, &rows)
+    calls_compared(sample, now, &old, table, edit, &text, size, &rows)
 }
 
 // So many edits, as far as the sample can be read.

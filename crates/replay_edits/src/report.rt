@@ -1,5 +1,7 @@
 // What is written: where a call differs from what is expected of it, and the counts.
 use crate::tally::CALLS;
+use crate::tally::CHANGES;
+use crate::tally::COUNTERS;
 use crate::tally::KINDS;
 use crate::tally::RESTARTS;
 use crate::tally::ROWS;
@@ -59,7 +61,7 @@ pub fn memory_line(tally: Tally, i: usize, ours: u32, theirs: u32) {
 
 // How many of a thing were held against the sample, and how many agree.
 fn line(name: &[u8], tally: Tally, what: usize) {
-    if what < 32 {
+    if what < COUNTERS {
         two(name, tally.seen[what], b", agreed ", tally.agreed[what]);
     }
 }
@@ -97,12 +99,15 @@ fn answers(tally: Tally) {
     line(b"expected 13: ", tally, 13);
     line(b"expected 14: ", tally, 14);
     line(b"expected 15: ", tally, 15);
+    line(b"expected 16: ", tally, 16);
+    line(b"expected 17: ", tally, 17);
 }
 
 // All counts.
 pub fn counts(tally: Tally) {
     line(b"restart places ", tally, RESTARTS);
     line(b"calls ", tally, CALLS);
+    line(b"changes ", tally, CHANGES);
     line(b"rows ", tally, ROWS);
     kinds(tally);
     answers(tally);

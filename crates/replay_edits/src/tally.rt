@@ -2,16 +2,18 @@
 use replay_input::more;
 
 // What is counted: calls by the number that is expected of them, 0 where all rows are; by the kind of edit; and all of a thing.
-pub const KINDS: usize = 16;
+pub const KINDS: usize = 18;
 
-pub const RESTARTS: usize = 27;
+pub const RESTARTS: usize = 29;
 
-pub const CALLS: usize = 28;
+pub const CALLS: usize = 30;
 
-pub const ROWS: usize = 29;
+pub const ROWS: usize = 31;
 
-// No counter.
-pub const NOTHING: usize = 32;
+pub const CHANGES: usize = 32;
+
+// How many counters there are; as a counter it is none.
+pub const COUNTERS: usize = 33;
 
 // The place in the sample; the edit that is read, and the call of it; for each of the things above how many were held against the
 // sample and how many agree; how many do not.
@@ -19,8 +21,8 @@ pub struct Tally {
     pub at: usize,
     pub edit: u64,
     pub call: u64,
-    pub seen: [u64; 32],
-    pub agreed: [u64; 32],
+    pub seen: [u64; COUNTERS],
+    pub agreed: [u64; COUNTERS],
     pub differences: u64,
 }
 
@@ -31,8 +33,8 @@ impl Tally {
             at,
             edit: 0,
             call: 0,
-            seen: [0; 32],
-            agreed: [0; 32],
+            seen: [0; COUNTERS],
+            agreed: [0; COUNTERS],
             differences: 0,
         }
     }
@@ -64,7 +66,7 @@ impl Tally {
 
     // One thing more that was held.
     pub fn held(mut self, what: usize, agrees: bool) -> Tally {
-        if what < 32 {
+        if what < COUNTERS {
             self.seen[what] = more(self.seen[what]);
             if agrees {
                 self.agreed[what] = more(self.agreed[what]);

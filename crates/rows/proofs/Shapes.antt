@@ -1,18 +1,21 @@
--- Laws of a row: its words in memory, the range of its kind, and its value.
-use mathlib.Core.Path.{_≡_, sym}
-use mathlib.Core.Bool.{true, not, _&&_, _||_}
+-- Laws of a row: the range of its kind, its value, its test behind another row, and its words in memory.
+use mathlib.Core.Path.{_≡_, refl, sym}
+use mathlib.Core.Bool.{Bool, true, false, not, _&&_, _||_}
 use mathlib.Core.List.{List}
-use Prim.Native.Nat.{ℕ, _+_, _*_, _≤_}
+use Prim.Native.Nat.{ℕ, _+_, _-_, _*_, _^_, _≤_, _<_}
 use native.Mathlib.Decide.{ℕ-discrete}
 use native.Mathlib.Omega.{arith}
 use lib.ListN.{getD, drop}
 use lib.Seq.{getD-drop}
 use lib.Dec.{eqb, leb}
-use borrow.Author.Tests.{leb-true, eq-eqb, ne-eqb}
+use borrow.Author.Tests.{leb-true, le-leb, eq-eqb, ne-eqb}
 use Rattle.rules.specs.Text.{within}
 use Rattle.rules.specs.Kinds.{Number, isMade}
-use Rattle.rules.specs.Rows.{Row, rowIn, valueFits, valueBits}
+use Rattle.rules.specs.Rows.{Row, rowIn, rowPlace, lengthFits, spansFit, valueFits, valueBits, placeFits, linesFit, rowFits, follows}
+use Rattle.rows.specs.Shape.{LengthTable, sane}
 use Rattle.laws.proofs.Tests.{both-true}
+use Rattle.rows.proofs.Inside.{sound}
+use Rattle.rows.proofs.Lengths.{span-fits}
 
 pub made-le : (k : ℕ) → isMade k ≡ true → k ≤ 52
 unfolding isMade
@@ -46,6 +49,51 @@ value-fits r = go (ℕ-discrete (r .kind) Number)
         ((eqb (r .kind) Number && not (eqb b 9223372036854775808)) || eqb b 0) ≡ valueFits r
     go (yes p) = rw (eq-eqb (r .kind) Number p) (not-least (r .high * 4294967296 + r .low))
     go (no p) = rw (ne-eqb (r .kind) Number p) (no-bits (r .high) (r .low))
+
+-- ---- a sane row behind row r
+
+pub eqb-swap : (x y : ℕ) → eqb x y ≡ eqb y x
+eqb-swap x y = go (ℕ-discrete x y)
+  where
+    go : Dec (x ≡ y) → eqb x y ≡ eqb y x
+    go (yes p) = rw p
+    go (no p) = rw (ne-eqb x y p, ne-eqb y x (λ q. p (sym q)))
+
+pub fits-sane : (r : Row) → rowFits r ≡ true → sane r ≡ true
+unfolding sane
+fits-sane r f =
+    let s = sound r f in
+    rw (eq-eqb (r .spare) 0 (s .spare), le-leb 1 (r .line) (s .line-low), le-leb 1 (r .column) (s .column-low))
+
+-- the parts of both tests, in the order in which they are made
+regroup : (v x y m s a b o j : Bool) → (x && y) ≡ (m && s) →
+    ((((((v && x) && y) && a) && b) && o) && j) ≡ ((((m && true) && v) && (s && (a && b))) && (o && j))
+regroup false x y false s a b o j e = refl
+regroup false x y true s a b o j e = refl
+regroup true x y m s a b o j e = rw e (go m s a b)
+  where
+    go : (m s a b : Bool) → (((((m && s) && a) && b) && o) && j) ≡ ((((m && true) && true) && (s && (a && b))) && (o && j))
+    go false s a b = refl
+    go true false a b = refl
+    go true true false b = refl
+    go true true true false = refl
+    go true true true true = refl
+
+pub sane-stands : {ls ms : List ℕ} → LengthTable ls ms → (r q : Row) → q .kind ≤ 52 → q .end < 2 ^ 32 → sane q ≡ true →
+    ((((((valueFits q && leb (q .start + getD ls (q .kind) 0) (q .end)) && leb (q .end) (q .start + getD ms (q .kind) 0))
+    && leb (q .line) (q .start + 1)) && leb (q .column) (q .start + 1)) && leb (r .end) (q .start)) && linesFit (rowPlace r) (rowPlace q))
+    ≡ (rowFits q && follows r q)
+unfolding sane rowFits spansFit placeFits rowPlace follows
+sane-stands {ls} {ms} t r q k e s =
+    let a = both-true (eqb (q .spare) 0) (leb 1 (q .line) && leb 1 (q .column)) s in
+    let b = both-true (leb 1 (q .line)) (leb 1 (q .column)) (a .1) in
+    rw (a .0, b .0, b .1)
+    (regroup (valueFits q) (leb (q .start + getD ls (q .kind) 0) (q .end)) (leb (q .end) (q .start + getD ms (q .kind) 0))
+    (isMade (q .kind)) (leb (q .start) (q .end) && lengthFits (q .kind) (q .end - q .start))
+    (leb (q .line) (q .start + 1)) (leb (q .column) (q .start + 1)) (leb (r .end) (q .start)) (linesFit (rowPlace r) (rowPlace q))
+    (span-fits t (q .kind) (q .start) (q .end) k e))
+
+-- ---- the words of row i
 
 module _ (ws : List ℕ) (i : ℕ) where
   word : (k m : ℕ) → 8 * i + k ≡ m → getD ws m 0 ≡ getD (drop (8 * i) ws) k 0

@@ -1,6 +1,6 @@
 -- Laws of a table's tests: each case of what stands at a row, and the test of a table from the tests of its rows and its ending.
 use mathlib.Core.Path.{_≡_, refl, sym, _∙_}
-use mathlib.Core.Bool.{Bool, true, false, cond, not, _&&_}
+use mathlib.Core.Bool.{Bool, true, false, cond, not, _&&_, _||_, true≢false}
 use mathlib.Core.List.{List, []}
 use Prim.Native.Nat.{ℕ, zero, suc, _+_, _-_, _*_, _≤_, _<_}
 use native.Mathlib.Numerals.{add-one}
@@ -17,9 +17,10 @@ use Rattle.rules.specs.Text.{mostBytes}
 use Rattle.rules.specs.Kinds.{Eof}
 use Rattle.rules.specs.Rows.{Row, rowIn, rowPlace, rowFits, follows, linesFit, placeFits, isEof, wellFormed}
 use Rattle.laws.specs.Tests.{allBelow}
-use Rattle.rows.specs.Shape.{rowNo, behind, joined, stands, closes, breaks}
-use Rattle.laws.proofs.Tests.{both-true, true-both, same-bool, below, below-by}
-use Rattle.rows.proofs.Inside.{sound, clean, broken, Fine, fine, well, not-well, clean-of, broken-of}
+use Rattle.rows.specs.Shape.{rowNo, sane, behind, rowBefore, joined, stands, closes, breaks}
+use Rattle.laws.proofs.Tests.{both-true, true-both, false-by, same-bool, below, below-by}
+use Rattle.rows.proofs.Shapes.{made-le, fits-sane}
+use Rattle.rows.proofs.Inside.{sound, plain-kind, clean, broken, Fine, fine, well, not-well, clean-of, broken-of}
 
 -- ---- a row and the row before it
 
@@ -35,53 +36,93 @@ module _ (ws : List ℕ) (i : ℕ) where
 join-next : (ws : List ℕ) (i : ℕ) → joined ws (suc i) ≡ follows (rowNo ws i) (rowNo ws (suc i))
 join-next ws i = joined-next ws (suc i) (λ e. omega arith) ∙ (let j : suc i - 1 ≡ i = omega arith in rw j)
 
--- r leads row i: if row i fits by itself, it follows r just where it follows the row before it
-pub record Leads (ws : List ℕ) (i : ℕ) (r : Row) : Type 0 where
-  pub join : rowFits (rowNo ws i) ≡ true → follows r (rowNo ws i) ≡ joined ws i
+module _ (ws : List ℕ) (i : ℕ) where
+  pub before-first : i ≡ 0 → rowBefore ws i ≡ rowIn []
+  unfolding rowBefore
+  before-first e = rw (eq-eqb i 0 e)
 
--- a row that fits has a line, so it follows the row of zeros
-pub leads-first : (ws : List ℕ) → Leads ws 0 (rowIn [])
+  pub before-next : (i ≡ 0 → ⊥) → rowBefore ws i ≡ rowNo ws (i - 1)
+  unfolding rowBefore
+  before-next e = rw (ne-eqb i 0 e)
+
+pub before-on : (ws : List ℕ) (i : ℕ) → rowBefore ws (i + 1) ≡ rowNo ws i
+before-on ws i = before-next ws (i + 1) (λ e. omega arith) ∙ (let j : i + 1 - 1 ≡ i = omega arith in rw j)
+
+-- a row that fits follows the row before it just where it is joined to it; the first has a line, so it follows the row of zeros
+follows-before : (ws : List ℕ) (i : ℕ) → rowFits (rowNo ws i) ≡ true → follows (rowBefore ws i) (rowNo ws i) ≡ joined ws i
 unfolding rowIn follows linesFit rowPlace
-leads-first ws = record { join = λ f. go (sound q f .line-low) }
+follows-before ws zero f = rw (before-first ws 0 refl) (go (sound q f .line-low))
   where
     q : Row
     q = rowNo ws 0
 
     go : 1 ≤ q .line → follows (rowIn []) q ≡ joined ws 0
     go h = rw (joined-first ws 0 refl, le-leb 0 (q .start) (omega arith), le-leb 0 (q .line) (omega arith), ne-eqb 0 (q .line) (λ z. omega arith))
+follows-before ws (suc i) f = rw (← add-one i, before-on ws i) (rw add-one (sym (join-next ws i)))
 
-both-same : (a b c d : Bool) → (b ≡ true → c ≡ d) → ((a && b) && c) ≡ ((a && b) && d)
-both-same false b c d f = refl
-both-same true false c d f = refl
-both-same true true c d f = f refl
+both-same : (b c d : Bool) → (b ≡ true → c ≡ d) → (b && c) ≡ (b && d)
+both-same false c d f = refl
+both-same true c d f = f refl
 
-module _ (ws : List ℕ) (i : ℕ) where
-  -- row i, read as q
-  module _ (q : Row) (e : q ≡ rowNo ws i) where
-    pub stands-led : (r : Row) → Leads ws i r → ((not (isEof q) && rowFits q) && follows r q) ≡ stands ws i
-    unfolding stands
-    stands-led r l =
-        rw e (both-same (not (isEof (rowNo ws i))) (rowFits (rowNo ws i)) (follows r (rowNo ws i)) (joined ws i) (l .join))
+-- the facts of a row that stands
+record Stands (ws : List ℕ) (i : ℕ) : Type 0 where
+  plain : isEof (rowNo ws i) ≡ false
+  fit : rowFits (rowNo ws i) ≡ true
+  join : joined ws i ≡ true
 
-    pub leads-next : Leads ws (i + 1) q
-    leads-next = record { join = λ f. rw (e, add-one) (sym (join-next ws i)) }
+stands-of : (ws : List ℕ) (i : ℕ) → stands ws i ≡ true → Stands ws i
+unfolding stands
+stands-of ws i e =
+    let a = both-true (not (isEof (rowNo ws i)) && rowFits (rowNo ws i)) (joined ws i) e in
+    let b = both-true (not (isEof (rowNo ws i))) (rowFits (rowNo ws i)) (a .0) in
+    record { plain = not-true (isEof (rowNo ws i)) (b .0); fit = b .1; join = a .1 }
 
-    module _ (n : ℕ) where
-      pub closes-plain : (q .kind ≡ Eof → ⊥) → closes ws n i ≡ false
-      unfolding closes isEof
-      closes-plain k = rw (← e, ne-eqb (q .kind) Eof k)
+of-stands : (ws : List ℕ) (i : ℕ) → Stands ws i → stands ws i ≡ true
+unfolding stands
+of-stands ws i s = rw (s .plain, s .fit, s .join)
 
-      pub closes-apart : q .kind ≡ Eof → (q .start ≡ n → ⊥) → closes ws n i ≡ false
-      unfolding closes isEof
-      closes-apart k s = rw (← e, eq-eqb (q .kind) Eof k, ne-eqb (q .start) n s)
+-- one row more
+pub below-on : (f : ℕ → Bool) (n : ℕ) (p g : Bool) → p ≡ f n → g ≡ allBelow f n → (p && g) ≡ allBelow f (n + 1)
+below-on f n p g e h = rw (e, h, add-one)
 
-      pub closes-fit : q .kind ≡ Eof → q .start ≡ n → rowFits q ≡ true → closes ws n i ≡ joined ws i
-      unfolding closes isEof
-      closes-fit k s f = rw (← e, eq-eqb (q .kind) Eof k, eq-eqb (q .start) n s, f)
+-- row i, read as q
+module _ (ws : List ℕ) (i : ℕ) (q : Row) (e : q ≡ rowNo ws i) where
+  fits-joined : (rowFits q && follows (rowBefore ws i) q) ≡ (rowFits q && joined ws i)
+  fits-joined =
+      rw e (both-same (rowFits (rowNo ws i)) (follows (rowBefore ws i) (rowNo ws i)) (joined ws i) (follows-before ws i))
 
-      pub closes-not : q .kind ≡ Eof → q .start ≡ n → rowFits q ≡ false → closes ws n i ≡ false
-      unfolding closes isEof
-      closes-not k s f = rw (← e, eq-eqb (q .kind) Eof k, eq-eqb (q .start) n s, f)
+  pub stands-plain : q .kind < Eof → (rowFits q && follows (rowBefore ws i) q) ≡ stands ws i
+  unfolding stands isEof
+  stands-plain h = fits-joined ∙ rw (← e, ne-eqb (q .kind) Eof (λ z. omega arith))
+
+  pub stands-out : (leb Eof (q .kind) || not (sane q)) ≡ true → stands ws i ≡ false
+  stands-out h = false-by (stands ws i) (λ s. out (stands-of ws i s))
+    where
+      out : Stands ws i → ⊥
+      out s =
+          let f : rowFits q ≡ true = rw e (s .fit) in
+          let k = made-le (q .kind) (sound q f .made) in
+          let l : q .kind < Eof = omega (arith, plain-kind q (rw e (s .plain))) in
+          true≢false (sym h ∙ rw (lt-leb Eof (q .kind) l, fits-sane q f))
+
+  module _ (n : ℕ) where
+    pub closes-plain : (q .kind ≡ Eof → ⊥) → closes ws n i ≡ false
+    unfolding closes isEof
+    closes-plain k = rw (← e, ne-eqb (q .kind) Eof k)
+
+    pub closes-apart : q .kind ≡ Eof → (q .start ≡ n → ⊥) → closes ws n i ≡ false
+    unfolding closes isEof
+    closes-apart k s = rw (← e, eq-eqb (q .kind) Eof k, ne-eqb (q .start) n s)
+
+    pub closes-fit : q .kind ≡ Eof → q .start ≡ n → (rowFits q && follows (rowBefore ws i) q) ≡ closes ws n i
+    unfolding closes isEof
+    closes-fit k s = fits-joined ∙ rw (← e, eq-eqb (q .kind) Eof k, eq-eqb (q .start) n s)
+
+    pub closes-not : q .kind ≡ Eof → q .start ≡ n → sane q ≡ false → closes ws n i ≡ false
+    unfolding closes isEof
+    closes-not k s f =
+        let z : rowFits q ≡ false = false-by (rowFits q) (λ t. true≢false (sym (fits-sane q t) ∙ f)) in
+        rw (← e, eq-eqb (q .kind) Eof k, eq-eqb (q .start) n s, z)
 
 -- ---- a place behind the rows
 
@@ -104,23 +145,7 @@ module _ (ws : List ℕ) (n count : ℕ) (p : Cursor) where
 
 -- ---- the rows of a table
 
--- the facts of a row that stands, and of one that closes
-record Stands (ws : List ℕ) (i : ℕ) : Type 0 where
-  plain : isEof (rowNo ws i) ≡ false
-  fit : rowFits (rowNo ws i) ≡ true
-  join : joined ws i ≡ true
-
-stands-of : (ws : List ℕ) (i : ℕ) → stands ws i ≡ true → Stands ws i
-unfolding stands
-stands-of ws i e =
-    let a = both-true (not (isEof (rowNo ws i)) && rowFits (rowNo ws i)) (joined ws i) e in
-    let b = both-true (not (isEof (rowNo ws i))) (rowFits (rowNo ws i)) (a .0) in
-    record { plain = not-true (isEof (rowNo ws i)) (b .0); fit = b .1; join = a .1 }
-
-of-stands : (ws : List ℕ) (i : ℕ) → Stands ws i → stands ws i ≡ true
-unfolding stands
-of-stands ws i s = rw (s .plain, s .fit, s .join)
-
+-- the facts of a row that closes
 record Closes (ws : List ℕ) (n i : ℕ) : Type 0 where
   eof : isEof (rowNo ws i) ≡ true
   start : rowNo ws i .start ≡ n

@@ -1,15 +1,15 @@
--- A row in code and the rules' row; a table of lengths; what stands at row i of a table, and behind its last row.
+-- A row in code and the rules' row; tables of lengths; what stands at row i of a table, and behind its last row.
 use mathlib.Core.Bool.{Bool, true, cond, not, _&&_}
 use mathlib.Core.Path.{_≡_}
-use mathlib.Core.List.{List}
-use Prim.Native.Nat.{ℕ, _-_, _≤_}
+use mathlib.Core.List.{List, []}
+use Prim.Native.Nat.{ℕ, _-_, _^_, _≤_, _<_}
 use lib.ListN.{getD}
 use lib.Dec.{eqb, leb}
 use Rattle.rules.specs.declared.Cursor.{Cursor}
-use Rattle.rules.specs.Kinds.{Identifier, Number, Eof}
+use Rattle.rules.specs.Kinds.{Eof, isMade}
 use Rattle.rules.specs.Rows
 pub use Rattle.rules.specs.Rows.{rowNo}
-use Rattle.rules.specs.Rows.{rowPlace, lengthFits, rowFits, follows, linesFit, placeFits, isEof}
+use Rattle.rules.specs.Rows.{rowIn, rowPlace, lengthFits, rowFits, follows, linesFit, placeFits, isEof}
 use Rattle.rows.specs.declared.shape.Row.{Row}
 
 abbrev pub asRow : Row → Rows.Row
@@ -24,14 +24,21 @@ asRow r = record {
   spare = r .spare;
 }
 
--- each kind's entry says how long its spelling is: so long or longer for identifiers, strings and numbers, just so long for the others
-pub record LengthTable (ls : List ℕ) : Type 0 where
-  pub least : (k n : ℕ) → Identifier ≤ k → k ≤ Number → leb (getD ls k 0) n ≡ lengthFits k n
-  pub own : (k n : ℕ) → k ≤ Eof → (Identifier ≤ k → k ≤ Number → ⊥) → eqb n (getD ls k 0) ≡ lengthFits k n
+-- the entries of a kind say how long its spelling is, at least and at most, and fit no length where the kind is not made
+pub record LengthTable (least most : List ℕ) : Type 0 where
+  pub fits : (k n : ℕ) → k ≤ Eof → n < 2 ^ 32 → (leb (getD least k 0) n && leb n (getD most k 0)) ≡ (isMade k && lengthFits k n)
+
+-- what is asked of a row's words one by one: the last is 0, its line and its column are not
+unfoldable pub sane : Rows.Row → Bool
+sane r = eqb (r .spare) 0 && (leb 1 (r .line) && leb 1 (r .column))
 
 -- a place stands behind a row
 unfoldable pub behind : Rows.Row → Cursor → Bool
 behind r p = leb (r .end) (p .offset .0) && linesFit (rowPlace r) p
+
+-- the row before row i, and before the first a row of zeros
+unfoldable pub rowBefore : List ℕ → ℕ → Rows.Row
+rowBefore ws i = cond (eqb i 0) (rowIn []) (rowNo ws (i - 1))
 
 -- row i follows the row before it
 unfoldable pub joined : List ℕ → ℕ → Bool

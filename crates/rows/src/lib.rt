@@ -9,58 +9,55 @@ use rules::limit;
 use rules::row;
 use shape::Row;
 ghost use mathlib.Core.Path.{_≡_};
-ghost use mathlib.Core.Bool.{not, _&&_};
 ghost use Prim.Native.Nat.{_+_, _*_, _≤_};
 ghost use lib.ListN.{length};
-ghost use Rattle.rules.specs.Rows.{rowFits, follows, isEof, wellFormed};
+ghost use Rattle.rules.specs.Rows.{wellFormed};
 ghost use Rattle.rules.specs.Calls.{judged, spellingJudged, spellingPart};
 ghost use Rattle.laws.specs.Tests.{allBelow};
-ghost use Rattle.rows.specs.Shape.{LengthTable, asRow, joined, stands, closes, breaks};
+ghost use Rattle.rows.specs.Shape.{LengthTable, asRow, rowBefore, stands, closes, breaks};
 
 pub mod shape;
 
-// Whether row i may follow the row before it.
-fn row_joined(rows: &[u32], i: usize) -> bool
-    requires { ⌜ i * 8 + 8 ≤ length (now rows) ⌝ }
-    ensures { λ r. ⌜ r ≡ joined (now (rows .entry)) i ⌝ }
+// The row before row i, and before the first a row of zeros.
+fn row_before(rows: &[u32], i: usize) -> Row
+    requires { ⌜ i * 8 ≤ length (now rows) ⌝ }
+    ensures { λ r. ⌜ asRow r ≡ rowBefore (now (rows .entry)) i ⌝ }
 {
     if i == 0 {
-        return true;
+        return shape::no_row();
     }
-    let q = shape::row_at(rows, i);
-    let r = shape::row_at(rows, i - 1);
-    shape::row_follows(r, q)
-}
-
-// Whether row q fits behind row r, and is not Eof.
-fn row_stands(lengths: &[u32; kind::KINDS], r: Row, q: Row) -> bool
-    requires { ⌜ LengthTable (now lengths) ⌝ }
-    ensures { λ b. ⌜ b ≡ ((not (isEof (asRow q)) && rowFits (asRow q)) && follows (asRow r) (asRow q)) ⌝ }
-{
-    ((q.kind != kind::EOF) & shape::row_fits(lengths, q)) & shape::row_follows(r, q)
+    shape::row_at(rows, i - 1)
 }
 
 // Whether the first n rows fit where they stand, none of them Eof.
-fn rows_stand(lengths: &[u32; kind::KINDS], rows: &[u32], n: usize) -> bool
-    requires { ⌜ (n * 8 ≤ length (now rows)) × LengthTable (now lengths) ⌝ }
+fn rows_stand(least: &[u32; kind::KINDS], most: &[u32; kind::KINDS], rows: &[u32], n: usize) -> bool
+    requires { ⌜ (n * 8 ≤ length (now rows)) × LengthTable (now least) (now most) ⌝ }
     ensures { λ r. ⌜ r ≡ allBelow (stands (now (rows .entry))) n ⌝ }
 {
     let mut last = shape::no_row();
+    let mut good = true;
     let mut i = 0;
     while i < n {
         let r = shape::row_at(rows, i);
-        if !row_stands(lengths, last, r) {
+        if (kind::EOF <= r.kind) | !shape::row_sane(r) {
             return false;
         }
+        good = shape::row_stands(least, most, last, r) & good;
         last = r;
         i += 1;
     }
-    true
+    good
 }
 
 // Whether row i fits where it stands, and is Eof at the text's size.
-fn row_closes(lengths: &[u32; kind::KINDS], rows: &[u32], size: u32, i: usize) -> bool
-    requires { ⌜ (i * 8 + 8 ≤ length (now rows)) × LengthTable (now lengths) ⌝ }
+fn row_closes(
+    least: &[u32; kind::KINDS],
+    most: &[u32; kind::KINDS],
+    rows: &[u32],
+    size: u32,
+    i: usize,
+) -> bool
+    requires { ⌜ (i * 8 + 8 ≤ length (now rows)) × LengthTable (now least) (now most) ⌝ }
     ensures { λ r. ⌜ r ≡ closes (now (rows .entry)) size i ⌝ }
 {
     let r = shape::row_at(rows, i);
@@ -70,8 +67,8 @@ fn row_closes(lengths: &[u32; kind::KINDS], rows: &[u32], size: u32, i: usize) -
     if r.start != size {
         return false;
     }
-    if shape::row_fits(lengths, r) {
-        return row_joined(rows, i);
+    if shape::row_sane(r) {
+        return shape::row_stands(least, most, row_before(rows, i), r);
     }
     false
 }
@@ -99,7 +96,8 @@ fn place_breaks(rows: &[u32], size: u32, count: usize, p: Cursor) -> bool
 pub fn well_formed(rows: &[u32], table: Table) -> bool
     ensures { λ r. ⌜ r ≡ wellFormed (now (rows .entry)) table ⌝ }
 {
-    let lengths = shape::LENGTHS;
+    let least = shape::LEAST;
+    let most = shape::MOST;
     let count = table.count as usize;
     let size = table.length;
     if rows.len() < count * row::WORDS {
@@ -114,13 +112,13 @@ pub fn well_formed(rows: &[u32], table: Table) -> bool
             if count == 0 {
                 return false;
             }
-            if !rows_stand(&lengths, rows, count - 1) {
+            if !rows_stand(&least, &most, rows, count - 1) {
                 return false;
             }
-            row_closes(&lengths, rows, size, count - 1)
+            row_closes(&least, &most, rows, size, count - 1)
         }
         Ending::Refused(_, p) => {
-            if !rows_stand(&lengths, rows, count) {
+            if !rows_stand(&least, &most, rows, count) {
                 return false;
             }
             place_breaks(rows, size, count, p)

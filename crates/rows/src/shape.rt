@@ -7,12 +7,12 @@ use rules::kind;
 use rules::limit;
 use rules::row;
 ghost use mathlib.Core.Path.{_≡_};
+ghost use mathlib.Core.Bool.{true, _&&_};
 ghost use mathlib.Core.List.{[]};
 ghost use Prim.Native.Nat.{_+_, _*_, _≤_};
 ghost use lib.ListN.{length, getD, drop};
-ghost use Rattle.rules.specs.Kinds.{isMade};
-ghost use Rattle.rules.specs.Rows.{rowIn, rowPlace, spansFit, valueFits, placeFits, linesFit, rowFits, follows};
-ghost use Rattle.rows.specs.Shape.{LengthTable, asRow, behind};
+ghost use Rattle.rules.specs.Rows.{rowIn, rowPlace, valueFits, placeFits, linesFit, rowFits, follows};
+ghost use Rattle.rows.specs.Shape.{LengthTable, asRow, sane, behind};
 
 // A row is eight words.
 pub struct Row {
@@ -26,8 +26,65 @@ pub struct Row {
     pub spare: u32,
 }
 
-// How long the spelling of each kind is; of identifiers, strings and numbers, how long at least.
-pub const LENGTHS: [u32; kind::KINDS] = [
+// How long the spelling of each kind is at least.
+pub const LEAST: [u32; kind::KINDS] = [
+    4,
+    7,
+    7,
+    6,
+    3,
+    3,
+    3,
+    4,
+    3,
+    5,
+    3,
+    2,
+    4,
+    5,
+    4,
+    5,
+    1,
+    1,
+    1,
+    1,
+    1,
+    3,
+    3,
+    3,
+    3,
+    1,
+    1,
+    1,
+    1,
+    1,
+    1,
+    1,
+    1,
+    1,
+    1,
+    1,
+    2,
+    2,
+    2,
+    2,
+    2,
+    1,
+    1,
+    1,
+    1,
+    1,
+    2,
+    2,
+    1,
+    2,
+    1,
+    5,
+    0,
+];
+
+// How long the spelling of each kind is at most; of a kind that is not made less than at least, so that no length fits.
+pub const MOST: [u32; kind::KINDS] = [
     4,
     7,
     7,
@@ -76,9 +133,9 @@ pub const LENGTHS: [u32; kind::KINDS] = [
     1,
     2,
     2,
-    1,
-    2,
-    1,
+    u32::MAX,
+    u32::MAX,
+    u32::MAX,
     5,
     0,
 ];
@@ -135,30 +192,12 @@ pub fn row_place(r: Row) -> Cursor
     }
 }
 
-// Whether a kind is made.
-fn is_made(kind: u32) -> bool
-    ensures { λ r. ⌜ r ≡ isMade kind ⌝ }
-{
-    (kind <= kind::EOF) & !((kind::FIRST_UNMADE <= kind) & (kind <= kind::LAST_UNMADE))
-}
-
-// How long the spelling of a kind is, or at least is.
+// How long the spelling of a kind is by a table of lengths.
 fn own_length(lengths: &[u32; kind::KINDS], kind: u32) -> u32
     requires { ⌜ kind ≤ 52 ⌝ }
     ensures { λ r. ⌜ r ≡ getD (now (lengths .entry)) kind 0 ⌝ }
 {
     lengths[kind as usize]
-}
-
-// Whether a row's bytes are in order and as many as its kind has.
-fn spans_fit(lengths: &[u32; kind::KINDS], r: Row) -> bool
-    requires { ⌜ (r .kind ≤ 52) × LengthTable (now lengths) ⌝ }
-    ensures { λ b. ⌜ b ≡ spansFit (asRow r) ⌝ }
-{
-    let kind = r.kind;
-    let stop = wide(r.start) + wide(own_length(lengths, kind));
-    let end = wide(r.end);
-    (((kind::IDENTIFIER <= kind) & (kind <= kind::NUMBER)) & (stop <= end)) | (stop == end)
 }
 
 // Whether a row's value is one of 64 bits but the least, and zero unless Number.
@@ -187,28 +226,32 @@ fn lines_fit(p: Cursor, q: Cursor) -> bool
     let to = q.line.0;
     let left = wide(q.column.0) + wide(p.offset.0);
     let right = wide(p.column.0) + wide(q.offset.0);
-    (from <= to) & (!(from == to) | (left == right))
+    (from <= to) & ((to != from) | (left == right))
 }
 
-// Whether a row fits by itself.
-pub fn row_fits(lengths: &[u32; kind::KINDS], r: Row) -> bool
-    requires { ⌜ LengthTable (now lengths) ⌝ }
-    ensures { λ b. ⌜ b ≡ rowFits (asRow r) ⌝ }
+// Whether a row's last word is 0, and its line and its column are not.
+pub fn row_sane(r: Row) -> bool
+    ensures { λ b. ⌜ b ≡ sane (asRow r) ⌝ }
 {
-    if !is_made(r.kind) {
-        return false;
-    }
-    let p = row_place(r);
-    ((r.spare == 0) & value_fits(r)) & (spans_fit(lengths, r) & place_fits(p))
+    (r.spare == 0) & ((1 <= r.line) & (1 <= r.column))
 }
 
-// Whether row q may follow row r.
-pub fn row_follows(r: Row, q: Row) -> bool
-    ensures { λ b. ⌜ b ≡ follows (asRow r) (asRow q) ⌝ }
+// Whether a row q that is sane fits by itself and may follow row r: one conjunction from left to right, so that the compiler makes one
+// chain of comparisons of it.
+pub fn row_stands(least: &[u32; kind::KINDS], most: &[u32; kind::KINDS], r: Row, q: Row) -> bool
+    requires { ⌜ ((q .kind ≤ 52) × (sane (asRow q) ≡ true)) × LengthTable (now least) (now most) ⌝ }
+    ensures { λ b. ⌜ b ≡ (rowFits (asRow q) && follows (asRow r) (asRow q)) ⌝ }
 {
+    let start = wide(q.start);
+    let end = wide(q.end);
+    let next = start + 1;
+    let low = start + wide(own_length(least, q.kind));
+    let high = start + wide(own_length(most, q.kind));
+    let spans = (value_fits(q) & (low <= end)) & (end <= high);
+    let place = (spans & (wide(q.line) <= next)) & (wide(q.column) <= next);
     let from = row_place(r);
     let to = row_place(q);
-    (r.end <= q.start) & lines_fit(from, to)
+    (place & (r.end <= q.start)) & lines_fit(from, to)
 }
 
 // Whether a place may stand behind row r.

@@ -14,7 +14,7 @@ use Rattle.rules.specs.declared.Told.{Told}
 use Rattle.rules.specs.declared.Told.the-variants.{Refused}
 use Rattle.rules.specs.declared.Restart.{Restart}
 use Rattle.rules.specs.declared.Restart.the-variants as starts
-use Rattle.rules.specs.Text.{byte, mostBytes, validBytes, valid, isBlank, place, startPlace, over}
+use Rattle.rules.specs.Text.{byte, mostBytes, validBytes, cutBytes, isBlank, place, startPlace, over}
 use Rattle.rules.specs.Rows.{Row, rowAt, eofRow, rowPlace, rowsIn, wellFormed}
 use Rattle.rules.specs.Lex.{blank, comment, row, refused, known, end, unknown, item}
 use Rattle.rules.specs.Scan.{told, laid}
@@ -178,22 +178,38 @@ sensible rows len a b n start w =
 abbrev pub ends : List Row → (len a b n : ℕ) → List ℕ → Bool
 ends rows len a b n w = eqb (restart rows a .offset .0 + length w) (newLength len a b n)
 
--- 7: the window ends before a + n; or it doesn't end the text and shows neither a meeting place nor a refusal with its deciding byte
-unfoldable pub windowShort : List Row → Ending → (len a b n : ℕ) → List ℕ → Bool
-windowShort rows e len a b n w =
-    ltb (restart rows a .offset .0 + length w) (a + n) || isShort (seen rows e a b n w (ends rows len a b n w))
+-- so many bytes behind the new ones a window must show, that it can be judged
+abbrev pub judging : ℕ
+judging = 4
 
--- Order: 3, 6, 1, 2, 7, then 4 against lexical refusals as in a scan. `ws` holds the old rows, m rows may be written.
+-- 7 before 2: the window ends before a + n + 4 and doesn't end the text
+unfoldable pub unjudged : List Row → (len a b n : ℕ) → List ℕ → Bool
+unjudged rows len a b n w = ltb (restart rows a .offset .0 + length w) (a + n + judging) && not (ends rows len a b n w)
+
+-- how far a window is valid: a character that its end cuts is not held against it, unless it ends the text
+unfoldable pub windowBytes : Bool → List ℕ → ℕ
+windowBytes whole w = cond whole (validBytes w) (cutBytes w)
+
+unfoldable pub windowValid : Bool → List ℕ → Bool
+windowValid whole w = eqb (windowBytes whole w) (length w)
+
+-- 7 behind 2: the window doesn't end the text and shows neither a meeting place nor a refusal with its deciding byte
+unfoldable pub windowShort : List Row → Ending → (len a b n : ℕ) → List ℕ → Bool
+windowShort rows e len a b n w = isShort (seen rows e a b n w (ends rows len a b n w))
+
+-- Order: 3, 6, 1, 7, 2, 7, then 4 against lexical refusals as in a scan. `ws` holds the old rows, m rows may be written.
 unfoldable pub editTold : List ℕ → Table → (a b n start : ℕ) → List ℕ → ℕ → Told
 editTold ws t a b n start w m =
     let rows : List Row = rowsIn (t .count) ws in
     cond (not (wellFormed ws t)) (Refused NotWellFormed startPlace 0)
     (cond (not (sensible rows (t .length) a b n start w)) (Refused EditNotSensible startPlace 0)
     (cond (ltb mostBytes (newLength (t .length) a b n)) (Refused TextTooLong startPlace 0)
-    (cond (not (valid w)) (Refused BadByte (over (restart rows a) (take (validBytes w) w)) 0)
+    (cond (unjudged rows (t .length) a b n w) (Refused WindowShort startPlace 0)
+    (cond (not (windowValid (ends rows (t .length) a b n w) w))
+    (Refused BadByte (over (restart rows a) (take (windowBytes (ends rows (t .length) a b n w) w) w)) 0)
     (cond (windowShort rows (t .ending) (t .length) a b n w) (Refused WindowShort startPlace 0)
     (told (newLength (t .length) a b n) m (newRows rows (t .ending) a b n w (ends rows (t .length) a b n w))
-    (newEnding rows (t .ending) a b n w (ends rows (t .length) a b n w)))))))
+    (newEnding rows (t .ending) a b n w (ends rows (t .length) a b n w))))))))
 
 -- 1, 2, 3, 6 and 7 leave the new table untouched; 4 leaves it as a scan's 4 does
 unfoldable pub editLeaves : List ℕ → Table → (a b n start : ℕ) → List ℕ → List ℕ → List ℕ
@@ -202,9 +218,10 @@ editLeaves ws t a b n start w new =
     cond (not (wellFormed ws t)) new
     (cond (not (sensible rows (t .length) a b n start w)) new
     (cond (ltb mostBytes (newLength (t .length) a b n)) new
-    (cond (not (valid w)) new
+    (cond (unjudged rows (t .length) a b n w) new
+    (cond (not (windowValid (ends rows (t .length) a b n w) w)) new
     (cond (windowShort rows (t .ending) (t .length) a b n w) new
-    (laid (newRows rows (t .ending) a b n w (ends rows (t .length) a b n w)) new)))))
+    (laid (newRows rows (t .ending) a b n w (ends rows (t .length) a b n w)) new))))))
 
 -- where the window of an edit at a must start: 3, then 6 where a is over the old length
 unfoldable pub restartTold : List ℕ → Table → ℕ → Restart

@@ -8,6 +8,7 @@ use Rattle.rules.specs.Text.{mostBytes}
 use Rattle.rules.specs.Kinds.{TypeU32, TypeU64, TypeI32, TypeI64}
 use Rattle.rules.specs.Rows.{Row, rowWords, wordsPerRow}
 use Rattle.rules.specs.Lex.{largest}
+use Rattle.rules.specs.Edit.{judging}
 use Rattle.rules.specs.Sets.{programKinds}
 use Rattle.rules.specs.Tree.{typeNumber, mapTypeNumbers, mapFieldNumbers}
 use Rattle.rules.specs.Nodes.{Node, nodeWords, wordsPerNode, missing, eventForms}
@@ -22,7 +23,7 @@ facts = mapTypeNumbers ++ (typeNumbers ++ (eventForms ++ (mapFieldNumbers ++ pro
 -- a text's bytes as an index, a word and a wider number; then the rest
 abbrev pub limits : List ℕ
 limits =
-    mostBytes ∷ mostBytes ∷ mostBytes ∷ mostOpen ∷ mostShift ∷ most32 ∷ (2 ^ 32) ∷ largest ∷ (2 ^ 63) ∷ (2 ^ 64 - 1)
+    mostBytes ∷ mostBytes ∷ mostBytes ∷ judging ∷ mostOpen ∷ mostShift ∷ most32 ∷ (2 ^ 32) ∷ largest ∷ (2 ^ 63) ∷ (2 ^ 64 - 1)
     ∷ missing ∷ wordsPerNode ∷ wordsPerRow ∷ []
 
 -- the words at so many indices

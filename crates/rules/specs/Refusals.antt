@@ -20,12 +20,12 @@ outerNumber WindowShort = 7
 
 abbrev pub lexicalNumber : Lexical → ℕ
 lexicalNumber NoRowBegins = 11
-lexicalNumber LoneSign = 11
-lexicalNumber NoHexDigit = 11
 lexicalNumber OpenComment = 12
 lexicalNumber OpenString = 13
 lexicalNumber BadEscape = 14
 lexicalNumber NumberTooLarge = 15
+lexicalNumber LoneSign = 16
+lexicalNumber NoHexDigit = 17
 
 abbrev pub syntaxNumber : Syntax → ℕ
 syntaxNumber (Wanted wanted found) = 21

@@ -11,6 +11,9 @@ pub const MOST_BYTES_U32: u32 = MOST_BYTES as u32;
 
 pub const MOST_BYTES_U64: u64 = MOST_BYTES as u64;
 
+// How many bytes behind the new ones a window must show.
+pub const JUDGING: u64 = 4;
+
 // How many constructs may be open.
 pub const MOST_OPEN: usize = 64;
 
@@ -30,10 +33,11 @@ pub const SIGN_BIT: u64 = 9223372036854775808;
 // The largest value of 64 bits.
 pub const ALL_BITS: u64 = 18446744073709551615;
 
-const ALL: [u64; 13] = [
+const ALL: [u64; 14] = [
     MOST_BYTES as u64,
     MOST_BYTES_U32 as u64,
     MOST_BYTES_U64,
+    JUDGING,
     MOST_OPEN as u64,
     MOST_SHIFT,
     MOST_WORD,
@@ -47,7 +51,7 @@ const ALL: [u64; 13] = [
 ];
 
 // All of them are the definitions'.
-pub fn all() -> [u64; 13]
+pub fn all() -> [u64; 14]
     ensures { λ r. ⌜ r ≡ limits ⌝ }
 {
     ALL

@@ -1,7 +1,7 @@
 -- "Both sides of each edge": the worked cases as one table under one theorem, which the checker computes from the rules.
 -- [P]: a case that LANGUAGE.md 12 lists as proved.
 use mathlib.Core.Path.{_≡_, refl}
-use mathlib.Core.List.{List, [], _∷_, map}
+use mathlib.Core.List.{List, [], _∷_, _++_, map}
 use Prim.Native.Nat.{ℕ}
 use Rattle.rules.specs.declared.Cursor.{Cursor}
 use Rattle.rules.specs.declared.Ending.{Ending}
@@ -49,6 +49,9 @@ answer t =
     let rows : List Row = readRows (scan t) in
     let o : Out = parse (tokens t rows) in
     record { text = t; rows = map rowWords rows; refusal = refusalOf (wordsOf rows) (readEnding (scan t)) o; nodes = treeOf (readEnding (scan t)) o }
+
+abbrev e-acute : List ℕ
+e-acute = 0xC3 ∷ 0xA9 ∷ []
 
 abbrev pub cases : List Case
 cases =
@@ -142,11 +145,53 @@ cases =
           (25 ∷ 0 ∷ 1 ∷ 1 ∷ 10 ∷ 4294967295 ∷ 0 ∷ 0 ∷ []) ∷
           (29 ∷ 8 ∷ 4294967295 ∷ 1 ∷ 0 ∷ 0 ∷ 0 ∷ 0 ∷ []) ∷ [];
     }
-    -- [P] `0x` 11 at 2
+    -- [P] `0x` 17 at 2
     ∷ record {
       text = bytes "0x";
       rows = [];
-      refusal = 11 ∷ 2 ∷ 1 ∷ 3 ∷ [];
+      refusal = 17 ∷ 2 ∷ 1 ∷ 3 ∷ [];
+      nodes = [];
+    }
+    -- `-0x` 17 at 3
+    ∷ record {
+      text = bytes "-0x";
+      rows = [];
+      refusal = 17 ∷ 3 ∷ 1 ∷ 4 ∷ [];
+      nodes = [];
+    }
+    -- `0x<` 17 at 2, in front of a lone sign
+    ∷ record {
+      text = bytes "0x<";
+      rows = [];
+      refusal = 17 ∷ 2 ∷ 1 ∷ 3 ∷ [];
+      nodes = [];
+    }
+    -- `<=` 16 at 0
+    ∷ record {
+      text = bytes "<=";
+      rows = [];
+      refusal = 16 ∷ 0 ∷ 1 ∷ 1 ∷ [];
+      nodes = [];
+    }
+    -- `<` at the end 16
+    ∷ record {
+      text = bytes "<";
+      rows = [];
+      refusal = 16 ∷ 0 ∷ 1 ∷ 1 ∷ [];
+      nodes = [];
+    }
+    -- `>@` 16 at 0
+    ∷ record {
+      text = bytes ">@";
+      rows = [];
+      refusal = 16 ∷ 0 ∷ 1 ∷ 1 ∷ [];
+      nodes = [];
+    }
+    -- `@>` 11 at 0
+    ∷ record {
+      text = bytes "@>";
+      rows = [];
+      refusal = 11 ∷ 0 ∷ 1 ∷ 1 ∷ [];
       nodes = [];
     }
     -- [P] `0X10`: 0, then X10
@@ -372,8 +417,82 @@ cases =
           (25 ∷ 0 ∷ 1 ∷ 1 ∷ 10 ∷ 4294967295 ∷ 0 ∷ 0 ∷ []) ∷
           (29 ∷ 8 ∷ 4294967295 ∷ 1 ∷ 0 ∷ 0 ∷ 0 ∷ 0 ∷ []) ∷ [];
     }
+    -- é begins no row: 11 at its first byte
+    ∷ record {
+      text = e-acute;
+      rows = [];
+      refusal = 11 ∷ 0 ∷ 1 ∷ 1 ∷ [];
+      nodes = [];
+    }
+    -- rows end in front of it: a word
+    ∷ record {
+      text = bytes "a" ++ e-acute;
+      rows =
+          (48 ∷ 0 ∷ 1 ∷ 1 ∷ 1 ∷ 0 ∷ 0 ∷ 0 ∷ []) ∷ [];
+      refusal = 11 ∷ 1 ∷ 1 ∷ 2 ∷ [];
+      nodes = [];
+    }
+    -- a number
+    ∷ record {
+      text = bytes "1" ++ e-acute;
+      rows =
+          (50 ∷ 0 ∷ 1 ∷ 1 ∷ 1 ∷ 1 ∷ 0 ∷ 0 ∷ []) ∷ [];
+      refusal = 11 ∷ 1 ∷ 1 ∷ 2 ∷ [];
+      nodes = [];
+    }
+    -- `0x`, without a digit
+    ∷ record {
+      text = bytes "0x" ++ e-acute;
+      rows = [];
+      refusal = 17 ∷ 2 ∷ 1 ∷ 3 ∷ [];
+      nodes = [];
+    }
+    -- a backslash
+    ∷ record {
+      text = bytes "\"\\" ++ (e-acute ++ bytes "\"");
+      rows = [];
+      refusal = 14 ∷ 1 ∷ 1 ∷ 2 ∷ [];
+      nodes = [];
+    }
+    -- a byte order mark begins no row
+    ∷ record {
+      text = 0xEF ∷ 0xBB ∷ 0xBF ∷ [];
+      rows = [];
+      refusal = 11 ∷ 0 ∷ 1 ∷ 1 ∷ [];
+      nodes = [];
+    }
+    -- U+00A0 is no blank
+    ∷ record {
+      text = 0xC2 ∷ 0xA0 ∷ [];
+      rows = [];
+      refusal = 11 ∷ 0 ∷ 1 ∷ 1 ∷ [];
+      nodes = [];
+    }
+    -- U+2028 ends no line
+    ∷ record {
+      text = bytes "//" ++ (0xE2 ∷ 0x80 ∷ 0xA8 ∷ bytes "@\n@");
+      rows = [];
+      refusal = 11 ∷ 7 ∷ 2 ∷ 1 ∷ [];
+      nodes = [];
+    }
+    -- columns count bytes: `/*°*/@`
+    ∷ record {
+      text = bytes "/*" ++ (0xC2 ∷ 0xB0 ∷ bytes "*/@");
+      rows = [];
+      refusal = 11 ∷ 6 ∷ 1 ∷ 7 ∷ [];
+      nodes = [];
+    }
+    -- a string may hold it
+    ∷ record {
+      text = bytes "\"" ++ (e-acute ++ bytes "\"");
+      rows =
+          (49 ∷ 0 ∷ 4 ∷ 1 ∷ 1 ∷ 0 ∷ 0 ∷ 0 ∷ []) ∷
+          (52 ∷ 4 ∷ 4 ∷ 1 ∷ 5 ∷ 0 ∷ 0 ∷ 0 ∷ []) ∷ [];
+      refusal = 22 ∷ 0 ∷ 1 ∷ 1 ∷ 0 ∷ 0 ∷ [];
+      nodes = [];
+    }
     ∷ []
 
 pub right : map (λ (c : Case). answer (c .text)) cases ≡ cases
-unfolding placeWords refusalOf treeOf answer Text.front Text.validBytes Text.valid Text.isBlank Text.newlines Text.lineAt Text.columnAt Text.placeAt Text.textJudged Text.moved Text.over Text.along Kinds.isMade Kinds.reserved Kinds.signs Kinds.sameBytes Kinds.kindIn Kinds.lengthIn Rows.rowWords Rows.rowIn Rows.rowsIn Rows.wordsOf Rows.bitsOf Rows.valueBits Rows.rowAt Rows.eofRow Rows.rowPlace Rows.every Rows.chained Rows.lengthFits Rows.spansFit Rows.valueFits Rows.placeFits Rows.linesFit Rows.rowFits Rows.follows Rows.lastRow Rows.endsBehind Rows.isEof Rows.eofLast Rows.endingFits Rows.rowsFit Rows.wellFormed Rows.spelling Lex.lineComment Lex.beforeClose Lex.blockComment Lex.isDigit Lex.isLetter Lex.isWord Lex.word Lex.isHexDigit Lex.digitValue Lex.spelt Lex.numberOf Lex.decimal Lex.hex Lex.number Lex.isEscape Lex.string Lex.maybeTwo Lex.single Lex.sign Lex.slashed Lex.dashed Lex.beginning Lex.piece Lex.decidedAt Lex.item Scan.readRows Scan.readEnding Scan.read Scan.scan Scan.roomOf Scan.told Scan.laid Scan.scanTold Scan.scanLeaves Sets.sections Sets.fits Sets.kindOfSection Sets.fromSection Sets.allowed Sets.member Sets.allows Sets.setSize Tree.kindOf Tree.spellingOf Tree.bitsIn Tree.tokOf Tree.yield Tree.isVariable Tree.count Tree.sectionsOf Tree.content Tree.sectionText Tree.kindOfFirst Tree.unitKind Tree.mapTypes Tree.mapTypeNumber Tree.shiftRight Tree.shiftBits Tree.maxBits Tree.typeOf Tree.typedBy Tree.limitOf Tree.lacking Nodes.width Nodes.placeOf Nodes.licenceRow Nodes.binaryNode Nodes.declNode Nodes.assignNode Nodes.textNode Nodes.nodesOf Nodes.size Nodes.nodeWords Nodes.wordsOfNodes Nodes.treeWords Parse.then Parse.many Parse.lead Parse.stmtLead Parse.fieldLead Parse.eventLead Parse.topLead Parse.wantBy Parse.want Parse.needBy Parse.need Parse.named Parse.quoted Parse.valued Parse.loop Parse.listStep Parse.listTo Parse.braced Parse.called Parse.atomBy Parse.atom Parse.argStep Parse.args Parse.callBy Parse.openBy Parse.post Parse.prim Parse.unaryBy Parse.unary Parse.binStep Parse.mul Parse.shift Parse.add Parse.inner Parse.expr Parse.elseBy Parse.assignBy Parse.bodies Parse.stmtBy Parse.stmt Parse.body Parse.itemBy Parse.item Parse.unitAt Parse.typeBy Parse.keyBy Parse.countBy Parse.chainStep Parse.chain Parse.limitBy Parse.mapFieldBy Parse.mapField Parse.mapEnd Parse.mapAt Parse.lengthBy Parse.lengthAt Parse.arrayBy Parse.eventTypeBy Parse.eventField Parse.eventAt Parse.topBy Parse.top Parse.parse Calls.judged Calls.spellingJudged Calls.spellingPart Calls.memberAsked Calls.sizeAsked Calls.tokens Calls.placeOfRow Calls.nodeRoom Calls.outTold Calls.outLeaves Calls.reading Calls.endingTold Calls.endingLeaves Calls.parseTold Calls.parseLeaves
+unfolding placeWords refusalOf treeOf answer Text.front Text.utf8 Text.met Text.lineIn Text.charAt Text.isCut Text.validFrom Text.validBytes Text.valid Text.cutBytes Text.isBlank Text.newlines Text.lineAt Text.columnAt Text.placeAt Text.textJudged Text.moved Text.over Text.along Kinds.isMade Kinds.reserved Kinds.signs Kinds.sameBytes Kinds.kindIn Kinds.lengthIn Rows.rowWords Rows.rowIn Rows.rowsIn Rows.wordsOf Rows.bitsOf Rows.valueBits Rows.rowAt Rows.eofRow Rows.rowPlace Rows.every Rows.chained Rows.lengthFits Rows.spansFit Rows.valueFits Rows.placeFits Rows.linesFit Rows.rowFits Rows.follows Rows.lastRow Rows.endsBehind Rows.isEof Rows.eofLast Rows.endingFits Rows.rowsFit Rows.wellFormed Rows.spelling Lex.lineComment Lex.beforeClose Lex.blockComment Lex.isDigit Lex.isLetter Lex.isWord Lex.word Lex.isHexDigit Lex.digitValue Lex.spelt Lex.numberOf Lex.decimal Lex.hex Lex.number Lex.isEscape Lex.string Lex.maybeTwo Lex.single Lex.sign Lex.slashed Lex.dashed Lex.beginning Lex.piece Lex.decidedAt Lex.item Scan.readRows Scan.readEnding Scan.read Scan.scan Scan.roomOf Scan.told Scan.laid Scan.scanTold Scan.scanLeaves Sets.sections Sets.fits Sets.kindOfSection Sets.fromSection Sets.allowed Sets.member Sets.allows Sets.setSize Tree.kindOf Tree.spellingOf Tree.bitsIn Tree.tokOf Tree.yield Tree.isVariable Tree.count Tree.sectionsOf Tree.content Tree.sectionText Tree.kindOfFirst Tree.unitKind Tree.mapTypes Tree.mapTypeNumber Tree.shiftRight Tree.shiftBits Tree.maxBits Tree.typeOf Tree.typedBy Tree.limitOf Tree.lacking Nodes.width Nodes.placeOf Nodes.licenceRow Nodes.binaryNode Nodes.declNode Nodes.assignNode Nodes.textNode Nodes.nodesOf Nodes.size Nodes.nodeWords Nodes.wordsOfNodes Nodes.treeWords Parse.then Parse.many Parse.lead Parse.stmtLead Parse.fieldLead Parse.eventLead Parse.topLead Parse.wantBy Parse.want Parse.needBy Parse.need Parse.named Parse.quoted Parse.valued Parse.loop Parse.listStep Parse.listTo Parse.braced Parse.called Parse.atomBy Parse.atom Parse.argStep Parse.args Parse.callBy Parse.openBy Parse.post Parse.prim Parse.unaryBy Parse.unary Parse.binStep Parse.mul Parse.shift Parse.add Parse.inner Parse.expr Parse.elseBy Parse.assignBy Parse.bodies Parse.stmtBy Parse.stmt Parse.body Parse.itemBy Parse.item Parse.unitAt Parse.typeBy Parse.keyBy Parse.countBy Parse.chainStep Parse.chain Parse.limitBy Parse.mapFieldBy Parse.mapField Parse.mapEnd Parse.mapAt Parse.lengthBy Parse.lengthAt Parse.arrayBy Parse.eventTypeBy Parse.eventField Parse.eventAt Parse.topBy Parse.top Parse.parse Calls.judged Calls.spellingJudged Calls.spellingPart Calls.memberAsked Calls.sizeAsked Calls.tokens Calls.placeOfRow Calls.nodeRoom Calls.outTold Calls.outLeaves Calls.reading Calls.endingTold Calls.endingLeaves Calls.parseTold Calls.parseLeaves
 right = refl

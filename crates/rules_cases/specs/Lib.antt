@@ -1,3 +1,4 @@
--- The worked cases of LANGUAGE.md 12, of texts and of edits.
+-- The worked cases of LANGUAGE.md 12, of bytes, of texts and of edits.
+pub mod Bytes
 pub mod Cases
 pub mod Edits

@@ -1,161 +1,159 @@
--- The scan of a text is what is written from its start on, with no place to stop at: the rows, the ending and the answer.
+-- A walk over a text from its start on, which meets no old row, is its scan: the rows, the ending and the answer.
 use mathlib.Core.Path.{_≡_, refl, sym, ap}
-use mathlib.Core.Bool.{Bool, true, false, cond}
+use mathlib.Core.Bool.{Bool, true, false, _&&_}
 use mathlib.Core.List.{List, [], _∷_}
-use Prim.Native.Nat.{ℕ, zero, suc, pred, _+_, _-_, _≤_, _<_, _^_}
-use native.Mathlib.Nat.{sub-zero}
+use Prim.Native.Nat.{ℕ, zero, suc, pred, _+_, _≤_, _<_, _^_}
+use native.Mathlib.Nat.{sub-zero, not-suc-le-zero}
 use native.Mathlib.Omega.{arith}
 use lib.ListN.{length}
 use lib.Dec.{leb}
-use borrow.Author.Tests.{lt-leb, leb-false}
-use Rattle.rules.specs.declared.Ending.{Ending}
+use Rattle.rules.specs.declared.Cursor.{Cursor}
 use Rattle.rules.specs.declared.Ending.the-variants as ending
 use Rattle.rules.specs.declared.Told.the-variants as tells
-use Rattle.rules.specs.declared.Cursor.{Cursor}
 use Rattle.rules.specs.declared.Outer.{Outer}
 use Rattle.rules.specs.declared.Judged.the-variants as verdict
-use Rattle.rules.specs.Text.{mostBytes, placeAt, startPlace, textJudged, Roomy}
-use Rattle.rules.specs.Rows.{Row, rowAt}
-use Rattle.rules.specs.Lex.{Piece, blank, comment, row, refused, Item, known, end, unknown, piece, item}
-use Rattle.rules.specs.Scan
-use Rattle.rules.specs.Scan.{Reading, readRows, readEnding, read, scan, roomOf, told, scanTold, scanLeaves}
-use Rattle.theory_machine.proofs.Spans.{Spans, row-spans, refused-spans}
+use Rattle.rules.specs.Text.{mostBytes, placeAt, startPlace, textJudged}
+use Rattle.rules.specs.Rows.{Row, rowAt, rowsIn}
+use Rattle.rules.specs.Lex.{Piece, blank, comment, row, refused, known, piece, item}
+use Rattle.rules.specs.Scan.{Reading, put, ends, stops, readRows, readEnding, read, scan, roomOf, told, laid, scanTold, scanLeaves}
+use Rattle.rules.specs.Edit.{Seen, sees, over′, look, from, some}
+use Rattle.theory_machine.proofs.Spans.{Spans, refused-spans}
 use Rattle.theory_machine.proofs.Same.{piece-spans}
 use Rattle.laws.proofs.Places.{over-start}
 use Rattle.laws.proofs.Rows.{scan-told-refused, scan-leaves-refused, scan-told, scan-leaves}
-use Rattle.scan_reader.specs.declared.Spot.{Spot}
-use Rattle.scan_reader.specs.Read.{onward, Ahead}
-use Rattle.scan.specs.declared.Stop.{Stop}
-use Rattle.scan.specs.declared.Stop.the-variants.{At, End, Refused, Full, Unknown}
-use Rattle.scan.specs.declared.Wrote.{Wrote}
-use Rattle.scan.specs.Writing.{Writing, put, stop, rowsOf, stopOf, following, write, spotFrom, written, wrote, wroteOf, leaves}
-use Rattle.scan.specs.Answer.{noRoom, toldOf}
+use Rattle.scan_walk.specs.declared.Olds.{Olds}
+use Rattle.scan_walk.specs.declared.Stop.the-variants.{Over}
+use Rattle.scan_walk.specs.Meeting.{meetsAt}
+use Rattle.scan_walk.specs.Walk.{placeIn, rowsSeen, stopSeen, seenFrom, walkRows, walkOf, Walkable}
 
 -- ---- as many rows as bytes and one more, at most
 
-pub few-rows : (pos : ℕ → Spot) (whole : Bool) (until n i : ℕ) (s : List ℕ) → length (rowsOf (write pos whole until n i s)) ≤ length s + 1
-unfolding write rowsOf following item
-few-rows pos whole until n i [] = pick (leb until i) whole
+pub few-rows : (pos : ℕ → Cursor) (n k : ℕ) (s : List ℕ) → length (readRows (read pos n k s)) ≤ length s + 1
+unfolding read readRows
+few-rows pos n k [] = omega arith
+few-rows pos (suc n) k (b ∷ s) = omega (arith, few-rows pos n (suc k) s)
+few-rows pos zero k (b ∷ s) = pick (piece (b ∷ s)) (λ m. few-rows pos m (suc k) s)
   where
-    pick : (p q : Bool) → length (rowsOf (cond p (stop (At (pos i))) (following pos i (λ m. stop Unknown) (cond q end unknown)))) ≤ 1
-    pick true q = omega arith
-    pick false true = omega arith
-    pick false false = omega arith
-few-rows pos whole until (suc n) i (b ∷ s) = omega (arith, few-rows pos whole until n (suc i) s)
-few-rows pos whole until zero i (b ∷ s) = pick (leb until i) (item whole (b ∷ s)) (λ m. few-rows pos whole until (pred m) (suc i) s)
-  where
-    pick : (p : Bool) (x : Item) → ((m : ℕ) → length (rowsOf (write pos whole until (pred m) (suc i) s)) ≤ length s + 1) →
-        length (rowsOf (elim p as (λ _. Writing) [ true ↦ stop (At (pos i)) | false ↦ following pos i (λ m. write pos whole until (pred m) (suc i) s) x ])) ≤ suc (length s) + 1
-    pick true x h = omega arith
-    pick false (known blank) h = omega (arith, h 1)
-    pick false (known (comment n d)) h = omega (arith, h n)
-    pick false (known (row kind n bits d)) h = omega (arith, h n)
-    pick false (known (refused why p d)) h = omega arith
-    pick false end h = omega arith
-    pick false unknown h = omega arith
+    pick : (x : Piece) → ((m : ℕ) → length (readRows (read pos m (suc k) s)) ≤ length s + 1) →
+        length (readRows (elim x as (λ _. Reading) [
+          | blank ↦ read pos zero (suc k) s
+          | comment n d ↦ read pos (pred n) (suc k) s
+          | row kind n bits d ↦ put (rowAt (pos k) kind (k + n) bits) (read pos (pred n) (suc k) s)
+          | refused why p d ↦ stops why (pos (k + p)) (k + d)
+        ])) ≤ suc (length s) + 1
+    pick blank h = omega (arith, h 0)
+    pick (comment n d) h = omega (arith, h (pred n))
+    pick (row kind n bits d) h = omega (arith, h (pred n))
+    pick (refused why p d) h = omega arith
 
--- ---- a reading as a writing
+-- ---- a reading as what is seen
 
-unfoldable pub asWritten : Reading → Writing
-asWritten (Scan.put r l) = put r (asWritten l)
-asWritten Scan.ends = stop End
-asWritten (Scan.stops why p d) = stop (Refused why p)
+unfoldable asSeen : Reading → Seen
+asSeen (put r l) = sees r (asSeen l)
+asSeen ends = over′ ending.None
+asSeen (stops why p d) = over′ (ending.Refused why p)
 
-unfoldable pub stopAt : Ending → Stop
-stopAt ending.None = End
-stopAt (ending.Refused why p) = Refused why p
+rows-same : (l : Reading) → rowsSeen (asSeen l) ≡ readRows l
+unfolding rowsSeen asSeen readRows
+rows-same (put r l) = ap (λ (rs : List Row). r ∷ rs) (rows-same l)
+rows-same ends = refl
+rows-same (stops why p d) = refl
 
-pub rows-same : (l : Reading) → rowsOf (asWritten l) ≡ readRows l
-unfolding rowsOf asWritten readRows
-rows-same (Scan.put r l) = ap (λ (rs : List Row). r ∷ rs) (rows-same l)
-rows-same Scan.ends = refl
-rows-same (Scan.stops why p d) = refl
+module _ (rows : List Row) (least b : ℕ) (t : List ℕ) (p : Cursor) where
+  stop-same : (l : Reading) → stopSeen rows least b t p (asSeen l) ≡ Over (readEnding l)
+  unfolding stopSeen asSeen readEnding
+  stop-same (put r l) = stop-same l
+  stop-same ends = refl
+  stop-same (stops why q d) = refl
 
-pub stop-same : (l : Reading) → stopOf (asWritten l) ≡ stopAt (readEnding l)
-unfolding stopOf asWritten readEnding stopAt
-stop-same (Scan.put r l) = stop-same l
-stop-same Scan.ends = refl
-stop-same (Scan.stops why p d) = refl
+-- places from the start on are the text's
+at-place : (t : List ℕ) (k : ℕ) → k ≤ length t → placeIn startPlace t k ≡ placeAt t k
+unfolding placeIn
+at-place t k h = rw sub-zero (over-start t k h)
 
-abbrev pub startSpot : Spot
-startSpot = record { at = 0; cursor = startPlace }
+module _ (t : List ℕ) (meet : ℕ → Bool) (never : (m : ℕ) → meet m ≡ false) where
+  -- what is seen from offset k on, of whose bytes the first n belong to the piece that was read last
+  abbrev seen : ℕ → ℕ → List ℕ → Seen
+  seen n k s = look (placeIn startPlace t) meet true n k s
 
--- the spot at an index is at the place there
-at-place : (t : List ℕ) (i : ℕ) → i ≤ length t → spotFrom t startSpot i .cursor ≡ placeAt t i
-unfolding onward
-at-place t i h = rw sub-zero (over-start t i h)
+  -- by the piece at offset k, with s behind its first byte
+  step : (k : ℕ) (s : List ℕ) → k + suc (length s) ≡ length t → ((n : ℕ) → seen n (suc k) s ≡ asSeen (read (placeAt t) n (suc k) s)) →
+      (x : Piece) → Spans 1 0 (suc (length s)) (known x) →
+      elim x as (λ _. Seen) [
+        | blank ↦ seen zero (suc k) s
+        | comment n d ↦ seen (pred n) (suc k) s
+        | row kind n bits d ↦ sees (rowAt (placeIn startPlace t k) kind (k + n) bits) (seen (pred n) (suc k) s)
+        | refused why p d ↦ over′ (ending.Refused why (placeIn startPlace t (k + p)))
+      ]
+      ≡ asSeen (elim x as (λ _. Reading) [
+        | blank ↦ read (placeAt t) zero (suc k) s
+        | comment n d ↦ read (placeAt t) (pred n) (suc k) s
+        | row kind n bits d ↦ put (rowAt (placeAt t k) kind (k + n) bits) (read (placeAt t) (pred n) (suc k) s)
+        | refused why p d ↦ stops why (placeAt t (k + p)) (k + d)
+      ])
+  unfolding asSeen
+  step k s e h blank f = h 0
+  step k s e h (comment n d) f = h (pred n)
+  step k s e h (row kind n bits d) f = rw (at-place t k (omega arith), h (pred n))
+  step k s e h (refused why p d) (refused-spans _ _ _ l m u) = rw (at-place t (k + p) (omega arith))
 
--- by the piece at index i, with s behind its first byte
-step : (t : List ℕ) (i : ℕ) (s : List ℕ) → i + suc (length s) ≡ length t →
-    ((n : ℕ) → write (spotFrom t startSpot) true (length t + 1) n (suc i) s ≡ asWritten (read (placeAt t) n (suc i) s)) →
-    (x : Piece) → Spans 1 0 (suc (length s)) (known x) →
-    following (spotFrom t startSpot) i (λ m. write (spotFrom t startSpot) true (length t + 1) (pred m) (suc i) s) (known x)
-    ≡ asWritten (elim x as (λ _. Reading) [
-      | blank ↦ read (placeAt t) zero (suc i) s
-      | comment n d ↦ read (placeAt t) (pred n) (suc i) s
-      | row kind n bits d ↦ Scan.put (rowAt (placeAt t i) kind (i + n) bits) (read (placeAt t) (pred n) (suc i) s)
-      | refused why p d ↦ Scan.stops why (placeAt t (i + p)) (i + d)
-    ])
-unfolding following asWritten placeAt
-step t i s e h blank f = h 0
-step t i s e h (comment n d) f = h (pred n)
-step t i s e h (row kind n bits d) (row-spans _ _ _ _ r) = rw (at-place t i (omega arith), at-place t (i + n) (omega (arith, r .inside)), h (pred n))
-step t i s e h (refused why p d) (refused-spans _ _ _ l m u) = rw (at-place t (i + p) (omega arith))
+  -- Where nothing meets and the bytes end the text, what is seen is what is read.
+  seen-read : (n k : ℕ) (s : List ℕ) → k + length s ≡ length t → seen n k s ≡ asSeen (read (placeAt t) n k s)
+  unfolding look read asSeen item
+  seen-read n k [] e = rw (at-place t k (omega arith))
+  seen-read (suc n) k (b ∷ s) e = seen-read n (suc k) s (omega arith)
+  seen-read zero k (b ∷ s) e =
+      rw (look, never k) (step k s e (λ n. seen-read n (suc k) s (omega arith)) (piece (b ∷ s)) (piece-spans b s))
 
-same : (t : List ℕ) (n i : ℕ) (s : List ℕ) → i + length s ≡ length t →
-    write (spotFrom t startSpot) true (length t + 1) n i s ≡ asWritten (read (placeAt t) n i s)
-unfolding write read asWritten item following
-same t n i [] e = rw (lt-leb (length t + 1) i (omega arith), at-place t i (omega arith))
-same t (suc n) i (b ∷ s) e = same t n (suc i) s (omega arith)
-same t zero i (b ∷ s) e =
-    rw (write, lt-leb (length t + 1) i (omega arith))
-    (step t i s e (λ n. same t n (suc i) s (omega arith)) (piece (b ∷ s)) (piece-spans b s))
+-- ---- the walk that meets no old row
 
--- The rows and the ending of a text are what is written from its start on.
-pub scan-written : (t : List ℕ) → written t startSpot (length t + 1) true ≡ asWritten (scan t)
-unfolding written scan
-scan-written t = same t 0 0 t (omega arith)
+abbrev pub none : ℕ → Olds
+none least = record { count = 0; first = 0; least = least; b = 0 }
+
+module _ (ws : List ℕ) (least : ℕ) (t : List ℕ) where
+  no-meeting : (m : ℕ) → meetsAt [] least 0 m ≡ false
+  unfolding meetsAt from some
+  no-meeting m = pick (leb least m)
+    where
+      pick : (q : Bool) → (q && false) ≡ false
+      pick true = refl
+      pick false = refl
+
+  seen-scan : seenFrom [] least 0 t startPlace true ≡ asSeen (scan t)
+  unfolding seenFrom scan
+  seen-scan = seen-read t (meetsAt [] least 0) no-meeting 0 0 t (omega arith)
+
+  pub walk-rows : walkRows ws (none least) t startPlace true ≡ readRows (scan t)
+  unfolding walkRows rowsIn
+  walk-rows = rw seen-scan (rows-same (scan t))
+
+  pub walk-told : walkOf ws (none least) t startPlace true
+      ≡ record { count = length (readRows (scan t)); stop = Over (readEnding (scan t)) }
+  unfolding walkOf rowsIn
+  walk-told = rw (walk-rows, seen-scan, stop-same)
+
+  pub walkable : length t ≤ mostBytes → Walkable ws (none least) t startPlace
+  walkable h =
+      record {
+        lent = omega arith;
+        few = omega arith;
+        rising = record { rises = λ i j p q. absurd (not-suc-le-zero q) };
+        passed = record { below = λ j m p q u. absurd (not-suc-le-zero p) };
+        roomy = record { offset = omega arith; line = omega arith; column = omega arith };
+      }
+
+  pub count-fits : length t ≤ mostBytes → walkOf ws (none least) t startPlace true .count < 2 ^ 32
+  unfolding scan
+  count-fits h = rw walk-told (omega (arith, few-rows (placeAt t) 0 0 t))
 
 -- ---- the answer
 
-pub told-same : (n m : ℕ) (l : Reading) → toldOf n (wrote m (rowsOf (asWritten l)) (stopOf (asWritten l))) ≡ told n m (readRows l) (readEnding l)
-unfolding toldOf wrote told noRoom stopAt
-told-same n m l = rw (rows-same l, stop-same l) (pick (leb (length (readRows l)) m) (readEnding l))
-  where
-    pick : (p : Bool) (e : Ending) →
-        toldOf n (cond p (record { count = length (readRows l); stop = stopAt e }) (record { count = m; stop = Full }))
-        ≡ cond p (tells.Rows (record { count = length (readRows l); length = n; ending = e })) (noRoom m)
-    pick true ending.None = refl
-    pick true (ending.Refused why q) = refl
-    pick false e = refl
-
-pub count-few : (m : ℕ) (rs : List Row) (x : Stop) → wrote m rs x .count ≤ length rs
-unfolding wrote
-count-few m rs x = pick (leb (length rs) m) refl
-  where
-    pick : (p : Bool) → leb (length rs) m ≡ p → cond {A = Wrote} p (record { count = length rs; stop = x }) (record { count = m; stop = Full }) .count ≤ length rs
-    pick true e = omega arith
-    pick false e = omega (arith, leb-false (length rs) m e)
-
--- no counter passes its type
-start-roomy : (n : ℕ) → n ≤ mostBytes → Roomy n startPlace
-start-roomy n h = record { offset = omega arith; line = omega arith; column = omega arith }
-
-module _ (t : List ℕ) (h : length t ≤ mostBytes) where
-  pub start-ahead : Ahead t startSpot
-  start-ahead = record { inside = omega arith; roomy = start-roomy (length t - 0) (omega arith) }
-
 module _ (t ws : List ℕ) where
-  pub refused-text : {why : Outer} {p : Cursor} → textJudged t ≡ verdict.Refused why p → (tells.Refused why p 0 ≡ scanTold t (roomOf ws)) × (ws ≡ scanLeaves t ws)
+  pub refused-text : {why : Outer} {p : Cursor} → textJudged t ≡ verdict.Refused why p →
+      (tells.Refused why p 0 ≡ scanTold t (roomOf ws)) × (ws ≡ scanLeaves t ws)
   refused-text e = (sym (scan-told-refused t e (roomOf ws)), sym (scan-leaves-refused t e ws))
 
   pub all-rows : textJudged t ≡ verdict.Fine →
-      (toldOf (length t) (wroteOf ws (written t startSpot (length t + 1) true)) ≡ scanTold t (roomOf ws)) × (leaves ws (written t startSpot (length t + 1) true) ≡ scanLeaves t ws)
-  unfolding wroteOf leaves
-  all-rows e = rw (scan-told t e (roomOf ws), scan-leaves t e ws, scan-written t) (told-same (length t) (roomOf ws) (scan t), rw (rows-same (scan t)))
-
-  pub count-fits : length t ≤ mostBytes → wroteOf ws (written t startSpot (length t + 1) true) .count < 2 ^ 32
-  unfolding wroteOf written
-  count-fits h =
-      let w = write (spotFrom t startSpot) true (length t + 1) 0 0 t in
-      omega (arith, count-few (roomOf ws) (rowsOf w) (stopOf w), few-rows (spotFrom t startSpot) true (length t + 1) 0 0 t)
+      (told (length t) (roomOf ws) (readRows (scan t)) (readEnding (scan t)) ≡ scanTold t (roomOf ws))
+      × (laid (readRows (scan t)) ws ≡ scanLeaves t ws)
+  all-rows e = (sym (scan-told t e (roomOf ws)), sym (scan-leaves t e ws))

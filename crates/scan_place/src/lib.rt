@@ -1,4 +1,8 @@
 // Places in a text: how far its bytes are valid, the cursor behind some of them, and what a text is told before it is read.
+mod chars;
+
+use crate::chars::char_at;
+use crate::chars::is_cut;
 use rules::Cursor;
 use rules::Judged;
 use rules::Outer;
@@ -7,6 +11,8 @@ ghost use mathlib.Core.Path.{_≡_};
 ghost use Prim.Native.Nat.{ℕ, _≤_, _<_};
 ghost use lib.ListN.{length, getD, take};
 ghost use Rattle.rules.specs.Text.{validBytes, over, textJudged, Roomy};
+ghost use Rattle.rules.specs.Edit.{windowBytes};
+ghost use Rattle.scan_place.specs.Lines.{Passed};
 
 // The larger of two bytes.
 fn larger(a: u8, b: u8) -> u8
@@ -28,21 +34,73 @@ fn highest(text: &[u8]) -> u8
     most
 }
 
-// How many bytes at the front a text may have.
-pub fn valid_bytes(text: &[u8]) -> usize
-    ensures { λ r. ⌜ r ≡ validBytes (now (text .entry)) ⌝ }
+// So many bytes are looked at together.
+const BLOCK: usize = 32;
+
+// An index behind blocks of bytes below 128, from an index on.
+fn low_blocks(text: &[u8], from: usize) -> usize
+    requires { ⌜ from ≤ length (now text) ⌝ }
+    ensures { λ r. ⌜ Passed (now (text .entry)) from r ⌝ }
 {
-    if highest(text) < 128 {
-        return text.len();
+    let mut i = from;
+    while BLOCK <= text.len() - i {
+        if chars::FIRST_HIGH <= text[i] {
+            return i;
+        }
+        let next = i + BLOCK;
+        if chars::FIRST_HIGH <= highest(&text[i..next]) {
+            return i;
+        }
+        i = next;
     }
-    let mut i = 0;
+    i
+}
+
+// Where the bytes below 128 end, from an index on.
+fn low_end(text: &[u8], from: usize) -> usize
+    requires { ⌜ from ≤ length (now text) ⌝ }
+    ensures { λ r. ⌜ Passed (now (text .entry)) from r ⌝ }
+{
+    let mut i = low_blocks(text, from);
     while i < text.len() {
-        if 128 <= text[i] {
+        if chars::FIRST_HIGH <= text[i] {
             return i;
         }
         i += 1;
     }
     i
+}
+
+// How long a text's longest valid beginning is.
+pub fn valid_bytes(text: &[u8]) -> usize
+    ensures { λ r. ⌜ r ≡ validBytes (now (text .entry)) ⌝ }
+{
+    if highest(text) < chars::FIRST_HIGH {
+        return text.len();
+    }
+    let mut i = low_end(text, 0);
+    while i < text.len() {
+        let n = char_at(text, i);
+        if n == 0 {
+            return i;
+        }
+        i = low_end(text, i + n);
+    }
+    i
+}
+
+// How far a window is valid: a character that its end cuts is not held against it, unless it ends the text.
+pub fn window_bytes(window: &[u8], whole: bool) -> usize
+    ensures { λ r. ⌜ r ≡ windowBytes whole (now (window .entry)) ⌝ }
+{
+    let valid = valid_bytes(window);
+    if whole {
+        return valid;
+    }
+    if is_cut(window, valid) {
+        return window.len();
+    }
+    valid
 }
 
 // The cursor behind the first n bytes, from the cursor before them.

@@ -1,8 +1,9 @@
 -- The laws that the proofs of this crate share.
 pub mod Moves
-pub mod Known
+pub mod Settled
 pub mod Numbers
-pub mod Strings
 pub mod Signs
+pub mod Strings
 pub mod Items
-pub mod Briefs
+pub mod Reasons
+pub mod Told

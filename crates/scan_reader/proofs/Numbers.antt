@@ -1,30 +1,27 @@
--- Laws of numbers at an index and at a spot: what a numeral's digits spell behind a sign and `0x`, and what is settled of it.
-use mathlib.Core.Path.{_≡_, refl, ap, _∙_}
+-- Laws of numbers at an index: what a numeral's digits spell behind a sign and `0x`, and what is told of it.
+use mathlib.Core.Path.{_≡_, refl, sym, ap, _∙_}
 use mathlib.Core.Bool.{Bool, true, false, cond, _&&_, _||_}
 use mathlib.Core.List.{List}
 use Prim.Native.Nat.{ℕ, _+_, _-_, _≤_, _<_}
 use native.Mathlib.Nat.{add-zero, add-assoc}
+use native.Mathlib.Decide.{ℕ-discrete}
 use native.Mathlib.Omega.{arith}
 use lib.ListN.{length, drop, take, getD}
 use lib.Seq.{drop-drop, getD-drop}
 use lib.Dec.{eqb, leb, ltb}
-use borrow.Author.Tests.{le-leb, lt-leb, ne-eqb, eqb-true}
+use borrow.Author.Tests.{le-leb, lt-leb, leb-true, ne-eqb, eqb-true}
 use Rattle.rules.specs.Text.{front, notNewline}
 use Rattle.rules.specs.Kinds.{Number}
 use Rattle.rules.specs.Rows.{bitsOf}
-use Rattle.rules.specs.Lex.{row, refused, decidedAt, largest, numberOf, spelt, decimal, hex, number, isDigit, isHexDigit}
+use Rattle.rules.specs.Lex.{Piece, row, refused, known, decidedAt, largest, numberOf, spelt, decimal, hex, number, isDigit, isHexDigit}
 use Rattle.rules.specs.declared.Lexical.the-variants.{NumberTooLarge, NoHexDigit}
 use Rattle.laws.proofs.Tests.{both-true}
-use Rattle.laws.proofs.Fronts.{front-drop, front-more, front-in-line, inside}
-use Rattle.scan_reader.specs.declared.Spot.{Spot}
-use Rattle.scan_reader.specs.declared.Read.the-variants.{Refused, Unknown}
-use Rattle.scan_reader.specs.Read.{pieceRead}
-use Rattle.scan_reader.specs.Settled.{InLine, Numeral, settled}
+use Rattle.laws.proofs.Fronts.{front-on, front-drop, front-more, front-in-line, inside}
 use Rattle.scan_runs.specs.Leaf.{digitIn, digitsOf, speltFront}
 use Rattle.scan_runs.specs.declared.Digits.{Digits}
-use Rattle.scan_reader.proofs.Moves.{onward-none}
 use Rattle.scan_runs.proofs.Runs.{number-clipped}
-use Rattle.scan_reader.proofs.Known.{settled-known, settled-unknown}
+use Rattle.scan_reader.specs.Brief.{refusalCode, told, settled}
+use Rattle.scan_reader.proofs.Settled.{nothing, settled-known, settled-unknown}
 
 pub number-decided : (negative : Bool) (n v : ℕ) → decidedAt (numberOf negative n v) ≡ n
 unfolding numberOf decidedAt
@@ -34,26 +31,7 @@ number-decided negative n v = pick (leb v largest)
     pick true = refl
     pick false = refl
 
--- a numeral from the spot to the index e, whose digits spell v
-module _ (whole : Bool) (t : List ℕ) (s : Spot) (negative : Bool) (e v : ℕ) (r : Numeral t s e) where
-  at-end : s .at + decidedAt (numberOf negative (e - s .at) v) ≡ e
-  at-end = rw (number-decided negative (e - s .at) v) (omega (arith, r .behind))
-
-  pub numeral-unknown : (whole || ltb e (length t)) ≡ false → settled whole t s (numberOf negative (e - s .at) v) ≡ Unknown
-  numeral-unknown h = settled-unknown whole t s (numberOf negative (e - s .at) v) e at-end h
-
-  module _ (h : (whole || ltb e (length t)) ≡ true) where
-    pub numeral-large : largest < v → settled whole t s (numberOf negative (e - s .at) v) ≡ Refused NumberTooLarge (s .cursor)
-    unfolding numberOf pieceRead
-    numeral-large b =
-        settled-known whole t s (numberOf negative (e - s .at) v) e at-end h
-        ∙ rw (lt-leb v largest b) (ap (λ (x : Spot). Refused NumberTooLarge (x .cursor)) (onward-none t s))
-
-    pub numeral-row : v ≤ largest → settled whole t s (numberOf negative (e - s .at) v) ≡ pieceRead t s (row Number (e - s .at) (bitsOf negative v) 0)
-    unfolding numberOf pieceRead
-    numeral-row b = settled-known whole t s (numberOf negative (e - s .at) v) e at-end h ∙ rw (le-leb v largest b)
-
--- ---- digits, m bytes behind the spot; a is the spot's index, u what stands m bytes on
+-- ---- digits, m bytes behind the index a; u is what stands m bytes on
 
 module _ (negative : Bool) (a m : ℕ) (u : List ℕ) where
   behind : (n : ℕ) → a + m + n - a ≡ m + n
@@ -67,7 +45,8 @@ module _ (negative : Bool) (a m : ℕ) (u : List ℕ) where
   unfolding hex digitsOf digitIn
   hex-none e = let z : front isHexDigit u ≡ 0 = omega arith in rw z
 
-  hex-digits : (digitsOf true (a + m) u .end ≡ a + m → ⊥) → hex negative m u ≡ numberOf negative (digitsOf true (a + m) u .end - a) (digitsOf true (a + m) u .value)
+  hex-digits : (digitsOf true (a + m) u .end ≡ a + m → ⊥) → hex negative m u
+      ≡ numberOf negative (digitsOf true (a + m) u .end - a) (digitsOf true (a + m) u .value)
   unfolding hex digitsOf speltFront digitIn
   hex-digits e =
       rw (ne-eqb (front isHexDigit u) 0 (λ (z : front isHexDigit u ≡ 0). e (rw z (add-zero (a + m)))))
@@ -84,23 +63,21 @@ digitsAt t a m h = digitsOf h (a + m) (drop (a + m) t)
 
 module _ (t : List ℕ) (a m : ℕ) where
   module _ (h : Bool) where
-    pub digits-behind : a ≤ digitsAt t a m h .end
-    unfolding digitsOf
-    digits-behind = omega arith
-
     pub digits-front : m ≤ front notNewline (drop a t) → digitsAt t a m h .end - a ≤ front notNewline (drop a t)
     unfolding digitsOf
     digits-front l =
         let n = front (digitIn h) (drop (a + m) t) in
         let k : n ≤ front notNewline (drop (a + m) t) = front-in-line (digitIn h) (digit-line h) (drop (a + m) t) in
-        let d : front notNewline (drop a t) ≡ m + front notNewline (drop (a + m) t) = rw (← drop-drop m a t) (front-drop notNewline m (drop a t) l) in
+        let d : front notNewline (drop a t) ≡ m + front notNewline (drop (a + m) t) =
+        rw (← drop-drop m a t) (front-drop notNewline m (drop a t) l) in
         omega arith
 
   byte-at : (k : ℕ) → getD (drop m (drop a t)) k 0 ≡ getD t (a + m + k) 0
   byte-at k = ap (λ (x : List ℕ). getD x k 0) (drop-drop m a t) ∙ getD-drop (a + m) t k 0
 
   module _ (negative : Bool) where
-    pub decimal-is : decimal negative m (drop m (drop a t)) ≡ numberOf negative (digitsAt t a m false .end - a) (digitsAt t a m false .value)
+    pub decimal-is : decimal negative m (drop m (drop a t))
+        ≡ numberOf negative (digitsAt t a m false .end - a) (digitsAt t a m false .value)
     decimal-is = ap (decimal negative m) (drop-drop m a t) ∙ decimal-digits negative a m (drop (a + m) t)
 
     pub hex-is : (digitsAt t a m true .end ≡ a + m → ⊥) →
@@ -121,7 +98,8 @@ module _ (t : List ℕ) (a m : ℕ) where
     number-is-decimal e = rw (byte-at 0, byte-at 1, add-zero, e)
 
   -- the bytes of `0x` are bytes of the line
-  pub hex-front : m ≤ front notNewline (drop a t) → (eqb (getD t (a + m) 0) 48 && eqb (getD t (a + m + 1) 0) 120) ≡ true → m + 2 ≤ front notNewline (drop a t)
+  pub hex-front : m ≤ front notNewline (drop a t) → (eqb (getD t (a + m) 0) 48 && eqb (getD t (a + m + 1) 0) 120) ≡ true →
+      m + 2 ≤ front notNewline (drop a t)
   hex-front l e =
       let b = both-true (eqb (getD t (a + m) 0) 48) (eqb (getD t (a + m + 1) 0) 120) e in
       let x : getD t (a + m) 0 ≡ 48 = eqb-true _ _ (b .0) in
@@ -132,39 +110,100 @@ module _ (t : List ℕ) (a m : ℕ) where
       let two : m + 1 + 1 ≤ front notNewline (drop a t) = front-more notNewline t a (m + 1) one j (rw y) in
       omega arith
 
-pub numeral-digits : (t : List ℕ) (s : Spot) (m : ℕ) (h : Bool) → InLine t s m → Numeral t s (digitsAt t (s .at) m h .end)
-numeral-digits t s m h r =
-    record { behind = digits-behind t (s .at) m h; within = record { ahead = r .ahead; line = digits-front t (s .at) m h (r .line) } }
+-- ---- a number, m bytes behind the index
 
-module _ (whole : Bool) (t : List ℕ) (s : Spot) (m : ℕ) (negative : Bool) where
-  pub decimal-at : settled whole t s (decimal negative m (drop m (drop (s .at) t)))
-      ≡ settled whole t s (numberOf negative (digitsAt t (s .at) m false .end - s .at) (digitsAt t (s .at) m false .value))
-  decimal-at = ap (settled whole t s) (decimal-is t (s .at) m negative)
+-- a digit stands inside the text
+pub digit-inside : (t : List ℕ) (i : ℕ) → isDigit (getD t i 0) ≡ true → i < length t
+unfolding isDigit
+digit-inside t i e =
+    let b = both-true (leb 48 (getD t i 0)) (leb (getD t i 0) 57) e in
+    inside t i (getD t i 0) refl (omega (arith, leb-true 48 (getD t i 0) (b .0)))
 
-  pub hex-at : (digitsAt t (s .at) m true .end ≡ s .at + m → ⊥) → settled whole t s (hex negative m (drop m (drop (s .at) t)))
-      ≡ settled whole t s (numberOf negative (digitsAt t (s .at) m true .end - s .at) (digitsAt t (s .at) m true .value))
-  hex-at e = ap (settled whole t s) (hex-is t (s .at) m negative e)
+-- how many bytes stand before its digits, behind its sign
+abbrev pub opening : Bool → ℕ
+opening h = cond h 2 0
 
-  module _ (e : digitsAt t (s .at) m true .end ≡ s .at + m) where
-    pub hex-unknown : (whole || ltb (s .at + m) (length t)) ≡ false → settled whole t s (hex negative m (drop m (drop (s .at) t))) ≡ Unknown
+abbrev pub hexAt : List ℕ → ℕ → Bool
+hexAt t i = eqb (getD t i 0) 48 && eqb (getD t (i + 1) 0) 120
+
+pub opened : (t : List ℕ) (i : ℕ) (h : Bool) → h ≡ hexAt t i → i < length t → i + opening h ≤ length t
+opened t i true x l =
+    let b = both-true (eqb (getD t i 0) 48) (eqb (getD t (i + 1) 0) 120) (sym x) in
+    omega (arith, inside t (i + 1) 120 (eqb-true _ _ (b .1)) (omega arith))
+opened t i false x l = omega arith
+
+module _ (t : List ℕ) (a m : ℕ) (i : a + m < length t) (g : isDigit (getD t (a + m) 0) ≡ true) (negative : Bool) where
+  none-at : (h : Bool) → h ≡ hexAt t (a + m) → digitsAt t a (m + opening h) h .end ≡ a + (m + opening h) →
+      number negative m (drop m (drop a t)) ≡ refused NoHexDigit (m + opening h) (m + opening h)
+  unfolding digitsOf digitIn
+  none-at true x z = number-is-hex t a m negative (sym x) ∙ hex-is-none t a (m + 2) negative z
+  none-at false x z = absurd (some (rw (add-zero m) at z))
+    where
+      some : a + m + front isDigit (drop (a + m) t) ≡ a + m → ⊥
+      some e = omega (arith, front-on isDigit t (a + m) i g)
+
+  some-at : (h : Bool) → h ≡ hexAt t (a + m) → (digitsAt t a (m + opening h) h .end ≡ a + (m + opening h) → ⊥) →
+      number negative m (drop m (drop a t))
+      ≡ numberOf negative (digitsAt t a (m + opening h) h .end - a) (digitsAt t a (m + opening h) h .value)
+  some-at true x z = number-is-hex t a m negative (sym x) ∙ hex-is t a (m + 2) negative z
+  some-at false x z = rw (add-zero m) (number-is-decimal t a m negative (sym x) ∙ decimal-is t a m negative)
+
+-- h: `0x` stands there; d: the digits that were read from the index behind it
+module _ (t : List ℕ) (a m : ℕ) (i : a + m < length t) (g : isDigit (getD t (a + m) 0) ≡ true) (h : Bool) (x : h ≡ hexAt t (a + m))
+    (from : ℕ) (f : from ≡ a + m + opening h) (d : Digits) (e : d ≡ digitsOf h from (drop from t)) where
+  d-is : d ≡ digitsAt t a (m + opening h) h
+  d-is = e ∙ rw (f, add-assoc a m (opening h))
+
+  pub number-behind : from ≤ d .end
+  unfolding digitsOf
+  number-behind = rw e (omega arith)
+
+  end-is : d .end ≡ from → digitsAt t a (m + opening h) h .end ≡ a + (m + opening h)
+  end-is z = rw (← d-is) (z ∙ f ∙ add-assoc a m (opening h))
+
+  begin-is : digitsAt t a (m + opening h) h .end ≡ a + (m + opening h) → d .end ≡ from
+  begin-is z = rw (d-is, f) (z ∙ sym (add-assoc a m (opening h)))
+
+  size-is : m + opening h ≡ from - a
+  size-is = omega arith
+
+  module _ (negative : Bool) where
+    abbrev numeral : Piece
+    numeral = number negative m (drop m (drop a t))
+
+    pub none-is : d .end ≡ from → numeral ≡ refused NoHexDigit (from - a) (from - a)
+    none-is z = rw (← size-is) (none-at t a m i g negative h x (end-is z))
+
+    pub some-is : (d .end ≡ from → ⊥) → numeral ≡ numberOf negative (d .end - a) (d .value)
+    some-is z = rw d-is (some-at t a m i g negative h x (λ y. z (begin-is y)))
+
+    number-at : a + decidedAt numeral ≡ d .end
     unfolding decidedAt
-    hex-unknown h = rw (hex-is-none t (s .at) m negative e) (settled-unknown whole t s (refused NoHexDigit m m) (s .at + m) refl h)
+    number-at = pick (ℕ-discrete (d .end) from)
+      where
+        pick : Dec (d .end ≡ from) → a + decidedAt numeral ≡ d .end
+        pick (yes z) = rw (none-is z) (omega (arith, number-behind, f))
+        pick (no z) = rw (some-is z, number-decided negative (d .end - a) (d .value)) (omega (arith, number-behind, f))
 
-    pub hex-refused : (whole || ltb (s .at + m) (length t)) ≡ true → settled whole t s (hex negative m (drop m (drop (s .at) t))) ≡ pieceRead t s (refused NoHexDigit m 0)
-    unfolding decidedAt pieceRead
-    hex-refused h = rw (hex-is-none t (s .at) m negative e) (settled-known whole t s (refused NoHexDigit m m) (s .at + m) refl h)
+    module _ (whole : Bool) where
+      pub number-unknown : (whole || ltb (d .end) (length t)) ≡ false → settled whole t a numeral ≡ nothing
+      number-unknown s = settled-unknown whole t a numeral (d .end) number-at s
 
--- ---- a number, m bytes behind the spot
+      module _ (s : (whole || ltb (d .end) (length t)) ≡ true) where
+        number-known : (p : Piece) → numeral ≡ p → settled whole t a numeral ≡ told (drop a t) (known p)
+        number-known p z = settled-known whole t a numeral (d .end) number-at s ∙ ap (λ (y : Piece). told (drop a t) (known y)) z
 
-module _ (t : List ℕ) (s : Spot) (m : ℕ) where
-  module _ (negative whole : Bool) where
-    pub number-hex : (eqb (getD t (s .at + m) 0) 48 && eqb (getD t (s .at + m + 1) 0) 120) ≡ true →
-        settled whole t s (number negative m (drop m (drop (s .at) t))) ≡ settled whole t s (hex negative (m + 2) (drop (m + 2) (drop (s .at) t)))
-    number-hex e = ap (settled whole t s) (number-is-hex t (s .at) m negative e)
+        pub number-none : d .end ≡ from → settled whole t a numeral ≡ record { size = from - a; kind = refusalCode NoHexDigit; bits = 0 }
+        unfolding told
+        number-none z = number-known (refused NoHexDigit (from - a) (from - a)) (none-is z)
 
-    pub number-decimal : (eqb (getD t (s .at + m) 0) 48 && eqb (getD t (s .at + m + 1) 0) 120) ≡ false →
-        settled whole t s (number negative m (drop m (drop (s .at) t))) ≡ settled whole t s (decimal negative m (drop m (drop (s .at) t)))
-    number-decimal e = ap (settled whole t s) (number-is-decimal t (s .at) m negative e)
+        module _ (z : d .end ≡ from → ⊥) where
+          pub number-large : largest < d .value → settled whole t a numeral
+              ≡ record { size = 0; kind = refusalCode NumberTooLarge; bits = 0 }
+          unfolding told numberOf
+          number-large b = number-known (numberOf negative (d .end - a) (d .value)) (some-is z) ∙ rw (lt-leb (d .value) largest b)
 
-  pub hex-in-line : InLine t s m → (eqb (getD t (s .at + m) 0) 48 && eqb (getD t (s .at + m + 1) 0) 120) ≡ true → InLine t s (m + 2)
-  hex-in-line r e = record { ahead = r .ahead; line = hex-front t (s .at) m (r .line) e }
+          pub number-row : d .value ≤ largest → settled whole t a numeral
+              ≡ record { size = d .end - a; kind = Number; bits = bitsOf negative (d .value) }
+          unfolding told numberOf
+          number-row b = number-known (numberOf negative (d .end - a) (d .value)) (some-is z) ∙ rw (le-leb (d .value) largest b)

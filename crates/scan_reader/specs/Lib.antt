@@ -1,4 +1,3 @@
--- What the contracts of this crate cite: spots and answers, when they are settled, and rows told without a spot.
+-- What the contracts of this crate cite: spots, and what is told of an item.
 pub mod Read
-pub mod Settled
 pub mod Brief

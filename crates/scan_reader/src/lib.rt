@@ -1,39 +1,20 @@
-// The token reader: what stands at a spot of a text that ends, or of a window that may stop short of the text's end.
+// The token reader: what stands at an index of a text that ends, or of a window that may stop short of the text's end.
 use rules::Cursor;
-use rules::Lexical;
 
+pub mod codes;
 pub mod front;
 mod pieces;
-pub mod quick;
-mod spots;
 
-// An index into the lent bytes, with the cursor there: readers move it, and need not know where the bytes start in the text.
+// An index into the lent bytes, with the cursor there: whoever reads on moves it, and need not know where the bytes start in the text.
 pub struct Spot {
     pub at: usize,
     pub cursor: Cursor,
 }
 
-// A row's kind, its value's bits, and the spot behind it.
-pub struct Token {
-    pub kind: u32,
-    pub bits: u64,
-    pub end: Spot,
-}
-
-// A row's size, its kind and its value's bits; size 0 where no row is told.
+// What stands at an index, in three numbers: a row's size, kind and value's bits; or by a code above all kinds (`codes`) a blank or a
+// comment with its size, the text's end, that more bytes must be shown, or a refusal, its size being how far on its place is.
 pub struct Brief {
     pub size: usize,
     pub kind: u32,
     pub bits: u64,
-}
-
-// What stands at a spot: a blank or a comment, and the spot behind it; a row; a refusal and its place; the text's end; or more bytes
-// must be shown.
-pub enum Read {
-    Blank(Spot),
-    Comment(Spot),
-    Row(Token),
-    Refused(Lexical, Cursor),
-    End,
-    Unknown,
 }

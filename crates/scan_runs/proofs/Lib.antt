@@ -1,3 +1,5 @@
 -- The laws that the proofs of this crate share.
 pub mod Runs
 pub mod Quotes
+pub mod Words
+pub mod Bodies

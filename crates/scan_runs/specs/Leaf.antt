@@ -1,14 +1,25 @@
--- What the leaves of the token reader answer: digits with what they spell, and strings by the index that settles them.
+-- What the leaves of the token reader answer: words packed, digits with what they spell, and strings by the index that settles them.
 use mathlib.Core.Bool.{Bool, true, false, cond}
 use mathlib.Core.List.{List, [], _∷_}
 use Prim.Native.Nat.{ℕ, suc, _+_, _-_, min}
 use lib.ListN.{take}
 use lib.Dec.{eqb}
 use Rattle.rules.specs.Text.{front, byte}
-use Rattle.rules.specs.Lex.{isDigit, isHexDigit, digitValue, spelt, largest, isEscape}
+use Rattle.rules.specs.Lex.{isWord, isDigit, isHexDigit, digitValue, spelt, largest, isEscape}
+use Rattle.scan_words.specs.Slots.{packedOf}
+use Rattle.scan_runs.specs.declared.Word.{Word}
 use Rattle.scan_runs.specs.declared.Digits.{Digits}
 use Rattle.scan_runs.specs.declared.Quoted.{Quoted}
 use Rattle.scan_runs.specs.declared.Quoted.the-variants.{Closed, Open, Escape}
+
+-- ---- a word
+
+-- the letters, digits and underscores at the front, packed behind bytes that are packed into v
+unfoldable pub packedFront : ℕ → List ℕ → ℕ
+packedFront v s = packedOf v (take (front isWord s) s)
+
+unfoldable pub wordOf : ℕ → List ℕ → Word
+wordOf at s = record { end = at + front isWord s; packed = packedFront 0 s }
 
 -- ---- digits, decimal or hex
 

@@ -1,5 +1,6 @@
 // Leaves over the lent bytes and an index into them: where runs end, what digits are worth, and how a string closes.
 use rules::limit;
+use scan_words::classes;
 ghost use mathlib.Core.Path.{_≡_};
 ghost use mathlib.Core.Bool.{_||_};
 ghost use Prim.Native.Nat.{_+_, _*_, _≤_, _<_};
@@ -7,8 +8,9 @@ ghost use lib.ListN.{length, getD, drop};
 ghost use lib.Dec.{ltb};
 ghost use Rattle.rules.specs.Text.{front, notNewline};
 ghost use mathlib.Core.Bool.{false};
-ghost use Rattle.rules.specs.Lex.{isWord, isEscape};
-ghost use Rattle.scan_runs.specs.Leaf.{digitOf, baseOf, clipped, digitsOf, quotedFrom};
+ghost use Rattle.rules.specs.Lex.{isEscape, beforeClose};
+ghost use Rattle.scan_words.specs.Class.{Classes};
+ghost use Rattle.scan_runs.specs.Leaf.{wordOf, digitOf, baseOf, clipped, digitsOf, quotedFrom};
 
 // The byte at an index, and 0 behind the end.
 pub fn peek(text: &[u8], at: usize) -> u8
@@ -30,26 +32,34 @@ pub fn shown(text: &[u8], at: usize, whole: bool) -> bool
     at < text.len()
 }
 
-// Whether a byte may stand in a word behind its first.
-fn is_word(b: u8) -> bool
-    ensures { λ r. ⌜ r ≡ isWord b ⌝ }
-{
-    scan_words::is_letter(b) | scan_words::is_digit(b)
+// A word: where it ends, and its bytes packed into one number.
+pub struct Word {
+    pub end: usize,
+    pub packed: u64,
 }
 
-// Where the letters, digits and underscores from an index on end.
-pub fn word_end(text: &[u8], at: usize) -> usize
-    requires { ⌜ at ≤ length (now text) ⌝ }
-    ensures { λ r. ⌜ r ≡ at + front isWord (drop at (now (text .entry))) ⌝ }
+// What a packed word keeps of the bytes before its last, and what they are worth beside it.
+const BEFORE_LAST: u64 = 72057594037927936;
+
+const ABOVE_BYTE: u64 = 256;
+
+// The letters, digits and underscores from an index on.
+pub fn read_word(classes: &[u8; 256], text: &[u8], at: usize) -> Word
+    requires { ⌜ Classes (now classes) × (at ≤ length (now text)) ⌝ }
+    ensures { λ r. ⌜ r ≡ wordOf at (drop at (now (text .entry))) ⌝ }
 {
     let mut i = at;
+    let mut packed: u64 = 0;
     while i < text.len() {
-        if !is_word(text[i]) {
-            return i;
+        let b = text[i];
+        let class = classes[b as usize];
+        if classes::DIGIT < class {
+            return Word { end: i, packed };
         }
+        packed = packed % BEFORE_LAST * ABOVE_BYTE + b as u64;
         i += 1;
     }
-    i
+    Word { end: i, packed }
 }
 
 // Where the line ends: at its newline, or with the bytes.
@@ -61,6 +71,23 @@ pub fn line_end(text: &[u8], at: usize) -> usize
     while i < text.len() {
         if text[i] == b'\n' {
             return i;
+        }
+        i += 1;
+    }
+    i
+}
+
+// Where a comment's body ends: at its two closing bytes, or with the bytes.
+pub fn body_end(text: &[u8], at: usize) -> usize
+    requires { ⌜ at ≤ length (now text) ⌝ }
+    ensures { λ r. ⌜ r ≡ at + beforeClose (drop at (now (text .entry))) ⌝ }
+{
+    let mut i = at;
+    while i < text.len() {
+        if text[i] == b'*' {
+            if peek(text, i + 1) == b'/' {
+                return i;
+            }
         }
         i += 1;
     }

@@ -1,4 +1,4 @@
 -- The laws that the proofs of this crate share.
-pub mod Tables
 pub mod Lookups
-pub mod Entries
+pub mod Packed
+pub mod Marks

@@ -11,17 +11,17 @@ use Rattle.rules.specs.Kinds
 use Rattle.rules.specs.Kinds.{signs, kindIn}
 use Rattle.rules.specs.Lex.{isLetter, isDigit, maybeTwo}
 
-abbrev pub Nothing : ℕ
-Nothing = 0
-
-abbrev pub Blank : ℕ
-Blank = 1
-
 abbrev pub Letter : ℕ
-Letter = 2
+Letter = 0
 
 abbrev pub Digit : ℕ
-Digit = 3
+Digit = 1
+
+abbrev pub Nothing : ℕ
+Nothing = 2
+
+abbrev pub Blank : ℕ
+Blank = 3
 
 abbrev pub Slash : ℕ
 Slash = 4
@@ -44,7 +44,7 @@ signsFrom = 32
 
 -- all of them, as the code lists its own
 abbrev pub classes : List ℕ
-classes = Nothing ∷ Blank ∷ Letter ∷ Digit ∷ Slash ∷ Dash ∷ Quote ∷ Double ∷ Sign ∷ signsFrom ∷ []
+classes = Letter ∷ Digit ∷ Nothing ∷ Blank ∷ Slash ∷ Dash ∷ Quote ∷ Double ∷ Sign ∷ signsFrom ∷ []
 
 unfoldable pub classOf : ℕ → ℕ
 classOf b =

@@ -3,15 +3,15 @@ use rules::kind;
 ghost use mathlib.Core.Path.{_≡_};
 ghost use Rattle.scan_words.specs.Class.{classes, Classes};
 
-// What a byte begins: nothing, a blank, a word, a number, a comment or a sign, a number or a sign, a string, a sign that may be the first
-// byte of two, or any other sign.
-pub const NOTHING: u8 = 0;
+// What a byte begins: a word, a number, nothing, a blank, a comment or a sign, a number or a sign, a string, a sign that may be the first
+// byte of two, or any other sign. The bytes of words come first.
+pub const LETTER: u8 = 0;
 
-pub const BLANK: u8 = 1;
+pub const DIGIT: u8 = 1;
 
-pub const LETTER: u8 = 2;
+pub const NOTHING: u8 = 2;
 
-pub const DIGIT: u8 = 3;
+pub const BLANK: u8 = 3;
 
 pub const SLASH: u8 = 4;
 
@@ -291,10 +291,10 @@ pub fn all() -> [u8; 10]
     ensures { λ r. ⌜ r ≡ classes ⌝ }
 {
     [
-        NOTHING,
-        BLANK,
         LETTER,
         DIGIT,
+        NOTHING,
+        BLANK,
         SLASH,
         DASH,
         QUOTE,

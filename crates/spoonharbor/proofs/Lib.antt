@@ -1,5 +1,5 @@
--- The theorems on the outer face: tables that its words do not tell apart, demands 2 and 3 through them, and how tight each call's contract is.
-pub mod Alike
+-- The theorems on the outer face: demands 2 and 3 in words, and how tight each call's contract is.
 pub mod Outer
+pub mod OuterChange
 pub mod OuterParse
 pub mod Tight

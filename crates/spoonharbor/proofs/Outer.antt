@@ -1,4 +1,4 @@
--- Demand 3 at the outer face: a table lent in the words in which it was told serves as the table itself.
+-- Demand 3 at the outer face: a table lent in the words in which it was told is that table.
 use Prim.Native.Nat.{ℕ, _+_}
 use native.Mathlib.Omega.{arith}
 use mathlib.Core.Bool.{true, false, true≢false}
@@ -11,59 +11,27 @@ use borrow.Author.Tests.{le-ltb}
 use Rattle.rules.specs.declared.Table.{Table}
 use Rattle.rules.specs.declared.Told.{Told}
 use Rattle.rules.specs.declared.Told.the-variants.{Rows}
-use Rattle.rules.specs.Rows.{wellFormed}
 use Rattle.rules.specs.Scan.{roomOf, scanTold}
 use Rattle.rules.specs.Edit.{restart, editTold, editLeaves, restartTold}
-use Rattle.rules.specs.Calls.{parseTold, parseLeaves}
 use Rattle.theory_edits.specs.Scanned as scanned
-use Rattle.theory_edits.specs.Change.{Change, oldText, newText, a, oldRows, Window}
+use Rattle.theory_edits.specs.Change.{Change, oldText, newText, a, b, n, starts, oldRows, Window}
 use Rattle.theory_edits.specs.Demand3.{Given, Due, tells, leaves, SaysSeven, IsFresh}
 use Rattle.theory_edits.proofs.WellFormed.{Scans, says-1, says-2, says-4, says-rows, scan-says, scan-scanned, scan-valid, scanned-rows, scanned-well-formed}
 use Rattle.theory_edits.proofs.Demand3.{demand-3}
-use Rattle.answers.specs.Layout.{words, toldWords, restartWords, parsedWords, isEnding, tableOf, spellingWords}
-use Rattle.spoonharbor.specs.Alike.{OuterGiven, outerTells, outerLeaves, OuterSeven, OuterFresh}
-use Rattle.spoonharbor.proofs.Alike.{told-alike, alike-well-formed, alike-edit-told, alike-edit-leaves, alike-restart, alike-spelling, alike-parse-told, alike-parse-leaves}
-
--- ---- each call, lent the words in which a table was told, answers and leaves as the call over that table does
-
-module _ (ws : List ℕ) (table : Table) where
-  -- the table read from the words of the table
-  abbrev read : Table
-  read = tableOf (toldWords (Rows table))
-
-  pub outer-well-formed : wellFormed ws read ≡ wellFormed ws table
-  outer-well-formed = alike-well-formed ws (told-alike table)
-
-  pub outer-spelling : (t : List ℕ) (row : ℕ) → spellingWords t ws read row ≡ spellingWords t ws table row
-  outer-spelling t row = rw (alike-spelling ws (told-alike table) t row)
-
-  pub outer-parse-tells : (t : List ℕ) (room : ℕ)
-      → parsedWords (parseTold t ws read room) ≡ parsedWords (parseTold t ws table room)
-  outer-parse-tells t room = alike-parse-told ws (told-alike table) t room
-
-  pub outer-parse-leaves : (t new : List ℕ) → parseLeaves t ws read new ≡ parseLeaves t ws table new
-  outer-parse-leaves t new = alike-parse-leaves ws (told-alike table) t new
-
-  pub outer-restart : (a : ℕ) → restartWords (restartTold ws read a) ≡ restartWords (restartTold ws table a)
-  outer-restart a = rw (alike-restart ws (told-alike table) a)
-
-  module _ (a b n start : ℕ) (w : List ℕ) where
-    pub outer-edit-tells : (room : ℕ)
-        → toldWords (editTold ws read a b n start w room) ≡ toldWords (editTold ws table a b n start w room)
-    outer-edit-tells room = alike-edit-told ws (told-alike table) a b n start w room
-
-    pub outer-edit-leaves : (new : List ℕ)
-        → editLeaves ws read a b n start w new ≡ editLeaves ws table a b n start w new
-    outer-edit-leaves new = alike-edit-leaves ws (told-alike table) a b n start w new
+use Rattle.answers.specs.Layout.{words, toldWords, restartWords, isEnding, tableOf}
+use Rattle.answers.proofs.Table.{lent-table}
+use Rattle.spoonharbor.specs.OuterEdit.{OuterGiven, outerTells, outerLeaves, OuterSeven, OuterFresh}
 
 -- ---- the theorem
 
 module _ (c : Change) (ws : List ℕ) (table : Table) (answer w : List ℕ) (e : answer ≡ toldWords (Rows table)) where
   tells-words : (new : List ℕ) {x : Told} → tells c ws table w (roomOf new) ≡ x → outerTells c ws answer w new ≡ toldWords x
-  tells-words new h = rw e (outer-edit-tells ws table _ _ _ _ w (roomOf new) ∙ ap (λ (x : Told). toldWords x) h)
+  tells-words new h =
+      ap (λ (t : Table). toldWords (editTold ws t (a c) (b c) (n c) (starts c) w (roomOf new))) (lent-table table e)
+      ∙ ap (λ (x : Told). toldWords x) h
 
   leaves-words : (new : List ℕ) {x : List ℕ} → leaves c ws table w new ≡ x → outerLeaves c ws answer w new ≡ x
-  leaves-words new h = rw e (outer-edit-leaves ws table _ _ _ _ w new ∙ h)
+  leaves-words new h = ap (λ (t : Table). editLeaves ws t (a c) (b c) (n c) (starts c) w new) (lent-table table e) ∙ h
 
   outer-seven : SaysSeven c ws table w → OuterSeven c ws answer w
   outer-seven s = record { told = λ new. tells-words new (s .told (roomOf new)); left = λ new. leaves-words new (s .left new) }
@@ -88,7 +56,7 @@ outer-demand-3 c ws table answer w g e = by (demand-3 c ws table w g)
 -- ---- the theorem in the outer face's own words
 
 -- a scan whose answer's words are a table's tells its rows
-rows-told : (t : List ℕ) (m : ℕ) → isEnding (getD (toldWords (scanTold t m)) 0 0) ≡ true → scanTold t m ≡ Rows (scanned.tableOf t)
+pub rows-told : (t : List ℕ) (m : ℕ) → isEnding (getD (toldWords (scanTold t m)) 0 0) ≡ true → scanTold t m ≡ Rows (scanned.tableOf t)
 unfolding isEnding
 rows-told t m h = by (scan-says t m) h
   where
@@ -118,7 +86,8 @@ module _ (c : Change) (ws answer w : List ℕ) (g : OuterGiven c ws answer w) wh
   outer-starts =
       let l : length (oldText c) ≡ a c + (length (c .removed) + length (c .behind)) = simp length-append in
       let h : ltb (length (oldText c)) (a c) ≡ false = le-ltb (length (oldText c)) (a c) (omega arith) in
-      rw (table-words, outer-restart ws (scanned.tableOf (oldText c)) (a c), scanned-well-formed (given .scanned), h, scanned-rows (given .scanned))
+      ap (λ (t : Table). restartWords (restartTold ws t (a c))) (lent-table (scanned.tableOf (oldText c)) table-words)
+      ∙ rw (scanned-well-formed (given .scanned), h, scanned-rows (given .scanned))
 
   -- `spoonharbor_edit`, lent what `spoonharbor_scan` of the old text left and told, says 7 and touches nothing exactly where 7 is due, and else tells and
   -- leaves what `spoonharbor_scan` of the new text promises.

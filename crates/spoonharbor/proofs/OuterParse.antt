@@ -34,10 +34,9 @@ use Rattle.spoonharbor.proofs.spoonharbor_scan.Reads.{Post as OuterScan
 use Rattle.laws.proofs.Valid.{text-fine}
 use Rattle.laws.proofs.Calls.{judged-unformed}
 use Rattle.answers.specs.Layout.{toldWords, parsedWords, isEnding, tableOf}
-use Rattle.spoonharbor.specs.Alike.{outerTells, outerLeaves, OuterFresh}
+use Rattle.answers.proofs.Table.{lent-table, no-table}
+use Rattle.spoonharbor.specs.OuterEdit.{outerTells, outerLeaves, OuterFresh}
 use Rattle.spoonharbor.specs.OuterParse.{OuterLent, OuterAnswer, outer-1, outer-2, outer-3, outer-ending, outer-5, outer-nodes, outer-syntax}
-use Rattle.spoonharbor.proofs.Alike.{no-table}
-use Rattle.spoonharbor.proofs.Outer.{outer-parse-tells, outer-parse-leaves}
 
 -- ---- an answer of demand 2, in words
 
@@ -82,8 +81,7 @@ module _ (t lent ws table new : List ℕ) (g : OuterLent t lent ws table) where
         let e : scanTold t (roomOf lent) ≡ told.Rows (scanned.tableOf t) = scan-rows t (roomOf lent) k h in
         let f : table ≡ toldWords (told.Rows (scanned.tableOf t)) = g .told ∙ ap (λ (x : Told). toldWords x) e in
         let a : Lent t ws (scanned.tableOf t) = record { scanned = λ _. rw (g .left) (scan-scanned t lent (scanned.tableOf t) e) } in
-        rw (f, outer-parse-tells ws (scanned.tableOf t) t (nodeRoom new), outer-parse-leaves ws (scanned.tableOf t) t new)
-        (in-words t lent new _ _ (λ _. h) (demand-2 t ws (scanned.tableOf t) new a))
+        rw (lent-table (scanned.tableOf t) f) (in-words t lent new _ _ (λ _. h) (demand-2 t ws (scanned.tableOf t) new a))
 
 -- ---- the theorem
 
@@ -93,7 +91,7 @@ module _ (t lent ws table new : List ℕ) (g : OuterLent t lent ws table) where
 -- 1. The text has more than 65,536 bytes. The answer's words are 1's, at 0, line 1, column 1.
 -- 2. The text has a bad byte. They are 2's, at the first such.
 -- 3. The scan had too little room and said 4. They are 3's, at 0, line 1, column 1.
--- 4. The scan ended in a lexical refusal. They are that refusal's, 11 to 15, at its place.
+-- 4. The scan ended in a lexical refusal. They are that refusal's, 11 to 17, at its place.
 -- 5. The text scans fully, and there is room for fewer nodes than it has rows. They are 5's, at 0, line 1, column 1.
 -- 6. There is room, and a tree of the grammar, within the checks and with at most 64 constructs open, has the scan's tokens for its own: one
 --    tree and no other. They are number 0 and how many nodes the tree has; the nodes are written, and the words behind them are left.

@@ -8,6 +8,7 @@ use Rattle.spoonharbor.proofs.spoonharbor_well_formed
 use Rattle.spoonharbor.proofs.spoonharbor_spelling
 use Rattle.spoonharbor.proofs.spoonharbor_parse
 use Rattle.spoonharbor.proofs.spoonharbor_edit
+use Rattle.spoonharbor.proofs.change.spoonharbor_change
 use Rattle.spoonharbor.proofs.spoonharbor_restart
 use Rattle.spoonharbor.proofs.spoonharbor_allows
 use Rattle.spoonharbor.proofs.spoonharbor_set_size
@@ -30,6 +31,9 @@ outer-parse-tight κs a = (tt, λ r₁ r₂ m₁ m₂ p q. (refl, refl ▸ refl 
 
 pub outer-edit-tight : Tight spoonharbor_edit.Kinds.ps spoonharbor_edit.Kinds.r spoonharbor_edit.Reads.Asked spoonharbor_edit.Reads.Learnt
 outer-edit-tight κs a = (tt, λ r₁ r₂ m₁ m₂ p q. (refl, refl ▸ refl ▸ refl ▸ refl ▸ refl ▸ refl ▸ refl ▸ alike (p .1) (q .1) ▸ alike (p .0) (q .0) ▸ refl))
+
+pub outer-change-tight : Tight spoonharbor_change.Kinds.ps spoonharbor_change.Kinds.r spoonharbor_change.Reads.Asked spoonharbor_change.Reads.Learnt
+outer-change-tight κs a = (tt, λ r₁ r₂ m₁ m₂ p q. (refl, refl ▸ refl ▸ refl ▸ refl ▸ refl ▸ refl ▸ alike (p .1) (q .1) ▸ alike (p .0) (q .0) ▸ refl))
 
 pub outer-restart-tight : Tight spoonharbor_restart.Kinds.ps spoonharbor_restart.Kinds.r spoonharbor_restart.Reads.Asked spoonharbor_restart.Reads.Learnt
 outer-restart-tight κs a = (tt, λ r₁ r₂ m₁ m₂ p q. (refl, refl ▸ refl ▸ refl ▸ alike p q ▸ refl))

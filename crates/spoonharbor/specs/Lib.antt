@@ -1,4 +1,5 @@
--- Tables that the words of the outer face do not tell apart, what its calls answer, and the version.
-pub mod Alike
+-- What the calls of the outer face answer, in words, and the version.
+pub mod OuterChange
+pub mod OuterEdit
 pub mod OuterParse
 pub mod Version

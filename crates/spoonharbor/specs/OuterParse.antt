@@ -42,7 +42,7 @@ module _ (t lent new answer m : List ℕ) where
     outer-2 : length t ≤ mostBytes → valid t ≡ false → OuterRefused new answer m 2 (placeAt t (validBytes t)) 0 0 → OuterAnswer
     -- the scan said 4, so that its words tell no table
     outer-3 : Readable t → roomOf lent < length (rowsOf t) → OuterRefused new answer m 3 startPlace 0 0 → OuterAnswer
-    -- 11 to 15, with which the scan ended
+    -- 11 to 17, with which the scan ended
     outer-ending : Readable t → length (rowsOf t) ≤ roomOf lent → (why : Lexical) (at : Cursor) → readEnding (scan t) ≡ ending.Refused why at
         → OuterRefused new answer m (lexicalNumber why) at 0 0
         → OuterAnswer

@@ -1,5 +1,7 @@
 // The outer face for C and Rust: every call over lent words, its answer in eight words of one layout (crate `answers`,
 // include/spoonharbor.h). Nothing is asked of the caller but the sizes that the signatures say.
+pub mod change;
+
 use answers::no_place;
 use answers::put;
 use answers::put_asked;
@@ -30,7 +32,7 @@ ghost use Rattle.spoonharbor.specs.Version.{version};
 pub extern "C" fn spoonharbor_version() -> u32
     ensures { λ r. ⌜ r ≡ version ⌝ }
 {
-    0x00_02_00
+    0x00_05_00
 }
 
 // The rows of a text into lent words, and the table or the refusal into the answer.

@@ -180,7 +180,8 @@ module _ (t ws : List ℕ) (table : Table) (new : List ℕ) where
 -- the text is, of which no two hold together:
 --
 -- 1. The text has more than 65,536 bytes. The call tells 1, at 0.
--- 2. The text has a bad byte. It tells 2, at the first such; as in the first case the scan tells the same, and no table is asked for.
+-- 2. The text is no valid UTF-8. It tells 2, where its longest valid beginning ends; as in the first case the scan tells the same,
+--    and no table is asked for.
 -- 3. The scan ended in a lexical refusal. It tells that refusal, at its place.
 -- 4. The text scans fully, and there is room for fewer nodes than it has rows. It tells 5, at 0.
 -- 5. There is room, and a tree of the grammar, within the checks and with at most 64 constructs open, has the scan's tokens for its own: one

@@ -38,7 +38,7 @@ tokensOf t = tokens t (rowsOf t)
 pub record Readable (t : List ℕ) : Type 0 where
   -- it has at most 65,536 bytes
   pub fits : length t ≤ mostBytes
-  -- and no bad byte
+  -- and is valid UTF-8
   pub good : valid t ≡ true
 
 -- a text that scans fully
@@ -92,7 +92,7 @@ module _ (t new : List ℕ) (r : Parsed) (m : List ℕ) where
     -- 1 and 2
     too-long : mostBytes < length t → Refused new r m (reason.Outer TextTooLong) startPlace → Answer
     bad-byte : length t ≤ mostBytes → valid t ≡ false → Refused new r m (reason.Outer BadByte) (placeAt t (validBytes t)) → Answer
-    -- 11 to 15, with which the scan ended
+    -- 11 to 17, with which the scan ended
     ends-refused : Readable t → (why : Lexical) (at : Cursor) → readEnding (scan t) ≡ ending.Refused why at
         → Refused new r m (reason.Lexical why) at
         → Answer

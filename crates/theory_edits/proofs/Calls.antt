@@ -14,10 +14,9 @@ use Rattle.rules.specs.declared.Outer.the-variants.{WindowShort}
 use Rattle.rules.specs.Text.{mostBytes, valid, startPlace}
 use Rattle.rules.specs.Scan.{roomOf, told, scanTold, scanLeaves}
 use Rattle.theory_edits.specs.Scanned.{Scanned}
-use Rattle.theory_edits.specs.Change.{Change, oldText, newText, Window, TooShort}
+use Rattle.theory_edits.specs.Change.{Change, oldText, newText, Window, Unjudged, Unmet, TooShort}
 use Rattle.theory_edits.specs.Demand3.{Given, Due, tells, leaves, SaysSeven, IsFresh}
 use Rattle.theory_edits.proofs.WellFormed.{Scans, says-1, says-2, says-4, says-rows, scan-says, scan-scanned, scan-valid}
-use Rattle.theory_edits.proofs.Valid.{valid-window}
 use Rattle.theory_edits.proofs.Demand3.{demand-3}
 
 -- a scan never says 7
@@ -53,16 +52,24 @@ module _ (c : Change) (ws : List ℕ) (table : Table) (w : List ℕ) (g : Given 
   pub long-window : (TooShort c w → ⊥) → IsFresh c ws table w
   long-window h = by (demand-3 c ws table w g)
     where
+      way : Unjudged c w ⊎ ((valid (newText c) ≡ true) × Unmet c w) → TooShort c w
+      way (inl u) = inl u
+      way (inr u) = inr (u .1)
+
       by : (Due c w × SaysSeven c ws table w) ⊎ ((Due c w → ⊥) × IsFresh c ws table w) → IsFresh c ws table w
-      by (inl x) = absurd (h (x .0 .short))
+      by (inl x) = absurd (h (way (x .0 .short)))
       by (inr x) = x .1
 
   pub short-window : length (newText c) ≤ mostBytes → valid (newText c) ≡ true → TooShort c w → SaysSeven c ws table w
   short-window l k h = by (demand-3 c ws table w g)
     where
+      way : TooShort c w → Unjudged c w ⊎ ((valid (newText c) ≡ true) × Unmet c w)
+      way (inl u) = inl u
+      way (inr u) = inr (k, u)
+
       by : (Due c w × SaysSeven c ws table w) ⊎ ((Due c w → ⊥) × IsFresh c ws table w) → SaysSeven c ws table w
       by (inl x) = x .1
-      by (inr x) = absurd (x .0 (record { not-1 = l; not-2 = valid-window c w (g .window) (g .good) k; short = h }))
+      by (inr x) = absurd (x .0 (record { not-1 = l; short = way h }))
 
   -- An edit leaves what a scan of the new text leaves, so the next edit is given as much as this one was.
   pub edit-again : (new : List ℕ) (table′ : Table) → tells c ws table w (roomOf new) ≡ Rows table′

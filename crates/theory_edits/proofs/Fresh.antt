@@ -1,22 +1,22 @@
--- The edit gives exactly the rows and ending of a fresh scan of the new text, and a window is short exactly if it ends before the new bytes do, or
--- does not end the text and shows nothing. The theorems are `edit-fresh`, `short-exactly`, `whole-suffices` and `longer-suffices`.
-use Prim.Native.Nat.{ℕ, _+_, _-_, _≤_, _<_}
+-- The edit gives exactly the rows and ending of a fresh scan of the new text, and a window is short exactly if it shows too little. The
+-- theorems are `edit-fresh`, `short-exactly`, `unjudged-exactly`, `whole-judged`, `whole-suffices`, `longer-judged` and `longer-suffices`.
+use Prim.Native.Nat.{ℕ, _+_, _-_, _≤_}
 use native.Mathlib.Omega.{arith}
-use mathlib.Core.Bool.{Bool, true, false, _||_, true≢false}
+use mathlib.Core.Bool.{Bool, true, false, not, _&&_, true≢false}
 use mathlib.Core.List.{List, [], _∷_, _++_}
-use mathlib.Core.Logic.{_⊎_, inl, inr, _↔_}
+use mathlib.Core.Logic.{_↔_}
 use mathlib.Core.Path.{_≡_, refl, ap, sym, _∙_}
 use lib.Dec.{ltb, eqb}
 use lib.ListN.{length, length-append, length-drop}
-use borrow.Author.Tests.{ltb-true, lt-ltb, eqb-true, eqb-false, ne-eqb}
+use borrow.Author.Tests.{ltb-true, lt-ltb, eqb-true, eqb-false, ne-eqb, not-true}
 use Rattle.rules.specs.declared.Ending.{Ending}
 use Rattle.rules.specs.Rows.{Row}
 use Rattle.rules.specs.Scan.{Reading, readRows, readEnding, scan}
 use Rattle.rules.specs.Edit
-use Rattle.rules.specs.Edit.{seen, newRows, newEnding, newLength, windowShort}
-use Rattle.laws.proofs.Tests.{neither}
+use Rattle.rules.specs.Edit.{seen, newRows, newEnding, newLength, judging, unjudged, windowShort}
+use Rattle.laws.proofs.Tests.{false-by, both-true}
 use Rattle.theory_edits.specs.Shows.{Shows, meeting, refusal}
-use Rattle.theory_edits.specs.Change.{Change, oldText, newText, a, b, n, oldRows, oldEnding, starts, stops, Window, isShort, TooShort, endsText, editRows, editEnding}
+use Rattle.theory_edits.specs.Change.{Change, oldText, newText, a, b, n, oldRows, oldEnding, starts, stops, Window, isUnjudged, isShort, Unjudged, Unmet, endsText, editRows, editEnding}
 use Rattle.theory_edits.proofs.Stand.{At}
 use Rattle.theory_edits.proofs.Kept.{restart-le}
 use Rattle.theory_edits.proofs.LookItem.{same-look}
@@ -27,7 +27,7 @@ same-seen : (rows : List Row) (e : Ending) (a b n : ℕ) (w : List ℕ) (whole :
 unfolding seen seenBytes
 same-seen rows e a b n w whole = same-look _ _ whole w _
 
-empty : (z : List ℕ) → length z ≡ 0 → z ≡ []
+pub empty : (z : List ℕ) → length z ≡ 0 → z ≡ []
 empty [] h = refl
 empty (x ∷ z) h = absurd (let y : ⊥ = omega arith in y)
 
@@ -68,7 +68,7 @@ module _ (c : Change) where
     abbrev shortBytes : Bool → Bool
     shortBytes y = Edit.isShort (seenBytes (oldRows c) (oldEnding c) (a c) (b c) (n c) w y)
 
-    short-is : isShort c w ≡ (ltb (stops c w) (a c + n c) || shortBytes whole)
+    short-is : isShort c w ≡ shortBytes whole
     unfolding windowShort
     short-is = rw (whole-is, same-seen (oldRows c) (oldEnding c) (a c) (b c) (n c) w whole)
 
@@ -77,35 +77,44 @@ module _ (c : Change) where
     rows-fresh h =
         rw (whole-is, same-seen (oldRows c) (oldEnding c) (a c) (b c) (n c) w whole)
         (fresh-rows (c .before) (c .removed) (c .inserted) (c .behind) w (v .rest) at whole (nothing-behind whole refl)
-        (neither (ltb (stops c w) (a c + n c)) _ (sym short-is ∙ h) .1))
+        (sym short-is ∙ h))
 
     ending-fresh : isShort c w ≡ false → editEnding c w ≡ readEnding (scan (newText c))
     unfolding newEnding
     ending-fresh h =
         rw (whole-is, same-seen (oldRows c) (oldEnding c) (a c) (b c) (n c) w whole)
         (fresh-ending (c .before) (c .removed) (c .inserted) (c .behind) w (v .rest) at whole (nothing-behind whole refl)
-        (neither (ltb (stops c w) (a c + n c)) _ (sym short-is ∙ h) .1))
+        (sym short-is ∙ h))
 
     never : shortBytes true ≡ false
     unfolding seenBytes
     never = never-short _ _ w _ 0 _
 
-    too-short : isShort c w ≡ true → TooShort c w
-    too-short h = by (ltb (stops c w) (a c + n c)) refl whole refl (sym short-is ∙ h)
+    too-short : isShort c w ≡ true → Unmet c w
+    too-short h = by whole refl (sym short-is ∙ h)
       where
-        by : (x : Bool) → ltb (stops c w) (a c + n c) ≡ x → (y : Bool) → whole ≡ y → (x || shortBytes y) ≡ true → TooShort c w
-        by true x y f h = inl (ltb-true _ _ x)
-        by false x true f h = absurd (true≢false (sym h ∙ never))
-        by false x false f h = inr (eqb-false _ _ f, short-none (c .before) (c .removed) (c .inserted) (c .behind) w (v .rest) at false h)
+        by : (y : Bool) → whole ≡ y → shortBytes y ≡ true → Unmet c w
+        by true f h = absurd (true≢false (sym h ∙ never))
+        by false f h = (eqb-false _ _ f, short-none (c .before) (c .removed) (c .inserted) (c .behind) w (v .rest) at false h)
 
-    is-short : TooShort c w → isShort c w ≡ true
-    is-short (inl h) = rw (short-is, lt-ltb (stops c w) (a c + n c) h)
-    is-short (inr h) = rw (short-is, ne-eqb (stops c w) (length (newText c)) (h .0)) (by (ltb (stops c w) (a c + n c)) (shortBytes false) refl)
+    is-short : Unmet c w → isShort c w ≡ true
+    is-short h = rw (short-is, ne-eqb (stops c w) (length (newText c)) (h .0)) (by (shortBytes false) refl)
       where
-        by : (x y : Bool) → shortBytes false ≡ y → (x || y) ≡ true
-        by true y g = refl
-        by false true g = refl
-        by false false g = absurd (h .1 (part-shows (c .before) (c .removed) (c .inserted) (c .behind) w (v .rest) at g))
+        by : (y : Bool) → shortBytes false ≡ y → shortBytes false ≡ true
+        by true g = g
+        by false g = absurd (h .1 (part-shows (c .before) (c .removed) (c .inserted) (c .behind) w (v .rest) at g))
+
+    unjudged-is : isUnjudged c w ≡ (ltb (stops c w) (a c + n c + judging) && not whole)
+    unfolding unjudged
+    unjudged-is = rw whole-is
+
+    too-few : isUnjudged c w ≡ true → Unjudged c w
+    too-few h =
+        let i = both-true (ltb (stops c w) (a c + n c + judging)) (not whole) (sym unjudged-is ∙ h) in
+        (ltb-true _ _ (i .0), eqb-false _ _ (not-true whole (i .1)))
+
+    is-few : Unjudged c w → isUnjudged c w ≡ true
+    is-few h = unjudged-is ∙ rw (lt-ltb (stops c w) (a c + n c + judging) (h .0), ne-eqb (stops c w) (length (newText c)) (h .1))
 
 -- ---- the theorems
 
@@ -114,42 +123,37 @@ pub edit-fresh : (c : Change) (w : List ℕ) → Window c w → isShort c w ≡ 
     → (editRows c w ≡ readRows (scan (newText c))) × (editEnding c w ≡ readEnding (scan (newText c)))
 edit-fresh c w v h = (rows-fresh c w v h, ending-fresh c w v h)
 
--- A window is short exactly if it ends before the new bytes do; or it doesn't end the text, and shows neither a meeting place nor a refusal.
-pub short-exactly : (c : Change) (w : List ℕ) → Window c w
-    → (isShort c w ≡ true)
-    ↔ ((stops c w < a c + n c)
-    ⊎ ((stops c w ≡ length (newText c) → ⊥) × (Shows (scan (oldText c)) (scan (newText c)) (a c) (b c) (n c) (stops c w) → ⊥)))
+-- A window is short behind 2 exactly if it shows neither the text's end, nor a meeting place, nor a refusal.
+pub short-exactly : (c : Change) (w : List ℕ) → Window c w → (isShort c w ≡ true) ↔ Unmet c w
 short-exactly c w v = (too-short c w v, is-short c w v)
 
--- A window that ends the text is never short.
+-- It is too short for judging exactly if it shows neither four bytes past the new ones nor the text's end.
+pub unjudged-exactly : (c : Change) (w : List ℕ) → Window c w → (isUnjudged c w ≡ true) ↔ Unjudged c w
+unjudged-exactly c w v = (too-few c w v, is-few c w v)
+
+-- A window that ends the text is neither.
+pub whole-judged : (c : Change) (w : List ℕ) → Window c w → stops c w ≡ length (newText c) → isUnjudged c w ≡ false
+whole-judged c w v e = false-by (isUnjudged c w) (λ h. too-few c w v h .1 e)
+
 pub whole-suffices : (c : Change) (w : List ℕ) → Window c w → stops c w ≡ length (newText c) → isShort c w ≡ false
-whole-suffices c w v e = by (isShort c w) refl
-  where
-    long : length (newText c) ≡ a c + (n c + length (c .behind))
-    long = simp length-append
-
-    no : TooShort c w → ⊥
-    no (inl h) = omega (arith, long)
-    no (inr h) = h .0 e
-
-    by : (x : Bool) → isShort c w ≡ x → isShort c w ≡ false
-    by true x = absurd (no (too-short c w v x))
-    by false x = x
+whole-suffices c w v e = false-by (isShort c w) (λ h. too-short c w v h .0 e)
 
 -- If a window suffices, every longer one does.
-pub longer-suffices : (c : Change) (w u : List ℕ) → Window c w → Window c (w ++ u) → isShort c w ≡ false → isShort c (w ++ u) ≡ false
-longer-suffices c w u v v′ h = by (isShort c (w ++ u)) refl
-  where
-    long : length (w ++ u) ≡ length w + length u
-    long = length-append w u
+module _ (c : Change) (w u : List ℕ) (v : Window c w) (v′ : Window c (w ++ u)) where
+  long : length (w ++ u) ≡ length w + length u
+  long = length-append w u
 
-    l : stops c (w ++ u) + length (v′ .rest) ≡ length (newText c)
-    l = inside c (w ++ u) v′
+  l : stops c (w ++ u) + length (v′ .rest) ≡ length (newText c)
+  l = inside c (w ++ u) v′
 
-    shorter : TooShort c (w ++ u) → TooShort c w
-    shorter (inl x) = inl (omega (arith, long))
-    shorter (inr x) = inr (λ e. x .0 (omega (arith, long, l)), λ s. x .1 (shows-more (omega (arith, long)) s))
+  pub longer-judged : isUnjudged c w ≡ false → isUnjudged c (w ++ u) ≡ false
+  longer-judged h = false-by (isUnjudged c (w ++ u)) (λ x. true≢false (sym (is-few c w v (fewer (too-few c (w ++ u) v′ x))) ∙ h))
+    where
+      fewer : Unjudged c (w ++ u) → Unjudged c w
+      fewer x = (omega (arith, long, x .0), λ e. x .1 (omega (arith, long, l)))
 
-    by : (x : Bool) → isShort c (w ++ u) ≡ x → isShort c (w ++ u) ≡ false
-    by true x = absurd (true≢false (sym (is-short c w v (shorter (too-short c (w ++ u) v′ x))) ∙ h))
-    by false x = x
+  pub longer-suffices : isShort c w ≡ false → isShort c (w ++ u) ≡ false
+  longer-suffices h = false-by (isShort c (w ++ u)) (λ x. true≢false (sym (is-short c w v (shorter (too-short c (w ++ u) v′ x))) ∙ h))
+    where
+      shorter : Unmet c (w ++ u) → Unmet c w
+      shorter x = (λ e. x .0 (omega (arith, long, l)), λ s. x .1 (shows-more (omega (arith, long)) s))

@@ -1,6 +1,6 @@
--- The theorems on edits. To be read from the end: `Demand3` is the theorem, `Calls` and `Whole` what follows of it; `Fresh` and `WellFormed` are its
--- two halves. Before them, about the machine: what is known of its steps, of its scan (from a place on, its kept rows, its rows from one on, moved,
--- without newlines), and of its scan of a window.
+-- The theorems on edits. To be read from the end: `Demand3` is the theorem, `Calls` and `Whole` what follows of it; `Fresh`, `WellFormed` and
+-- `FourBytes` are its three parts. Before them, about the machine: what is known of its steps, of its scan (from a place on, its kept rows,
+-- its rows from one on, moved, without newlines, between characters), and of its scan of a window.
 pub mod Places
 pub mod Lines
 pub mod Steps
@@ -19,7 +19,8 @@ pub mod Fresh
 pub mod Tokens
 pub mod Well
 pub mod WellFormed
-pub mod Valid
+pub mod Low
+pub mod FourBytes
 pub mod Demand3
 pub mod Calls
 pub mod Whole

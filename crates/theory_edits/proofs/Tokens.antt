@@ -16,7 +16,7 @@ use Rattle.rules.specs.Rows.{bitsOf, valueBits, rowAt, lengthFits, valueFits}
 use Rattle.rules.specs.Text.{isBlank}
 use Rattle.rules.specs.Lex.{isDigit, isLetter, isWord, isHexDigit, isEscape, largest, isLone, maybeTwo}
 use Rattle.theory_machine.specs.Machine.{Token, tok, St, gap, slash, line, block, star, minus, str, esc, two, name, zer, hex0, dec, hex, Spot, First, go, clear, over, bad, Move, fresh, on, back, Last, clean, ended, cut, word, number, numberEnd, oneSign, twoSign, begin, step, finish}
-use Rattle.laws.proofs.Tests.{both-true}
+use Rattle.laws.proofs.Tests.{both-true, either}
 use Rattle.laws.proofs.Spelled.{same-eq}
 
 -- a row of n bytes may have this kind and value
@@ -225,19 +225,15 @@ minus-alone : isFit Minus 1 ≡ true
 unfolding isFit isMade lengthFits reserved signs lengthIn
 minus-alone = refl
 
-or-elim : {C : Type 0} (p q : Bool) → (p || q) ≡ true → (p ≡ true → C) → (q ≡ true → C) → C
-or-elim true q h f g = f refl
-or-elim false q h f g = g h
-
 -- a sign that may be the first byte of two, and is not refused alone, is in the table
 maybe-is : (x : ℕ) → maybeTwo x ≡ true → isLone x ≡ false → eqb (oneSign x) Kinds.Eof ≡ false
 unfolding maybeTwo signs sameBytes kindIn
 maybe-is x h l =
-    or-elim ((((eqb x 43 || eqb x 45) || eqb x 42) || eqb x 47) || eqb x 37) (isLone x) h
-    (λ h. or-elim (((eqb x 43 || eqb x 45) || eqb x 42) || eqb x 47) (eqb x 37) h
-    (λ h. or-elim ((eqb x 43 || eqb x 45) || eqb x 42) (eqb x 47) h
-    (λ h. or-elim (eqb x 43 || eqb x 45) (eqb x 42) h
-    (λ h. or-elim (eqb x 43) (eqb x 45) h (is 43 refl) (is 45 refl)) (is 42 refl)) (is 47 refl)) (is 37 refl))
+    either ((((eqb x 43 || eqb x 45) || eqb x 42) || eqb x 47) || eqb x 37) (isLone x) h
+    (λ h. either (((eqb x 43 || eqb x 45) || eqb x 42) || eqb x 47) (eqb x 37) h
+    (λ h. either ((eqb x 43 || eqb x 45) || eqb x 42) (eqb x 47) h
+    (λ h. either (eqb x 43 || eqb x 45) (eqb x 42) h
+    (λ h. either (eqb x 43) (eqb x 45) h (is 43 refl) (is 45 refl)) (is 42 refl)) (is 47 refl)) (is 37 refl))
     (λ h. absurd (true≢false (sym h ∙ l)))
   where
     is : (c : ℕ) → eqb (oneSign c) Kinds.Eof ≡ false → eqb x c ≡ true → eqb (oneSign x) Kinds.Eof ≡ false

@@ -1,13 +1,15 @@
 -- Edits with whole windows: each gives the fresh scan's rows and ending, so two in a row are one, and two apart commute.
 use Prim.Native.Nat.{ℕ, _+_, _-_, _≤_}
 use native.Mathlib.Omega.{arith}
+use mathlib.Core.Bool.{true}
 use mathlib.Core.List.{List, [], _++_, append-assoc, append-nil}
-use mathlib.Core.Logic.{inl, inr}
+use mathlib.Core.Logic.{_⊎_, inl, inr}
 use mathlib.Core.Path.{_≡_, ap, sym, _∙_}
 use lib.ListN.{length, drop, take, length-append, length-drop, take-append-drop}
 use lib.Seq.{length-take-le, drop-drop, take-append-seam, drop-append-seam, drop-append-add}
+use Rattle.rules.specs.Text.{valid}
 use Rattle.rules.specs.Scan.{readRows, readEnding, scan}
-use Rattle.theory_edits.specs.Change.{Change, oldText, newText, a, b, n, oldRows, starts, stops, Window, editRows, editEnding, TooShort}
+use Rattle.theory_edits.specs.Change.{Change, oldText, newText, a, b, n, oldRows, starts, stops, Window, Unjudged, Unmet, editRows, editEnding}
 use Rattle.theory_edits.specs.Demand3.{Due}
 use Rattle.theory_edits.specs.Whole.{changed, changeOf, readOf, editWhole, twice, editTwice}
 use Rattle.theory_edits.proofs.Kept.{restart-le}
@@ -32,9 +34,9 @@ module _ (c : Change) where
   pub whole-not-due : Due c (drop (starts c) (newText c)) → ⊥
   whole-not-due d = by (d .short)
     where
-      by : TooShort c (drop (starts c) (newText c)) → ⊥
-      by (inl h) = omega (arith, new-long, whole-stops)
-      by (inr h) = h .0 whole-stops
+      by : Unjudged c (drop (starts c) (newText c)) ⊎ ((valid (newText c) ≡ true) × Unmet c (drop (starts c) (newText c))) → ⊥
+      by (inl h) = h .1 whole-stops
+      by (inr h) = h .1 .0 whole-stops
 
   whole-fresh : editWhole (newText c) (length (oldText c)) (a c) (b c) (n c) (readOf (oldText c)) ≡ readOf (newText c)
   unfolding editWhole

@@ -9,7 +9,7 @@ use Rattle.rules.specs.declared.Ending.{Ending}
 use Rattle.rules.specs.Rows.{Row}
 use Rattle.rules.specs.Scan.{readRows, readEnding, scan}
 use Rattle.rules.specs.Edit
-use Rattle.rules.specs.Edit.{restart, newRows, newEnding, windowShort}
+use Rattle.rules.specs.Edit.{restart, newRows, newEnding, judging, unjudged, windowShort}
 use Rattle.theory_edits.specs.Shows.{Shows}
 
 -- The bytes `removed`, which stand between `before` and `behind`, become `inserted`.
@@ -54,16 +54,23 @@ module _ (c : Change) where
     pub rest : List ℕ
     pub text : drop starts newText ≡ w ++ rest
 
-  -- the rules' test for 7
+  -- the rules' tests for 7, before 2 and behind it
+  abbrev pub isUnjudged : List ℕ → Bool
+  isUnjudged w = unjudged oldRows (length oldText) a b n w
+
   abbrev pub isShort : List ℕ → Bool
   isShort w = windowShort oldRows oldEnding (length oldText) a b n w
 
-  -- When it is: the window ends before the new bytes do; or it doesn't end the new text, and shows neither a meeting place nor a refusal with
-  -- its deciding byte.
+  -- When the first holds: the window shows neither four bytes past the new ones nor the new text's end.
+  abbrev pub Unjudged : List ℕ → Type 0
+  Unjudged w = (stops w < a + n + judging) × (stops w ≡ length newText → ⊥)
+
+  -- When the second does: it shows neither the new text's end, nor a meeting place, nor a refusal with its deciding byte.
+  abbrev pub Unmet : List ℕ → Type 0
+  Unmet w = (stops w ≡ length newText → ⊥) × (Shows (scan oldText) (scan newText) a b n (stops w) → ⊥)
+
   abbrev pub TooShort : List ℕ → Type 0
-  TooShort w =
-      (stops w < a + n)
-      ⊎ ((stops w ≡ length newText → ⊥) × (Shows (scan oldText) (scan newText) a b n (stops w) → ⊥))
+  TooShort w = Unjudged w ⊎ Unmet w
 
   abbrev pub endsText : List ℕ → Bool
   endsText w = Edit.ends oldRows (length oldText) a b n w

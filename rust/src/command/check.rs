@@ -21,7 +21,7 @@ pub fn check(source: &Source, out: &mut impl Write) -> io::Result<Outcome> {
 }
 
 fn parsed(text: &[u8]) -> Result<Tree, Refusal> {
-    Document::open(text)?.tree()
+    Document::open(text)?.tree().cloned()
 }
 
 /// What is in a program: how many of each declaration.

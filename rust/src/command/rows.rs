@@ -1,5 +1,6 @@
 //! `spoonharbor rows`: a line for each row: its number, place, bytes, kind, spelling and value.
 
+use super::columns::shown;
 use spoonharbor::{Document, Kind, Refusal, Row};
 use std::io::{self, Write};
 
@@ -11,24 +12,20 @@ pub fn print(document: &Document, out: &mut impl Write) -> io::Result<Result<(),
         writeln!(
             out,
             "{number:>5}  {place:<9} {bytes:<13} {}",
-            told(document, &row)
+            told(document, number, &row)
         )?;
     }
     Ok(document.refusal().map_or(Ok(()), Err))
 }
 
 /// The kind, and what it does not say itself.
-fn told(document: &Document, row: &Row) -> String {
-    let spelling = document.text().get(row.span()).unwrap_or_default();
+fn told(document: &Document, number: usize, row: &Row) -> String {
+    let spelling = document.spelling(number).unwrap_or_default();
     match row.kind {
         Kind::Number => format!("{} {spelling} = {}", row.kind, row.value),
         Kind::Identifier | Kind::StringLiteral => {
-            format!("{} {}", row.kind, spelling.replace(is_unprintable, "?"))
+            format!("{} {}", row.kind, shown(spelling))
         }
         kind => kind.to_string(),
     }
-}
-
-fn is_unprintable(letter: char) -> bool {
-    letter.is_ascii_control() && letter != '\t'
 }

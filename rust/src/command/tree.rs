@@ -1,5 +1,6 @@
 //! `spoonharbor tree`: a line for each node below its parent, indented, with names spelt.
 
+use super::columns::shown;
 use spoonharbor::{Document, FieldType, Node, NodeKind, Refusal, Row, Type};
 use std::io::{self, Write};
 
@@ -47,14 +48,9 @@ impl<'a> Spelt<'a> {
         }
     }
 
-    /// The part of the text that a row spells; nothing that would not show.
+    /// The part of the text that a row spells, with a `?` for what would not show.
     fn row(&self, row: usize) -> String {
-        let span = self.rows.get(row).map_or(0..0, Row::span);
-        let spelling = self.document.text().get(span).unwrap_or_default();
-        spelling.replace(
-            |letter: char| letter.is_ascii_control() && letter != '\t',
-            "?",
-        )
+        shown(self.document.spelling(row).unwrap_or_default())
     }
 
     /// What the node is, its name and facts, and its place.

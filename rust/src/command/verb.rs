@@ -16,7 +16,8 @@ const CHECK_USAGE: &str = "\
 usage: spoonharbor check [--] FILE..
 
 Says of each file whether it is a Solnix program. A program gets one line, which counts its maps, events and units; a refused text
-gets file:line:column and the reason, the source line, and a caret below the place.
+gets file:line:column and the reason, the source line, and a caret below the place. Columns count bytes; the caret stands below the
+character.
 
 FILE is a path, or - for standard input; behind -- a path may begin with -. A file that cannot be read is told on standard error, and
 the others are checked all the same. Exit status: 0 every text is a program, 1 a text is refused, 2 trouble.

@@ -1,7 +1,7 @@
 -- `edit::fill` meets its contract: kept rows are laid, and the others behind them.
 use mathlib.Core.Path.{ap, _∙_}
 use mathlib.Core.List.{List, _++_}
-use Prim.Native.Nat.{ℕ, _+_, _*_, _/_, _≤_, _<_}
+use Prim.Native.Nat.{ℕ, _*_, _/_, _≤_, _<_}
 use native.Mathlib.Omega.{arith}
 use lib.ListN.{length, drop}
 use borrow.Author.Needs.{needs}
@@ -87,7 +87,7 @@ returns-2 c =
     let l : a .job .kept ≤ roomOf (a .new .now) = k .before .before .if1 .left in
     kept-all (kept (a .job .a) (oldRows (a .old .now) (a .job))) (jobRows (a .old .now) (a .job) (a .window .now) (a .whole)) (jobEnding (a .old .now) (a .job) (a .window .now) (a .whole)) (a .new .now)
     (k .copy-rows2 .last .1 .1 .0) (a .job .kept) (k .copy-rows2 .ensures ∙ copied (s .pre .ready) (a .new .now) l) (omega (arith, s .pre .ready .kept)) (s .pre .ready .kept) (a .size) (t .fill-tail .result) (c .tell2 .result)
-    (t .fill-tail .last .1 .1 .1 .1 .1 .0) (t .fill-tail .ensures) (c .tell2 .ensures)
+    (t .fill-tail .last .1 .1 .1 .1 .0) (t .fill-tail .ensures) (c .tell2 .ensures)
 
 pub fill-spec : {M : Type 1} → statement M
 fill-spec =

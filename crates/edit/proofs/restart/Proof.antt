@@ -6,6 +6,7 @@ use borrow.Author.Needs.{needs}
 use Rattle.rules.specs.Rows.{wellFormed}
 use Rattle.rules.specs.Edit.{restartTold}
 use Rattle.rows.proofs.Inside.{fine}
+use Rattle.edit.proofs.Facts.{ends-rise}
 use Rattle.edit.proofs.Calls.{restart-by, kept-lent}
 use Rattle.edit.proofs.restart.Statement.{statement}
 use Rattle.edit.proofs.restart.Tie as tie
@@ -32,7 +33,8 @@ cast-kept-rows c = search needs
 kept-rows-requires : tie.Need-kept-rows-requires
 kept-rows-requires c κs =
     let a = c .before .before .before .before .before .args in
-    fine (a .old .now) (a .table) (formed (c .before .before)) .lent
+    let f = fine (a .old .now) (a .table) (formed (c .before .before)) in
+    (f .lent, ends-rise f)
 
 place-behind-requires : tie.Need-place-behind-requires
 place-behind-requires c κs =

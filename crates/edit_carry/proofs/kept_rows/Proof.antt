@@ -1,62 +1,82 @@
--- `carry::kept_rows` meets its contract: the rows that are passed and those that are kept from here on are the kept ones.
-use mathlib.Core.Path.{_≡_}
-use Prim.Native.Nat.{_+_, _-_, _≤_}
-use native.Mathlib.Nat.{zero-add, sub-zero}
+-- `carry::kept_rows` meets its contract: as many as are kept lie between low and high, which halving brings together.
+use Prim.Native.Nat.{ℕ, _+_, _-_, _/_, _≤_, _<_}
 use native.Mathlib.Omega.{arith}
-use lib.ListN.{length}
-use Rattle.rules.specs.Rows.{rowsIn}
-use Rattle.rules.specs.Edit.{kept}
-use Rattle.laws.proofs.Rows.{end-word, rest}
-use Rattle.edit_carry.proofs.Kept.{kept-more, kept-stop, kept-none}
+use Rattle.laws.proofs.Rows.{end-word}
+use Rattle.edit_carry.proofs.Kept.{Between, between-all, between-low, between-high, between-none}
 use Rattle.edit_carry.proofs.kept_rows.Statement.{statement}
 use Rattle.edit_carry.proofs.kept_rows.Tie as tie
 
 abbrev Inv-loop : tie.InvT-loop
-Inv-loop old count a i₀ i = (i ≤ count) × (i + length (kept a (rest old count i)) ≡ length (kept a (rowsIn count old)))
+Inv-loop old count a low₀ high₀ low high = Between a old count low high
 
 abbrev μ-loop : tie.MeasureT-loop
-μ-loop old count a i₀ i = count - i
+μ-loop old count a low₀ high₀ low high = high - low
+
+-- the row in the middle, which is one of the rows between
+abbrev middle : tie.In-loop Inv-loop μ-loop → ℕ
+middle c = c .before .loop .low + (c .before .loop .high - c .before .loop .low) / 2
+
+low-middle : (c : tie.In-loop Inv-loop μ-loop) → c .before .loop .low ≤ middle c
+low-middle c = omega arith
+
+middle-high : (c : tie.In-loop Inv-loop μ-loop) → middle c < c .before .loop .high
+middle-high c = omega arith
+
+middle-lent : (c : tie.In-loop Inv-loop μ-loop) → middle c < c .before .before .args .count
+middle-lent c = omega (arith, middle-high c, c .before .loop .inv .inside)
 
 loop-holds : tie.Need-loop-holds Inv-loop μ-loop
-loop-holds c = (omega arith, rw (sub-zero, zero-add))
+loop-holds c = between-all (c .args .a) (c .args .old .now) (c .args .count)
+
+sub-middle : tie.Need-sub-middle Inv-loop μ-loop
+sub-middle c = omega arith
+
+add-middle : tie.Need-add-middle Inv-loop μ-loop
+add-middle c = omega (arith, middle-lent c)
 
 mul-if1 : tie.Need-mul-if1 Inv-loop μ-loop
-mul-if1 c = omega arith
+mul-if1 c = omega (arith, middle-lent c)
 
 add-if1 : tie.Need-add-if1 Inv-loop μ-loop
-add-if1 c = omega arith
+add-if1 c = omega (arith, middle-lent c)
 
 mul-if1-2 : tie.Need-mul-if1-2 Inv-loop μ-loop
-mul-if1-2 c = omega arith
+mul-if1-2 c = omega (arith, middle-lent c)
 
 shared-slice-read-if1 : tie.Need-shared-slice-read-if1 Inv-loop μ-loop
-shared-slice-read-if1 c = omega arith
-
-returns : tie.Need-returns Inv-loop μ-loop
-returns c =
-    let l = c .before .before .before .loop in
-    let s = c .before .before .before .before in
-    let e = kept-stop (s .args .a) (s .args .old .now) (s .args .count) (l .i) (omega arith) (rw (← end-word (s .args .old .now) (l .i)) at (c .if1 .taken)) in
-    omega (arith, e, l .inv .1)
-
-add-i : tie.Need-add-i Inv-loop μ-loop
-add-i c = omega arith
+shared-slice-read-if1 c = omega (arith, middle-lent (c .before))
 
 loop-less : tie.Need-loop-less Inv-loop μ-loop
-loop-less c = omega arith
+loop-less c = omega (arith, middle-high (c .before .before))
 
 loop-again : tie.Need-loop-again Inv-loop μ-loop
 loop-again c =
-    let l = c .before .before .before .loop in
-    let s = c .before .before .before .before in
-    let e = kept-more (s .args .a) (s .args .old .now) (s .args .count) (l .i) (omega arith) (rw (← end-word (s .args .old .now) (l .i)) at (c .if1 .left)) in
-    (omega arith, omega (arith, e, l .inv .1))
+    let m = c .before .before in
+    let l = m .before .loop in
+    let s = m .before .before .args in
+    between-low (s .a) (s .old .now) (s .count) (l .low) (l .high) (middle m) (l .inv) (low-middle m) (middle-high m)
+    (rw (← end-word (s .old .now) (middle m)) at (c .if1 .taken))
 
-returns-2 : tie.Need-returns-2 Inv-loop μ-loop
-returns-2 c =
+add-low : tie.Need-add-low Inv-loop μ-loop
+add-low c = omega (arith, middle-lent (c .before .before))
+
+loop-less-2 : tie.Need-loop-less-2 Inv-loop μ-loop
+loop-less-2 c = omega (arith, middle-high (c .before .before))
+
+loop-again-2 : tie.Need-loop-again-2 Inv-loop μ-loop
+loop-again-2 c =
+    let m = c .before .before in
+    let l = m .before .loop in
+    let s = m .before .before in
+    let a = s .args in
+    between-high (a .a) (a .old .now) (a .count) (l .low) (l .high) (middle m) (l .inv) (low-middle m) (middle-high m)
+    (s .pre .1) (rw (← end-word (a .old .now) (middle m)) at (c .if1 .left))
+
+returns : tie.Need-returns Inv-loop μ-loop
+returns c =
     let l = c .before .loop in
-    let s = c .before .before in
-    omega (arith, kept-none (s .args .a) (s .args .old .now) (s .args .count) (l .i) (c .loop-test .left), l .inv .1)
+    let s = c .before .before .args in
+    between-none (s .a) (s .old .now) (s .count) (l .low) (l .high) (l .inv) (c .loop-test .left)
 
 pub kept-rows-spec : {M : Type 1} → statement M
 kept-rows-spec =
@@ -65,12 +85,15 @@ kept-rows-spec =
     Inv-loop
     μ-loop
     loop-holds
+    sub-middle
+    add-middle
     mul-if1
     add-if1
     mul-if1-2
     shared-slice-read-if1
-    returns
-    add-i
     loop-less
     loop-again
-    returns-2)
+    add-low
+    loop-less-2
+    loop-again-2
+    returns)

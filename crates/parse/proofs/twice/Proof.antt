@@ -13,7 +13,7 @@ use Rattle.parse_nodes.specs.Post.{Met}
 use Rattle.parse_nodes.proofs.Turn.{refused}
 use Rattle.parse_nodes.proofs.Told.{names-told}
 use Rattle.parse.specs.Program.{readingOf}
-use Rattle.parse.proofs.Whole.{none-written, Wrote, wrote, final-ok, final-no, nodes-fit, room-fits, refused-in}
+use Rattle.parse.proofs.Whole.{none-written, Wrote, wrote, final-ok, final-no, room-fits, refused-in}
 use Rattle.parse.proofs.twice.Statement.{statement}
 use Rattle.parse.proofs.twice.Tie as tie
 
@@ -47,12 +47,6 @@ enum-known-t c = search needs
 program-requires-2 : tie.Need-program-requires-2
 program-requires-2 c κs = search needs
 
-cast-t15 : tie.Need-cast-t15
-cast-t15 c =
-    let a = c .before .before .before .before .before .before .before .before .before .before .before .before .before .before .before .args in
-    let v = first (c .before .before .before .before .before .before) in
-    omega (arith, v .node, nodes-fit (a .text .now) (a .rows .now) (a .count) (a .nodes .now) (c .before .before .before .before .before .before .before .before .before .before .before .before .before .before .before .pre) (v .tree) _ (v .is), c .before .before .before .before .before .before .before .before .before .before .before .before .before .before .before .pre .table .short)
-
 enum-known-why : tie.Need-enum-known-why
 enum-known-why c = search needs
 
@@ -69,11 +63,17 @@ same-length c = search needs
 
 returns : tie.Need-returns
 returns c =
-    let a = c .before .before .before .before .before .before .before .before .before .before .before .before .before .before .before .args in
-    let v = first (c .before .before .before .before .before .before) in
-    let n = none-written (c .before .before .before .before .before .before .before .before .before .before .program .last .1 .1 .1 .0) (a .nodes .now) (c .before .before .before .before .before .before .before .before .before .before .program .kept .1 .1 .1 .0) in
-    final-ok (a .rows .now) (readingOf (a .text .now) (a .rows .now) (a .count)) (a .nodes .now) _ (v .tree) (c .before .before .before .before .before .before .t .given .0 .0 .row) _ (c .before .before .before .program2 .result) (v .is) (v .node) (room-fits (a .text .now) (a .rows .now) (a .count) (a .nodes .now) (c .before .before .before .before .before .before .before .before .before .before .before .before .before .before .before .pre) (v .tree) _ (v .is))
-    (subst (λ (x : List ℕ). Met (readingOf (a .text .now) (a .rows .now) (a .count)) 0 0 x (c .before .before .before .program2 .last .1 .1 .1 .0) (c .before .before .before .program2 .result)) n (c .before .before .before .program2 .ensures _ (names-told (a .text .now) (a .rows .now) (a .count))))
+    let w = c .before .before .before .before .before in
+    let a = w .before .before .before .before .before .before .before .before .before .args in
+    let p = w .before .before .before .before .program in
+    let q = c .before .before .program2 in
+    let v = first w in
+    let n = none-written (p .last .1 .1 .1 .0) (a .nodes .now) (p .kept .1 .1 .1 .0) in
+    let s = w .before .before .before .before .before .before .before .before .before .pre in
+    final-ok (a .rows .now) (readingOf (a .text .now) (a .rows .now) (a .count)) (a .nodes .now) _ (v .tree) (w .t .given .0 .0 .row) _ (q .result) (v .is)
+    (v .node) (room-fits (a .text .now) (a .rows .now) (a .count) (a .nodes .now) s (v .tree) _ (v .is))
+    (subst (λ (x : List ℕ). Met (readingOf (a .text .now) (a .rows .now) (a .count)) 0 0 x (q .last .1 .1 .1 .0) (q .result)) n
+    (q .ensures _ (names-told (a .text .now) (a .rows .now) (a .count))))
 
 same-length-2 : tie.Need-same-length-2
 same-length-2 c = search needs
@@ -95,7 +95,6 @@ twice-spec =
     program-requires
     enum-known-t
     program-requires-2
-    cast-t15
     enum-known-why
     row-at-requires
     row-place-requires

@@ -19,6 +19,9 @@ add-name c = search needs
 kind-at-requires : tie.Need-kind-at-requires
 kind-at-requires c κs = search needs
 
+cast-t12 : tie.Need-cast-t12
+cast-t12 c = search needs
+
 returns : tie.Need-returns
 returns c ts h =
     let a = c .before .before .before .before .args in
@@ -29,6 +32,9 @@ add-open c = search needs
 
 kind-at-requires-2 : tie.Need-kind-at-requires-2
 kind-at-requires-2 c κs = search needs
+
+cast-t14 : tie.Need-cast-t14
+cast-t14 c = search needs
 
 returns-2 : tie.Need-returns-2
 returns-2 c ts h =
@@ -57,9 +63,11 @@ event-spec =
     (tie.spec
     add-name
     kind-at-requires
+    cast-t12
     returns
     add-open
     kind-at-requires-2
+    cast-t14
     returns-2
     fields-requires
     same-length

@@ -39,6 +39,9 @@ add-colon c = search needs
 kind-at-requires-2 : tie.Need-kind-at-requires-2
 kind-at-requires-2 c κs = search needs
 
+cast-t16 : tie.Need-cast-t16
+cast-t16 c = search needs
+
 returns-2 : tie.Need-returns-2
 returns-2 c ts h =
     let a = c .before .before .before .before .before .before .args in
@@ -58,17 +61,17 @@ shape-at-requires c κs =
 enum-known-f : tie.Need-enum-known-f
 enum-known-f c = search needs
 
-cast-name : tie.Need-cast-name
-cast-name c = search needs
-
 store-requires : tie.Need-store-requires
 store-requires c κs = search needs
 
-add-t23 : tie.Need-add-t23
-add-t23 c = search needs
+add-t24 : tie.Need-add-t24
+add-t24 c = search needs
 
 enum-known-why : tie.Need-enum-known-why
 enum-known-why c = search needs
+
+cast-t26 : tie.Need-cast-t26
+cast-t26 c = search needs
 
 same-length : tie.Need-same-length
 same-length c = search needs
@@ -91,14 +94,15 @@ field-spec =
     returns
     add-colon
     kind-at-requires-2
+    cast-t16
     returns-2
     add-shape-at
     shape-at-requires
     enum-known-f
-    cast-name
     store-requires
-    add-t23
+    add-t24
     enum-known-why
+    cast-t26
     same-length
     returns-3
     returns-4)

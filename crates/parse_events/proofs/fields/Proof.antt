@@ -58,17 +58,14 @@ loop-holds c ts h =
 kind-at-requires : tie.Need-kind-at-requires Inv-loop μ-loop
 kind-at-requires c κs = c .before .before .before .pre .0 .lent
 
-cast-close : tie.Need-cast-close Inv-loop μ-loop
-cast-close c = omega (arith, c .before .before .before .before .before .before .pre .0, c .before .before .before .before .before .before .pre .1)
-
 close-requires : tie.Need-close-requires Inv-loop μ-loop
 close-requires c κs = let w = some (c .before .before .before) in omega (arith, w .stands, w .few, w .counts, w .inside, tells-some (c .before .before .before .before .before .before .args .rows .now) (c .before .before .before .before .before .before .args .count) .long, c .before .before .before .before .before .before .pre .0, c .before .before .before .before .before .before .pre .1)
 
-add-t21 : tie.Need-add-t21 Inv-loop μ-loop
-add-t21 c = let w = some (c .before .before .before .before .before .before) in omega (arith, w .inside, c .before .before .before .before .before .before .before .before .before .pre .0, tells-some (c .before .before .before .before .before .before .before .before .before .args .rows .now) (c .before .before .before .before .before .before .before .before .before .args .count) .long)
+add-t20 : tie.Need-add-t20 Inv-loop μ-loop
+add-t20 c = let w = some (c .before .before .before .before .before .before) in omega (arith, w .inside, c .before .before .before .before .before .before .before .before .before .pre .0, tells-some (c .before .before .before .before .before .before .before .before .before .args .rows .now) (c .before .before .before .before .before .before .before .before .before .args .count) .long)
 
-add-t22 : tie.Need-add-t22 Inv-loop μ-loop
-add-t22 c = let w = some (c .before .before .before .before .before .before) in omega (arith, w .inside, w .stands, w .few, c .before .before .before .before .before .before .before .before .before .pre .0, tells-some (c .before .before .before .before .before .before .before .before .before .args .rows .now) (c .before .before .before .before .before .before .before .before .before .args .count) .long)
+add-t21 : tie.Need-add-t21 Inv-loop μ-loop
+add-t21 c = let w = some (c .before .before .before .before .before .before) in omega (arith, w .inside, w .stands, w .few, c .before .before .before .before .before .before .before .before .before .pre .0, tells-some (c .before .before .before .before .before .before .before .before .before .args .rows .now) (c .before .before .before .before .before .before .before .before .before .args .count) .long)
 
 same-length : tie.Need-same-length Inv-loop μ-loop
 same-length c = c .before .before .close .kept .0 ∙ same-len _ _ _ _ _ _ (some (c .before .before .before .before .before .before) .stands)
@@ -134,10 +131,9 @@ fields-spec =
     add-first-2
     loop-holds
     kind-at-requires
-    cast-close
     close-requires
+    add-t20
     add-t21
-    add-t22
     same-length
     returns
     field-requires

@@ -97,8 +97,8 @@ returns-4 c ts h f g =
     found-no (Parse.lengthAt ts f (a .row)) _ _ (bounded (c .before .before .before .before) ts h f ∙ want-met ts (a .rows .now) (a .count) h (a .row + 1) (c .before .before .before .kind-at2 .result) (c .before .before .before .kind-at2 .ensures) RBracket _ (c .before .before .if3 .left)
     ∙ want-unmet ts (a .rows .now) (a .count) h (a .row + 1 + 1) (c .before .kind-at3 .result) (c .before .kind-at3 .ensures) Semicolon _ (c .if4 .taken))
 
-add-t15 : tie.Need-add-t15
-add-t15 c = search needs
+add-t18 : tie.Need-add-t18
+add-t18 c = search needs
 
 returns-5 : tie.Need-returns-5
 returns-5 c ts h f g =
@@ -126,5 +126,5 @@ length-at-spec =
     add-end
     kind-at-requires-3
     returns-4
-    add-t15
+    add-t18
     returns-5)

@@ -7,17 +7,14 @@ use Rattle.parse_expr.proofs.call_end.Tie as tie
 add-name : tie.Need-add-name
 add-name c = search needs
 
-cast-close : tie.Need-cast-close
-cast-close c = search needs
-
 add-close : tie.Need-add-close
 add-close c = search needs
 
 close-requires : tie.Need-close-requires
 close-requires c κs = search needs
 
-add-t13 : tie.Need-add-t13
-add-t13 c = search needs
+add-t11 : tie.Need-add-t11
+add-t11 c = search needs
 
 same-length : tie.Need-same-length
 same-length c = search needs
@@ -26,8 +23,11 @@ returns : tie.Need-returns
 returns c =
     rw (c .before .before .before .before .before .if1 .taken) (refl, c .before .before .close .ensures)
 
-add-t16 : tie.Need-add-t16
-add-t16 c = search needs
+add-t14 : tie.Need-add-t14
+add-t14 c = search needs
+
+cast-t15 : tie.Need-cast-t15
+cast-t15 c = search needs
 
 returns-2 : tie.Need-returns-2
 returns-2 c =
@@ -35,4 +35,4 @@ returns-2 c =
 
 pub call-end-spec : {M : Type 1} → statement M
 call-end-spec =
-    tie.close (tie.spec add-name cast-close add-close close-requires add-t13 same-length returns add-t16 returns-2)
+    tie.close (tie.spec add-name add-close close-requires add-t11 same-length returns add-t14 cast-t15 returns-2)

@@ -73,6 +73,9 @@ add-name c = search needs
 kind-at-requires : tie.Need-kind-at-requires
 kind-at-requires c κs = search needs
 
+cast-t18 : tie.Need-cast-t18
+cast-t18 c = search needs
+
 returns : tie.Need-returns
 returns c ts h =
     let a = c .before .before .before .before .before .args in
@@ -83,6 +86,9 @@ add-open c = search needs
 
 kind-at-requires-2 : tie.Need-kind-at-requires-2
 kind-at-requires-2 c κs = search needs
+
+cast-t20 : tie.Need-cast-t20
+cast-t20 c = search needs
 
 returns-2 : tie.Need-returns-2
 returns-2 c ts h =
@@ -110,6 +116,9 @@ add-next c =
 lacks-requires : tie.Need-lacks-requires
 lacks-requires c κs = search needs
 
+cast-t26 : tie.Need-cast-t26
+cast-t26 c = search needs
+
 returns-3 : tie.Need-returns-3
 returns-3 c ts h =
     let f = c .before .before .before .before .f .given .0 .0 in
@@ -125,13 +134,16 @@ map-node-requires c κs =
     let f = c .before .before .before .before .before .f .given .0 .0 in
     let most : f .limit ≤ 4294967296 = subst (λ (x : Facts). x .limit ≤ 4294967296) (sym (g .0 .same)) (fields-limit (g .1 .is)) in
     let least = lacks-none (f .maptype) (f .key) (f .value) (f .limit) (sym (c .before .before .lacks .ensures) ∙ c .before .if3 .left) in
-    (omega (arith, p .few, p .inside, p .short), (omega (arith, p .inside, p .short), (least, most)))
+    (omega (arith, p .few, p .inside, p .short), (least, most))
 
-add-t27 : tie.Need-add-t27
-add-t27 c = search needs
+add-t30 : tie.Need-add-t30
+add-t30 c = search needs
 
 enum-known-why : tie.Need-enum-known-why
 enum-known-why c = search needs
+
+cast-t32 : tie.Need-cast-t32
+cast-t32 c = search needs
 
 same-length : tie.Need-same-length
 same-length c = search needs
@@ -156,19 +168,23 @@ map-spec =
     (tie.spec
     add-name
     kind-at-requires
+    cast-t18
     returns
     add-open
     kind-at-requires-2
+    cast-t20
     returns-2
     add-fields
     fields-requires
     enum-known-f
     add-next
     lacks-requires
+    cast-t26
     returns-3
     map-node-requires
-    add-t27
+    add-t30
     enum-known-why
+    cast-t32
     same-length
     returns-4
     returns-5)

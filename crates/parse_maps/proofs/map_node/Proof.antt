@@ -4,14 +4,11 @@ use borrow.Author.Needs.{needs}
 use Rattle.parse_maps.proofs.map_node.Statement.{statement}
 use Rattle.parse_maps.proofs.map_node.Tie as tie
 
-cast-at : tie.Need-cast-at
-cast-at c = search needs
+sub-t8 : tie.Need-sub-t8
+sub-t8 c = search needs
 
-sub-t9 : tie.Need-sub-t9
-sub-t9 c = search needs
-
-cast-t10 : tie.Need-cast-t10
-cast-t10 c = search needs
+cast-t9 : tie.Need-cast-t9
+cast-t9 c = search needs
 
 store-requires : tie.Need-store-requires
 store-requires c κs = search needs
@@ -23,4 +20,4 @@ returns : tie.Need-returns
 returns c = rw (← sub-one (c .before .before .before .before .before .before .args .f .limit)) (c .before .before .store .ensures)
 
 pub map-node-spec : {M : Type 1} → statement M
-map-node-spec = tie.close (tie.spec cast-at sub-t9 cast-t10 store-requires same-length returns)
+map-node-spec = tie.close (tie.spec sub-t8 cast-t9 store-requires same-length returns)

@@ -96,14 +96,17 @@ returns-3 c ts h =
     let a = c .before .before .before .before .before .before .before .before .before .args in
     answer-no _ _ _ _ _ _ (dotted (c .before .before) ts h ∙ named-unmet ts (a .rows .now) (a .count) (h .tells) (a .f .row + 1 + 1 + 1) (c .before .kind-at3 .result) (c .before .kind-at3 .ensures) _ (c .if3 .taken))
 
-mul-a : tie.Need-mul-a
-mul-a c = search needs
+cast-words : tie.Need-cast-words
+cast-words c = search needs
+
+mul-words : tie.Need-mul-words
+mul-words c = search needs
 
 add-a : tie.Need-add-a
 add-a c = search needs
 
-mul-a-2 : tie.Need-mul-a-2
-mul-a-2 c = search needs
+mul-a : tie.Need-mul-a
+mul-a c = search needs
 
 shared-slice-read-a : tie.Need-shared-slice-read-a
 shared-slice-read-a c = omega (arith, inside (c .before), c .before .before .before .before .before .before .before .before .before .before .pre .0 .at .lent)
@@ -111,14 +114,11 @@ shared-slice-read-a c = omega (arith, inside (c .before), c .before .before .bef
 cast-a : tie.Need-cast-a
 cast-a c = omega (arith, c .shared-slice-known3 .given ((c .before .before .before .before .before .before .before .before .before .before .args .f .row + 1 + 1 + 1) * 8 + 1))
 
-mul-e : tie.Need-mul-e
-mul-e c = search needs
-
 add-e : tie.Need-add-e
 add-e c = search needs
 
-mul-e-2 : tie.Need-mul-e-2
-mul-e-2 c = search needs
+mul-e : tie.Need-mul-e
+mul-e c = search needs
 
 shared-slice-read-e : tie.Need-shared-slice-read-e
 shared-slice-read-e c = omega (arith, inside (c .before .before), c .before .before .before .before .before .before .before .before .before .before .before .pre .0 .at .lent)
@@ -154,8 +154,8 @@ returns-5 c ts h =
     let a = c .before .before .before .before .before .before .before .before .before .before .before .before .before .before .before .before .args in
     answer-no _ _ _ _ _ _ (known (c .before .before) ts h ∙ want-unmet ts (a .rows .now) (a .count) (h .tells) (a .f .row + 1 + 1 + 1 + 1) (c .before .kind-at4 .result) (c .before .kind-at4 .ensures) Semicolon _ (c .if5 .taken))
 
-add-t20 : tie.Need-add-t20
-add-t20 c = search needs
+add-t24 : tie.Need-add-t24
+add-t24 c = search needs
 
 returns-6 : tie.Need-returns-6
 returns-6 c ts h =
@@ -179,14 +179,14 @@ type-field-spec =
     add-name
     kind-at-requires-3
     returns-3
-    mul-a
+    cast-words
+    mul-words
     add-a
-    mul-a-2
+    mul-a
     shared-slice-read-a
     cast-a
-    mul-e
     add-e
-    mul-e-2
+    mul-e
     shared-slice-read-e
     cast-e
     sub-type-number
@@ -197,5 +197,5 @@ type-field-spec =
     returns-4
     kind-at-requires-4
     returns-5
-    add-t20
+    add-t24
     returns-6)

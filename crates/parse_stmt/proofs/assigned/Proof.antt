@@ -58,6 +58,9 @@ enum-known-u c = search needs
 kind-at-requires-2 : tie.Need-kind-at-requires-2
 kind-at-requires-2 c κs = search needs
 
+cast-t21 : tie.Need-cast-t21
+cast-t21 c = search needs
+
 same-length : tie.Need-same-length
 same-length c = search needs
 
@@ -113,6 +116,7 @@ assigned-spec =
     add-requires
     enum-known-u
     kind-at-requires-2
+    cast-t21
     same-length
     returns
     assign-node-requires

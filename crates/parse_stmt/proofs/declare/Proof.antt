@@ -68,6 +68,9 @@ add-name c = search needs
 kind-at-requires : tie.Need-kind-at-requires
 kind-at-requires c κs = search needs
 
+cast-t19 : tie.Need-cast-t19
+cast-t19 c = search needs
+
 returns : tie.Need-returns
 returns c = λ ts tl.
     let a = c .before .before .before .before .args in
@@ -80,6 +83,9 @@ add-sign c = search needs
 
 kind-at-requires-2 : tie.Need-kind-at-requires-2
 kind-at-requires-2 c κs = search needs
+
+cast-t21 : tie.Need-cast-t21
+cast-t21 c = search needs
 
 returns-2 : tie.Need-returns-2
 returns-2 c = λ ts tl.
@@ -99,6 +105,9 @@ enum-known-t c = search needs
 
 kind-at-requires-3 : tie.Need-kind-at-requires-3
 kind-at-requires-3 c κs = search needs
+
+cast-t29 : tie.Need-cast-t29
+cast-t29 c = search needs
 
 same-length : tie.Need-same-length
 same-length c = search needs
@@ -154,4 +163,27 @@ returns-5 c = λ ts tl.
 pub declare-spec : {M : Type 1} → statement M
 declare-spec =
     tie.close
-    (tie.spec add-name kind-at-requires returns add-sign kind-at-requires-2 returns-2 add-add add-requires enum-known-t kind-at-requires-3 same-length returns-3 kind-at-requires-4 decl-node-requires named-end-requires enum-known-why same-length-2 returns-4 same-length-3 returns-5)
+    (tie.spec
+    add-name
+    kind-at-requires
+    cast-t19
+    returns
+    add-sign
+    kind-at-requires-2
+    cast-t21
+    returns-2
+    add-add
+    add-requires
+    enum-known-t
+    kind-at-requires-3
+    cast-t29
+    same-length
+    returns-3
+    kind-at-requires-4
+    decl-node-requires
+    named-end-requires
+    enum-known-why
+    same-length-2
+    returns-4
+    same-length-3
+    returns-5)

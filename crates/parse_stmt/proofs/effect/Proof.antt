@@ -79,6 +79,9 @@ returns c = λ ts tl.
     let b : isAssign (kindAt ts (c .before .before .before .before .before .before .before .before .t .given .0 .0 .row)) ≡ true = sym (test-is (c .before .before .before .before .before) ts tl) ∙ c .before .before .before .before .if1 .taken in
     rw (read (c .before .before .before .before .before .before .before .before) ts tl, b) (c .before .before .assigned .ensures ts tl (a .row) (a .node) (v .tree) (a .nodes .now) (v .stands))
 
+cast-t21 : tie.Need-cast-t21
+cast-t21 c = search needs
+
 same-length-2 : tie.Need-same-length-2
 same-length-2 c = search needs
 
@@ -133,6 +136,7 @@ effect-spec =
     assigned-requires
     same-length
     returns
+    cast-t21
     same-length-2
     returns-2
     ended-requires

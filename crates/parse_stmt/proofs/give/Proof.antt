@@ -50,6 +50,9 @@ enum-known-t c = search needs
 kind-at-requires : tie.Need-kind-at-requires
 kind-at-requires c κs = search needs
 
+cast-t19 : tie.Need-cast-t19
+cast-t19 c = search needs
+
 same-length : tie.Need-same-length
 same-length c = search needs
 
@@ -96,4 +99,17 @@ returns-3 c = λ ts tl.
 pub give-spec : {M : Type 1} → statement M
 give-spec =
     tie.close
-    (tie.spec add-place add-requires enum-known-t kind-at-requires same-length returns ended-requires enum-known-why same-length-2 returns-2 same-length-3 returns-3)
+    (tie.spec
+    add-place
+    add-requires
+    enum-known-t
+    kind-at-requires
+    cast-t19
+    same-length
+    returns
+    ended-requires
+    enum-known-why
+    same-length-2
+    returns-2
+    same-length-3
+    returns-3)

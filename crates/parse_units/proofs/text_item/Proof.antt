@@ -43,6 +43,9 @@ add-string c = search needs
 kind-at-requires : tie.Need-kind-at-requires
 kind-at-requires c κs = search needs
 
+cast-t14 : tie.Need-cast-t14
+cast-t14 c = search needs
+
 returns : tie.Need-returns
 returns c ts h =
     let a = c .before .before .before .before .before .before .before .args in
@@ -53,6 +56,9 @@ add-end c = search needs
 
 kind-at-requires-2 : tie.Need-kind-at-requires-2
 kind-at-requires-2 c κs = search needs
+
+cast-t16 : tie.Need-cast-t16
+cast-t16 c = search needs
 
 returns-2 : tie.Need-returns-2
 returns-2 c ts h =
@@ -90,9 +96,11 @@ text-item-spec =
     (tie.spec
     add-string
     kind-at-requires
+    cast-t14
     returns
     add-end
     kind-at-requires-2
+    cast-t16
     returns-2
     with-text-requires
     same-length

@@ -49,6 +49,9 @@ add-name c = search needs
 kind-at-requires : tie.Need-kind-at-requires
 kind-at-requires c κs = search needs
 
+cast-t16 : tie.Need-cast-t16
+cast-t16 c = search needs
+
 returns : tie.Need-returns
 returns c ts h =
     let a = c .before .before .before .before .before .args in
@@ -59,6 +62,9 @@ add-open c = search needs
 
 kind-at-requires-2 : tie.Need-kind-at-requires-2
 kind-at-requires-2 c κs = search needs
+
+cast-t18 : tie.Need-cast-t18
+cast-t18 c = search needs
 
 returns-2 : tie.Need-returns-2
 returns-2 c ts h =
@@ -123,9 +129,11 @@ unit-spec =
     (tie.spec
     add-name
     kind-at-requires
+    cast-t16
     returns
     add-open
     kind-at-requires-2
+    cast-t18
     returns-2
     add-items
     items-requires

@@ -7,8 +7,8 @@ use Rattle.parse_units.proofs.with_text.Tie as tie
 add-string : tie.Need-add-string
 add-string c = search needs
 
-cast-name : tie.Need-cast-name
-cast-name c = search needs
+add-t10 : tie.Need-add-t10
+add-t10 c = search needs
 
 add-t11 : tie.Need-add-t11
 add-t11 c = search needs
@@ -18,9 +18,6 @@ add-t12 c = search needs
 
 add-t13 : tie.Need-add-t13
 add-t13 c = search needs
-
-add-t14 : tie.Need-add-t14
-add-t14 c = search needs
 
 close-requires : tie.Need-close-requires
 close-requires c κs = search needs
@@ -52,11 +49,10 @@ with-text-spec =
     tie.close
     (tie.spec
     add-string
-    cast-name
+    add-t10
     add-t11
     add-t12
     add-t13
-    add-t14
     close-requires
     same-length
     returns

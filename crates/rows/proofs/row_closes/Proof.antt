@@ -1,5 +1,8 @@
 -- `row_closes` meets its contract, a law for each way out.
-use mathlib.Core.Path.{sym, _∙_}
+use mathlib.Core.Path.{sym, ap, _∙_}
+use mathlib.Core.Bool.{_&&_}
+use native.Mathlib.Omega.{arith}
+use Rattle.rules.specs.Rows.{Row, rowFits, follows}
 use Rattle.rows.specs.Shape.{asRow}
 use Rattle.rows.proofs.Tables.{closes-plain, closes-apart, closes-fit, closes-not}
 use borrow.Author.Needs.{needs}
@@ -22,20 +25,28 @@ returns-2 c =
     let a = r .before .before .args in
     sym (closes-apart (a .rows .now) (a .i) (asRow (r .row-at .result)) (r .row-at .ensures) (a .size) (k .if1 .left) (c .if2 .taken))
 
-row-fits-requires : tie.Need-row-fits-requires
-row-fits-requires c κs = search needs
+row-sane-requires : tie.Need-row-sane-requires
+row-sane-requires c κs = search needs
 
-row-joined-requires : tie.Need-row-joined-requires
-row-joined-requires c κs = search needs
+row-before-requires : tie.Need-row-before-requires
+row-before-requires c κs = search needs
+
+row-stands-requires : tie.Need-row-stands-requires
+row-stands-requires c κs =
+    let f = c .before .before in
+    let k = f .before .before .before in
+    let s = k .before .before .before .before in
+    ((omega (arith, k .if1 .left), sym (f .row-sane .ensures) ∙ c .before .if3 .taken), s .pre .1)
 
 returns-3 : tie.Need-returns-3
 returns-3 c =
-    let f = c .before .before in
-    let k = f .before .before .before in
+    let b = c .before in
+    let k = b .before .before .before .before .before in
     let r = k .before .before in
     let a = r .before .before .args in
-    c .row-joined .ensures
-    ∙ sym (closes-fit (a .rows .now) (a .i) (asRow (r .row-at .result)) (r .row-at .ensures) (a .size) (k .if1 .left) (f .before .if2 .left) (sym (f .row-fits .ensures) ∙ c .before .if3 .taken))
+    let q = asRow (r .row-at .result) in
+    c .row-stands .ensures ∙ ap (λ (z : Row). rowFits q && follows z q) (b .row-before .ensures)
+    ∙ closes-fit (a .rows .now) (a .i) q (r .row-at .ensures) (a .size) (k .if1 .left) (b .before .before .before .if2 .left)
 
 returns-4 : tie.Need-returns-4
 returns-4 c =
@@ -43,7 +54,8 @@ returns-4 c =
     let k = f .before .before .before in
     let r = k .before .before in
     let a = r .before .before .args in
-    sym (closes-not (a .rows .now) (a .i) (asRow (r .row-at .result)) (r .row-at .ensures) (a .size) (k .if1 .left) (f .before .if2 .left) (sym (f .row-fits .ensures) ∙ c .if3 .left))
+    sym (closes-not (a .rows .now) (a .i) (asRow (r .row-at .result)) (r .row-at .ensures) (a .size) (k .if1 .left)
+    (f .before .if2 .left) (sym (f .row-sane .ensures) ∙ c .if3 .left))
 
 pub row-closes-spec : {M : Type 1} → statement M
 row-closes-spec =
@@ -52,7 +64,8 @@ row-closes-spec =
     row-at-requires
     returns
     returns-2
-    row-fits-requires
-    row-joined-requires
+    row-sane-requires
+    row-before-requires
+    row-stands-requires
     returns-3
     returns-4)

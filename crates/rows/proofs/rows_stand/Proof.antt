@@ -1,52 +1,58 @@
--- `rows_stand` meets its contract. At the loop's head every row below i stands, and `last` leads row i.
-use mathlib.Core.Path.{_≡_, refl, sym, _∙_}
-use mathlib.Core.Bool.{true}
-use Prim.Native.Nat.{_-_, _≤_}
+-- `rows_stand` meets its contract. At the loop's head `good` says whether every row below i stands, and `last` is the row before row i.
+use mathlib.Core.Path.{_≡_, refl, sym, ap, _∙_}
+use mathlib.Core.Bool.{true, not, _&&_}
+use Prim.Native.Nat.{_-_, _≤_, _<_}
 use native.Mathlib.Omega.{arith}
+use lib.Dec.{leb}
 use borrow.Author.Needs.{needs}
-use borrow.Author.Tests.{not-true, not-false}
+use borrow.Author.Tests.{leb-false, not-false}
+use Rattle.rules.specs.Rows.{Row, rowFits, follows}
 use Rattle.laws.specs.Tests.{allBelow}
-use Rattle.rows.specs.Shape.{asRow, stands}
-use Rattle.laws.proofs.Tests.{below-not, below-one}
-use Rattle.rows.proofs.Tables.{Leads, leads-first, leads-next, stands-led}
+use Rattle.rows.specs.Shape.{asRow, rowBefore, sane, stands}
+use Rattle.laws.proofs.Tests.{neither, below-not}
+use Rattle.rows.proofs.Tables.{before-first, before-on, below-on, stands-plain, stands-out}
 use Rattle.rows.proofs.rows_stand.Statement.{statement}
 use Rattle.rows.proofs.rows_stand.Tie as tie
 
 abbrev Inv-loop : tie.InvT-loop
-Inv-loop lengths rows n last₀ i₀ last i = (i ≤ n) × ((allBelow (stands rows) i ≡ true) × Leads rows i (asRow last))
+Inv-loop least most rows n last₀ good₀ i₀ last good i = (i ≤ n) × ((good ≡ allBelow (stands rows) i) × (asRow last ≡ rowBefore rows i))
 
 abbrev μ-loop : tie.MeasureT-loop
-μ-loop lengths rows n last₀ i₀ last i = n - i
+μ-loop least most rows n last₀ good₀ i₀ last good i = n - i
 
 no-row-requires : tie.Need-no-row-requires Inv-loop μ-loop
 no-row-requires c κs = search needs
 
 loop-holds : tie.Need-loop-holds Inv-loop μ-loop
-loop-holds c = (omega arith, (refl, rw (c .no-row .ensures) (leads-first (c .before .before .args .rows .now))))
+loop-holds c = (omega arith, (refl, c .no-row .ensures ∙ sym (before-first (c .before .before .args .rows .now) 0 refl)))
 
 row-at-requires : tie.Need-row-at-requires Inv-loop μ-loop
 row-at-requires c κs = omega arith
 
-row-stands-requires : tie.Need-row-stands-requires Inv-loop μ-loop
-row-stands-requires c κs = c .before .before .before .before .before .pre .1
-
--- the answer is of row i
-told : (c : tie.After-row-stands Inv-loop μ-loop) →
-    let l = c .before .before .before in
-    c .row-stands .result ≡ stands (l .before .before .before .args .rows .now) (l .loop .i)
-told c =
-    let r = c .before in
-    let l = r .before .before in
-    let ws = l .before .before .before .args .rows .now in
-    c .row-stands .ensures
-    ∙ stands-led ws (l .loop .i) (asRow (r .row-at .result)) (r .row-at .ensures) (asRow (l .loop .last)) (l .loop .inv .1 .1)
+row-sane-requires : tie.Need-row-sane-requires Inv-loop μ-loop
+row-sane-requires c κs = search needs
 
 returns : tie.Need-returns Inv-loop μ-loop
 returns c =
-    let l = c .before .before .before .before in
+    let r = c .before .before .before in
+    let l = r .before .before in
     let a = l .before .before .before .args in
-    let no = sym (told (c .before)) ∙ not-true (c .before .row-stands .result) (c .if1 .taken) in
-    sym (below-not (stands (a .rows .now)) (a .n) (l .loop .i) (omega arith) no)
+    let known = rw (c .before .row-sane .ensures) at (c .if1 .taken) in
+    let out = stands-out (a .rows .now) (l .loop .i) (asRow (r .row-at .result)) (r .row-at .ensures) known in
+    sym (below-not (stands (a .rows .now)) (a .n) (l .loop .i) (omega arith) out)
+
+-- the row is sane, and not Eof
+known : (c : tie.Else1 Inv-loop μ-loop) → let q = c .before .before .before .row-at .result in (q .kind < 52) × (sane (asRow q) ≡ true)
+known c =
+    let s = c .before .row-sane in
+    let q = c .before .before .before .row-at .result in
+    let n = neither (leb 52 (q .kind)) (not (s .result)) (c .if1 .left) in
+    (leb-false 52 (q .kind) (n .0), sym (s .ensures) ∙ not-false (s .result) (n .1))
+
+row-stands-requires : tie.Need-row-stands-requires Inv-loop μ-loop
+row-stands-requires c κs =
+    let k = known c in
+    ((omega (arith, k .0), k .1), c .before .before .before .before .before .before .before .before .pre .1)
 
 add-i : tie.Need-add-i Inv-loop μ-loop
 add-i c = omega arith
@@ -56,18 +62,21 @@ loop-less c = omega arith
 
 loop-again : tie.Need-loop-again Inv-loop μ-loop
 loop-again c =
-    let r = c .before .before in
+    let r = c .before .before .before .before in
     let l = r .before .before in
     let ws = l .before .before .before .args .rows .now in
-    let yes = sym (told (c .before)) ∙ not-false (c .before .row-stands .result) (c .if1 .left) in
-    (omega arith, (below-one (stands ws) (l .loop .i) (l .loop .inv .1 .0) yes, leads-next ws (l .loop .i) (asRow (r .row-at .result)) (r .row-at .ensures)))
+    let q = asRow (r .row-at .result) in
+    let row = c .row-stands .ensures ∙ ap (λ (z : Row). rowFits q && follows z q) (l .loop .inv .1 .1)
+    ∙ stands-plain ws (l .loop .i) q (r .row-at .ensures) (known (c .before) .0) in
+    let good = below-on (stands ws) (l .loop .i) (c .row-stands .result) (l .loop .good) row (l .loop .inv .1 .0) in
+    (omega arith, (good, r .row-at .ensures ∙ sym (before-on ws (l .loop .i))))
 
 returns-2 : tie.Need-returns-2 Inv-loop μ-loop
 returns-2 c =
     let l = c .before .loop in
     let a = c .before .before .before .before .args in
     let e : l .i ≡ a .n = omega arith in
-    sym (rw e at (l .inv .1 .0))
+    rw e at (l .inv .1 .0)
 
 pub rows-stand-spec : {M : Type 1} → statement M
 rows-stand-spec =
@@ -78,8 +87,9 @@ rows-stand-spec =
     no-row-requires
     loop-holds
     row-at-requires
-    row-stands-requires
+    row-sane-requires
     returns
+    row-stands-requires
     add-i
     loop-less
     loop-again

@@ -44,7 +44,7 @@ rows-stand-requires c κs = (search needs, length-table)
 returns-4 : tie.Need-returns-4
 returns-4 c =
     let r = c .before in
-    let z = r .before .before in
+    let z = r .before .before .before in
     let m = z .before in
     let f = m .before .before in
     let a = f .before .before .before .before .args in
@@ -66,7 +66,7 @@ rows-stand-requires-2 c κs = (search needs, length-table)
 returns-5 : tie.Need-returns-5
 returns-5 c =
     let r = c .before in
-    let m = r .before .before .before in
+    let m = r .before .before .before .before in
     let f = m .before .before in
     let a = f .before .before .before .before .args in
     let no = sym (r .rows-stand2 .ensures) ∙ not-true (r .rows-stand2 .result) (c .if5 .taken) in
@@ -77,19 +77,19 @@ place-breaks-requires c κs = search needs
 
 returns-6 : tie.Need-returns-6
 returns-6 c =
-    let r = c .before .before .before in
-    let z = r .before .before in
+    let r = c .before .before .before .before in
+    let z = r .before .before .before in
     let m = z .before in
     let f = m .before .before in
     let a = f .before .before .before .before .args in
-    let yes = sym (r .rows-stand .ensures) ∙ not-false (r .rows-stand .result) (c .before .before .if4 .left) in
+    let yes = sym (r .rows-stand .ensures) ∙ not-false (r .rows-stand .result) (c .before .before .before .if4 .left) in
     c .row-closes .ensures
     ∙ sym (well-none (a .rows .now) (a .table) (f .before .if1 .left) (f .if2 .left) (m .enum-told .given .1) (a .table .count - 1) (omega arith) ∙ rw yes)
 
 returns-7 : tie.Need-returns-7
 returns-7 c =
     let r = c .before .before in
-    let m = r .before .before .before in
+    let m = r .before .before .before .before in
     let f = m .before .before in
     let a = f .before .before .before .before .args in
     let yes = sym (r .rows-stand2 .ensures) ∙ not-false (r .rows-stand2 .result) (c .before .if5 .left) in

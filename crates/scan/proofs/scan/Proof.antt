@@ -1,11 +1,12 @@
--- `scan` meets its contract: a text that is over-long or has a bad byte is refused, and any other is written from its start on.
+-- `scan` meets its contract: a text that is over-long or has a bad byte is refused, and any other is walked over from its start on.
 use mathlib.Core.Path.{_≡_, sym, _∙_}
 use native.Mathlib.Omega.{arith}
 use borrow.Author.Needs.{needs}
 use Rattle.rules.specs.declared.Judged.the-variants as verdict
 use Rattle.rules.specs.Text.{textJudged}
+use Rattle.rules.specs.Scan.{readRows, readEnding, scan, roomOf}
 use Rattle.laws.proofs.Valid.{fine-text}
-use Rattle.scan.proofs.Scans.{start-ahead, refused-text, all-rows, count-fits}
+use Rattle.scan.proofs.Scans.{walkable, walk-rows, walk-told, count-fits, refused-text, all-rows}
 use Rattle.scan.proofs.scan.Statement.{statement}
 use Rattle.scan.proofs.scan.Tie as tie
 
@@ -28,36 +29,41 @@ returns c =
 enum-told : tie.Need-enum-told
 enum-told c = search needs
 
+slice-aggregate-walk : tie.Need-slice-aggregate-walk
+slice-aggregate-walk c = search needs
+
 start-requires : tie.Need-start-requires
 start-requires c κs = search needs
 
-add-write-rows : tie.Need-add-write-rows
-add-write-rows c = search needs
-
-write-rows-requires : tie.Need-write-rows-requires
-write-rows-requires c κs =
+walk-requires : tie.Need-walk-requires
+walk-requires c κs =
     let s = c .before in
-    let t = s .before .before .before .before .before .before .args .text .now in
-    rw (s .start .ensures) (start-ahead t (fine-text t (text-well (s .before)) .0))
+    let t = s .before .before .before .before .before .before .before .args .text .now in
+    rw (s .start .ensures) (walkable _ _ t (fine-text t (text-well (s .before .before)) .0))
 
 told-requires : tie.Need-told-requires
 told-requires c κs =
     let w = c .before .before in
     let s = w .before .before in
-    let a = s .before .before .before .before .before .before .args in
-    let short = fine-text (a .text .now) (text-well (s .before)) .0 in
-    (omega arith, rw (w .write-rows .ensures .0, s .start .ensures) (count-fits (a .text .now) (a .rows .now) short))
+    let t = s .before .before .before .before .before .before .before .args .text .now in
+    let short = fine-text t (text-well (s .before .before)) .0 in
+    (omega arith, rw (w .walk .ensures .0, s .start .ensures) (count-fits _ _ t short))
 
 same-length : tie.Need-same-length
 same-length c = search needs
 
 returns-2 : tie.Need-returns-2
+unfolding roomOf
 returns-2 c =
     let w = c .before .before .before in
     let s = w .before .before in
-    let a = s .before .before .before .before .before .before .args in
-    rw (c .told .ensures, w .write-rows .ensures .0, w .write-rows .ensures .1, s .start .ensures)
-    (all-rows (a .text .now) (a .rows .now) (text-well (s .before)))
+    let a = s .before .before .before .before .before .before .before .args in
+    let t = a .text .now in
+    let q = all-rows t (a .rows .now) (text-well (s .before .before)) in
+    let v = w .walk .ensures in
+    let b = s .start .ensures in
+    let l = scan t in
+    (c .told .ensures (readRows l) (readEnding l) (rw (v .0, b) (walk-told _ _ t)) ∙ q .0, rw (v .1, b, walk-rows _ _ t) (q .1))
 
 pub scan-spec : {M : Type 1} → statement M
 scan-spec =
@@ -67,9 +73,9 @@ scan-spec =
     enum-known-why
     returns
     enum-told
+    slice-aggregate-walk
     start-requires
-    add-write-rows
-    write-rows-requires
+    walk-requires
     told-requires
     same-length
     returns-2)

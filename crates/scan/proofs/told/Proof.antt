@@ -1,75 +1,38 @@
--- `scan::told` meets its contract: the arms are the cases of the definition.
+-- `scan::told` meets its contract: the rows are told where there is room for all of them.
+use mathlib.Core.Path.{ap}
+use native.Mathlib.Omega.{arith}
 use borrow.Author.Needs.{needs}
-use Rattle.scan.specs.Answer.{toldOf}
+use Rattle.laws.proofs.Rows.{told-all, told-full}
+use Rattle.scan_walk.specs.declared.Walked.{Walked}
 use Rattle.scan.proofs.told.Statement.{statement}
 use Rattle.scan.proofs.told.Tie as tie
 
-cast-count : tie.Need-cast-count
-cast-count c = search needs
+start-requires : tie.Need-start-requires
+start-requires c κs = search needs
 
-cast-length : tie.Need-cast-length
-cast-length c = search needs
-
-enum-told : tie.Need-enum-told
-enum-told c = search needs
-
-enum-known-stop : tie.Need-enum-known-stop
-enum-known-stop c = search needs
-
-enum-told-2 : tie.Need-enum-told-2
-enum-told-2 c = search needs
-
-no-room-requires : tie.Need-no-room-requires
-no-room-requires c κs = search needs
-
-enum-told-3 : tie.Need-enum-told-3
-enum-told-3 c = search needs
-
-no-room-requires-2 : tie.Need-no-room-requires-2
-no-room-requires-2 c κs = search needs
-
-enum-told-4 : tie.Need-enum-told-4
-enum-told-4 c = search needs
-
-no-room-requires-3 : tie.Need-no-room-requires-3
-no-room-requires-3 c κs = search needs
+cast-t9 : tie.Need-cast-t9
+cast-t9 c = search needs
 
 returns : tie.Need-returns
-unfolding toldOf
-returns c = rw (toldOf, c .enum-told .given .1)
+returns c rs e q =
+    let a = c .before .before .args in
+    let n = ap (λ (w : Walked). w .count) q in
+    rw (c .start .ensures, told-full (a .bytes) (a .room) rs e (omega arith))
+
+cast-t10 : tie.Need-cast-t10
+cast-t10 c = search needs
+
+cast-t11 : tie.Need-cast-t11
+cast-t11 c = search needs
+
+ending-of-requires : tie.Need-ending-of-requires
+ending-of-requires c κs = search needs
 
 returns-2 : tie.Need-returns-2
-unfolding toldOf
-returns-2 c = rw (toldOf, c .before .stop .given .1)
-
-returns-3 : tie.Need-returns-3
-unfolding toldOf
-returns-3 c = rw (toldOf, c .before .enum-told2 .given .1) (c .no-room .ensures)
-
-returns-4 : tie.Need-returns-4
-unfolding toldOf
-returns-4 c = rw (toldOf, c .before .enum-told3 .given .1) (c .no-room2 .ensures)
-
-returns-5 : tie.Need-returns-5
-unfolding toldOf
-returns-5 c = rw (toldOf, c .before .enum-told4 .given .1) (c .no-room3 .ensures)
+returns-2 c rs e q =
+    let a = c .before .before .args in
+    let n = ap (λ (w : Walked). w .count) q in
+    rw (n, c .ending-of .ensures e (ap (λ (w : Walked). w .stop) q), told-all (a .bytes) (a .room) rs e (omega arith))
 
 pub told-spec : {M : Type 1} → statement M
-told-spec =
-    tie.close
-    (tie.spec
-    cast-count
-    cast-length
-    enum-told
-    enum-known-stop
-    enum-told-2
-    no-room-requires
-    enum-told-3
-    no-room-requires-2
-    enum-told-4
-    no-room-requires-3
-    returns
-    returns-2
-    returns-3
-    returns-4
-    returns-5)
+told-spec = tie.close (tie.spec start-requires cast-t9 returns cast-t10 cast-t11 ending-of-requires returns-2)

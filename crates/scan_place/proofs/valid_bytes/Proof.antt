@@ -1,19 +1,28 @@
--- `valid_bytes` meets its contract: where no byte is too high it is all, and else what is passed and what is valid from here on is what is valid at the front.
-use mathlib.Core.Path.{_≡_, sym}
-use Prim.Native.Nat.{_+_, _-_, _≤_}
-use native.Mathlib.Nat.{zero-add}
+-- `valid_bytes` meets its contract: where no byte is 128 or more it is all, and else what was passed is characters.
+use mathlib.Core.Path.{sym, _∙_}
+use Prim.Native.Nat.{_+_, _-_}
 use native.Mathlib.Omega.{arith}
-use lib.ListN.{length, drop}
-use Rattle.rules.specs.Text.{validBytes}
-use Rattle.laws.proofs.Valid.{valid-end, valid-low, all-low, valid-high}
+use lib.ListN.{length}
+use Rattle.laws.proofs.Valid.{all-low}
+use Rattle.scan_place.specs.Lines.{Passed}
+use Rattle.scan_place.proofs.Passed.{passed-on, passed-char, told-none, told-end}
 use Rattle.scan_place.proofs.valid_bytes.Statement.{statement}
 use Rattle.scan_place.proofs.valid_bytes.Tie as tie
 
 abbrev Inv-loop : tie.InvT-loop
-Inv-loop text i₀ i = (i ≤ length text) × (i + validBytes (drop i text) ≡ validBytes text)
+Inv-loop text i₀ i = Passed text 0 i
 
 abbrev μ-loop : tie.MeasureT-loop
 μ-loop text i₀ i = length text - i
+
+-- the character that stands at the index
+passed : (c : tie.Else2 Inv-loop μ-loop)
+    → Passed (c .before .before .before .before .before .before .before .before .args .text .now) (c .before .before .before .loop .i)
+    (c .before .before .before .loop .i + c .before .char-at .result)
+passed c =
+    let l = c .before .before .before .loop in
+    let t = c .before .before .before .before .before .before .before .before .args .text .now in
+    passed-char t (l .i) (c .before .char-at .result) (omega arith) (c .before .char-at .ensures) (omega (arith, c .if2 .left))
 
 highest-requires : tie.Need-highest-requires Inv-loop μ-loop
 highest-requires c κs = tt
@@ -24,35 +33,42 @@ returns c =
     let h = c .before .highest .ensures in
     sym (all-low t (λ k l. omega (arith, h k l)))
 
-loop-holds : tie.Need-loop-holds Inv-loop μ-loop
-loop-holds c = (omega arith, zero-add _)
+low-end-requires : tie.Need-low-end-requires Inv-loop μ-loop
+low-end-requires c κs = omega arith
 
-shared-slice-read-if2 : tie.Need-shared-slice-read-if2 Inv-loop μ-loop
-shared-slice-read-if2 c = omega arith
+loop-holds : tie.Need-loop-holds Inv-loop μ-loop
+loop-holds c = c .low-end .ensures
+
+char-at-requires : tie.Need-char-at-requires Inv-loop μ-loop
+char-at-requires c κs = omega arith
 
 returns-2 : tie.Need-returns-2 Inv-loop μ-loop
 returns-2 c =
     let l = c .before .before .before .loop in
-    let t = c .before .before .before .before .before .before .before .args .text .now in
-    omega (arith, valid-high t (l .i) (omega arith) (omega arith), l .inv .1)
+    let t = c .before .before .before .before .before .before .before .before .args .text .now in
+    told-none t (l .inv) (sym (c .before .char-at .ensures) ∙ c .if2 .taken)
 
-add-i : tie.Need-add-i Inv-loop μ-loop
-add-i c = omega arith
+add-low-end : tie.Need-add-low-end Inv-loop μ-loop
+add-low-end c = let p : Passed _ _ _ = passed c in omega (arith, p .inside)
+
+low-end-requires-2 : tie.Need-low-end-requires-2 Inv-loop μ-loop
+low-end-requires-2 c κs = passed c .inside
 
 loop-less : tie.Need-loop-less Inv-loop μ-loop
-loop-less c = omega arith
+loop-less c = omega (arith, c .low-end2 .ensures .behind, passed (c .before) .behind)
 
 loop-again : tie.Need-loop-again Inv-loop μ-loop
 loop-again c =
-    let l = c .before .before .before .loop in
-    let t = c .before .before .before .before .before .before .before .args .text .now in
-    (omega arith, omega (arith, valid-low t (l .i) (omega arith) (omega arith), l .inv .1))
+    let e = c .before in
+    let l = e .before .before .before .loop in
+    let t = e .before .before .before .before .before .before .before .before .args .text .now in
+    passed-on t (l .inv) (passed-on t (passed e) (c .low-end2 .ensures))
 
 returns-3 : tie.Need-returns-3 Inv-loop μ-loop
 returns-3 c =
     let l = c .before .loop in
-    let t = c .before .before .before .before .before .args .text .now in
-    omega (arith, valid-end t (l .i) (c .loop-test .left), l .inv .1)
+    let t = c .before .before .before .before .before .before .args .text .now in
+    told-end t (l .inv) (c .loop-test .left)
 
 pub valid-bytes-spec : {M : Type 1} → statement M
 valid-bytes-spec =
@@ -62,10 +78,12 @@ valid-bytes-spec =
     μ-loop
     highest-requires
     returns
+    low-end-requires
     loop-holds
-    shared-slice-read-if2
+    char-at-requires
     returns-2
-    add-i
+    add-low-end
+    low-end-requires-2
     loop-less
     loop-again
     returns-3)

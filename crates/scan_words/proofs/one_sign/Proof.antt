@@ -1,11 +1,21 @@
--- `words::one_sign` meets its contract: at each key by computing, and at every other byte by a test of all bytes.
-use mathlib.Core.Path.{refl, sym}
-use mathlib.Core.List.{[], _∷_}
+-- `words::one_sign` meets its contract: at each key by computing, and what is left is the last of the five.
+use mathlib.Core.Path.{_≡_, refl}
+use mathlib.Core.Bool.{Bool, true, false, _||_}
 use Prim.Native.Nat.{ℕ}
-use Rattle.rules.specs.Kinds.{Eof, signs, sameBytes, kindIn}
-use Rattle.scan_words.proofs.Tables.{at-other}
+use lib.Dec.{eqb}
+use borrow.Author.Tests.{eqb-true, ne-eqb}
+use Rattle.rules.specs.Kinds.{signs, sameBytes, kindIn}
+use Rattle.rules.specs.Lex.{isLone, maybeTwo}
 use Rattle.scan_words.proofs.one_sign.Statement.{statement}
 use Rattle.scan_words.proofs.one_sign.Tie as tie
+
+left : (p q : Bool) → (p || q) ≡ true → q ≡ false → p ≡ true
+left true q h e = refl
+left false q h e = rw e at h
+
+last : (b : ℕ) → maybeTwo b ≡ true → isLone b ≡ false → (b ≡ 43 → ⊥) → (b ≡ 45 → ⊥) → (b ≡ 42 → ⊥) → (b ≡ 47 → ⊥) → b ≡ 37
+unfolding maybeTwo
+last b h l p q r s = eqb-true b 37 (left (eqb b 37) (isLone b) (rw (ne-eqb b 43 p, ne-eqb b 45 q, ne-eqb b 42 r, ne-eqb b 47 s) at h) l)
 
 returns : tie.Need-returns
 unfolding kindIn signs sameBytes
@@ -25,77 +35,9 @@ returns-4 c = rw (c .match .keys4)
 
 returns-5 : tie.Need-returns-5
 unfolding kindIn signs sameBytes
-returns-5 c = rw (c .match .keys5)
-
-returns-6 : tie.Need-returns-6
-unfolding kindIn signs sameBytes
-returns-6 c = rw (c .match .keys6)
-
-returns-7 : tie.Need-returns-7
-unfolding kindIn signs sameBytes
-returns-7 c = rw (c .match .keys7)
-
-returns-8 : tie.Need-returns-8
-unfolding kindIn signs sameBytes
-returns-8 c = rw (c .match .keys8)
-
-returns-9 : tie.Need-returns-9
-unfolding kindIn signs sameBytes
-returns-9 c = rw (c .match .keys9)
-
-returns-10 : tie.Need-returns-10
-unfolding kindIn signs sameBytes
-returns-10 c = rw (c .match .keys10)
-
-returns-11 : tie.Need-returns-11
-unfolding kindIn signs sameBytes
-returns-11 c = rw (c .match .keys11)
-
-returns-12 : tie.Need-returns-12
-unfolding kindIn signs sameBytes
-returns-12 c = rw (c .match .keys12)
-
-returns-13 : tie.Need-returns-13
-unfolding kindIn signs sameBytes
-returns-13 c = rw (c .match .keys13)
-
-returns-14 : tie.Need-returns-14
-unfolding kindIn signs sameBytes
-returns-14 c = rw (c .match .keys14)
-
-returns-15 : tie.Need-returns-15
-unfolding kindIn signs sameBytes
-returns-15 c = rw (c .match .keys15)
-
-returns-16 : tie.Need-returns-16
-unfolding kindIn signs sameBytes
-returns-16 c = rw (c .match .keys16)
-
-kindOf : ℕ → ℕ
-kindOf b = kindIn signs Eof (b ∷ [])
-
-returns-17 : tie.Need-returns-17
-unfolding kindOf kindIn signs sameBytes
-returns-17 c = sym (at-other kindOf Eof (37 ∷ 47 ∷ 42 ∷ 45 ∷ 43 ∷ 61 ∷ 93 ∷ 91 ∷ 59 ∷ 44 ∷ 46 ∷ 58 ∷ 41 ∷ 40 ∷ 125 ∷ 123 ∷ []) refl (c .before .args .b) (c .before .fits .b .fits) (c .match .rest))
+returns-5 c =
+    let r = c .match .rest in
+    rw (last (c .before .args .b) (c .before .pre .0) (c .before .pre .1) (r .0 .0 .0 .1) (r .0 .0 .1) (r .0 .1) (r .1))
 
 pub one-sign-spec : {M : Type 1} → statement M
-one-sign-spec =
-    tie.close
-    (tie.spec
-    returns
-    returns-2
-    returns-3
-    returns-4
-    returns-5
-    returns-6
-    returns-7
-    returns-8
-    returns-9
-    returns-10
-    returns-11
-    returns-12
-    returns-13
-    returns-14
-    returns-15
-    returns-16
-    returns-17)
+one-sign-spec = tie.close (tie.spec returns returns-2 returns-3 returns-4 returns-5)

@@ -1,13 +1,12 @@
 -- `words::two_sign` meets its contract: behind a first byte the table has one second byte, and behind any other none.
 use mathlib.Core.Bool.{Bool, true, false, cond, _&&_}
-use mathlib.Core.List.{[], _∷_}
+use mathlib.Core.List.{List, [], _∷_}
 use mathlib.Core.Path.{_≡_, refl, sym, _∙_}
 use Prim.Native.Nat.{ℕ}
 use lib.Dec.{eqb}
 use borrow.Author.Tests.{ne-eqb}
 use borrow.Author.Needs.{needs}
 use Rattle.rules.specs.Kinds.{Eof, signs, sameBytes, kindIn}
-use Rattle.scan_words.proofs.Tables.{NoneOf}
 use Rattle.scan_words.proofs.Lookups.{allFail, no-entry}
 use Rattle.scan_words.proofs.two_sign.Statement.{statement}
 use Rattle.scan_words.proofs.two_sign.Tie as tie
@@ -20,10 +19,27 @@ never : (p : Bool) → (p && false) ≡ false
 never true = refl
 never false = refl
 
+-- the keys of the match, the last first, and that a byte is none of them
+abbrev NoneOf : List ℕ → ℕ → Type 0
+NoneOf [] b = Unit {0}
+NoneOf (k ∷ ks) b = NoneOf ks b × (b ≡ k → ⊥)
+
 -- at any other byte every entry fails
 none : (b x : ℕ) → NoneOf (60 ∷ 62 ∷ 37 ∷ 47 ∷ 42 ∷ 45 ∷ 43 ∷ []) b → kindIn signs Eof (b ∷ x ∷ []) ≡ Eof
 unfolding allFail signs sameBytes
-none b x h = no-entry signs Eof (b ∷ x ∷ []) (simp (never, ne-eqb 60 b (λ e. h .1 (sym e)), ne-eqb 62 b (λ e. h .0 .1 (sym e)), ne-eqb 37 b (λ e. h .0 .0 .1 (sym e)), ne-eqb 47 b (λ e. h .0 .0 .0 .1 (sym e)), ne-eqb 42 b (λ e. h .0 .0 .0 .0 .1 (sym e)), ne-eqb 45 b (λ e. h .0 .0 .0 .0 .0 .1 (sym e)), ne-eqb 43 b (λ e. h .0 .0 .0 .0 .0 .0 .1 (sym e))))
+none b x h = no-entry signs Eof (b ∷ x ∷ [])
+    (simp (
+      never,
+      ne-eqb 60 b (λ e. h .1 (sym e)),
+      ne-eqb 62 b (λ e. h .0 .1 (sym e)),
+      ne-eqb 37 b (λ e. h .0 .0 .1 (sym e)),
+      ne-eqb 47 b
+          (λ e. h .0 .0 .0 .1 (sym e)),
+      ne-eqb 42 b (λ e. h .0 .0 .0 .0 .1 (sym e)),
+      ne-eqb 45 b (λ e. h .0 .0 .0 .0 .0 .1 (sym e)),
+      ne-eqb 43 b
+          (λ e. h .0 .0 .0 .0 .0 .0 .1 (sym e)),
+    ))
 
 followed-requires : tie.Need-followed-requires
 followed-requires c κs = search needs

@@ -128,8 +128,8 @@ enum-known-t t c = search needs
 pub kind-at-requires-2 : (t : ℕ) → lts.Need-kind-at-requires-2 (cs t) (atom-at t) atom.Post
 kind-at-requires-2 t c κs = c .before .before .before .before .before .before .before .before .before .before .before .before .before .pre .1 .lent
 
-pub add-t34 : (t : ℕ) → lts.Need-add-t34 (cs t) (atom-at t) atom.Post
-add-t34 t c =
+pub add-t35 : (t : ℕ) → lts.Need-add-t35 (cs t) (atom-at t) atom.Post
+add-t35 t c =
     let w = got t (c .before .before .before) (tokens (c .before .before .before .before .before .before .before .before .before .before .before .before .before .before .before .args .rows .now) (c .before .before .before .before .before .before .before .before .before .before .before .before .before .before .before .args .count)) (tells-some (c .before .before .before .before .before .before .before .before .before .before .before .before .before .before .before .args .rows .now) (c .before .before .before .before .before .before .before .before .before .before .before .before .before .before .before .args .count)) in
     let l = tells-some (c .before .before .before .before .before .before .before .before .before .before .before .before .before .before .before .args .rows .now) (c .before .before .before .before .before .before .before .before .before .before .before .before .before .before .before .args .count) .long in
     omega (arith, w .inside, c .before .before .before .before .before .before .before .before .before .before .before .before .before .before .before .pre .1)
@@ -146,6 +146,9 @@ returns-3 t c = λ ts tl.
     met-ok (Parse.atom ts (Parse.inner ts (a .left)) (a .row)) (a .row) (a .node) (group (w .tree)) (a .nodes .now) (c .before .before .before .before .before .before .before .add .last .1 .1 .0) s
     (opened t (c .before .before .before) ts tl ∙ want-yes ts RParen (ok (group (w .tree))) (u .row) (sym (close-is t (c .before) ts tl) ∙ c .if4 .taken))
     (stands-group (a .row) (a .node) (a .nodes .now) (c .before .before .before .before .before .before .before .add .last .1 .1 .0) u (w .tree) s (a .nodes .now) (w .stands) refl)
+
+pub cast-t38 : (t : ℕ) → lts.Need-cast-t38 (cs t) (atom-at t) atom.Post
+cast-t38 t c = search needs
 
 pub same-length-3 : (t : ℕ) → lts.Need-same-length-3 (cs t) (atom-at t) atom.Post
 same-length-3 t c = search needs

@@ -86,6 +86,9 @@ add-name t c = search needs
 pub kind-at-requires : (t : ℕ) → lts.Need-kind-at-requires (cs t) (post-at t) post.Post
 kind-at-requires t c κs = c .before .before .before .pre .1 .lent
 
+pub cast-t17 : (t : ℕ) → lts.Need-cast-t17 (cs t) (post-at t) post.Post
+cast-t17 t c = search needs
+
 pub returns : (t : ℕ) → lts.Need-returns (cs t) (post-at t) post.Post
 returns t c = λ ts tl i n u m₀ st.
     let a = c .before .before .before .before .before .args in
@@ -149,6 +152,9 @@ enum-known-a t c = search needs
 
 pub kind-at-requires-4 : (t : ℕ) → lts.Need-kind-at-requires-4 (cs t) (post-at t) post.Post
 kind-at-requires-4 t c κs = c .before .before .before .before .before .before .before .before .before .before .before .before .before .before .before .before .pre .1 .lent
+
+pub cast-t33 : (t : ℕ) → lts.Need-cast-t33 (cs t) (post-at t) post.Post
+cast-t33 t c = search needs
 
 pub same-length-3 : (t : ℕ) → lts.Need-same-length-3 (cs t) (post-at t) post.Post
 same-length-3 t c = search needs

@@ -74,11 +74,11 @@ returns t c = λ ts tl.
     let a = c .before .before .before .args in
     body-no (Parse.body ts (a .left) (a .row)) (a .kind) (a .row) (a .node) TooDeep (a .row) (a .nodes .now) (a .nodes .now) (body-none ts (a .row) (a .left) (c .if1 .taken))
 
-pub add-t15 : (t : ℕ) → lts.Need-add-t15 (cs t) (body-at t) body.Post Inv-loop μ-loop
-add-t15 t c = omega (arith, c .before .before .before .pre .1)
-
 pub add-t16 : (t : ℕ) → lts.Need-add-t16 (cs t) (body-at t) body.Post Inv-loop μ-loop
 add-t16 t c = omega (arith, c .before .before .before .pre .1)
+
+pub add-t17 : (t : ℕ) → lts.Need-add-t17 (cs t) (body-at t) body.Post Inv-loop μ-loop
+add-t17 t c = omega (arith, c .before .before .before .pre .1)
 
 pub loop-holds : (t : ℕ) → lts.Need-loop-holds (cs t) (body-at t) body.Post Inv-loop μ-loop
 loop-holds t c = λ ts tl m h. h

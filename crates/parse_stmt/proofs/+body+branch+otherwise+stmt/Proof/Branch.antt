@@ -50,9 +50,6 @@ enum-known-brace t c = search needs
 pub add-name : (t : ℕ) → lts.Need-add-name (cs t) (branch-at t) branch.Post
 add-name t c = omega (arith, c .before .before .before .before .before .before .pre .1)
 
-pub cast-close : (t : ℕ) → lts.Need-cast-close (cs t) (branch-at t) branch.Post
-cast-close t c = omega (arith, c .before .before .before .before .before .before .before .pre .1)
-
 pub close-requires : (t : ℕ) → lts.Need-close-requires (cs t) (branch-at t) branch.Post
 close-requires t c κs = let h = told t (c .before .before) in omega (arith, h .0, h .1, c .before .before .before .before .before .before .before .pre .1)
 
@@ -81,6 +78,9 @@ enum-known-why t c = search needs
 
 pub enum-known-why-2 : (t : ℕ) → lts.Need-enum-known-why-2 (cs t) (branch-at t) branch.Post
 enum-known-why-2 t c = search needs
+
+pub cast-t27 : (t : ℕ) → lts.Need-cast-t27 (cs t) (branch-at t) branch.Post
+cast-t27 t c = search needs
 
 pub same-length : (t : ℕ) → lts.Need-same-length (cs t) (branch-at t) branch.Post
 same-length t c = search needs

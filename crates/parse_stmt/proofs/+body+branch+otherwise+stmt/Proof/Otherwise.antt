@@ -89,6 +89,9 @@ add-brace t c = omega (arith, else-here t (c), c .before .before .before .before
 pub kind-at-requires-2 : (t : ℕ) → lts.Need-kind-at-requires-2 (cs t) (otherwise-at t) otherwise.Post
 kind-at-requires-2 t c κs = c .before .before .before .before .pre .1 .lent
 
+pub cast-t20 : (t : ℕ) → lts.Need-cast-t20 (cs t) (otherwise-at t) otherwise.Post
+cast-t20 t c = search needs
+
 pub returns-2 : (t : ℕ) → lts.Need-returns-2 (cs t) (otherwise-at t) otherwise.Post
 returns-2 t c = λ ts tl i n w l m₀ g st.
     let a = c .before .before .before .before .before .before .args in

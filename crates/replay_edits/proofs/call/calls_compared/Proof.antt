@@ -5,10 +5,10 @@ use Rattle.replay_edits.proofs.call.calls_compared.Statement.{statement
 use Rattle.replay_edits.proofs.call.calls_compared.Tie as tie
 
 abbrev Inv-loop : tie.InvT-loop
-Inv-loop sample old table edit text rows size now₀ i₀ now i = Unit {0}
+Inv-loop sample old table edit text size rows calls now₀ i₀ now i = Unit {0}
 
 abbrev μ-loop : tie.MeasureT-loop
-μ-loop sample old table edit text rows size now₀ i₀ now i = size .value - i
+μ-loop sample old table edit text size rows calls now₀ i₀ now i = calls .value - i
 
 letter-requires : tie.Need-letter-requires Inv-loop μ-loop
 letter-requires c κs = search needs

@@ -1,5 +1,6 @@
 -- `lines_fit` meets its contract; the sums are taken in 64 bits, so that they fit for every place.
 use Rattle.rules.specs.Rows.{linesFit}
+use Rattle.rows.proofs.Shapes.{eqb-swap}
 use borrow.Author.Needs.{needs}
 use Rattle.rows.proofs.shape.lines_fit.Statement.{statement}
 use Rattle.rows.proofs.shape.lines_fit.Tie as tie
@@ -25,7 +26,14 @@ add-right c = search needs
 returns : tie.Need-returns
 unfolding linesFit
 returns c =
-    rw (c .before .before .before .wide .ensures, c .before .before .wide2 .ensures, c .before .wide3 .ensures, c .wide4 .ensures)
+    let a = c .before .before .before .before .args in
+    rw (
+      c .before .before .before .wide .ensures,
+      c .before .before .wide2 .ensures,
+      c .before .wide3 .ensures,
+      c .wide4 .ensures,
+      eqb-swap (a .q .line .0) (a .p .line .0),
+    )
 
 pub lines-fit-spec : {M : Type 1} → statement M
 lines-fit-spec =

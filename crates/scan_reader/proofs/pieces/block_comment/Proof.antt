@@ -1,52 +1,70 @@
--- `reader::pieces::block_comment` meets its contract: closed by its two bytes, or open at the end of the text.
-use mathlib.Core.Path.{_≡_, sym, ap, _∙_}
-use lib.ListN.{drop}
+-- `reader::pieces::block_comment` meets its contract: closed by its two bytes, or open.
+use mathlib.Core.Path.{sym, _∙_}
+use Rattle.scan_reader.specs.Brief.{refusalCode}
+use Rattle.scan_reader.proofs.Settled.{block-closed, block-open, block-short}
 use borrow.Author.Needs.{needs}
-use Rattle.rules.specs.declared.Lexical.the-variants.{OpenComment}
-use Rattle.rules.specs.Lex.{beforeClose}
-use Rattle.scan_reader.specs.declared.Spot.{Spot}
-use Rattle.scan_reader.specs.declared.Read.the-variants.{Comment, Refused}
-use Rattle.scan_reader.specs.Read.{onward}
-use Rattle.scan_reader.proofs.Known.{closeAt, body-ahead, close-line, block-closed, block-open, block-short}
 use Rattle.scan_reader.proofs.pieces.block_comment.Statement.{statement}
 use Rattle.scan_reader.proofs.pieces.block_comment.Tie as tie
 
-past-requires : tie.Need-past-requires
-past-requires c κs = search needs
+add-body-end : tie.Need-add-body-end
+add-body-end c = search needs
 
 body-end-requires : tie.Need-body-end-requires
-body-end-requires c κs = let s = c .before .before in rw (c .past .ensures) (body-ahead (s .args .text .now) (s .args .s) (s .pre))
+body-end-requires c κs = search needs
 
--- the spot at the closing bytes, or at the end
-end-is : (c : tie.After-body-end) → c .body-end .result ≡ closeAt (c .before .before .before .args .text .now) (c .before .before .before .args .s)
-end-is c =
-    let t = c .before .before .before .args .text .now in
-    c .body-end .ensures ∙ ap (λ (x : Spot). onward t x (beforeClose (drop (x .at) t))) (c .before .past .ensures)
+add-told : tie.Need-add-told
+add-told c = search needs
 
-past-requires-2 : tie.Need-past-requires-2
-past-requires-2 c κs =
-    let s = c .before .before .before .before in
-    rw (end-is (c .before)) (close-line (s .args .text .now) (s .args .s) (s .pre) (rw (end-is (c .before)) at (c .if1 .taken)))
+sub-told : tie.Need-sub-told
+sub-told c = search needs
+
+told-requires : tie.Need-told-requires
+told-requires c κs = search needs
 
 returns : tie.Need-returns
 returns c =
-    let s = c .before .before .before .before .before in
-    let t = s .args .text .now in
-    ap Comment (c .past2 .ensures ∙ ap (λ (x : Spot). onward t x 2) (end-is (c .before .before)))
-    ∙ sym (block-closed t (s .args .s) (s .pre) (s .args .whole) (rw (end-is (c .before .before)) at (c .before .if1 .taken)))
+    let k = c .before .before in
+    let s = k .before .before in
+    c .told .ensures
+    ∙ sym (block-closed (s .args .whole) (s .args .text .now) (s .args .at) (s .pre .0) (s .pre .1) (k .body-end .result)
+    (k .body-end .ensures) (c .before .if1 .taken))
+
+told-requires-2 : tie.Need-told-requires-2
+told-requires-2 c κs = search needs
 
 returns-2 : tie.Need-returns-2
+unfolding refusalCode
 returns-2 c =
-    let s = c .before .before .before .before .before .before in
-    ap (λ (x : Spot). Refused OpenComment (x .cursor)) (c .before .before .before .before .past .ensures)
-    ∙ sym (block-open (s .args .text .now) (s .args .s) (s .pre) (s .args .whole) (rw (end-is (c .before .before .before)) at (c .before .before .if1 .left)) (c .before .if2 .taken))
+    let k = c .before .before .before in
+    let s = k .before .before in
+    c .told2 .ensures
+    ∙ sym (block-open (s .args .whole) (s .args .text .now) (s .args .at) (s .pre .0) (s .pre .1) (k .body-end .result)
+    (k .body-end .ensures) (c .before .before .if1 .left)
+    (c .before .if2 .taken))
+
+told-requires-3 : tie.Need-told-requires-3
+told-requires-3 c κs = search needs
 
 returns-3 : tie.Need-returns-3
 returns-3 c =
-    let s = c .before .before .before .before .before in
-    sym (block-short (s .args .text .now) (s .args .s) (s .pre) (s .args .whole) (rw (end-is (c .before .before)) at (c .before .if1 .left)) (c .if2 .left))
+    let k = c .before .before .before in
+    let s = k .before .before in
+    c .told3 .ensures
+    ∙ sym (block-short (s .args .whole) (s .args .text .now) (s .args .at) (s .pre .0) (s .pre .1) (k .body-end .result)
+    (k .body-end .ensures) (c .before .before .if1 .left)
+    (c .before .if2 .left))
 
 pub block-comment-spec : {M : Type 1} → statement M
 block-comment-spec =
     tie.close
-    (tie.spec past-requires body-end-requires past-requires-2 returns returns-2 returns-3)
+    (tie.spec
+    add-body-end
+    body-end-requires
+    add-told
+    sub-told
+    told-requires
+    returns
+    told-requires-2
+    returns-2
+    told-requires-3
+    returns-3)

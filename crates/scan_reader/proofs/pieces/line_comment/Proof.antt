@@ -1,63 +1,65 @@
 -- `reader::pieces::line_comment` meets its contract: closed by its newline, or by the end of the text.
-use mathlib.Core.Path.{_≡_, sym, ap, _∙_}
-use Prim.Native.Nat.{_+_, _<_}
-use native.Mathlib.Omega.{arith}
-use lib.ListN.{length}
+use mathlib.Core.Path.{sym, _∙_}
+use Rattle.scan_reader.proofs.Settled.{line-closed, line-last, line-short}
 use borrow.Author.Needs.{needs}
-use Rattle.scan_reader.specs.declared.Spot.{Spot}
-use Rattle.scan_reader.specs.declared.Read.the-variants.{Comment}
-use Rattle.scan_reader.specs.Read.{onward}
-use Rattle.scan_reader.proofs.Moves.{onward-at, onward-more, ahead-more}
-use Rattle.scan_reader.proofs.Known.{lineLeft, line-closed, line-last, line-short}
 use Rattle.scan_reader.proofs.pieces.line_comment.Statement.{statement}
 use Rattle.scan_reader.proofs.pieces.line_comment.Tie as tie
 
 line-end-requires : tie.Need-line-end-requires
 line-end-requires c κs = search needs
 
-sub-past : tie.Need-sub-past
-sub-past c = search needs
+add-told : tie.Need-add-told
+add-told c = search needs
 
-past-requires : tie.Need-past-requires
-past-requires c κs = search needs
+sub-told : tie.Need-sub-told
+sub-told c = search needs
 
--- the spot at the end of the line
-end-is : (c : tie.After-past) → c .past .result ≡ onward (c .before .before .before .args .text .now) (c .before .before .before .args .s) (lineLeft (c .before .before .before .args .text .now) (c .before .before .before .args .s))
-end-is c = c .past .ensures ∙ ap (onward _ _) (omega (arith, c .before .line-end .ensures))
-
-step-requires : tie.Need-step-requires
-step-requires c κs =
-    let d = c .before .before in
-    let s = d .before .before in
-    let t = s .args .text .now in
-    let n = lineLeft t (s .args .s) in
-    let e = end-is (c .before) in
-    let h : s .args .s .at + n < length t = omega (arith, d .line-end .ensures) in
-    rw e (ahead-more t (s .args .s) n (omega arith) (s .pre), rw (onward-at t (s .args .s) n) h)
+told-requires : tie.Need-told-requires
+told-requires c κs = search needs
 
 returns : tie.Need-returns
 returns c =
-    let d = c .before .before .before in
-    let s = d .before .before in
-    let t = s .args .text .now in
-    let n = lineLeft t (s .args .s) in
-    ap Comment (c .step .ensures ∙ ap (λ (x : Spot). onward t x 1) (end-is (c .before .before)) ∙ onward-more t (s .args .s) n 1)
-    ∙ sym (line-closed (s .args .whole) t (s .args .s) (omega (arith, d .line-end .ensures)))
+    let k = c .before .before in
+    let s = k .before .before in
+    c .told .ensures ∙ sym (line-closed (s .args .whole) (s .args .text .now) (s .args .at) (s .pre .1) (k .line-end .result)
+    (k .line-end .ensures) (c .before .if1 .taken))
+
+sub-told-2 : tie.Need-sub-told-2
+sub-told-2 c = search needs
+
+told-requires-2 : tie.Need-told-requires-2
+told-requires-2 c κs = search needs
 
 returns-2 : tie.Need-returns-2
 returns-2 c =
-    let d = c .before .before .before in
-    let s = d .before .before in
-    ap Comment (end-is (c .before .before))
-    ∙ sym (line-last (s .args .whole) (s .args .text .now) (s .args .s) (omega (arith, d .line-end .ensures)) (s .pre) (c .if2 .taken))
+    let k = c .before .before .before in
+    let s = k .before .before in
+    c .told2 .ensures
+    ∙ sym (line-last (s .args .whole) (s .args .text .now) (s .args .at) (s .pre .1) (k .line-end .result) (k .line-end .ensures)
+    (c .before .before .if1 .left) (s .pre .0) (c .before .if2 .taken))
+
+told-requires-3 : tie.Need-told-requires-3
+told-requires-3 c κs = search needs
 
 returns-3 : tie.Need-returns-3
 returns-3 c =
-    let d = c .before .before .before in
-    let s = d .before .before in
-    sym (line-short (s .args .whole) (s .args .text .now) (s .args .s) (omega (arith, d .line-end .ensures)) (s .pre) (c .if2 .left))
+    let k = c .before .before .before in
+    let s = k .before .before in
+    c .told3 .ensures
+    ∙ sym (line-short (s .args .whole) (s .args .text .now) (s .args .at) (s .pre .1) (k .line-end .result) (k .line-end .ensures)
+    (c .before .before .if1 .left) (s .pre .0) (c .before .if2 .left))
 
 pub line-comment-spec : {M : Type 1} → statement M
 line-comment-spec =
     tie.close
-    (tie.spec line-end-requires sub-past past-requires step-requires returns returns-2 returns-3)
+    (tie.spec
+    line-end-requires
+    add-told
+    sub-told
+    told-requires
+    returns
+    sub-told-2
+    told-requires-2
+    returns-2
+    told-requires-3
+    returns-3)

@@ -1,0 +1,5 @@
+-- What a change tells, by its order; the theorems: it never says 7, and it is a fresh scan; and how tight its contract is.
+pub mod Calls
+pub mod Never
+pub mod Demand3
+pub mod Tight

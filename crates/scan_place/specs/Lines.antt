@@ -1,0 +1,18 @@
+-- What the code asks of a line of RFC 3629's table, and of the part of a text that it has passed.
+use mathlib.Core.List.{List, [], _∷_}
+use mathlib.Core.Path.{_≡_}
+use Prim.Native.Nat.{ℕ, _+_, _≤_}
+use lib.ListN.{length, drop}
+use Rattle.rules.specs.Text.{Range, tail, validBytes}
+
+-- the range of the second byte; where there is none, that of a tail
+unfoldable pub second : List Range → Range
+second [] = tail
+second (r ∷ []) = tail
+second (r ∷ q ∷ rs) = q
+
+-- the bytes from one index to another are characters
+pub record Passed (t : List ℕ) (i j : ℕ) : Type 0 where
+  pub behind : i ≤ j
+  pub inside : j ≤ length t
+  pub valid : i + validBytes (drop i t) ≡ j + validBytes (drop j t)

@@ -1,0 +1,340 @@
+-- Laws of the walk's loop over plain values: what holds at its head, and that each way through a turn keeps it or gives the answer.
+use mathlib.Core.Path.{_≡_, refl, sym, ap, subst, _∙_}
+use mathlib.Core.Bool.{Bool, true, false}
+use mathlib.Core.List.{List, [], _∷_, _++_, append-assoc, append-nil}
+use Prim.Native.Nat.{ℕ, suc, _+_, _-_, _^_, _≤_, _<_}
+use native.Mathlib.Nat.{add-zero, add-assoc, zero-add}
+use native.Mathlib.Decide.{decLe, ℕ-discrete}
+use native.Mathlib.Omega.{arith}
+use lib.ListN.{length, take, drop, length-append, length-drop}
+use lib.Seq.{drop-drop, length-take-le}
+use Rattle.rules.specs.declared.Cursor.{Cursor}
+use Rattle.rules.specs.declared.Ending.the-variants as ending
+use Rattle.rules.specs.Text.{front, isBlank, notNewline, over, along, Roomy}
+use Rattle.rules.specs.Rows.{Row, rowAt, eofRow, rowsIn}
+use Rattle.rules.specs.Lex.{Item, Piece, blank, comment, row as row₀, refused, known, end, unknown, item}
+use Rattle.rules.specs.Scan.{laid}
+use Rattle.rules.specs.Edit.{Seen, sees, over′, met, short, look}
+use Rattle.laws.proofs.Fronts.{front-le}
+use Rattle.laws.proofs.Places.{over-offset, over-take, over-front, roomy-less, roomy-over}
+use Rattle.laws.proofs.Rows.{rows-length, laid-none}
+use Rattle.scan_reader.specs.declared.Spot.{Spot}
+use Rattle.scan_reader.specs.Read.{onward, Ahead}
+use Rattle.scan_reader.proofs.Moves.{onward-more}
+use Rattle.scan_reader.specs.declared.Brief.{Brief}
+use Rattle.scan_reader.specs.Brief.{Blank, Line, End, Unknown, told}
+use Rattle.scan_reader.proofs.Told.{by-row, by-blank, by-comment, by-end, by-unknown, by-refused}
+use Rattle.scan_walk.specs.declared.Found.{Found}
+use Rattle.scan_walk.specs.declared.Olds.{Olds}
+use Rattle.scan_walk.specs.declared.Stop.{Stop}
+use Rattle.scan_walk.specs.declared.Stop.the-variants.{Met, Over, Short}
+use Rattle.scan_walk.specs.declared.Walked.{Walked}
+use Rattle.scan_walk.specs.Meeting.{Passed, Finds, meetsAt, stopsAt}
+use Rattle.scan_walk.specs.Walk.{startOf, placeIn, rowsSeen, stopSeen, seenFrom, walkSeen, walkRows, walkOf, Walkable, rowOf, placed, blanks, Passable, Last, Finished}
+use Rattle.scan_walk.proofs.Laid.{laid-more}
+use Rattle.scan_walk.proofs.Looks.{lookBy, look-met, look-by, look-blanks}
+
+module _ (ws : List ℕ) (o : Olds) (t : List ℕ) (p : Cursor) (whole : Bool) (lent : List ℕ) where
+  abbrev olds : List Row
+  olds = rowsIn (o .count) ws
+
+  abbrev meet : ℕ → Bool
+  meet = meetsAt olds (o .least) (o .b)
+
+  -- what is seen from index i on
+  abbrev seenAt : ℕ → Seen
+  seenAt i = look (placeIn p t) meet whole 0 (p .offset .0 + i) (drop i t)
+
+  abbrev stopOf : Seen → Stop
+  stopOf s = stopSeen olds (o .least) (o .b) t p s
+
+  -- The rows `done`, n of them, are passed; the walk stands at index i, and what is seen from there on is the rest.
+  pub record Walking (us : List ℕ) (here : Spot) (i row n : ℕ) : Type 0 where
+    pub done : List Row
+    pub spot : here ≡ onward t (startOf p) i
+    pub inside : i ≤ length t
+    pub few : row ≤ o .count
+    pub passed : Passed ws (o .least) (o .b) row (p .offset .0 + i)
+    pub counted : length done ≡ n
+    pub small : n ≤ i
+    pub words : us ≡ laid done lent
+    pub rest : walkRows ws o t p whole ≡ done ++ rowsSeen (seenAt i)
+    pub stops : stopOf (walkSeen ws o t p whole) ≡ stopOf (seenAt i)
+
+  -- the answer and the words together
+  abbrev pub Answer : Walked → List ℕ → Type 0
+  Answer r us = (r ≡ walkOf ws o t p whole) × (us ≡ laid (walkRows ws o t p whole) lent)
+
+  pub walking-start : Walkable ws o t p → Walking lent (startOf p) 0 (o .first) 0
+  unfolding onward over seenFrom walkRows
+  walking-start ready =
+      record {
+        done = [];
+        spot = refl;
+        inside = omega arith;
+        few = ready .few;
+        passed = record { below = λ j m h e f. ready .passed .below j m h (omega arith) f };
+        counted = refl;
+        small = omega arith;
+        words = sym (laid-none lent);
+        rest = rw add-zero;
+        stops = rw add-zero;
+      }
+
+  module _ (us : List ℕ) (here : Spot) (i row n : ℕ) (g : Walking us here i row n) where
+    pub at-index : here .at ≡ i
+    unfolding onward
+    at-index = ap (λ (s : Spot). s .at) (g .spot) ∙ zero-add i
+
+    at-cursor : here .cursor ≡ over p (take i t)
+    unfolding onward
+    at-cursor = ap (λ (s : Spot). s .cursor) (g .spot)
+
+    pub at-offset : here .cursor .offset .0 ≡ p .offset .0 + i
+    at-offset = ap (λ (c : Cursor). c .offset .0) at-cursor ∙ over-offset p (take i t) ∙ rw (length-take-le i t (g .inside))
+
+    pub ahead : Roomy (length t) p → Ahead t here
+    ahead ready =
+        record {
+          inside = rw at-index (g .inside);
+          roomy = rw (at-index, at-cursor) (roomy-over (length t - i) p (take i t) (rw room ready));
+        }
+      where
+        room : length t - i + length (take i t) ≡ length t
+        room = rw (length-take-le i t (g .inside)) (omega (arith, g .inside))
+
+    -- the place m bytes on
+    place-on : (m : ℕ) → placeIn p t (p .offset .0 + i + m) ≡ over (here .cursor) (take m (drop i t))
+    unfolding placeIn
+    place-on m =
+        let e : p .offset .0 + i + m - p .offset .0 ≡ i + m = omega arith in
+        rw (e, over-take, at-cursor)
+
+    place-here : placeIn p t (p .offset .0 + i) ≡ here .cursor
+    unfolding over
+    place-here = ap (placeIn p t) (sym (add-zero (p .offset .0 + i))) ∙ place-on 0
+
+    -- m bytes on
+    seen-on : (m : ℕ) → look (placeIn p t) meet whole 0 (p .offset .0 + i + m) (drop m (drop i t)) ≡ seenAt (i + m)
+    seen-on m = rw (drop-drop, add-assoc)
+
+    passed-on : (m r : ℕ) → Passed ws (o .least) (o .b) r (p .offset .0 + i) → Passed ws (o .least) (o .b) r (p .offset .0 + (i + m))
+    passed-on m r f = record { below = λ j k x y u. f .below j k x (omega arith) u }
+
+    spot-on : (m : ℕ) → onward t here m ≡ onward t (startOf p) (i + m)
+    spot-on m = ap (λ (s : Spot). onward t s m) (g .spot) ∙ onward-more t (startOf p) i m
+
+    -- the spot s is m bytes on
+    module _ (s : Spot) (m : ℕ) (q : s ≡ onward t here m) where
+      on-at : s .at ≡ i + m
+      unfolding onward
+      on-at = ap (λ (x : Spot). x .at) q ∙ rw at-index
+
+      goes-on : m ≤ length (drop i t) → rowsSeen (seenAt i) ≡ rowsSeen (seenAt (i + m)) → stopOf (seenAt i) ≡ stopOf (seenAt (i + m)) →
+          Walking us s (s .at) row n
+      goes-on h e f =
+          subst (λ (j : ℕ). Walking us s j row n) (sym on-at)
+          (record {
+            done = g .done;
+            spot = q ∙ spot-on m;
+            inside = omega (arith, length-drop i t, g .inside);
+            few = g .few;
+            passed = passed-on m row (g .passed);
+            counted = g .counted;
+            small = omega (arith, g .small);
+            words = g .words;
+            rest = g .rest ∙ rw e;
+            stops = g .stops ∙ f;
+          })
+
+    -- ---- behind blanks
+
+    module _ (s : Spot) (q : s ≡ onward t here (blanks (drop (here .at) t))) where
+      to-there : s ≡ onward t here (blanks (drop i t))
+      to-there = q ∙ ap (λ (k : ℕ). onward t here (blanks (drop k t))) at-index
+
+      pub blanks-more : i ≤ s .at
+      blanks-more = omega (arith, on-at s (blanks (drop i t)) to-there)
+
+      pub walking-blanks : Walking us s (s .at) row n
+      unfolding blanks
+      walking-blanks =
+          let m = front isBlank (drop i t) in
+          let e : seenAt i ≡ seenAt (i + m) = look-blanks (placeIn p t) meet whole m (p .offset .0 + i) (drop i t) (omega arith) ∙ seen-on m in
+          goes-on s m to-there (front-le isBlank (drop i t)) (ap rowsSeen e) (ap stopOf e)
+
+    -- ---- an old row is looked for
+
+    module _ (r : Found) (f : Finds ws (o .count) (o .least) (o .b) row (here .cursor .offset .0) (drop (here .at) t) r) where
+      pub walking-found : Walking us here i (r .row) n
+      walking-found =
+          record {
+            done = g .done;
+            spot = g .spot;
+            inside = g .inside;
+            few = f .high;
+            passed = rw at-offset at (f .passed);
+            counted = g .counted;
+            small = g .small;
+            words = g .words;
+            rest = g .rest;
+            stops = g .stops;
+          }
+
+      pub tells : r .met ≡ stopsAt olds (o .least) (o .b) (p .offset .0 + i) (drop i t)
+      tells = rw (at-index, at-offset) at (f .tells)
+
+    -- ---- the answers
+
+    -- the walk is over
+    over-with : (x : Stop) → rowsSeen (seenAt i) ≡ [] → stopOf (seenAt i) ≡ x → Answer (record { count = n; stop = x }) us
+    unfolding walkOf
+    over-with x e f =
+        let q : walkRows ws o t p whole ≡ g .done = g .rest ∙ rw (e, append-nil) in
+        (rw (q, g .counted, g .stops, f), rw q (g .words))
+
+    -- a row comes last
+    over-behind : (r : Row) (x : Stop) → rowsSeen (seenAt i) ≡ r ∷ [] → stopOf (seenAt i) ≡ x → Answer (record { count = n + 1; stop = x }) (placed n r us)
+    unfolding walkOf
+    over-behind r x e f =
+        let q : walkRows ws o t p whole ≡ g .done ++ (r ∷ []) = g .rest ∙ rw e in
+        let l : length (g .done ++ (r ∷ [])) ≡ n + 1 = rw (length-append, g .counted) in
+        (rw (q, l, g .stops, f), rw (q, g .words) (laid-more (g .done) r lent n (g .counted)))
+
+    pub walking-met : (r : Found) → Finds ws (o .count) (o .least) (o .b) row (here .cursor .offset .0) (drop (here .at) t) r → r .met ≡ true →
+        Answer (record { count = n; stop = Met here (r .row) }) us
+    unfolding stopSeen rowsSeen stopsAt
+    walking-met r f e =
+        let k = p .offset .0 in
+        let s : seenAt i ≡ met (k + i) = look-met (placeIn p t) meet whole (drop i t) (k + i) (sym (tells r f) ∙ e) in
+        let q = rw at-offset at (f .there e) in
+        let m : k + i - k ≡ i = omega arith in
+        let c : length olds - length (drop (r .row) olds) ≡ r .row = omega (arith, length-drop (r .row) olds, rows-length (o .count) ws, f .high) in
+        over-with (Met here (r .row)) (rw s) (ap stopOf s ∙ rw (q, c, m, g .spot))
+
+    -- ---- nothing meets, and r was told
+
+    module _ (off : stopsAt olds (o .least) (o .b) (p .offset .0 + i) (drop i t) ≡ false) (r : Brief) (q : r ≡ told (drop (here .at) t) (item whole (drop (here .at) t))) where
+      told-here : r ≡ told (drop i t) (item whole (drop i t))
+      told-here = q ∙ ap (λ (k : ℕ). told (drop k t) (item whole (drop k t))) at-index
+
+      seen-by : (x : Item) → item whole (drop i t) ≡ x → seenAt i ≡ lookBy (placeIn p t) meet whole x (p .offset .0 + i) (drop i t)
+      unfolding stopsAt
+      seen-by x e = look-by (placeIn p t) meet whole (drop i t) (p .offset .0 + i) off ∙ rw e
+
+      -- it is the last
+
+      pub last : End ≤ r .kind → i + 1 < 2 ^ 64 → Roomy (length t) p → Last n (here .cursor) r
+      unfolding told
+      last h l ready =
+          record { few = omega (arith, g .small); roomy = roomy-less (length t - here .at) (r .size) (here .cursor) short-size (ahead ready .roomy) }
+        where
+          by : Dec (r .kind ≡ End) → Dec (r .kind ≡ Unknown) → r .size ≤ length (drop i t)
+          by (yes e) d = let s = by-end whole (drop i t) r told-here e in rw (told-here, s) (omega arith)
+          by (no e) (yes d) = let s = by-unknown whole (drop i t) r told-here d in rw (told-here, s) (omega arith)
+          by (no e) (no d) = let s = by-refused whole (drop i t) r told-here (omega arith) in omega (arith, s .line, front-le notNewline (drop i t))
+
+          short-size : r .size ≤ length t - here .at
+          short-size = omega (arith, by (ℕ-discrete (r .kind) End) (ℕ-discrete (r .kind) Unknown), length-drop i t, at-index)
+
+      pub walking-last : End ≤ r .kind → (x : Walked) (vs : List ℕ) → Finished n (here .cursor) r x us vs → Answer x vs
+      unfolding lookBy rowsSeen stopSeen
+      walking-last h x vs f = by (ℕ-discrete (r .kind) End) (ℕ-discrete (r .kind) Unknown)
+        where
+          by : Dec (r .kind ≡ End) → Dec (r .kind ≡ Unknown) → Answer x vs
+          by (yes e) d =
+              let s = seen-by end (by-end whole (drop i t) r told-here e) in
+              rw (f .end e .0, f .end e .1) (over-behind (eofRow (here .cursor)) (Over ending.None) (ap rowsSeen s ∙ rw place-here) (ap stopOf s))
+          by (no e) (yes d) =
+              let s = seen-by unknown (by-unknown whole (drop i t) r told-here d) in
+              rw (f .unknown d .0, f .unknown d .1) (over-with Short (ap rowsSeen s) (ap stopOf s))
+          by (no e) (no d) =
+              let b = by-refused whole (drop i t) r told-here (omega arith) in
+              let s = seen-by (known (refused (b .why) (r .size) (b .decided))) (b .item-is) in
+              let z = f .refused (b .why) (b .code) in
+              rw (z .0, z .1)
+              (over-with (Over (ending.Refused (b .why) (along (here .cursor) (r .size)))) (ap rowsSeen s) (ap stopOf s ∙ rw (place-on (r .size), over-front (here .cursor) (drop i t) (r .size) (b .line))))
+
+      -- ---- it is passed
+
+      -- a blank or a comment
+      data Gap : Type 0 where
+        gap : 1 ≤ r .size → r .size ≤ length (drop i t) → seenAt i ≡ seenAt (i + r .size) → Gap
+
+      is-gap : Blank ≤ r .kind → r .kind < End → Gap
+      unfolding lookBy
+      is-gap h k = by (ℕ-discrete (r .kind) Blank)
+        where
+          by : Dec (r .kind ≡ Blank) → Gap
+          by (yes e) =
+              let b = by-blank whole (drop i t) r told-here e in
+              gap (omega (arith, b .one)) (omega (arith, b .one, b .inside)) (seen-by (known blank) (b .item-is) ∙ seen-on 1 ∙ rw (b .one))
+          by (no e) =
+              let b = by-comment whole (drop i t) r told-here (omega arith) k in
+              gap (b .some) (b .inside) (seen-by (known (comment (r .size) (b .decided))) (b .item-is) ∙ seen-on (r .size))
+
+      pub passable : r .kind < End → Roomy (length t) p → Passable t here r
+      passable h ready = by (decLe Blank (r .kind))
+        where
+          fits : r .size ≤ length (drop i t) → here .at + r .size ≤ length t
+          fits k = omega (arith, at-index, length-drop i t, g .inside)
+
+          of-gap : Blank ≤ r .kind → Gap → Passable t here r
+          of-gap l (gap s k e) =
+              record { ahead = ahead ready; some = s; inside = fits k; row = λ d. absurd (not-both l d); line = λ d. rw at-index (of-line d (ℕ-discrete (r .kind) Line)) }
+            where
+              not-both : Blank ≤ r .kind → r .kind < Blank → ⊥
+              not-both l d = omega arith
+
+              of-line : r .kind ≤ Line → Dec (r .kind ≡ Line) → r .size - 1 ≤ front notNewline (drop i t)
+              of-line d (yes e) = by-comment whole (drop i t) r told-here (omega arith) h .line e
+              of-line d (no e) = omega (arith, by-blank whole (drop i t) r told-here (omega arith) .one)
+
+          by : Dec (Blank ≤ r .kind) → Passable t here r
+          by (yes l) = of-gap l (is-gap l h)
+          by (no l) =
+              let k = by-row whole (drop i t) r told-here (omega arith) in
+              let e : r .size ≤ front notNewline (drop (here .at) t) = rw at-index (k .line) in
+              record { ahead = ahead ready; some = k .some; inside = fits (k .inside); row = λ d. e; line = λ d. omega arith }
+
+      module _ (s : Spot) (z : s ≡ onward t here (r .size)) where
+        pub walking-gap : Blank ≤ r .kind → r .kind < End → Walking us s (s .at) row n
+        walking-gap h k = of (is-gap h k)
+          where
+            of : Gap → Walking us s (s .at) row n
+            of (gap l m e) = goes-on s (r .size) z m (ap rowsSeen e) (ap stopOf e)
+
+        pub walking-row : r .kind < Blank → Walking (placed n (rowOf (here .cursor) r) us) s (s .at) row (n + 1)
+        unfolding lookBy rowsSeen stopSeen rowOf
+        walking-row h =
+            let b = by-row whole (drop i t) r told-here h in
+            let e = seen-by (known (row′ (b .decided))) (b .item-is) in
+            let k : rowAt (placeIn p t (p .offset .0 + i)) (r .kind) (p .offset .0 + i + r .size) (r .bits) ≡ rowOf (here .cursor) r = rw (place-here, at-offset) in
+            subst (λ (j : ℕ). Walking (placed n (rowOf (here .cursor) r) us) s j row (n + 1)) (sym (on-at s (r .size) z))
+            (record {
+              done = g .done ++ (rowOf (here .cursor) r ∷ []);
+              spot = z ∙ spot-on (r .size);
+              inside = omega (arith, length-drop i t, g .inside, b .inside);
+              few = g .few;
+              passed = passed-on (r .size) row (g .passed);
+              counted = rw (length-append, g .counted);
+              small = omega (arith, g .small, b .some);
+              words = rw (g .words) (laid-more (g .done) (rowOf (here .cursor) r) lent n (g .counted));
+              rest = g .rest ∙ ap (λ (l : List Row). g .done ++ l) (ap rowsSeen e ∙ rw (k, seen-on (r .size))) ∙ sym (append-assoc (g .done) _ _);
+              stops = g .stops ∙ ap stopOf e ∙ rw (seen-on (r .size));
+            })
+          where
+            row′ : ℕ → Piece
+            row′ d = row₀ (r .kind) (r .size) (r .bits) d
+
+        pub walking-less : r .kind < End → (i < s .at) × (s .at ≤ length t)
+        walking-less h = by (decLe Blank (r .kind))
+          where
+            of : Gap → (i < s .at) × (s .at ≤ length t)
+            of (gap l m e) = (omega (arith, on-at s (r .size) z), omega (arith, on-at s (r .size) z, length-drop i t, g .inside))
+
+            by : Dec (Blank ≤ r .kind) → (i < s .at) × (s .at ≤ length t)
+            by (yes l) = of (is-gap l h)
+            by (no l) =
+                let b = by-row whole (drop i t) r told-here (omega arith) in
+                (omega (arith, on-at s (r .size) z, b .some), omega (arith, on-at s (r .size) z, b .inside, length-drop i t, g .inside))

@@ -1,0 +1,292 @@
+-- `scan_walk::walk` meets its contract: the loop's invariant is `Walking`, and each way through a turn is one of its laws.
+use mathlib.Core.Path.{_≡_, sym, ap, subst, _∙_}
+use mathlib.Core.Bool.{Bool, true, false}
+use mathlib.Core.List.{List}
+use mathlib.Core.Logic.{⊎-elim}
+use Prim.Native.Nat.{ℕ, _+_, _-_, _^_, _≤_, _<_}
+use native.Mathlib.Omega.{arith}
+use lib.ListN.{length, drop}
+use borrow.Author.Needs.{needs}
+use Rattle.rules.specs.declared.Cursor.{Cursor}
+use Rattle.rules.specs.Rows.{rowsIn}
+use Rattle.rules.specs.Lex.{item}
+use Rattle.laws.proofs.Rows.{laid-length}
+use Rattle.laws.proofs.Places.{roomy-less}
+use Rattle.scan_reader.specs.declared.Spot.{Spot}
+use Rattle.scan_reader.specs.declared.Brief.{Brief}
+use Rattle.scan_reader.specs.Brief.{Blank, End, told}
+use Rattle.scan_walk.specs.declared.Olds.{Olds}
+use Rattle.scan_walk.specs.declared.Stop.the-variants.{Met}
+use Rattle.scan_walk.specs.declared.Walked.{Walked}
+use Rattle.scan_walk.specs.Meeting.{Passed, stopsAt}
+use Rattle.scan_walk.specs.Walk.{rowOf, placed}
+use Rattle.scan_walk.proofs.Walks.{Walking, Answer, walking-start, at-index, at-offset, ahead, blanks-more, walking-blanks, walking-found, tells, walking-met, last, walking-last, passable, walking-gap, walking-row, walking-less}
+use Rattle.scan_walk.proofs.walk.Statement.{statement}
+use Rattle.scan_walk.proofs.walk.Tie as tie
+
+abbrev Inv-loop : tie.InvT-loop
+Inv-loop old olds text whole rows₀ classes slots here₀ i₀ row₀ count₀ rows here i row count = Walking old olds text (here₀ .cursor) whole rows₀ rows here i row count
+
+abbrev μ-loop : tie.MeasureT-loop
+μ-loop old olds text whole rows₀ classes slots here₀ i₀ row₀ count₀ rows here i row count = length text + 1 - i
+
+-- ---- the places of a turn
+
+abbrev Loop : Type 0
+Loop = tie.At-loop Inv-loop μ-loop
+
+abbrev start-of : Loop → tie.Start Inv-loop μ-loop
+start-of l = l .before .before .before .before .before .before
+
+abbrev old-of : Loop → List ℕ
+old-of l = start-of l .args .old .now
+
+abbrev olds-of : Loop → Olds
+olds-of l = start-of l .args .olds
+
+abbrev text-of : Loop → List ℕ
+text-of l = start-of l .args .text .now
+
+abbrev begin-of : Loop → Cursor
+begin-of l = start-of l .args .begin
+
+abbrev whole-of : Loop → Bool
+whole-of l = start-of l .args .whole
+
+abbrev lent-of : Loop → List ℕ
+lent-of l = start-of l .args .rows .now
+
+abbrev Stands : Loop → List ℕ → Spot → ℕ → ℕ → ℕ → Type 0
+Stands l rows here i row n = Walking (old-of l) (olds-of l) (text-of l) (begin-of l) (whole-of l) (lent-of l) rows here i row n
+
+abbrev Answers : Loop → Walked → List ℕ → Type 0
+Answers l r rows = Answer (old-of l) (olds-of l) (text-of l) (begin-of l) (whole-of l) (lent-of l) r rows
+
+answer-length : (l : Loop) (r : Walked) (rows : List ℕ) → Answers l r rows → length rows ≡ length (lent-of l)
+answer-length l r rows a = rw (a .1) (laid-length _ (lent-of l))
+
+-- the walk never leaves its bytes
+over-run : (l : Loop) → length (text-of l) < l .loop .i → ⊥
+over-run l h = omega (arith, l .loop .inv .inside)
+
+-- ---- behind the blanks
+
+abbrev Passed-blanks : Type 0
+Passed-blanks = tie.After-past-blanks Inv-loop μ-loop
+
+abbrev loop-of : Passed-blanks → Loop
+loop-of c = c .before .before
+
+stands : (c : Passed-blanks) → let l = loop-of c in let s = c .past-blanks .result in Stands l (l .loop .rows) s (s .at) (l .loop .row) (l .loop .count)
+stands c =
+    let l = loop-of c in
+    walking-blanks (old-of l) (olds-of l) (text-of l) (begin-of l) (whole-of l) (lent-of l) (l .loop .rows) (l .loop .here) (l .loop .i) (l .loop .row) (l .loop .count) (l .loop .inv) (c .past-blanks .result) (c .past-blanks .ensures)
+
+-- ---- an old row was looked for
+
+abbrev Looked : Type 0
+Looked = tie.After-find Inv-loop μ-loop
+
+abbrev head : Looked → Loop
+head f = loop-of (f .before)
+
+abbrev spot : Looked → Spot
+spot f = f .before .past-blanks .result
+
+found : (f : Looked) → let l = head f in Stands l (l .loop .rows) (spot f) (spot f .at) (f .find .result .row) (l .loop .count)
+found f =
+    let l = head f in
+    walking-found (old-of l) (olds-of l) (text-of l) (begin-of l) (whole-of l) (lent-of l) (l .loop .rows) (spot f) (spot f .at) (l .loop .row) (l .loop .count) (stands (f .before)) (f .find .result) (f .find .ensures)
+
+met : (f : Looked) → f .find .result .met ≡ true → Answers (head f) (record { count = head f .loop .count; stop = Met (spot f) (f .find .result .row) }) (head f .loop .rows)
+met f e =
+    let l = head f in
+    walking-met (old-of l) (olds-of l) (text-of l) (begin-of l) (whole-of l) (lent-of l) (l .loop .rows) (spot f) (spot f .at) (l .loop .row) (l .loop .count) (stands (f .before)) (f .find .result) (f .find .ensures) e
+
+-- ---- nothing meets, and what stands there was told
+
+abbrev Told : Type 0
+Told = tie.After-brief Inv-loop μ-loop
+
+abbrev looked : Told → Looked
+looked b = b .before .before .before .before
+
+abbrev told-of : Told → Brief
+told-of b = b .brief .result
+
+off : (b : Told) → let f = looked b in let l = head f in stopsAt (rowsIn (olds-of l .count) (old-of l)) (olds-of l .least) (olds-of l .b) (begin-of l .offset .0 + spot f .at) (drop (spot f .at) (text-of l)) ≡ false
+off b =
+    let f = looked b in
+    let l = head f in
+    sym (tells (old-of l) (olds-of l) (text-of l) (begin-of l) (whole-of l) (lent-of l) (l .loop .rows) (spot f) (spot f .at) (l .loop .row) (l .loop .count) (stands (f .before)) (f .find .result) (f .find .ensures))
+    ∙ b .before .before .before .if1 .left
+
+told-here : (b : Told) → let f = looked b in let l = head f in told-of b ≡ told (drop (spot f .at) (text-of l)) (item (whole-of l) (drop (spot f .at) (text-of l)))
+told-here b = b .brief .ensures
+
+-- the bytes are few enough to be counted
+few : (l : Loop) → length (text-of l) + 1 < 2 ^ 64
+few l = omega (arith, start-of l .good .1 .1 .0 .1)
+
+-- ---- the walk is over
+
+abbrev Finishes : Type 0
+Finishes = tie.After-finish Inv-loop μ-loop
+
+abbrev told-last : Finishes → Told
+told-last c = c .before .before .before .before .before
+
+is-last : (c : Finishes) → End ≤ told-of (told-last c) .kind
+is-last c = c .before .before .if2 .taken
+
+finished : (c : Finishes) → Answers (head (looked (told-last c))) (c .finish .result) (c .finish .last .0)
+finished c =
+    let b = told-last c in
+    let f = looked b in
+    let l = head f in
+    walking-last (old-of l) (olds-of l) (text-of l) (begin-of l) (whole-of l) (lent-of l) (l .loop .rows) (spot f) (spot f .at) (f .find .result .row) (l .loop .count) (found f) (off b) (told-of b) (told-here b) (is-last c)
+    (c .finish .result) (c .finish .last .0) (c .finish .ensures)
+
+-- ---- it goes on
+
+abbrev Told-on : Type 0
+Told-on = tie.Joined3 Inv-loop μ-loop
+
+abbrev told-on : Told-on → Told
+told-on j = j .before .before .before .before .before
+
+goes-on : (j : Told-on) → told-of (told-on j) .kind < End
+goes-on j = omega (arith, j .before .before .if2 .left)
+
+same-words : (l : Loop) {us vs : List ℕ} {m n : ℕ} (s : Spot) (row : ℕ) → us ≡ vs → m ≡ n → Stands l vs s (s .at) row n → Stands l us s (s .at) row m
+same-words l s row e f g = rw (e, f) g
+
+stands-behind : (c : tie.After-behind Inv-loop μ-loop) → let j = c .before in let f = looked (told-on j) in let s = c .behind .result in
+    Stands (head f) (j .if3 .rows) s (s .at) (f .find .result .row) (j .if3 .count)
+stands-behind c =
+    let j = c .before in
+    let b = told-on j in
+    let f = looked b in
+    let l = head f in
+    let s = c .behind .result in
+    ⊎-elim
+    (λ x. same-words l s (f .find .result .row) (x .5 ∙ x .2 .ensures) (x .6)
+    (walking-row (old-of l) (olds-of l) (text-of l) (begin-of l) (whole-of l) (lent-of l) (l .loop .rows) (spot f) (spot f .at) (f .find .result .row) (l .loop .count) (found f) (off b) (told-of b) (told-here b) s (c .behind .ensures) (x .0 .taken)))
+    (λ x. same-words l s (f .find .result .row) (x .1) (x .2)
+    (walking-gap (old-of l) (olds-of l) (text-of l) (begin-of l) (whole-of l) (lent-of l) (l .loop .rows) (spot f) (spot f .at) (f .find .result .row) (l .loop .count) (found f) (off b) (told-of b) (told-here b) s (c .behind .ensures) (omega (arith, x .0 .left)) (goes-on j)))
+    (j .if3 .came)
+
+table-requires : tie.Need-table-requires Inv-loop μ-loop
+table-requires c κs = search needs
+
+table-requires-2 : tie.Need-table-requires-2 Inv-loop μ-loop
+table-requires-2 c κs = search needs
+
+loop-holds : tie.Need-loop-holds Inv-loop μ-loop
+loop-holds c =
+    let s = c .before .before .before .before .before in
+    walking-start (s .args .old .now) (s .args .olds) (s .args .text .now) (s .args .begin) (s .args .whole) (s .args .rows .now) (s .pre)
+
+past-blanks-requires : tie.Need-past-blanks-requires Inv-loop μ-loop
+past-blanks-requires c κs =
+    let l = c .before in
+    ahead (old-of l) (olds-of l) (text-of l) (begin-of l) (whole-of l) (lent-of l) (l .loop .rows) (l .loop .here) (l .loop .i) (l .loop .row) (l .loop .count) (l .loop .inv) (start-of l .pre .roomy)
+
+find-requires : tie.Need-find-requires Inv-loop μ-loop
+find-requires c κs =
+    let l = loop-of c in
+    let p = start-of l .pre in
+    let s = c .past-blanks .result in
+    let o = at-offset (old-of l) (olds-of l) (text-of l) (begin-of l) (whole-of l) (lent-of l) (l .loop .rows) s (s .at) (l .loop .row) (l .loop .count) (stands c) in
+    ((p .lent, stands c .few), (p .rising, subst (Passed (old-of l) (olds-of l .least) (olds-of l .b) (l .loop .row)) (sym o) (stands c .passed)))
+
+same-length : tie.Need-same-length Inv-loop μ-loop
+same-length c = answer-length (head (c .before)) _ _ (met (c .before) (c .if1 .taken))
+
+returns : tie.Need-returns Inv-loop μ-loop
+returns c = met (c .before) (c .if1 .taken)
+
+brief-requires : tie.Need-brief-requires Inv-loop μ-loop
+brief-requires c κs =
+    let f = c .before .before .before in
+    let l = head f in
+    ((l .before .before .table .ensures, l .before .table2 .ensures), found f .inside)
+
+finish-requires : tie.Need-finish-requires Inv-loop μ-loop
+finish-requires c κs =
+    let b = c .before .before .before .before in
+    let f = looked b in
+    let l = head f in
+    last (old-of l) (olds-of l) (text-of l) (begin-of l) (whole-of l) (lent-of l) (l .loop .rows) (spot f) (spot f .at) (f .find .result .row) (l .loop .count) (found f) (off b) (told-of b) (told-here b) (c .before .if2 .taken)
+    (omega (arith, few l, found f .inside)) (start-of l .pre .roomy)
+
+same-length-2 : tie.Need-same-length-2 Inv-loop μ-loop
+same-length-2 c = answer-length (head (looked (told-last (c .before .before)))) _ _ (finished (c .before .before))
+
+returns-2 : tie.Need-returns-2 Inv-loop μ-loop
+returns-2 c = finished (c .before .before)
+
+put-behind-requires : tie.Need-put-behind-requires Inv-loop μ-loop
+put-behind-requires c κs =
+    let b = c .before .before .before .before .before .before in
+    let f = looked b in
+    let l = head f in
+    let h : told-of b .kind < End = omega (arith, c .before .if3 .taken) in
+    let g = passable (old-of l) (olds-of l) (text-of l) (begin-of l) (whole-of l) (lent-of l) (l .loop .rows) (spot f) (spot f .at) (f .find .result .row) (l .loop .count) (found f) (off b) (told-of b) (told-here b) h (start-of l .pre .roomy) in
+    roomy-less (length (text-of l) - spot f .at) (told-of b .size) (spot f .cursor) (omega (arith, g .inside)) (g .ahead .roomy) .offset
+
+add-count : tie.Need-add-count Inv-loop μ-loop
+add-count c =
+    let f = looked (c .before .before .before .before .before .before .before .before .before) in
+    omega (arith, few (head f), found f .small, found f .inside)
+
+behind-requires : tie.Need-behind-requires Inv-loop μ-loop
+behind-requires c κs =
+    let b = told-on c in
+    let f = looked b in
+    let l = head f in
+    passable (old-of l) (olds-of l) (text-of l) (begin-of l) (whole-of l) (lent-of l) (l .loop .rows) (spot f) (spot f .at) (f .find .result .row) (l .loop .count) (found f) (off b) (told-of b) (told-here b) (goes-on c) (start-of l .pre .roomy)
+
+loop-less : tie.Need-loop-less Inv-loop μ-loop
+loop-less c =
+    let j = c .before in
+    let b = told-on j in
+    let f = looked b in
+    let l = head f in
+    let h = walking-less (old-of l) (olds-of l) (text-of l) (begin-of l) (whole-of l) (lent-of l) (l .loop .rows) (spot f) (spot f .at) (f .find .result .row) (l .loop .count) (found f) (off b) (told-of b) (told-here b) (c .behind .result) (c .behind .ensures) (goes-on j) in
+    let k = blanks-more (old-of l) (olds-of l) (text-of l) (begin-of l) (whole-of l) (lent-of l) (l .loop .rows) (l .loop .here) (l .loop .i) (l .loop .row) (l .loop .count) (l .loop .inv) (spot f) (f .before .past-blanks .ensures) in
+    omega arith
+
+loop-again : tie.Need-loop-again Inv-loop μ-loop
+loop-again c = stands-behind c
+
+same-length-3 : tie.Need-same-length-3 Inv-loop μ-loop
+same-length-3 c = absurd (over-run (c .before) (c .loop-test .left))
+
+returns-3 : tie.Need-returns-3 Inv-loop μ-loop
+returns-3 c = absurd (over-run (c .before) (c .loop-test .left))
+
+pub walk-spec : {M : Type 1} → statement M
+walk-spec =
+    tie.close
+    (tie.spec
+    Inv-loop
+    μ-loop
+    table-requires
+    table-requires-2
+    loop-holds
+    past-blanks-requires
+    find-requires
+    same-length
+    returns
+    brief-requires
+    finish-requires
+    same-length-2
+    returns-2
+    put-behind-requires
+    add-count
+    behind-requires
+    loop-less
+    loop-again
+    same-length-3
+    returns-3)

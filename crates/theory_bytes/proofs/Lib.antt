@@ -1,0 +1,2 @@
+-- The bytes that a text may hold are those of the grammar.
+pub mod Octets

@@ -1,0 +1,2 @@
+-- The grammar of RFC 3629 as a relation.
+pub mod Octets
