@@ -49,7 +49,7 @@ enum sh_answer_word {
     SH_OFFSET = 1, /* the refusal's place: offset, line and column; 0 1 1 where the place is 0; beside number 0 the restart place, else all 0 */
     SH_LINE = 2,
     SH_COLUMN = 3, /* one more than the bytes since the last newline: characters of two to four bytes count two to four, a tab one */
-    SH_FIRST = 4,  /* SH_REFUSED_WANTED: the kind that was wanted; SH_REFUSED_MAP_LACKS: the field; SH_REFUSED_BAD_BLOCK: the block; spelling: start; sets: the number */
+    SH_FIRST = 4,  /* SH_REFUSED_WANTED: the kind that was wanted; SH_REFUSED_MAP_LACKS: the field; SH_FILE_BAD_BLOCK: the block; spelling: start; sets: the number */
     SH_SECOND = 5, /* SH_REFUSED_WANTED: the kind that was found; spelling: end */
     SH_COUNT = 6,  /* rows, nodes or blocks written */
     SH_LENGTH = 7, /* scan, change, edit, load: the text's length; 0 where refused below 11 or from 40 on; store: the file's */
