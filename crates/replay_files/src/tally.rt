@@ -1,7 +1,8 @@
 // Where the reading of the sample stands, and what was counted.
 use replay_input::more;
 
-// What is counted: calls by the number that is expected of them, 0 where all rows are; loads by what happened to the file; and all of a thing.
+// What is counted: calls by the number that is expected of them, 0 where nothing is refused; loads by what happened to the file; and all
+// of a thing.
 pub const DAMAGES: usize = 45;
 
 pub const STORES: usize = 52;
