@@ -1,5 +1,5 @@
 // Expressions. The functions from `add` to `args` call each other in a circle, the rest of the nesting limit and the rows falling:
-// add = shift (('+'|'-') mul)*, shift = mul (('<<'|'>>') mul)*, mul = unary (('*'|'/'|'%') unary)*, unary = '*' unary | prim,
+// add = mul (('<<'|'>>') mul)* (('+'|'-') mul)*, mul = unary (('*'|'/'|'%') unary)*, unary = '*' unary | prim,
 // prim = (Number | Identifier | '(' add ')') ('.' Identifier ['(' [add (',' add)*] ')'])*.
 use parse_nodes::At;
 use parse_nodes::Got;
@@ -26,9 +26,10 @@ ghost use Prim.Native.Nat.{_+_, _*_, _≤_, _<_};
 ghost use lib.ListN.{length};
 ghost use lib.Seq.{sets};
 ghost use Rattle.rules.specs.Nodes.{NodeField, binaryNode, node, nodeWords};
-ghost use Rattle.rules.specs.Parse.{isAdd, isShift, isMul, inner, atom, prim, unary, mul, shift, add, args, post};
+ghost use Rattle.rules.specs.Parse.{isAdd, isShift, isMul, inner, atom, prim, unary, mul, add, args, post};
 ghost use Rattle.parse_nodes.specs.Post.{kindWord, stateAt, Answers, Onward, Asks, AsksAt, AsksOpen};
 ghost use Rattle.parse_expr.specs.Calls.{CallEnd};
+ghost use Rattle.parse_expr.specs.Ladder.{goesOn};
 ghost use Rattle.parse_expr.specs.Lone.{isLone, Leaf};
 
 // Whether a row's kind is `+` or `-`, which stand side by side among the kinds.
@@ -130,38 +131,17 @@ fn leaf(rows: &[u32], count: u32, nodes: &mut [u32], row: u32, node: u32) -> At
     parse_nodes::variable(nodes, row, node)
 }
 
-// An expression: a shift, and operands of `mul` behind signs.
+// Whether an operand of `add` goes on behind an operator of kind k: behind a sign, or behind a shift if no sign was read yet.
+fn goes_on(k: u32, summed: bool) -> bool
+    ensures { λ r. ⌜ r ≡ goesOn k summed ⌝ }
+{
+    is_add(k) | (is_shift(k) & !summed)
+}
+
+// An expression: operands of `mul`, first behind shifts and then behind signs. summed: a sign was read.
 pub fn add(rows: &[u32], count: u32, nodes: &mut [u32], row: u32, node: u32, left: usize) -> Got
     requires { ⌜ Asks (now rows) count row node left ⌝ }
     ensures { λ r. ⌜ Answers (λ ts. add ts (inner ts left) row) (now (rows .entry)) count row node (now (nodes .entry)) (now (nodes .exit)) r ⌝ }
-{
-    let mut s = match shift(rows, count, nodes, row, node, left) {
-        Got::Done(t) => t,
-        Got::Refused(why, r) => {
-            return Got::Refused(why, r);
-        }
-    };
-    loop {
-        let at = s.row;
-        let k = parse_nodes::kind_at(rows, count, at);
-        if !is_add(k) {
-            return Got::Done(s);
-        }
-        match mul(rows, count, nodes, at + 1, s.node, left) {
-            Got::Done(t) => {
-                s = parse_nodes::shut(nodes, t, binary_node(k), s.place, 2);
-            }
-            Got::Refused(why, r) => {
-                return Got::Refused(why, r);
-            }
-        }
-    }
-}
-
-// An operand of `mul`, and further ones behind shifts.
-fn shift(rows: &[u32], count: u32, nodes: &mut [u32], row: u32, node: u32, left: usize) -> Got
-    requires { ⌜ Asks (now rows) count row node left ⌝ }
-    ensures { λ r. ⌜ Answers (λ ts. shift ts (inner ts left) row) (now (rows .entry)) count row node (now (nodes .entry)) (now (nodes .exit)) r ⌝ }
 {
     let mut s = match mul(rows, count, nodes, row, node, left) {
         Got::Done(t) => t,
@@ -169,15 +149,17 @@ fn shift(rows: &[u32], count: u32, nodes: &mut [u32], row: u32, node: u32, left:
             return Got::Refused(why, r);
         }
     };
+    let mut summed = false;
     loop {
         let at = s.row;
         let k = parse_nodes::kind_at(rows, count, at);
-        if !is_shift(k) {
+        if !goes_on(k, summed) {
             return Got::Done(s);
         }
         match mul(rows, count, nodes, at + 1, s.node, left) {
             Got::Done(t) => {
                 s = parse_nodes::shut(nodes, t, binary_node(k), s.place, 2);
+                summed = is_add(k);
             }
             Got::Refused(why, r) => {
                 return Got::Refused(why, r);

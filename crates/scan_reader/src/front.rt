@@ -16,7 +16,6 @@ ghost use lib.ListN.{length, getD, drop};
 ghost use Rattle.rules.specs.declared.Lexical.{Lexical};
 ghost use Rattle.rules.specs.Lex.{item};
 ghost use Rattle.scan_words.specs.Class.{classOf, Classes};
-ghost use Rattle.scan_words.specs.Slots.{Slots};
 ghost use Rattle.scan_reader.specs.Brief.{Rare, refusalCode, told};
 
 // What a byte begins that most bytes do not begin: a blank, a comment, a number or a sign behind `-`, a string, or nothing.
@@ -34,8 +33,8 @@ fn rare(text: &[u8], at: usize, class: u8, whole: bool) -> Brief
 }
 
 // What stands at an index. `whole`: the bytes end the text. Where they may stop short of its end, what they do not settle is unknown.
-pub fn brief(classes: &[u8; 256], slots: &[u64; 72], text: &[u8], at: usize, whole: bool) -> Brief
-    requires { ⌜ (Classes (now classes) × Slots (now slots)) × (at ≤ length (now text)) ⌝ }
+pub fn brief(classes: &[u8; 256], text: &[u8], at: usize, whole: bool) -> Brief
+    requires { ⌜ Classes (now classes) × (at ≤ length (now text)) ⌝ }
     ensures { λ r. ⌜ r ≡ told (drop at (now (text .entry))) (item whole (drop at (now (text .entry)))) ⌝ }
 {
     if text.len() <= at {
@@ -46,7 +45,7 @@ pub fn brief(classes: &[u8; 256], slots: &[u64; 72], text: &[u8], at: usize, who
     }
     let class = classes[text[at] as usize];
     if class == classes::LETTER {
-        return word(classes, slots, text, at, whole);
+        return word(classes, text, at, whole);
     }
     if classes::SIGNS < class {
         return told((class - classes::SIGNS) as u32, 1);

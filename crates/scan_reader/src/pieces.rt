@@ -20,7 +20,6 @@ ghost use Rattle.rules.specs.Text.{byte};
 ghost use Rattle.rules.specs.Rows.{bitsOf};
 ghost use Rattle.rules.specs.Lex as lex;
 ghost use Rattle.scan_words.specs.Class.{Classes};
-ghost use Rattle.scan_words.specs.Slots.{Slots};
 ghost use Rattle.scan_reader.specs.Brief.{settled};
 
 // A kind or a code with a size, and no bits.
@@ -35,8 +34,8 @@ pub fn told(kind: u32, size: usize) -> Brief
 }
 
 // An identifier or a reserved word.
-pub fn word(classes: &[u8; 256], slots: &[u64; 72], text: &[u8], at: usize, whole: bool) -> Brief
-    requires { ⌜ (Classes (now classes) × Slots (now slots)) × (at ≤ length (now text)) ⌝ }
+pub fn word(classes: &[u8; 256], text: &[u8], at: usize, whole: bool) -> Brief
+    requires { ⌜ Classes (now classes) × (at ≤ length (now text)) ⌝ }
     ensures { λ r. ⌜ r ≡ settled whole (now (text .entry)) at (lex.word (drop at (now (text .entry)))) ⌝ }
 {
     let w = read_word(classes, text, at);
@@ -44,7 +43,7 @@ pub fn word(classes: &[u8; 256], slots: &[u64; 72], text: &[u8], at: usize, whol
     if !shown(text, end, whole) {
         return told(codes::UNKNOWN, 0);
     }
-    told(kind_in(slots, w.packed), end - at)
+    told(kind_in(w.packed), end - at)
 }
 
 // A number's bits in two's complement.

@@ -95,7 +95,6 @@ pub fn walk(
     ensures { λ r. ⌜ (r ≡ walkOf (now (old .entry)) olds (now (text .entry)) begin whole) × (now (rows .exit) ≡ laid (walkRows (now (old .entry)) olds (now (text .entry)) begin whole) (now (rows .entry))) ⌝ }
 {
     let classes = scan_words::classes::table();
-    let slots = scan_words::slots::table();
     let mut here = Spot {
         at: 0,
         cursor: begin,
@@ -113,7 +112,7 @@ pub fn walk(
                 stop: Stop::Met(spot, row),
             };
         }
-        let told = brief(&classes, &slots, text, spot.at, whole);
+        let told = brief(&classes, text, spot.at, whole);
         let cursor = spot.cursor;
         if codes::END <= told.kind {
             return finish(rows, count, cursor, told);

@@ -5,11 +5,11 @@ use mathlib.Core.Bool.{Bool, true, false, not, cond, _&&_, _||_, true≢false}
 use mathlib.Core.List.{List, [], _∷_, _++_, append-nil}
 use Prim.Native.Nat.{ℕ, zero, suc, _+_, _*_, _/_, _%_, _^_, _<_}
 use native.Mathlib.Omega.{arith}
-use lib.ListN.{length, getD}
+use lib.ListN.{length}
 use lib.Dec.{eqb, ltb}
 use borrow.Author.Tests.{eqb-true, eqb-false, ltb-true, eq-eqb, ne-eqb, not-true}
 use Rattle.rules.specs.Kinds.{Spelt, Identifier, reserved, sameBytes, kindIn}
-use Rattle.scan_words.specs.Slots.{packedOf, plain, slotOf, slotIn, Slots}
+use Rattle.scan_words.specs.Slots.{packedOf, plain, slotOf, slotIn}
 use Rattle.laws.proofs.Tests.{both-true, true-both, neither}
 use Rattle.laws.proofs.Spelled.{same-eq, differs, same-says}
 
@@ -122,7 +122,7 @@ packed-same u w l p q e =
 abbrev pub answered : ℕ → ℕ → ℕ
 answered entry p = cond (eqb (entry / 256) p) (entry % 256) Identifier
 
-taken : List Spelt → ℕ → Bool
+unfoldable pub taken : List Spelt → ℕ → Bool
 taken [] i = false
 taken (e ∷ es) i = eqb (slotOf (packedOf 0 (e .spelling))) i || taken es i
 
@@ -189,21 +189,25 @@ module _ (w : List ℕ) (h : plain w ≡ true) where
       pick e es (sameBytes (e .spelling) w) refl (eqb (slotOf (packedOf 0 (e .spelling))) (slotOf p)) refl
       (ltb-true _ _ (f .0)) (g .0) (ltb-true _ _ (g .1)) (not-true _ (y .0)) (looked es (y .1))
 
--- ---- a lent table, asked for a number
+-- ---- a slot, asked for a number
 
-module _ {t : List ℕ} (s : Slots t) (v : ℕ) where
-  abbrev entry : ℕ
-  entry = getD t (slotOf v) 0
+-- a slot that no word takes is empty
+pub empty-slot : (es : List Spelt) (i : ℕ) → taken es i ≡ false → slotIn es i ≡ Identifier
+unfolding taken slotIn
+empty-slot [] i n = refl
+empty-slot (e ∷ es) i n =
+    let b = neither (eqb (slotOf (packedOf 0 (e .spelling))) i) (taken es i) n in
+    rw (b .0) (empty-slot es i (b .1))
 
-  module _ (w : List ℕ) (h : plain w ≡ true) (e : v ≡ packedOf 0 w) where
-    entry-tells : answered entry v ≡ kindIn reserved Identifier w
-    entry-tells =
-        ap (λ (x : ℕ). answered x v) (s .slot (slotOf v) (omega arith))
-        ∙ ap (λ (x : ℕ). answered (slotIn reserved (slotOf x)) x) e
-        ∙ looked w h reserved reserved-spaced
+module _ (v entry : ℕ) (s : entry ≡ slotIn reserved (slotOf v)) (w : List ℕ) (h : plain w ≡ true) (e : v ≡ packedOf 0 w) where
+  entry-tells : answered entry v ≡ kindIn reserved Identifier w
+  entry-tells =
+      ap (λ (x : ℕ). answered x v) s
+      ∙ ap (λ (x : ℕ). answered (slotIn reserved (slotOf x)) x) e
+      ∙ looked w h reserved reserved-spaced
 
-    pub there : entry / 256 ≡ v → entry % 256 ≡ kindIn reserved Identifier w
-    there f = rw (eq-eqb (entry / 256) v f) at entry-tells
+  pub there : entry / 256 ≡ v → entry % 256 ≡ kindIn reserved Identifier w
+  there f = rw (eq-eqb (entry / 256) v f) at entry-tells
 
-    pub not-there : (entry / 256 ≡ v → ⊥) → Identifier ≡ kindIn reserved Identifier w
-    not-there f = rw (ne-eqb (entry / 256) v f) at entry-tells
+  pub not-there : (entry / 256 ≡ v → ⊥) → Identifier ≡ kindIn reserved Identifier w
+  not-there f = rw (ne-eqb (entry / 256) v f) at entry-tells

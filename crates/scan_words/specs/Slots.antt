@@ -1,9 +1,7 @@
--- The reserved words, by slot: a word packed into a number, and the table that has each in the slot that its number says.
-use mathlib.Core.Path.{_≡_}
+-- The reserved words, by slot: a word packed into a number, and each in the slot that its number says.
 use mathlib.Core.Bool.{Bool, true, cond, _&&_}
 use mathlib.Core.List.{List, [], _∷_}
-use Prim.Native.Nat.{ℕ, _+_, _*_, _%_, _^_, _<_}
-use lib.ListN.{getD}
+use Prim.Native.Nat.{ℕ, _+_, _*_, _/_, _%_, _^_}
 use lib.Dec.{eqb, ltb}
 use Rattle.rules.specs.Kinds.{Spelt, Identifier, reserved}
 
@@ -19,12 +17,8 @@ plain (b ∷ s) = (ltb 0 b && ltb b 256) && plain s
 
 -- the slot of a word, and what it holds there: the word packed and its kind; an empty one has the kind of a word that is not reserved
 abbrev pub slotOf : ℕ → ℕ
-slotOf v = v % 72
+slotOf v = v / 2 % 45
 
 unfoldable pub slotIn : List Spelt → ℕ → ℕ
 slotIn [] i = Identifier
 slotIn (e ∷ es) i = cond (eqb (slotOf (packedOf 0 (e .spelling))) i) (packedOf 0 (e .spelling) * 256 + e .kind) (slotIn es i)
-
--- a table that has the reserved words
-pub record Slots (t : List ℕ) : Type 0 where
-  pub slot : (i : ℕ) → i < 72 → getD t i 0 ≡ slotIn reserved i

@@ -5,13 +5,16 @@ ghost use mathlib.Core.Bool.{true};
 ghost use mathlib.Core.List.{List};
 ghost use Prim.Native.Nat.{ℕ};
 ghost use Rattle.rules.specs.Kinds.{Identifier, reserved, kindIn};
-ghost use Rattle.scan_words.specs.Slots.{packedOf, plain, Slots};
+ghost use Rattle.scan_words.specs.Slots.{packedOf, plain, slotIn};
 
-// How many slots there are. A word packed is its bytes as one number, the last byte lowest; its slot is what that number leaves by so many.
-pub const COUNT: u64 = 72;
+// How many slots there are. A word packed is its bytes as one number, the last byte lowest; its slot is what half of that number leaves by
+// so many.
+const COUNT: u64 = 45;
+
+const HALF: u64 = 2;
 
 // A slot holds a word packed and its kind, which is below this number.
-pub const KINDS: u64 = 256;
+const KINDS: u64 = 256;
 
 // An empty slot: no word, and the kind of one that is not reserved.
 const EMPTY: u64 = kind::IDENTIFIER as u64;
@@ -59,97 +62,43 @@ const TYPE_I32: u64 = 0x693332 * KINDS + kind::TYPE_I32 as u64;
 
 const TYPE_I64: u64 = 0x693634 * KINDS + kind::TYPE_I64 as u64;
 
-const SLOTS: [u64; 72] = [
-    EMPTY,
-    EMPTY,
-    TYPE_U32,
-    EMPTY,
-    TYPE_I64,
-    ELSE,
-    EMPTY,
-    EMPTY,
-    EMPTY,
-    EMPTY,
-    EMPTY,
-    EMPTY,
-    EVENT,
-    VALUE,
-    EMPTY,
-    EMPTY,
-    EMPTY,
-    EMPTY,
-    EMPTY,
-    EMPTY,
-    EMPTY,
-    EMPTY,
-    SECTION,
-    EMPTY,
-    HEAP,
-    EMPTY,
-    TYPE_I32,
-    EMPTY,
-    UNIT,
-    IMM,
-    RETURN,
-    EMPTY,
-    EMPTY,
-    EMPTY,
-    EMPTY,
-    BYTES,
-    GUARD,
-    EMPTY,
-    EMPTY,
-    EMPTY,
-    EMPTY,
-    KEY,
-    EMPTY,
-    EMPTY,
-    EMPTY,
-    TYPE,
-    EMPTY,
-    EMPTY,
-    MAP,
-    EMPTY,
-    EMPTY,
-    EMPTY,
-    TYPE_U64,
-    EMPTY,
-    IF,
-    EMPTY,
-    MAX,
-    EMPTY,
-    EMPTY,
-    EMPTY,
-    EMPTY,
-    LICENSE,
-    EMPTY,
-    REG,
-    EMPTY,
-    EMPTY,
-    EMPTY,
-    EMPTY,
-    EMPTY,
-    EMPTY,
-    EMPTY,
-    EMPTY,
-];
-
-// The table, for whoever looks many words up to lend.
-pub fn table() -> [u64; 72]
-    ensures { λ r. ⌜ Slots r ⌝ }
+// What a slot holds. A `match` of numbers becomes a table beside the code, which is read where it stands.
+fn entry(slot: u64) -> u64
+    ensures { λ r. ⌜ r ≡ slotIn reserved slot ⌝ }
 {
-    SLOTS
+    match slot {
+        2 => ELSE,
+        6 => RETURN,
+        11 => SECTION,
+        12 => HEAP,
+        13 => TYPE_I32,
+        14 => UNIT,
+        15 => VALUE,
+        18 => GUARD,
+        19 => TYPE_U32,
+        22 => TYPE,
+        24 => MAP,
+        28 => MAX,
+        29 => KEY,
+        31 => REG,
+        33 => EVENT,
+        35 => BYTES,
+        36 => IF,
+        38 => TYPE_I64,
+        39 => LICENSE,
+        41 => IMM,
+        44 => TYPE_U64,
+        _ => EMPTY,
+    }
 }
 
 // The kind of a word that is packed: its slot's, where that word stands there, or an identifier's.
-pub fn kind_in(slots: &[u64; 72], packed: u64) -> u32
-    requires { ⌜ Slots (now slots) ⌝ }
+pub fn kind_in(packed: u64) -> u32
     ensures { λ r. ⌜ ((w : List ℕ) → plain w ≡ true → packed ≡ packedOf 0 w → r ≡ kindIn reserved Identifier w) ⌝ }
 {
-    let slot = (packed % COUNT) as usize;
-    let entry = slots[slot];
-    if entry / KINDS == packed {
-        return (entry % KINDS) as u32;
+    let held = entry(packed / HALF % COUNT);
+    if held / KINDS == packed {
+        return (held % KINDS) as u32;
     }
     kind::IDENTIFIER
 }

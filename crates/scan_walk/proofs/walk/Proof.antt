@@ -25,10 +25,10 @@ use Rattle.scan_walk.proofs.walk.Statement.{statement}
 use Rattle.scan_walk.proofs.walk.Tie as tie
 
 abbrev Inv-loop : tie.InvT-loop
-Inv-loop old olds text whole rows₀ classes slots here₀ i₀ row₀ count₀ rows here i row count = Walking old olds text (here₀ .cursor) whole rows₀ rows here i row count
+Inv-loop old olds text whole rows₀ classes here₀ i₀ row₀ count₀ rows here i row count = Walking old olds text (here₀ .cursor) whole rows₀ rows here i row count
 
 abbrev μ-loop : tie.MeasureT-loop
-μ-loop old olds text whole rows₀ classes slots here₀ i₀ row₀ count₀ rows here i row count = length text + 1 - i
+μ-loop old olds text whole rows₀ classes here₀ i₀ row₀ count₀ rows here i row count = length text + 1 - i
 
 -- ---- the places of a turn
 
@@ -36,7 +36,7 @@ abbrev Loop : Type 0
 Loop = tie.At-loop Inv-loop μ-loop
 
 abbrev start-of : Loop → tie.Start Inv-loop μ-loop
-start-of l = l .before .before .before .before .before .before
+start-of l = l .before .before .before .before .before
 
 abbrev old-of : Loop → List ℕ
 old-of l = start-of l .args .old .now
@@ -109,7 +109,7 @@ abbrev Told : Type 0
 Told = tie.After-brief Inv-loop μ-loop
 
 abbrev looked : Told → Looked
-looked b = b .before .before .before .before
+looked b = b .before .before .before
 
 abbrev told-of : Told → Brief
 told-of b = b .brief .result
@@ -119,7 +119,7 @@ off b =
     let f = looked b in
     let l = head f in
     sym (tells (old-of l) (olds-of l) (text-of l) (begin-of l) (whole-of l) (lent-of l) (l .loop .rows) (spot f) (spot f .at) (l .loop .row) (l .loop .count) (stands (f .before)) (f .find .result) (f .find .ensures))
-    ∙ b .before .before .before .if1 .left
+    ∙ b .before .before .if1 .left
 
 told-here : (b : Told) → let f = looked b in let l = head f in told-of b ≡ told (drop (spot f .at) (text-of l)) (item (whole-of l) (drop (spot f .at) (text-of l)))
 told-here b = b .brief .ensures
@@ -179,12 +179,9 @@ stands-behind c =
 table-requires : tie.Need-table-requires Inv-loop μ-loop
 table-requires c κs = search needs
 
-table-requires-2 : tie.Need-table-requires-2 Inv-loop μ-loop
-table-requires-2 c κs = search needs
-
 loop-holds : tie.Need-loop-holds Inv-loop μ-loop
 loop-holds c =
-    let s = c .before .before .before .before .before in
+    let s = c .before .before .before .before in
     walking-start (s .args .old .now) (s .args .olds) (s .args .text .now) (s .args .begin) (s .args .whole) (s .args .rows .now) (s .pre)
 
 past-blanks-requires : tie.Need-past-blanks-requires Inv-loop μ-loop
@@ -208,9 +205,9 @@ returns c = met (c .before) (c .if1 .taken)
 
 brief-requires : tie.Need-brief-requires Inv-loop μ-loop
 brief-requires c κs =
-    let f = c .before .before .before in
+    let f = c .before .before in
     let l = head f in
-    ((l .before .before .table .ensures, l .before .table2 .ensures), found f .inside)
+    (l .before .table .ensures, found f .inside)
 
 finish-requires : tie.Need-finish-requires Inv-loop μ-loop
 finish-requires c κs =
@@ -273,7 +270,6 @@ walk-spec =
     Inv-loop
     μ-loop
     table-requires
-    table-requires-2
     loop-holds
     past-blanks-requires
     find-requires

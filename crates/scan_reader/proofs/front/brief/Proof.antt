@@ -25,7 +25,7 @@ abbrev markAt : tie.After-class → ℕ
 markAt c = getD (c .before .before .before .before .args .classes .now) (byteAt c) 0
 
 class-is : (c : tie.After-class) (k : ℕ) → markAt c ≡ k → k < 32 → classOf (byteAt c) ≡ k
-class-is c k e l = mark-class (c .before .before .before .before .pre .0 .0) (byteAt c) (byte (c .before)) k e l
+class-is c k e l = mark-class (c .before .before .before .before .pre .0) (byteAt c) (byte (c .before)) k e l
 
 told-requires : tie.Need-told-requires
 told-requires c κs = search needs
@@ -69,7 +69,7 @@ cast-told : tie.Need-cast-told
 cast-told c =
     let d = c .before .before in
     let s = d .before .before .before .before in
-    omega (arith, mark-size (s .pre .0 .0) (byteAt d) (byte (d .before)))
+    omega (arith, mark-size (s .pre .0) (byteAt d) (byte (d .before)))
 
 told-requires-3 : tie.Need-told-requires-3
 told-requires-3 c κs = search needs
@@ -78,7 +78,7 @@ returns-4 : tie.Need-returns-4
 returns-4 c =
     let d = c .before .before .before in
     let s = d .before .before .before .before in
-    c .told3 .ensures ∙ sym (told-sign (s .args .whole) (s .args .text .now) (s .args .at) (d .before .before .if1 .left) (s .pre .0 .0) (byte (d .before)) (c .before .if4 .taken))
+    c .told3 .ensures ∙ sym (told-sign (s .args .whole) (s .args .text .now) (s .args .at) (d .before .before .if1 .left) (s .pre .0) (byte (d .before)) (c .before .if4 .taken))
 
 sign-requires : tie.Need-sign-requires
 sign-requires c κs =
@@ -108,7 +108,7 @@ rare-requires : tie.Need-rare-requires
 rare-requires c κs =
     let d = c .before .before .before .before in
     let s = d .before .before .before .before in
-    let m = low (s .pre .0 .0) (byteAt d) (byte (d .before)) (c .before .before .if4 .left) in
+    let m = low (s .pre .0) (byteAt d) (byte (d .before)) (c .before .before .if4 .left) in
     let small : markAt d < 8 = omega arith in
     let rare : Rare (markAt d) = record { no-word = c .before .before .before .if3 .left; no-number = c .if6 .left; no-double = c .before .if5 .left; no-sign = λ e. omega arith } in
     (d .before .before .if1 .left, (m .0, rare))

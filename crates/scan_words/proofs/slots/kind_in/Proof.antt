@@ -4,20 +4,17 @@ use Rattle.scan_words.proofs.Packed.{there, not-there}
 use Rattle.scan_words.proofs.slots.kind_in.Statement.{statement}
 use Rattle.scan_words.proofs.slots.kind_in.Tie as tie
 
-mul-entry : tie.Need-mul-entry
-mul-entry c = search needs
-
-element-copy-out-entry : tie.Need-element-copy-out-entry
-element-copy-out-entry c = search needs
+entry-requires : tie.Need-entry-requires
+entry-requires c κs = search needs
 
 cast-result : tie.Need-cast-result
 cast-result c = search needs
 
 returns : tie.Need-returns
-returns c w h e = there (c .before .before .pre) (c .before .before .args .packed) w h e (c .if1 .taken)
+returns c w h e = there (c .before .before .args .packed) _ (c .before .entry .ensures) w h e (c .if1 .taken)
 
 returns-2 : tie.Need-returns-2
-returns-2 c w h e = not-there (c .before .before .pre) (c .before .before .args .packed) w h e (c .if1 .left)
+returns-2 c w h e = not-there (c .before .before .args .packed) _ (c .before .entry .ensures) w h e (c .if1 .left)
 
 pub kind-in-spec : {M : Type 1} → statement M
-kind-in-spec = tie.close (tie.spec mul-entry element-copy-out-entry cast-result returns returns-2)
+kind-in-spec = tie.close (tie.spec entry-requires cast-result returns returns-2)

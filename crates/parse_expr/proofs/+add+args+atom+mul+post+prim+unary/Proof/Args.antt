@@ -25,8 +25,8 @@ use Rattle.parse_expr.proofs.add.Reads as add
 use Rattle.parse_expr.proofs.args.Reads as args
 use Rattle.parse_nodes.proofs.counted.Reads as counted-reads
 use Rattle.parse_nodes.proofs.kind_at.Reads as kind-at-reads
-use Rattle.parse_expr.proofs.+add+args+atom+mul+post+prim+shift+unary.Lts-args as lts
-use Rattle.parse_expr.proofs.+add+args+atom+mul+post+prim+shift+unary.Proof.Measures.{add-below, args-at}
+use Rattle.parse_expr.proofs.+add+args+atom+mul+post+prim+unary.Lts-args as lts
+use Rattle.parse_expr.proofs.+add+args+atom+mul+post+prim+unary.Proof.Measures.{add-below, args-at}
 
 abbrev pub cs : ℕ → lts.Claims
 cs t = (add-below t, add.Post, counted-reads.Asked, counted-reads.Learnt, kind-at-reads.Asked, kind-at-reads.Learnt)

@@ -22,8 +22,8 @@ use Rattle.parse_expr.proofs.atom.Reads as atom
 use Rattle.parse_nodes.proofs.kind_at.Reads as kind-at-reads
 use Rattle.parse_nodes.proofs.number.Reads as number-reads
 use Rattle.parse_nodes.proofs.variable.Reads as variable-reads
-use Rattle.parse_expr.proofs.+add+args+atom+mul+post+prim+shift+unary.Lts-atom as lts
-use Rattle.parse_expr.proofs.+add+args+atom+mul+post+prim+shift+unary.Proof.Measures.{add-below, atom-at}
+use Rattle.parse_expr.proofs.+add+args+atom+mul+post+prim+unary.Lts-atom as lts
+use Rattle.parse_expr.proofs.+add+args+atom+mul+post+prim+unary.Proof.Measures.{add-below, atom-at}
 
 abbrev pub cs : ℕ → lts.Claims
 cs t = (kind-at-reads.Asked, kind-at-reads.Learnt, number-reads.Asked, number-reads.Learnt, add-below t, add.Post, variable-reads.Asked, variable-reads.Learnt)

@@ -23,8 +23,8 @@ use Rattle.parse_expr.proofs.atom.Reads as atom
 use Rattle.parse_expr.proofs.post.Reads as post
 use Rattle.parse_expr.proofs.prim.Reads as prim
 use Rattle.parse_nodes.proofs.kind_at.Reads as kind-at-reads
-use Rattle.parse_expr.proofs.+add+args+atom+mul+post+prim+shift+unary.Lts-prim as lts
-use Rattle.parse_expr.proofs.+add+args+atom+mul+post+prim+shift+unary.Proof.Measures.{atom-below, post-below, prim-at}
+use Rattle.parse_expr.proofs.+add+args+atom+mul+post+prim+unary.Lts-prim as lts
+use Rattle.parse_expr.proofs.+add+args+atom+mul+post+prim+unary.Proof.Measures.{atom-below, post-below, prim-at}
 
 abbrev pub cs : ℕ → lts.Claims
 cs t = (atom-below t, atom.Post, kind-at-reads.Asked, kind-at-reads.Learnt, post-below t, post.Post)

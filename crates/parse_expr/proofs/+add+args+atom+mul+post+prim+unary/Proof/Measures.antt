@@ -14,13 +14,11 @@ use Rattle.parse_expr.proofs.post.Reads as post
 use Rattle.parse_expr.proofs.post.Kinds as post-kinds
 use Rattle.parse_expr.proofs.prim.Reads as prim
 use Rattle.parse_expr.proofs.prim.Kinds as prim-kinds
-use Rattle.parse_expr.proofs.shift.Reads as shift
-use Rattle.parse_expr.proofs.shift.Kinds as shift-kinds
 use Rattle.parse_expr.proofs.unary.Reads as unary
 use Rattle.parse_expr.proofs.unary.Kinds as unary-kinds
 
 abbrev pub μ-add : Measures 2 add-kinds.ps ℕ
-μ-add κs a = 8 * a .1 .1 .1 .1 .1 .0 + 6
+μ-add κs a = 8 * a .1 .1 .1 .1 .1 .0 + 5
 
 abbrev pub μ-args : Measures 2 args-kinds.ps ℕ
 μ-args κs a = 8 * a .1 .1 .1 .1 .1 .0 + 0
@@ -36,9 +34,6 @@ abbrev pub μ-post : Measures 2 post-kinds.ps ℕ
 
 abbrev pub μ-prim : Measures 2 prim-kinds.ps ℕ
 μ-prim κs a = 8 * a .1 .1 .1 .1 .1 .0 + 2
-
-abbrev pub μ-shift : Measures 2 shift-kinds.ps ℕ
-μ-shift κs a = 8 * a .1 .1 .1 .1 .1 .0 + 5
 
 abbrev pub μ-unary : Measures 2 unary-kinds.ps ℕ
 μ-unary κs a = 8 * a .1 .1 .1 .1 .1 .0 + 3
@@ -78,12 +73,6 @@ prim-at t = and 2 prim-kinds.ps (is 2 prim-kinds.ps μ-prim t) prim.Pre
 
 abbrev pub prim-below : ℕ → In 2 prim-kinds.ps
 prim-below t = and 2 prim-kinds.ps (falls 2 prim-kinds.ps _<_ μ-prim t) prim.Pre
-
-abbrev pub shift-at : ℕ → In 2 shift-kinds.ps
-shift-at t = and 2 shift-kinds.ps (is 2 shift-kinds.ps μ-shift t) shift.Pre
-
-abbrev pub shift-below : ℕ → In 2 shift-kinds.ps
-shift-below t = and 2 shift-kinds.ps (falls 2 shift-kinds.ps _<_ μ-shift t) shift.Pre
 
 abbrev pub unary-at : ℕ → In 2 unary-kinds.ps
 unary-at t = and 2 unary-kinds.ps (is 2 unary-kinds.ps μ-unary t) unary.Pre

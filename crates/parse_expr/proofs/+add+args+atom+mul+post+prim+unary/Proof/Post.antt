@@ -23,8 +23,8 @@ use Rattle.parse_expr.proofs.post.Reads as post
 use Rattle.parse_expr.proofs.call_end.Reads as call-end-reads
 use Rattle.parse_expr.proofs.field_end.Reads as field-end-reads
 use Rattle.parse_nodes.proofs.kind_at.Reads as kind-at-reads
-use Rattle.parse_expr.proofs.+add+args+atom+mul+post+prim+shift+unary.Lts-post as lts
-use Rattle.parse_expr.proofs.+add+args+atom+mul+post+prim+shift+unary.Proof.Measures.{args-below, post-at}
+use Rattle.parse_expr.proofs.+add+args+atom+mul+post+prim+unary.Lts-post as lts
+use Rattle.parse_expr.proofs.+add+args+atom+mul+post+prim+unary.Proof.Measures.{args-below, post-at}
 
 abbrev pub cs : ℕ → lts.Claims
 cs t = (kind-at-reads.Asked, kind-at-reads.Learnt, field-end-reads.Asked, field-end-reads.Learnt, call-end-reads.Asked, call-end-reads.Learnt, args-below t, args.Post)

@@ -28,8 +28,8 @@ use Rattle.parse_expr.proofs.is_mul.Reads as is-mul-reads
 use Rattle.parse_expr.proofs.leaf.Reads as leaf-reads
 use Rattle.parse_nodes.proofs.kind_at.Reads as kind-at-reads
 use Rattle.parse_nodes.proofs.shut.Reads as shut-reads
-use Rattle.parse_expr.proofs.+add+args+atom+mul+post+prim+shift+unary.Lts-mul as lts
-use Rattle.parse_expr.proofs.+add+args+atom+mul+post+prim+shift+unary.Proof.Measures.{mul-at, unary-below}
+use Rattle.parse_expr.proofs.+add+args+atom+mul+post+prim+unary.Lts-mul as lts
+use Rattle.parse_expr.proofs.+add+args+atom+mul+post+prim+unary.Proof.Measures.{mul-at, unary-below}
 
 abbrev pub cs : ℕ → lts.Claims
 cs t = (is-lone-reads.Asked, is-lone-reads.Learnt, leaf-reads.Asked, leaf-reads.Learnt, unary-below t, unary.Post, kind-at-reads.Asked, kind-at-reads.Learnt, is-mul-reads.Asked, is-mul-reads.Learnt, binary-node-reads.Asked, binary-node-reads.Learnt, shut-reads.Asked, shut-reads.Learnt)

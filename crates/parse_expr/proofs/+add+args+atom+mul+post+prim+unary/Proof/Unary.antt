@@ -21,8 +21,8 @@ use Rattle.parse_expr.proofs.prim.Reads as prim
 use Rattle.parse_expr.proofs.unary.Reads as unary
 use Rattle.parse_nodes.proofs.kind_at.Reads as kind-at-reads
 use Rattle.parse_nodes.proofs.shut.Reads as shut-reads
-use Rattle.parse_expr.proofs.+add+args+atom+mul+post+prim+shift+unary.Lts-unary as lts
-use Rattle.parse_expr.proofs.+add+args+atom+mul+post+prim+shift+unary.Proof.Measures.{prim-below, unary-at, unary-below}
+use Rattle.parse_expr.proofs.+add+args+atom+mul+post+prim+unary.Lts-unary as lts
+use Rattle.parse_expr.proofs.+add+args+atom+mul+post+prim+unary.Proof.Measures.{prim-below, unary-at, unary-below}
 
 abbrev pub cs : ℕ → lts.Claims
 cs t = (kind-at-reads.Asked, kind-at-reads.Learnt, unary-below t, unary.Post, shut-reads.Asked, shut-reads.Learnt, prim-below t, prim.Post)
