@@ -3,13 +3,13 @@ use Prim.Native.Nat.{ℕ, suc}
 use mathlib.Core.Bool.{Bool, true, false, not, _&&_, true≢false, and-false}
 use mathlib.Core.List.{List, [], _∷_}
 use mathlib.Core.Path.{_≡_, refl, ap, sym, _∙_}
-use lib.ListN.{getD, drop}
+use lib.ListN.{drop}
 use lib.Dec.{eqb}
 use borrow.Author.Tests.{eqb-true, ne-eqb, not-true}
 use Rattle.rules.specs.Kinds
 use Rattle.rules.specs.Kinds.{Spelt, sameBytes, signs, kindIn}
 use Rattle.laws.proofs.Tests.{both-true, false-by}
-use Rattle.theory_comments.specs.Comments.{code, line, star, block, slash, string, escaped, comments}
+use Rattle.theory_comments.specs.Comments.{code, line, block, string, escaped, comments}
 
 -- a byte that meets a test which x does not
 pub differs : (p : ℕ → Bool) (x b : ℕ) → p x ≡ false → p b ≡ true → eqb b x ≡ false

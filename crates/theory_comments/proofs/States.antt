@@ -1,5 +1,5 @@
 -- What a state of the byte machine stands for: how many comments end in the bytes behind it. A byte that the machine takes takes them along.
-use Prim.Native.Nat.{ℕ, zero, suc}
+use Prim.Native.Nat.{ℕ, suc}
 use mathlib.Core.Bool.{Bool, true, false, cond}
 use mathlib.Core.List.{List, [], _∷_}
 use mathlib.Core.Path.{_≡_, refl, sym, _∙_}
