@@ -491,7 +491,7 @@ cases =
       refusal = 22 ∷ 0 ∷ 1 ∷ 1 ∷ 0 ∷ 0 ∷ [];
       nodes = [];
     }
-    -- comments are counted by the row behind their gap: two before a word, none between it and the end
+    -- [P] comments are counted by the row behind their gap: two before a word, none between it and the end
     ∷ record {
       text = bytes "/**//**/a";
       rows =
