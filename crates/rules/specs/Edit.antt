@@ -49,27 +49,29 @@ unfoldable pub opens : List ℕ → Bool
 opens [] = false
 opens (b ∷ s) = isBlank b || (eqb b (byte "/") && slashOrStar s)
 
--- rows, and then: the scan is over with an ending, it meets old rows at an offset, or the window is short
+-- rows, and then: the scan is over with an ending, it meets old rows at an offset, with so many comments in the gap before it, or the
+-- window is short
 pub data Seen : Type 0 where
   sees : Row → Seen → Seen
   over′ : Ending → Seen
-  met : ℕ → Seen
+  met : (offset comments : ℕ) → Seen
   short : Seen
 
--- The window from offset k on, of which the first n bytes belong to the piece that was read last. `pos` gives places, `meet` says
+-- The window from offset k on, of which the first n bytes belong to the piece that was read last; c comments stand in the gap behind the
+-- last row so far. `pos` gives places, `meet` says
 -- at which offsets an old row starts, moved; whole: the window ends the text.
 module _ (pos : ℕ → Cursor) (meet : ℕ → Bool) (whole : Bool) where
-  unfoldable pub look : ℕ → ℕ → List ℕ → Seen
-  look n k [] = cond whole (sees (eofRow (pos k)) (over′ ending.None)) short
-  look (suc n) k (b ∷ s) = look n (suc k) s
-  look zero k (b ∷ s) =
+  unfoldable pub look : (c n k : ℕ) → List ℕ → Seen
+  look c n k [] = cond whole (sees (eofRow (pos k) c) (over′ ending.None)) short
+  look c (suc n) k (b ∷ s) = look c n (suc k) s
+  look c zero k (b ∷ s) =
       elim (meet k && not (opens (b ∷ s))) [
-        | true ↦ met k
+        | true ↦ met k c
         | false ↦ elim (item whole (b ∷ s)) [
           | known p ↦ elim p [
-            | blank ↦ look zero (suc k) s
-            | comment n d ↦ look (pred n) (suc k) s
-            | row kind n bits d ↦ sees (rowAt (pos k) kind (k + n) bits) (look (pred n) (suc k) s)
+            | blank ↦ look c zero (suc k) s
+            | comment n d ↦ look (suc c) (pred n) (suc k) s
+            | row kind n bits d ↦ sees (rowAt (pos k) c kind (k + n) bits) (look zero (pred n) (suc k) s)
             | refused why p d ↦ over′ (ending.Refused why (pos (k + p)))
           ]
           | end ↦ short
@@ -80,7 +82,7 @@ module _ (pos : ℕ → Cursor) (meet : ℕ → Bool) (whole : Bool) where
 unfoldable pub isShort : Seen → Bool
 isShort (sees r s) = isShort s
 isShort (over′ e) = false
-isShort (met m) = false
+isShort (met m c) = false
 isShort short = true
 
 -- ---- what follows a meeting place
@@ -114,8 +116,25 @@ carryRow o p r = record {
   column = carry o p (rowPlace r) .column .0;
   low = r .low;
   high = r .high;
-  spare = r .spare;
+  comments = r .comments;
 }
+
+-- For the meeting row the count is of the new gap.
+unfoldable pub withComments : ℕ → Row → Row
+withComments c r = record {
+  kind = r .kind;
+  start = r .start;
+  end = r .end;
+  line = r .line;
+  column = r .column;
+  low = r .low;
+  high = r .high;
+  comments = c;
+}
+
+unfoldable pub recounted : ℕ → List Row → List Row
+recounted c [] = []
+recounted c (r ∷ rs) = withComments c r ∷ rs
 
 unfoldable pub carryEnding : Cursor → Cursor → Ending → Ending
 carryEnding o p ending.None = ending.None
@@ -143,18 +162,19 @@ module _ (rows : List Row) (e : Ending) (a b n : ℕ) (w : List ℕ) where
   unfoldable pub seenRows : Seen → List Row
   seenRows (sees r s) = r ∷ seenRows s
   seenRows (over′ x) = []
-  seenRows (met m) = map (carryRow (firstPlace (from (oldOffset m) rows)) (windowPlace m)) (from (oldOffset m) rows)
+  seenRows (met m c) =
+      recounted c (map (carryRow (firstPlace (from (oldOffset m) rows)) (windowPlace m)) (from (oldOffset m) rows))
   seenRows short = []
 
   unfoldable pub seenEnding : Seen → Ending
   seenEnding (sees r s) = seenEnding s
   seenEnding (over′ x) = x
-  seenEnding (met m) = carryEnding (firstPlace (from (oldOffset m) rows)) (windowPlace m) e
+  seenEnding (met m c) = carryEnding (firstPlace (from (oldOffset m) rows)) (windowPlace m) e
   seenEnding short = ending.None
 
   -- whole: the window ends the text
   unfoldable pub seen : Bool → Seen
-  seen whole = look windowPlace meets whole 0 (begins .offset .0) w
+  seen whole = look windowPlace meets whole 0 0 (begins .offset .0) w
 
   -- The new scan's rows stand behind the kept ones.
   unfoldable pub newRows : Bool → List Row

@@ -32,7 +32,7 @@ wordsAt ws is = map (λ i. getD ws i 0) is
 
 -- the indices of a row's words, and of a node's
 pub record RowIndices (is : List ℕ) : Type 0 where
-  pub words : (r : Row) → wordsAt (rowWords r) is ≡ r .kind ∷ r .start ∷ r .end ∷ r .line ∷ r .column ∷ r .low ∷ r .high ∷ r .spare ∷ []
+  pub words : (r : Row) → wordsAt (rowWords r) is ≡ r .kind ∷ r .start ∷ r .end ∷ r .line ∷ r .column ∷ r .low ∷ r .high ∷ r .comments ∷ []
 
 pub record NodeIndices (is : List ℕ) : Type 0 where
   pub words : (n : Node) → wordsAt (nodeWords n) is ≡ n .kind ∷ n .place ∷ n .name ∷ n .children ∷ n .fact0 ∷ n .fact1 ∷ n .fact2 ∷ n .fact3 ∷ []

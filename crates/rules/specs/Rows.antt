@@ -23,7 +23,7 @@ pub record Row : Type 0 where
   pub column : ℕ
   pub low : ℕ
   pub high : ℕ
-  pub spare : ℕ
+  pub comments : ℕ
 
 -- the index of each word but the first
 abbrev pub atStart : ℕ
@@ -44,12 +44,12 @@ atLow = 5
 abbrev pub atHigh : ℕ
 atHigh = 6
 
-abbrev pub atSpare : ℕ
-atSpare = 7
+abbrev pub atComments : ℕ
+atComments = 7
 
 unfoldable pub rowWords : Row → List ℕ
 rowWords r =
-    r .kind ∷ r .start ∷ r .end ∷ r .line ∷ r .column ∷ r .low ∷ r .high ∷ r .spare ∷ []
+    r .kind ∷ r .start ∷ r .end ∷ r .line ∷ r .column ∷ r .low ∷ r .high ∷ r .comments ∷ []
 
 -- the row that stands at the front of a list of words
 unfoldable pub rowIn : List ℕ → Row
@@ -61,7 +61,7 @@ rowIn ws = record {
   column = getD ws atColumn 0;
   low = getD ws atLow 0;
   high = getD ws atHigh 0;
-  spare = getD ws atSpare 0;
+  comments = getD ws atComments 0;
 }
 
 -- row i of a list of words
@@ -84,9 +84,9 @@ bitsOf negative v = cond negative ((2 ^ 64 - v) % 2 ^ 64) v
 unfoldable pub valueBits : Row → ℕ
 valueBits r = r .high * 2 ^ 32 + r .low
 
--- the row of a kind and value that starts at a place and ends at e
-unfoldable pub rowAt : Cursor → ℕ → ℕ → ℕ → Row
-rowAt p kind e bits = record {
+-- the row of a kind and value that starts at a place, with c comments in the gap before it, and ends at e
+unfoldable pub rowAt : Cursor → (c kind e bits : ℕ) → Row
+rowAt p c kind e bits = record {
   kind = kind;
   start = p .offset .0;
   end = e;
@@ -94,11 +94,11 @@ rowAt p kind e bits = record {
   column = p .column .0;
   low = bits % 2 ^ 32;
   high = bits / 2 ^ 32;
-  spare = 0;
+  comments = c;
 }
 
-unfoldable pub eofRow : Cursor → Row
-eofRow p = rowAt p Eof (p .offset .0) 0
+unfoldable pub eofRow : Cursor → ℕ → Row
+eofRow p c = rowAt p c Eof (p .offset .0) 0
 
 -- where a row starts
 unfoldable pub rowPlace : Row → Cursor
@@ -146,11 +146,19 @@ linesFit p q =
 
 unfoldable pub rowFits : Row → Bool
 rowFits r =
-    ((isMade (r .kind) && eqb (r .spare) 0) && valueFits r) && (spansFit r && placeFits (rowPlace r))
+    (isMade (r .kind) && valueFits r) && (spansFit r && placeFits (rowPlace r))
 
 -- in order without overlap
 unfoldable pub follows : Row → Row → Bool
 follows r q = leb (r .end) (q .start) && linesFit (rowPlace r) (rowPlace q)
+
+-- A row's comments are at most half of its gap's length: the gap lies between the end of the row before it, or 0, and its start.
+unfoldable pub gapFits : ℕ → Row → Bool
+gapFits e r = leb (r .comments) ((r .start - e) / 2)
+
+unfoldable pub gapsFit : ℕ → List Row → Bool
+gapsFit e [] = true
+gapsFit e (r ∷ rs) = gapFits e r && gapsFit (r .end) rs
 
 -- A refused ending's place is between the last row's end and the length, under the same line rules. `lastRow` has the last row, if there is one.
 unfoldable pub lastRow : List Row → List Row
@@ -178,7 +186,7 @@ endingFits n rows (Refused why p) =
 
 -- the rows and ending of a table over so many bytes
 unfoldable pub rowsFit : ℕ → List Row → Ending → Bool
-rowsFit n rows ending = every rowFits rows && (chained follows rows && endingFits n rows ending)
+rowsFit n rows ending = every rowFits rows && (chained follows rows && (gapsFit 0 rows && endingFits n rows ending))
 
 -- "It is well formed if the count's rows are lent .."
 unfoldable pub wellFormed : List ℕ → Table → Bool

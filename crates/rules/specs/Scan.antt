@@ -32,21 +32,22 @@ readEnding (put r l) = readEnding l
 readEnding ends = ending.None
 readEnding (stops why p d) = ending.Refused why p
 
--- The bytes from offset k on, of which the first n belong to the piece that was read last. `pos` gives places.
+-- The bytes from offset k on, of which the first n belong to the piece that was read last; c comments stand in the gap behind the last
+-- row so far. `pos` gives places.
 module _ (pos : ℕ → Cursor) where
-  unfoldable pub read : ℕ → ℕ → List ℕ → Reading
-  read n k [] = put (eofRow (pos k)) ends
-  read (suc n) k (b ∷ s) = read n (suc k) s
-  read zero k (b ∷ s) =
+  unfoldable pub read : (c n k : ℕ) → List ℕ → Reading
+  read c n k [] = put (eofRow (pos k) c) ends
+  read c (suc n) k (b ∷ s) = read c n (suc k) s
+  read c zero k (b ∷ s) =
       elim (piece (b ∷ s)) [
-        | blank ↦ read zero (suc k) s
-        | comment n d ↦ read (pred n) (suc k) s
-        | row kind n bits d ↦ put (rowAt (pos k) kind (k + n) bits) (read (pred n) (suc k) s)
+        | blank ↦ read c zero (suc k) s
+        | comment n d ↦ read (suc c) (pred n) (suc k) s
+        | row kind n bits d ↦ put (rowAt (pos k) c kind (k + n) bits) (read zero (pred n) (suc k) s)
         | refused why p d ↦ stops why (pos (k + p)) (k + d)
       ]
 
 unfoldable pub scan : List ℕ → Reading
-scan t = read (placeAt t) 0 0 t
+scan t = read (placeAt t) 0 0 0 t
 
 -- ---- the answer, and the lent words afterwards
 

@@ -1,4 +1,4 @@
-// A row's words, by their index: kind, start, end, line, column, value low, value high, and one that is zero.
+// A row's words, by their index: kind, start, end, line, column, value low, value high, and how many comments stand in the gap before it.
 ghost use Rattle.rules.specs.Names.{RowIndices};
 
 pub const WORDS: usize = 8;
@@ -17,11 +17,11 @@ pub const LOW: usize = 5;
 
 pub const HIGH: usize = 6;
 
-pub const SPARE: usize = 7;
+pub const COMMENTS: usize = 7;
 
 // Each has what its name says.
 pub fn all() -> [usize; WORDS]
     ensures { λ r. ⌜ RowIndices r ⌝ }
 {
-    [KIND, START, END, LINE, COLUMN, LOW, HIGH, SPARE]
+    [KIND, START, END, LINE, COLUMN, LOW, HIGH, COMMENTS]
 }
