@@ -44,10 +44,9 @@ rowBefore ws i = cond (eqb i 0) (rowIn []) (rowNo ws (i - 1))
 unfoldable pub fitsAfter : Rows.Row → Rows.Row → Bool
 fitsAfter r q = follows r q && gapFits (r .end) q
 
--- row i follows the row before it, if there is one, and its comments fit the gap before it
+-- row i fits after the row before it; the first row's gap starts at 0
 unfoldable pub joined : List ℕ → ℕ → Bool
-joined ws i =
-    cond (eqb i 0) true (follows (rowNo ws (i - 1)) (rowNo ws i)) && gapFits (rowBefore ws i .end) (rowNo ws i)
+joined ws i = cond (eqb i 0) (gapFits 0 (rowNo ws i)) (fitsAfter (rowNo ws (i - 1)) (rowNo ws i))
 
 -- row i fits where it stands, and is not Eof
 unfoldable pub stands : List ℕ → ℕ → Bool
