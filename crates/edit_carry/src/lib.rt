@@ -7,11 +7,9 @@ use rules::Line;
 use rules::Offset;
 use rules::row;
 ghost use mathlib.Core.Path.{_≡_};
-ghost use mathlib.Core.Bool.{cond};
 ghost use mathlib.Core.List.{_++_, map};
 ghost use Prim.Native.Nat.{ℕ, suc, _+_, _-_, _*_, _≤_, _<_};
 ghost use lib.ListN.{length, drop};
-ghost use lib.Dec.{eqb};
 ghost use Rattle.rules.specs.Text.{startPlace};
 ghost use Rattle.rules.specs.Rows.{rowWords, rowsIn, wordsOf};
 ghost use Rattle.rules.specs.Edit.{kept, lastEnd, carry, carryRow, carryEnding, withComments, recounted};
@@ -111,7 +109,8 @@ pub fn carry_ending(e: Ending, o: Cursor, p: Cursor) -> Ending
 // How many comments a moved row has before it, by its number among the moved ones: the first as many as stand in its new gap, any other
 // as many as it had.
 fn count_of(i: usize, comments: u32, had: u32) -> u32
-    ensures { λ r. ⌜ r ≡ cond (eqb i 0) comments had ⌝ }
+    ensures first { λ r. ⌜ (i ≡ 0 → r ≡ comments) ⌝ }
+    ensures other { λ r. ⌜ (0 < i → r ≡ had) ⌝ }
 {
     if i == 0 {
         return comments;
