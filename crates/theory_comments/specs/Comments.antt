@@ -2,7 +2,7 @@
 -- quote is passed over (a backslash takes the next byte along), any other byte alone.
 use mathlib.Core.Bool.{Bool, true, false, _&&_}
 use mathlib.Core.List.{List, [], _∷_}
-use Prim.Native.Nat.{ℕ, zero, suc, _+_}
+use Prim.Native.Nat.{ℕ, suc, _+_}
 use lib.ListN.{getD}
 use lib.Dec.{eqb}
 use Rattle.rules.specs.Text.{byte}
@@ -13,7 +13,7 @@ use Rattle.rules.specs.Rows.{Row}
 pub data Inside : Type 0 where
   code line star block slash string escaped : Inside
 
--- x is the byte b, and y stands behind it
+-- b is x, and y stands behind it
 abbrev pub pair : ℕ → ℕ → ℕ → List ℕ → Bool
 pair x y b s = eqb b x && eqb (getD s 0 0) y
 

@@ -14,7 +14,7 @@ use Rattle.rules.specs.declared.Ending.{Ending}
 use Rattle.rules.specs.Text.{placeAt}
 use Rattle.rules.specs.Rows.{Row}
 use Rattle.rules.specs.Scan.{Reading, put, readRows, readEnding, scan}
-use Rattle.rules.specs.Edit.{kept, restart, from, firstPlace, carryRow, carryEnding, meets, windowPlace, Seen, sees, over′, met, short, isShort, seenRows, seenEnding}
+use Rattle.rules.specs.Edit.{kept, restart, from, firstPlace, carryRow, carryEnding, recounted, meets, windowPlace, Seen, sees, over′, met, short, isShort, seenRows, seenEnding}
 use Rattle.theory_machine.specs.Machine.{gap, run}
 use Rattle.theory_edits.specs.Shows.{Shows, meeting, refusal}
 use Rattle.theory_edits.proofs.Stand.{At, at-same, rest, rest-at, puts, puts-rows, puts-ending}
@@ -24,15 +24,16 @@ use Rattle.theory_edits.proofs.Look.{lookBytes, fillRows, fillEnding, S
 use Rattle.theory_edits.proofs.Flat.{Flat, flat-put, flat-ends, flat-stops, scan-flat}
 use Rattle.theory_edits.proofs.Short
 use Rattle.theory_edits.proofs.Short.{Quiet, quiet-put, waits, short-quiet, Meets, row-starts, meets-puts, part-meets, quiet-shows}
-use Rattle.theory_edits.proofs.Meeting.{restart-place, meets-is, meets-behind, meets-starts, follows, starts-there, plain}
+use Rattle.theory_edits.proofs.Meeting.{restart-place, meets-is, meets-behind, meets-starts, follows, plain}
 
 -- the window's scan by the machine
 unfoldable pub seenBytes : List Row → Ending → (a b n : ℕ) → List ℕ → Bool → Seen
-seenBytes rows e a b n w whole = lookBytes (windowPlace rows e a b n w) (meets rows e a b n w) whole w (restart rows a .offset .0) 0 gap
+seenBytes rows e a b n w whole = lookBytes (windowPlace rows e a b n w) (meets rows e a b n w) whole w 0 (restart rows a .offset .0) 0 gap
 
 module _ (rows : List Row) (e : Ending) (a b n : ℕ) (w : List ℕ) where
-  abbrev rowsFrom : ℕ → List Row
-  rowsFrom m = map (carryRow (firstPlace (from (m + b - (a + n)) rows)) (windowPlace rows e a b n w m)) (from (m + b - (a + n)) rows)
+  abbrev rowsFrom : (m c : ℕ) → List Row
+  rowsFrom m c =
+      recounted c (map (carryRow (firstPlace (from (m + b - (a + n)) rows)) (windowPlace rows e a b n w m)) (from (m + b - (a + n)) rows))
 
   abbrev endingFrom : ℕ → Ending
   endingFrom m = carryEnding (firstPlace (from (m + b - (a + n)) rows)) (windowPlace rows e a b n w m) e
@@ -41,14 +42,14 @@ module _ (rows : List Row) (e : Ending) (a b n : ℕ) (w : List ℕ) where
   unfolding seenRows fillRows
   seen-rows (sees r s) = ap (λ (l : List Row). r ∷ l) (seen-rows s)
   seen-rows (over′ x) = refl
-  seen-rows (met m) = refl
+  seen-rows (met m c) = refl
   seen-rows short = refl
 
   seen-ending : (s : Seen) → seenEnding rows e a b n w s ≡ fillEnding endingFrom s
   unfolding seenEnding fillEnding
   seen-ending (sees r s) = seen-ending s
   seen-ending (over′ x) = refl
-  seen-ending (met m) = refl
+  seen-ending (met m c) = refl
   seen-ending short = refl
 
 -- the kept rows show nothing: they start before a
@@ -106,33 +107,37 @@ module _ (p o i q w z : List ℕ) where
     unfolding windowPlace
     agree m l h = place-window T′ w z s0 (d .text) _ (restart-place p o i q) m l h
 
-    rows-meet : (m : ℕ) → s0 ≤ m → m < hi → meet m ≡ true → readRows (rest T′ m) ≡ rowsFrom rows e a b n w m
-    rows-meet m l h t = rw (agree m l (omega arith)) at (follows p o i q w m t .rows-follow)
+    rows-meet : (m c : ℕ) → s0 ≤ m → m < hi → meet m ≡ true → readRows (rest T′ c m) ≡ rowsFrom rows e a b n w m c
+    rows-meet m c l h t = rw (agree m l (omega arith)) at (follows p o i q w m t c .rows-follow)
 
-    ending-meets : (m : ℕ) → s0 ≤ m → m < hi → meet m ≡ true → readEnding (rest T′ m) ≡ endingFrom rows e a b n w m
-    ending-meets m l h t = rw (agree m l (omega arith)) at (follows p o i q w m t .ending-follows)
+    ending-meets : (m c : ℕ) → s0 ≤ m → m < hi → meet m ≡ true → readEnding (rest T′ c m) ≡ endingFrom rows e a b n w m
+    ending-meets m c l h t = rw (agree m l (omega arith)) at (follows p o i q w m t c .ending-follows)
 
-    behind-kept : scan T′ ≡ puts (kept a rows) (run (placeAt T′) (w ++ z) s0 0 gap)
-    behind-kept = kept-scan p (o ++ q) (i ++ q) ∙ ap (puts (kept a rows)) (rest-at d)
+    -- the scan of the new text from the restart place on, where no comment is counted
+    abbrev goesOn : Reading
+    goesOn = run (placeAt T′) (w ++ z) 0 s0 0 gap
+
+    behind-kept : scan T′ ≡ puts (kept a rows) goesOn
+    behind-kept = kept-scan p (o ++ q) (i ++ q) ∙ ap (puts (kept a rows)) (rest-at 0 d)
 
     module _ (whole : Bool) (ends-text : whole ≡ true → z ≡ []) where
-      says : Says (rowsFrom rows e a b n w) (endingFrom rows e a b n w) (bytes whole) (run (placeAt T′) (w ++ z) s0 0 gap)
+      says : Says (rowsFrom rows e a b n w) (endingFrom rows e a b n w) (bytes whole) goesOn
       unfolding seenBytes
       says =
-          look-says T′ pos s0 hi agree meet _ _ rows-meet ending-meets whole w z ends-text s0 0 gap (le-refl s0) (omega arith) (at-same d (omega arith))
+          look-says T′ pos s0 hi agree meet _ _ rows-meet ending-meets whole w z ends-text 0 s0 0 gap (le-refl s0) (omega arith) (at-same d (omega arith))
 
       pub fresh-rows : isShort (bytes whole) ≡ false
           → kept a rows ++ seenRows rows e a b n w (bytes whole) ≡ readRows (scan T′)
       fresh-rows h =
           ap (λ (l : List Row). kept a rows ++ l) (seen-rows _ _ _ _ _ w (bytes whole) ∙ sym (says .rows h))
-          ∙ sym (puts-rows (kept a rows) (run (placeAt T′) (w ++ z) s0 0 gap))
+          ∙ sym (puts-rows (kept a rows) goesOn)
           ∙ ap readRows (sym behind-kept)
 
       pub fresh-ending : isShort (bytes whole) ≡ false
           → seenEnding rows e a b n w (bytes whole) ≡ readEnding (scan T′)
       fresh-ending h =
           seen-ending _ _ _ _ _ w (bytes whole) ∙ sym (says .ending h)
-          ∙ sym (puts-ending (kept a rows) (run (placeAt T′) (w ++ z) s0 0 gap))
+          ∙ sym (puts-ending (kept a rows) goesOn)
           ∙ ap readEnding (sym behind-kept)
 
     before : (m : ℕ) → m < a → meet m ≡ false
@@ -156,11 +161,11 @@ module _ (p o i q w z : List ℕ) where
     short-none whole h x =
         quiet-shows
         (rw behind-kept (quiet-kept meet hi a before (scan-flat T) _
-        (short-quiet T′ meet hi pos (plain p o i q w) whole w z s0 0 gap (omega arith) (at-same d (omega arith)) (waits refl) h)))
+        (short-quiet T′ meet hi pos (plain p o i q w) whole w z 0 s0 0 gap (omega arith) (at-same d (omega arith)) (waits refl) h)))
         (of-shows x)
 
     pub part-shows : isShort (bytes false) ≡ false → Shown
     unfolding seenBytes
     part-shows h =
         to-shows (rw behind-kept (meets-puts (kept a rows)
-        (part-meets T′ pos meet hi (starts-there p o i q w) w z s0 0 gap (omega arith) (at-same d (omega arith)) h)))
+        (part-meets T′ pos meet hi (λ m t c. follows p o i q w m t c .starts-there) w z 0 s0 0 gap (omega arith) (at-same d (omega arith)) h)))

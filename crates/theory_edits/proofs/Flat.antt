@@ -15,7 +15,7 @@ use Rattle.rules.specs.Text.{placeAt, moved, along}
 use Rattle.rules.specs.Rows.{Row, rowAt, eofRow}
 use Rattle.rules.specs.Scan.{Reading, put, ends, stops, scan}
 use Rattle.rules.specs.Edit.{endPlace}
-use Rattle.theory_machine.specs.Machine.{Token, St, gap, First, go, clear, over, bad, Spot, Move, fresh, on, back, Last, clean, ended, cut, begin, step, finish, after, move, close, run, scanBytes}
+use Rattle.theory_machine.specs.Machine.{Token, St, gap, First, go, clear, over, bad, Spot, Move, fresh, on, back, Last, clean, ended, cut, begin, step, finish, passed, after, move, close, run, scanBytes}
 use Rattle.theory_machine.proofs.Same.{same-scan}
 use Rattle.theory_edits.proofs.Steps.{comment, stays, halts, ceases, closes, comment-stays, newline-ceases, newline-begins, comment-closes}
 use Rattle.theory_edits.proofs.Stand.{At, at-next, at-same}
@@ -47,17 +47,17 @@ module _ (T : List ℕ) where
   unfolding along moved
   on-next s t k b d q h = rw (add-suc t k, place-next s (t + k) b d, h, moved, q) (place-eq _ _ (omega arith) refl (omega arith))
 
-  flat-row : (x : Token) (t k : ℕ) (l : Reading) → On t k → Flat l → Flat (put (rowAt (placeAt T t) (x .kind) (t + k) (x .bits)) l)
+  flat-row : (c : ℕ) (x : Token) (t k : ℕ) (l : Reading) → On t k → Flat l → Flat (put (rowAt (placeAt T t) c (x .kind) (t + k) (x .bits)) l)
   unfolding rowAt endPlace along placeAt
-  flat-row x t k l h f =
+  flat-row c x t k l h f =
       let n : t ≤ t + k = omega arith in
       let m : t + k - t ≡ k = omega arith in
-      flat-put {r = rowAt (placeAt T t) (x .kind) (t + k) (x .bits)} n
-      (place-eq _ _ refl (ap (λ (c : Cursor). c .line .0) (sym h)) (rw m (ap (λ (c : Cursor). c .column .0) (sym h)))) f
+      flat-put {r = rowAt (placeAt T t) c (x .kind) (t + k) (x .bits)} n
+      (place-eq _ _ refl (ap (λ (y : Cursor). y .line .0) (sym h)) (rw m (ap (λ (y : Cursor). y .column .0) (sym h)))) f
 
-  flat-eof : (n : ℕ) → Flat (put (eofRow (placeAt T n)) ends)
+  flat-eof : (c n : ℕ) → Flat (put (eofRow (placeAt T n) c) ends)
   unfolding eofRow rowAt endPlace placeAt
-  flat-eof n = let l : n ≤ n = omega arith in flat-put {r = eofRow (placeAt T n)} l (place-eq _ _ refl refl (omega arith)) flat-ends
+  flat-eof c n = let l : n ≤ n = omega arith in flat-put {r = eofRow (placeAt T n) c} l (place-eq _ _ refl refl (omega arith)) flat-ends
 
   data Ok (t k : ℕ) (st : St) : Type 0 where
     away : comment st ≡ true → Ok t k st
@@ -95,45 +95,49 @@ module _ (T : List ℕ) where
   begin-newline : (b : ℕ) → b ≡ 10 → halts (begin b) ≡ true
   begin-newline b e = rw e newline-begins
 
-  module _ (s : List ℕ) (r : ℕ → ℕ → St → Reading) (ih : (t k : ℕ) (st : St) → At T s (t + k) → Ok t k st → Flat (r t k st)) where
-    after-flat : (t k : ℕ) (x : First) → At T s (t + suc k) → Led t k x → Flat (after (placeAt T) r t k x)
+  module _ (s : List ℕ) (r : (c t k : ℕ) → St → Reading) (ih : (c t k : ℕ) (st : St) → At T s (t + k) → Ok t k st → Flat (r c t k st)) where
+    -- behind a piece
+    next-flat : (c n : ℕ) → At T s n → Flat (r c n 0 gap)
+    next-flat c n d = ih c n 0 gap (at-same d (omega arith)) (near (on-none n))
+
+    after-flat : (c t k : ℕ) (x : First) → At T s (t + suc k) → Led t k x → Flat (after (placeAt T) r c t k x)
     unfolding after
-    after-flat t k (go st) d (gone o) = ih t (suc k) st d o
-    after-flat t k clear d cleared = ih (t + suc k) 0 gap (at-same d (omega arith)) (near (on-none (t + suc k)))
-    after-flat t k (over x) d (whole o) = flat-row x t (suc k) _ o (ih (t + suc k) 0 gap (at-same d (omega arith)) (near (on-none (t + suc k))))
-    after-flat t k (bad why x) d fell = flat-stops
+    after-flat c t k (go st) d (gone o) = ih c t (suc k) st d o
+    after-flat c t k clear d cleared = next-flat (passed c k) (t + suc k) d
+    after-flat c t k (over x) d (whole o) = flat-row c x t (suc k) _ o (next-flat 0 (t + suc k) d)
+    after-flat c t k (bad why x) d fell = flat-stops
 
-    begin-flat : (b n : ℕ) → At T (b ∷ s) n → Flat (after (placeAt T) r n 0 (begin b))
-    begin-flat b n d =
-        after-flat n 0 (begin b) (at-next d (omega arith)) (led-near s n 0 b (begin b) (at-same d (omega arith)) (begin-newline b) (on-none n))
+    begin-flat : (b c n : ℕ) → At T (b ∷ s) n → Flat (after (placeAt T) r c n 0 (begin b))
+    begin-flat b c n d =
+        after-flat c n 0 (begin b) (at-next d (omega arith)) (led-near s n 0 b (begin b) (at-same d (omega arith)) (begin-newline b) (on-none n))
 
-    move-flat : (b t k : ℕ) (st : St) (m : Move) → step st k b ≡ m → At T (b ∷ s) (t + k) → Ok t k st → Flat (move (placeAt T) r b t k m)
+    move-flat : (b c t k : ℕ) (st : St) (m : Move) → step st k b ≡ m → At T (b ∷ s) (t + k) → Ok t k st → Flat (move (placeAt T) r b c t k m)
     unfolding move ceases stays
-    move-flat b t k st fresh e d o = begin-flat b (t + k) d
-    move-flat b t k st (on x) e d (away o) = after-flat t k x (at-next d (omega arith)) (led-away t k x (rw e at (comment-stays st k b o)))
-    move-flat b t k st (on x) e d (near o) = after-flat t k x (at-next d (omega arith)) (by (comment st) refl)
+    move-flat b c t k st fresh e d o = begin-flat b (passed c k) (t + k) d
+    move-flat b c t k st (on x) e d (away o) = after-flat c t k x (at-next d (omega arith)) (led-away t k x (rw e at (comment-stays st k b o)))
+    move-flat b c t k st (on x) e d (near o) = after-flat c t k x (at-next d (omega arith)) (by (comment st) refl)
       where
         by : (q : Bool) → comment st ≡ q → Led t k x
         by true q = led-away t k x (rw e at (comment-stays st k b q))
         by false q = led-near s t k b x d (λ n. rw e at (subst (λ (y : ℕ). ceases (step st k y) ≡ true) (sym n) (newline-ceases st k q))) o
-    move-flat b t k st (back x) e d (away o) = absurd (true≢false (sym (rw e at (comment-stays st k b o))))
-    move-flat b t k st (back x) e d (near o) = flat-row x t k _ o (begin-flat b (t + k) d)
+    move-flat b c t k st (back x) e d (away o) = absurd (true≢false (sym (rw e at (comment-stays st k b o))))
+    move-flat b c t k st (back x) e d (near o) = flat-row c x t k _ o (begin-flat b 0 (t + k) d)
 
-  close-flat : (t k : ℕ) (st : St) (x : Last) → finish st k ≡ x → At T [] (t + k) → Ok t k st → Flat (close (placeAt T) t k x)
+  close-flat : (c t k : ℕ) (st : St) (x : Last) → finish st k ≡ x → At T [] (t + k) → Ok t k st → Flat (close (placeAt T) c t k x)
   unfolding close closes
-  close-flat t k st clean e d o = flat-eof (t + k)
-  close-flat t k st (ended x) e d (away o) = absurd (true≢false (sym (rw e at (comment-closes st k o))))
-  close-flat t k st (ended x) e d (near o) = flat-row x t k _ o (flat-eof (t + k))
-  close-flat t k st (cut why x) e d o = flat-stops
+  close-flat c t k st clean e d o = flat-eof (passed c k) (t + k)
+  close-flat c t k st (ended x) e d (away o) = absurd (true≢false (sym (rw e at (comment-closes st k o))))
+  close-flat c t k st (ended x) e d (near o) = flat-row c x t k _ o (flat-eof 0 (t + k))
+  close-flat c t k st (cut why x) e d o = flat-stops
 
-  run-flat : (s : List ℕ) (t k : ℕ) (st : St) → At T s (t + k) → Ok t k st → Flat (run (placeAt T) s t k st)
+  run-flat : (s : List ℕ) (c t k : ℕ) (st : St) → At T s (t + k) → Ok t k st → Flat (run (placeAt T) s c t k st)
   unfolding run
-  run-flat [] t k st d o = close-flat t k st (finish st k) refl d o
-  run-flat (b ∷ s) t k st d o = move-flat s (run (placeAt T) s) (run-flat s) b t k st (step st k b) refl d o
+  run-flat [] c t k st d o = close-flat c t k st (finish st k) refl d o
+  run-flat (b ∷ s) c t k st d o = move-flat s (run (placeAt T) s) (run-flat s) b c t k st (step st k b) refl d o
 
   bytes-flat : Flat (scanBytes T)
   unfolding scanBytes
-  bytes-flat = run-flat T 0 0 gap (record { text = refl }) (near (on-none 0))
+  bytes-flat = run-flat T 0 0 0 gap (record { text = refl }) (near (on-none 0))
 
   pub scan-flat : Flat (scan T)
   scan-flat = rw (same-scan T) at bytes-flat

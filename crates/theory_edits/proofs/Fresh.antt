@@ -25,7 +25,7 @@ use Rattle.theory_edits.proofs.Bytes.{seenBytes, fresh-rows, fresh-endi
 
 same-seen : (rows : List Row) (e : Ending) (a b n : ℕ) (w : List ℕ) (whole : Bool) → seen rows e a b n w whole ≡ seenBytes rows e a b n w whole
 unfolding seen seenBytes
-same-seen rows e a b n w whole = same-look _ _ whole w _
+same-seen rows e a b n w whole = same-look _ _ whole w 0 _
 
 pub empty : (z : List ℕ) → length z ≡ 0 → z ≡ []
 empty [] h = refl
@@ -88,7 +88,7 @@ module _ (c : Change) where
 
     never : shortBytes true ≡ false
     unfolding seenBytes
-    never = never-short _ _ w _ 0 _
+    never = never-short _ _ w 0 _ 0 _
 
     too-short : isShort c w ≡ true → Unmet c w
     too-short h = by whole refl (sym short-is ∙ h)

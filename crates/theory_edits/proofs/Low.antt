@@ -22,7 +22,7 @@ use Rattle.rules.specs.Edit.{kept, endPlace, lastEnd, restart}
 use Rattle.laws.proofs.Tests.{both-true, either}
 use Rattle.laws.proofs.Spelled.{same-eq}
 use Rattle.laws.proofs.Valid.{valid-both, valid-sides, valid-nil, valid-one}
-use Rattle.theory_machine.specs.Machine.{Token, St, gap, slash, line, block, star, minus, str, esc, two, name, zer, hex0, dec, hex, Spot, First, go, clear, over, bad, Move, fresh, on, back, Last, clean, ended, cut, number, numberEnd, oneSign, twoSign, begin, step, finish, after, move, close, run, scanBytes}
+use Rattle.theory_machine.specs.Machine.{Token, St, gap, slash, line, block, star, minus, str, esc, two, name, zer, hex0, dec, hex, Spot, First, go, clear, over, bad, Move, fresh, on, back, Last, clean, ended, cut, number, numberEnd, oneSign, twoSign, begin, step, finish, passed, after, move, close, run, scanBytes}
 use Rattle.theory_machine.proofs.Same.{same-scan}
 use Rattle.theory_edits.proofs.Stand.{At, at-next, at-same}
 
@@ -260,62 +260,65 @@ module _ (T : List ℕ) where
     none : Marked t gap 0
     grown : {st : St} {k : ℕ} → Low t → (held st ≡ false → Low (t + k)) → Marked t st (suc k)
 
-  closed-token : (x : Token) (t k : ℕ) (l : Reading) → Low t → Low (t + k) → Closed l
-      → Closed (put (rowAt (placeAt T t) (x .kind) (t + suc k) (x .bits)) l)
+  closed-token : (c : ℕ) (x : Token) (t k : ℕ) (l : Reading) → Low t → Low (t + k) → Closed l
+      → Closed (put (rowAt (placeAt T t) c (x .kind) (t + suc k) (x .bits)) l)
   unfolding rowAt placeAt
-  closed-token x t k l f g c =
+  closed-token c x t k l f g y =
       let e : t + suc k ≡ suc (t + k) = omega arith in
-      closed-row {r = rowAt (placeAt T t) (x .kind) (t + suc k) (x .bits)} f g e c
+      closed-row {r = rowAt (placeAt T t) c (x .kind) (t + suc k) (x .bits)} f g e y
 
-  closed-end : (n : ℕ) → n ≡ length T → Closed (put (eofRow (placeAt T n)) ends)
+  closed-end : (c n : ℕ) → n ≡ length T → Closed (put (eofRow (placeAt T n) c) ends)
   unfolding eofRow rowAt placeAt
-  closed-end n e = closed-eof {r = eofRow (placeAt T n)} e e
+  closed-end c n e = closed-eof {r = eofRow (placeAt T n) c} e e
 
-  module _ (s : List ℕ) (r : ℕ → ℕ → St → Reading)
-      (ih : (t k : ℕ) (st : St) → t + k + length s ≡ length T → At T s (t + k) → Marked t st k → Closed (r t k st)) where
-    after-closed : (t k b : ℕ) (x : First) → t + k + suc (length s) ≡ length T → At T (b ∷ s) (t + k) → Taken t b x
-        → Closed (after (placeAt T) r t k x)
+  module _ (s : List ℕ) (r : (c t k : ℕ) → St → Reading)
+      (ih : (c t k : ℕ) (st : St) → t + k + length s ≡ length T → At T s (t + k) → Marked t st k → Closed (r c t k st)) where
+    -- behind a piece whose last byte is b
+    next-closed : (c n k b : ℕ) → n + k + suc (length s) ≡ length T → At T (b ∷ s) (n + k) → Closed (r c (n + suc k) 0 gap)
+    next-closed c n k b e d = ih c (n + suc k) 0 gap (omega arith) (at-next d (omega arith)) none
+
+    after-closed : (c t k b : ℕ) (x : First) → t + k + suc (length s) ≡ length T → At T (b ∷ s) (t + k) → Taken t b x
+        → Closed (after (placeAt T) r c t k x)
     unfolding after
-    after-closed t k b (go st) e d (taken-go l h) =
-        ih t (suc k) st (omega arith) (at-next d (omega arith)) (grown l (λ f. record { byte = b; rest = s; at = d; low = h f }))
-    after-closed t k b clear e d taken-clear = ih (t + suc k) 0 gap (omega arith) (at-next d (omega arith)) none
-    after-closed t k b (over x) e d (taken-over l h) =
-        closed-token x t k _ l (record { byte = b; rest = s; at = d; low = h })
-        (ih (t + suc k) 0 gap (omega arith) (at-next d (omega arith)) none)
-    after-closed t k b (bad why x) e d taken-bad = closed-stops
+    after-closed c t k b (go st) e d (taken-go l h) =
+        ih c t (suc k) st (omega arith) (at-next d (omega arith)) (grown l (λ f. record { byte = b; rest = s; at = d; low = h f }))
+    after-closed c t k b clear e d taken-clear = next-closed (passed c k) t k b e d
+    after-closed c t k b (over x) e d (taken-over l h) =
+        closed-token c x t k _ l (record { byte = b; rest = s; at = d; low = h }) (next-closed 0 t k b e d)
+    after-closed c t k b (bad why x) e d taken-bad = closed-stops
 
-    begin-closed : (b n : ℕ) → n + suc (length s) ≡ length T → At T (b ∷ s) n → Closed (after (placeAt T) r n 0 (begin b))
-    begin-closed b n e d =
-        after-closed n 0 b (begin b) (omega arith) (at-same d (omega arith))
+    begin-closed : (b c n : ℕ) → n + suc (length s) ≡ length T → At T (b ∷ s) n → Closed (after (placeAt T) r c n 0 (begin b))
+    begin-closed b c n e d =
+        after-closed c n 0 b (begin b) (omega arith) (at-same d (omega arith))
         (of-begin (λ h. record { byte = b; rest = s; at = d; low = h }) (begin-low b))
 
-    move-closed : (b t k : ℕ) (st : St) (m : Move) → t + suc k + suc (length s) ≡ length T → At T (b ∷ s) (t + suc k) → Low t
+    move-closed : (b c t k : ℕ) (st : St) (m : Move) → t + suc k + suc (length s) ≡ length T → At T (b ∷ s) (t + suc k) → Low t
         → (held st ≡ false → Low (t + k)) → LowMove st b m
-        → Closed (move (placeAt T) r b t (suc k) m)
+        → Closed (move (placeAt T) r b c t (suc k) m)
     unfolding move
-    move-closed b t k st fresh e d l h low-fresh = begin-closed b (t + suc k) e d
-    move-closed b t k st (on x) e d l h (low-on f) = after-closed t (suc k) b x e d (of-first l f)
-    move-closed b t k st (back x) e d l h (low-back f) = closed-token x t k _ l (h f) (begin-closed b (t + suc k) e d)
+    move-closed b c t k st fresh e d l h low-fresh = begin-closed b (passed c (suc k)) (t + suc k) e d
+    move-closed b c t k st (on x) e d l h (low-on f) = after-closed c t (suc k) b x e d (of-first l f)
+    move-closed b c t k st (back x) e d l h (low-back f) = closed-token c x t k _ l (h f) (begin-closed b 0 (t + suc k) e d)
 
-  close-closed : (t k : ℕ) (st : St) (x : Last) → t + suc k ≡ length T → Low t → (held st ≡ false → Low (t + k)) → LowLast st x
-      → Closed (close (placeAt T) t (suc k) x)
+  close-closed : (c t k : ℕ) (st : St) (x : Last) → t + suc k ≡ length T → Low t → (held st ≡ false → Low (t + k)) → LowLast st x
+      → Closed (close (placeAt T) c t (suc k) x)
   unfolding close
-  close-closed t k st clean e l h low-clean = closed-end (t + suc k) e
-  close-closed t k st (ended x) e l h (low-ended f) = closed-token x t k _ l (h f) (closed-end (t + suc k) e)
-  close-closed t k st (cut why x) e l h low-cut = closed-stops
+  close-closed c t k st clean e l h low-clean = closed-end (passed c (suc k)) (t + suc k) e
+  close-closed c t k st (ended x) e l h (low-ended f) = closed-token c x t k _ l (h f) (closed-end 0 (t + suc k) e)
+  close-closed c t k st (cut why x) e l h low-cut = closed-stops
 
-  run-closed : (s : List ℕ) (t k : ℕ) (st : St) → t + k + length s ≡ length T → At T s (t + k) → Marked t st k
-      → Closed (run (placeAt T) s t k st)
+  run-closed : (s : List ℕ) (c t k : ℕ) (st : St) → t + k + length s ≡ length T → At T s (t + k) → Marked t st k
+      → Closed (run (placeAt T) s c t k st)
   unfolding run move close step finish
-  run-closed [] t k st e d none = closed-end (t + 0) (omega arith)
-  run-closed [] t k st e d (grown {k = j} l h) = close-closed t j st (finish st (suc j)) (omega arith) l h (finish-low st (suc j))
-  run-closed (b ∷ s) t k st e d none = begin-closed s (run (placeAt T) s) (run-closed s) b (t + 0) (omega arith) d
-  run-closed (b ∷ s) t k st e d (grown {k = j} l h) =
-      move-closed s (run (placeAt T) s) (run-closed s) b t j st (step st (suc j) b) e d l h (step-low st (suc j) b)
+  run-closed [] c t k st e d none = closed-end (passed c 0) (t + 0) (omega arith)
+  run-closed [] c t k st e d (grown {k = j} l h) = close-closed c t j st (finish st (suc j)) (omega arith) l h (finish-low st (suc j))
+  run-closed (b ∷ s) c t k st e d none = begin-closed s (run (placeAt T) s) (run-closed s) b (passed c 0) (t + 0) (omega arith) d
+  run-closed (b ∷ s) c t k st e d (grown {k = j} l h) =
+      move-closed s (run (placeAt T) s) (run-closed s) b c t j st (step st (suc j) b) e d l h (step-low st (suc j) b)
 
   bytes-closed : Closed (scanBytes T)
   unfolding scanBytes
-  bytes-closed = run-closed T 0 0 gap (omega arith) (record { text = refl }) none
+  bytes-closed = run-closed T 0 0 0 gap (omega arith) (record { text = refl }) none
 
   pub scan-closed : Closed (scan T)
   scan-closed = rw (same-scan T) at bytes-closed

@@ -1,5 +1,5 @@
 -- Old bytes o between p and q become i. Where an old row starts, moved, at an offset behind the inserted bytes, the scan of the new text goes
--- on as the old one did, moved; and reading restarts at a place of the new text.
+-- on as the old one did, moved, but for the comments before that row; and reading restarts at a place of the new text.
 use Prim.Native.Nat.{ℕ, _+_, _-_, _≤_, _<_}
 use native.Mathlib.Nat.{add-assoc}
 use native.Mathlib.Omega.{arith}
@@ -15,7 +15,7 @@ use Rattle.rules.specs.declared.Ending.{Ending}
 use Rattle.rules.specs.Text.{front, newlines, lineAt, columnAt, placeAt, startPlace}
 use Rattle.rules.specs.Rows.{Row, rowPlace}
 use Rattle.rules.specs.Scan.{Reading, put, readRows, readEnding, scan}
-use Rattle.rules.specs.Edit.{kept, endPlace, lastEnd, restart, opens, from, some, firstPlace, carry, carryRow, carryEnding, meets}
+use Rattle.rules.specs.Edit.{kept, endPlace, lastEnd, restart, opens, from, some, firstPlace, carry, carryRow, carryEnding, recounted, meets}
 use Rattle.theory_machine.specs.Machine.{gap}
 use Rattle.theory_edits.specs.Shows.{Starts, first, later}
 use Rattle.laws.proofs.Tests.{both-true}
@@ -25,7 +25,7 @@ use Rattle.theory_edits.proofs.Kept.{place-agree}
 use Rattle.theory_edits.proofs.Moved.{carried, carried-rows, carried-ending, run-carried}
 use Rattle.theory_edits.proofs.From.{some-starts, starts-some, Found, nowhere, found, scan-found}
 use Rattle.theory_edits.proofs.Flat.{Flat, flat-put, flat-ends, flat-stops, scan-flat}
-use Rattle.theory_edits.proofs.Gap.{opens-none}
+use Rattle.theory_edits.proofs.Gap.{opens-none, recount, recount-rows, recount-ending, starts-recounted, rest-recount}
 
 -- ---- the place where reading restarts
 
@@ -101,11 +101,11 @@ module _ (p o i q : List ℕ) where
       let e₂ : k ≡ old m + (k - old m) = omega arith in
       ap (placeAt T′) e₁ ∙ place-carried T T′ m (old m) (k - old m) (same-rest m h) ∙ ap (λ (x : ℕ). carry (placeAt T (old m)) (placeAt T′ m) (placeAt T x)) (sym e₂)
 
-  rest-carried : (m : ℕ) → a + n ≤ m → rest T′ m ≡ carried (placeAt T (old m)) (placeAt T′ m) (rest T (old m))
+  rest-carried : (c m : ℕ) → a + n ≤ m → rest T′ c m ≡ carried (placeAt T (old m)) (placeAt T′ m) (rest T c (old m))
   unfolding rest placeAt
-  rest-carried m h =
-      let c : old m + m - old m ≡ m = omega arith in
-      rw (same-rest m h) (rw c at (run-carried T T′ (placeAt T (old m)) (placeAt T′ m) (slides m h) (drop m T′) (old m) 0 gap (omega arith)))
+  rest-carried c m h =
+      let k : old m + m - old m ≡ m = omega arith in
+      rw (same-rest m h) (rw k at (run-carried T T′ (placeAt T (old m)) (placeAt T′ m) (slides m h) (drop m T′) c (old m) 0 gap (omega arith)))
 
   -- what a meeting place is
   pub meets-is : (w : List ℕ) (m : ℕ) → a + n ≤ m → Starts (old m) rows → meets rows e a b n w m ≡ true
@@ -120,41 +120,59 @@ module _ (p o i q : List ℕ) where
   unfolding meets
   meets-starts w m h = some-starts (old m) rows (both-true (leb (a + n) m) (some (from (old m) rows)) h .1)
 
-  -- the old rows and ending that follow at m, moved
-  pub record Follows (m : ℕ) : Type 0 where
-    pub rows-follow : readRows (rest T′ m) ≡ map (carryRow (firstPlace (from (old m) rows)) (placeAt T′ m)) (from (old m) rows)
-    pub ending-follows : readEnding (rest T′ m) ≡ carryEnding (firstPlace (from (old m) rows)) (placeAt T′ m) e
+  -- what follows at m: the old rows and ending, moved
+  abbrev rowsAt : ℕ → List Row
+  rowsAt m = map (carryRow (firstPlace (from (old m) rows)) (placeAt T′ m)) (from (old m) rows)
 
-  pub follows : (w : List ℕ) (m : ℕ) → meets rows e a b n w m ≡ true → Follows m
-  unfolding some
-  follows w m h = by (scan-found T (old m))
+  abbrev endingAt : ℕ → Ending
+  endingAt m = carryEnding (firstPlace (from (old m) rows)) (placeAt T′ m) e
+
+  -- behind as many comments as the old row at m tells of, the scan of the new text gives just that
+  record Old (m : ℕ) : Type 0 where
+    count : ℕ
+    rows-same : readRows (rest T′ count m) ≡ rowsAt m
+    ending-same : readEnding (rest T′ count m) ≡ endingAt m
+    starts-same : Starts m (readRows (rest T′ count m))
+
+  old-follows : (w : List ℕ) (m : ℕ) → meets rows e a b n w m ≡ true → Old m
+  unfolding some placeAt
+  old-follows w m h = by (scan-found T (old m))
     where
       l : a + n ≤ m
       l = meets-behind w m h
 
-      by : Found T (old m) (scan T) → Follows m
-      by (nowhere c) = absurd (true≢false (sym (starts-some (meets-starts w m h)) ∙ ap some c))
-      by (found c d f) = record {
-        rows-follow = rw (f, c, rest-carried m l) (carried-rows _ _ (rest T (old m)));
-        ending-follows = rw (f, d, rest-carried m l) (carried-ending _ _ (rest T (old m)));
+      by : Found T (old m) (scan T) → Old m
+      by (nowhere g) = absurd (true≢false (sym (starts-some (meets-starts w m h)) ∙ ap some g))
+      by (found c g d f) =
+          let r : readRows (rest T′ c m) ≡ rowsAt m = rw (f, g, rest-carried c m l) (carried-rows _ _ (rest T c (old m))) in
+          record {
+            count = c;
+            rows-same = r;
+            ending-same = rw (f, d, rest-carried c m l) (carried-ending _ _ (rest T c (old m)));
+            starts-same = rw r (starts-carried _ (placeAt T′ m) (rw f (omega arith)) (meets-starts w m h));
+          }
+
+  -- behind c comments of the new gap it gives the same, the first row told of c
+  pub record Follows (c m : ℕ) : Type 0 where
+    pub rows-follow : readRows (rest T′ c m) ≡ recounted c (rowsAt m)
+    pub ending-follows : readEnding (rest T′ c m) ≡ endingAt m
+    pub starts-there : Starts m (readRows (rest T′ c m))
+
+  pub follows : (w : List ℕ) (m : ℕ) → meets rows e a b n w m ≡ true → (c : ℕ) → Follows c m
+  follows w m h c =
+      let o : Old m = old-follows w m h in
+      let f : rest T′ c m ≡ recount c (rest T′ (o .count) m) = rest-recount T′ m (o .count) c (o .starts-same) in
+      record {
+        rows-follow = ap readRows f ∙ recount-rows c _ ∙ ap (recounted c) (o .rows-same);
+        ending-follows = ap readEnding f ∙ recount-ending c _ ∙ o .ending-same;
+        starts-there = rw (f, recount-rows) (starts-recounted c (o .starts-same));
       }
 
-  -- a meeting place is a row's start in the new scan, and no gap goes on there
-  pub starts-there : (w : List ℕ) (m : ℕ) → meets rows e a b n w m ≡ true → Starts m (readRows (rest T′ m))
-  unfolding placeAt some
-  starts-there w m h = by (scan-found T (old m))
-    where
-      l : a + n ≤ m
-      l = meets-behind w m h
-
-      by : Found T (old m) (scan T) → Starts m (readRows (rest T′ m))
-      by (nowhere c) = absurd (true≢false (sym (starts-some (meets-starts w m h)) ∙ ap some c))
-      by (found c d f) = rw (follows w m h .rows-follow) (starts-carried _ (placeAt T′ m) (rw f (omega arith)) (meets-starts w m h))
-
+  -- no gap goes on at a meeting place
   pub plain : (w : List ℕ) (m x : ℕ) (s : List ℕ) → At T′ (x ∷ s) m → meets rows e a b n w m ≡ true → opens (x ∷ s) ≡ false
   unfolding some
   plain w m x s d h = by (opens (x ∷ s)) refl
     where
       by : (t : Bool) → opens (x ∷ s) ≡ t → opens (x ∷ s) ≡ false
-      by true t = absurd (true≢false (sym (starts-some (starts-there w m h)) ∙ ap some (opens-none T′ s m x d t)))
+      by true t = absurd (true≢false (sym (starts-some (follows w m h 0 .starts-there)) ∙ ap some (opens-none T′ s m x 0 d t)))
       by false t = t

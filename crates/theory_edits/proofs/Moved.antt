@@ -2,14 +2,14 @@
 use Prim.Native.Nat.{ℕ, suc, _+_, _-_, _≤_}
 use native.Mathlib.Omega.{arith}
 use mathlib.Core.List.{List, [], _∷_, map}
-use mathlib.Core.Path.{_≡_, refl, ap, ap₂, _∙_}
+use mathlib.Core.Path.{_≡_, refl, ap, ap₂}
 use Rattle.rules.specs.declared.Cursor.{Cursor}
 use Rattle.rules.specs.declared.Lexical.{Lexical}
 use Rattle.rules.specs.Text.{placeAt}
 use Rattle.rules.specs.Rows.{Row, rowAt, eofRow, rowPlace}
 use Rattle.rules.specs.Scan.{Reading, put, ends, stops, readRows, readEnding}
 use Rattle.rules.specs.Edit.{carry, carryRow, carryEnding}
-use Rattle.theory_machine.specs.Machine.{Token, St, gap, First, go, clear, over, bad, Move, fresh, on, back, Last, clean, ended, cut, spot, begin, step, finish, after, move, close, run}
+use Rattle.theory_machine.specs.Machine.{Token, St, gap, First, go, clear, over, bad, Move, fresh, on, back, Last, clean, ended, cut, spot, begin, step, finish, passed, after, move, close, run}
 
 -- a reading where what stood at o stands at p
 unfoldable pub carried : Cursor → Cursor → Reading → Reading
@@ -36,45 +36,56 @@ module _ (X X′ : List ℕ) (o p : Cursor) (slides : (n : ℕ) → o .offset .0
   f-add : (t j : ℕ) → o .offset .0 ≤ t → f t + j ≡ f (t + j)
   f-add t j h = omega arith
 
-  row-carried : (x : Token) (t j : ℕ) → o .offset .0 ≤ t
-      → rowAt (placeAt X′ (f t)) (x .kind) (f t + j) (x .bits) ≡ carryRow o p (rowAt (placeAt X t) (x .kind) (t + j) (x .bits))
+  row-carried : (c : ℕ) (x : Token) (t j : ℕ) → o .offset .0 ≤ t
+      → rowAt (placeAt X′ (f t)) c (x .kind) (f t + j) (x .bits) ≡ carryRow o p (rowAt (placeAt X t) c (x .kind) (t + j) (x .bits))
   unfolding carryRow rowAt rowPlace
-  row-carried x t j h = rw (slides t h, f-add t j h)
+  row-carried c x t j h = rw (slides t h, f-add t j h)
 
-  eof-carried : (t : ℕ) → o .offset .0 ≤ t → eofRow (placeAt X′ (f t)) ≡ carryRow o p (eofRow (placeAt X t))
+  eof-carried : (c t : ℕ) → o .offset .0 ≤ t → eofRow (placeAt X′ (f t)) c ≡ carryRow o p (eofRow (placeAt X t) c)
   unfolding carryRow rowAt eofRow rowPlace carry
-  eof-carried t h = rw (slides t h)
+  eof-carried c t h = rw (slides t h)
+
+  -- Eof behind t
+  end-carried : (c t j : ℕ) → o .offset .0 ≤ t → put (eofRow (placeAt X′ (f t + j)) c) ends ≡ carried o p (put (eofRow (placeAt X (t + j)) c) ends)
+  unfolding carried
+  end-carried c t j h = rw (f-add t j h) (ap (λ (r : Row). put r ends) (eof-carried c (t + j) (omega arith)))
 
   stops-carried : (why : Lexical) (t i k : ℕ) → o .offset .0 ≤ t
       → stops why (placeAt X′ (f t + i)) (f t + k) ≡ carried o p (stops why (placeAt X (t + i)) (t + k))
   unfolding carried
   stops-carried why t i k h = rw (f-add t i h, f-add t k h, slides (t + i) (omega arith))
 
-  module _ (r r′ : ℕ → ℕ → St → Reading) (ih : (t k : ℕ) (st : St) → o .offset .0 ≤ t → r′ (f t) k st ≡ carried o p (r t k st)) where
-    after-carried : (t k : ℕ) (x : First) → o .offset .0 ≤ t → after (placeAt X′) r′ (f t) k x ≡ carried o p (after (placeAt X) r t k x)
+  module _ (r r′ : (c t k : ℕ) → St → Reading)
+      (ih : (c t k : ℕ) (st : St) → o .offset .0 ≤ t → r′ c (f t) k st ≡ carried o p (r c t k st)) where
+    -- behind a piece of j bytes
+    next-carried : (c t j : ℕ) → o .offset .0 ≤ t → r′ c (f t + j) 0 gap ≡ carried o p (r c (t + j) 0 gap)
+    next-carried c t j h = rw (f-add t j h) (ih c (t + j) 0 gap (omega arith))
+
+    after-carried : (c t k : ℕ) (x : First) → o .offset .0 ≤ t → after (placeAt X′) r′ c (f t) k x ≡ carried o p (after (placeAt X) r c t k x)
     unfolding after carried
-    after-carried t k (go st) h = ih t (suc k) st h
-    after-carried t k clear h = rw (f-add t (suc k) h) (ih (t + suc k) 0 gap (omega arith))
-    after-carried t k (over x) h =
-        ap₂ put (row-carried x t (suc k) h) (ap (λ (n : ℕ). r′ n 0 gap) (f-add t (suc k) h) ∙ ih (t + suc k) 0 gap (omega arith))
-    after-carried t k (bad why x) h = stops-carried why t (spot x k) k h
+    after-carried c t k (go st) h = ih c t (suc k) st h
+    after-carried c t k clear h = next-carried (passed c k) t (suc k) h
+    after-carried c t k (over x) h = ap₂ put (row-carried c x t (suc k) h) (next-carried 0 t (suc k) h)
+    after-carried c t k (bad why x) h = stops-carried why t (spot x k) k h
 
-    move-carried : (b t k : ℕ) (m : Move) → o .offset .0 ≤ t → move (placeAt X′) r′ b (f t) k m ≡ carried o p (move (placeAt X) r b t k m)
+    begin-carried : (b c t k : ℕ) → o .offset .0 ≤ t
+        → after (placeAt X′) r′ c (f t + k) 0 (begin b) ≡ carried o p (after (placeAt X) r c (t + k) 0 (begin b))
+    begin-carried b c t k h = rw (f-add t k h) (after-carried c (t + k) 0 (begin b) (omega arith))
+
+    move-carried : (b c t k : ℕ) (m : Move) → o .offset .0 ≤ t → move (placeAt X′) r′ b c (f t) k m ≡ carried o p (move (placeAt X) r b c t k m)
     unfolding move carried
-    move-carried b t k fresh h = rw (f-add t k h) (after-carried (t + k) 0 (begin b) (omega arith))
-    move-carried b t k (on x) h = after-carried t k x h
-    move-carried b t k (back x) h =
-        ap₂ put (row-carried x t k h) (ap (λ (n : ℕ). after (placeAt X′) r′ n 0 (begin b)) (f-add t k h) ∙ after-carried (t + k) 0 (begin b) (omega arith))
+    move-carried b c t k fresh h = begin-carried b (passed c k) t k h
+    move-carried b c t k (on x) h = after-carried c t k x h
+    move-carried b c t k (back x) h = ap₂ put (row-carried c x t k h) (begin-carried b 0 t k h)
 
-  close-carried : (t k : ℕ) (x : Last) → o .offset .0 ≤ t → close (placeAt X′) (f t) k x ≡ carried o p (close (placeAt X) t k x)
+  close-carried : (c t k : ℕ) (x : Last) → o .offset .0 ≤ t → close (placeAt X′) c (f t) k x ≡ carried o p (close (placeAt X) c t k x)
   unfolding close carried
-  close-carried t k clean h = rw (f-add t k h) (ap (λ (r : Row). put r ends) (eof-carried (t + k) (omega arith)))
-  close-carried t k (ended x) h =
-      ap₂ put (row-carried x t k h) (ap (λ (n : ℕ). put (eofRow (placeAt X′ n)) ends) (f-add t k h) ∙ ap (λ (r : Row). put r ends) (eof-carried (t + k) (omega arith)))
-  close-carried t k (cut why x) h = stops-carried why t (spot x k) k h
+  close-carried c t k clean h = end-carried (passed c k) t k h
+  close-carried c t k (ended x) h = ap₂ put (row-carried c x t k h) (end-carried 0 t k h)
+  close-carried c t k (cut why x) h = stops-carried why t (spot x k) k h
 
-  pub run-carried : (s : List ℕ) (t k : ℕ) (st : St) → o .offset .0 ≤ t
-      → run (placeAt X′) s (t + p .offset .0 - o .offset .0) k st ≡ carried o p (run (placeAt X) s t k st)
+  pub run-carried : (s : List ℕ) (c t k : ℕ) (st : St) → o .offset .0 ≤ t
+      → run (placeAt X′) s c (t + p .offset .0 - o .offset .0) k st ≡ carried o p (run (placeAt X) s c t k st)
   unfolding run
-  run-carried [] t k st h = close-carried t k (finish st k) h
-  run-carried (b ∷ s) t k st h = move-carried (run (placeAt X) s) (run (placeAt X′) s) (run-carried s) b t k (step st k b) h
+  run-carried [] c t k st h = close-carried c t k (finish st k) h
+  run-carried (b ∷ s) c t k st h = move-carried (run (placeAt X) s) (run (placeAt X′) s) (run-carried s) b c t k (step st k b) h

@@ -11,11 +11,12 @@ use Rattle.rules.specs.Text.{placeAt}
 use Rattle.rules.specs.Rows.{Row, rowAt, eofRow}
 use Rattle.rules.specs.Scan.{Reading, put, ends, stops, readRows}
 use Rattle.rules.specs.Edit.{opens, Seen, met, isShort}
-use Rattle.theory_machine.specs.Machine.{Token, St, gap, First, go, clear, over, bad, Move, fresh, on, back, Last, clean, ended, cut, begin, step, finish, after, move, close, run}
+use Rattle.theory_machine.specs.Machine.{Token, St, gap, First, go, clear, over, bad, Move, fresh, on, back, Last, clean, ended, cut, begin, step, finish, passed, after, move, close, run}
 use Rattle.theory_edits.specs.Shows.{Starts, first, later, Decided, here, behind}
 use Rattle.laws.proofs.Tests.{both-true}
-use Rattle.theory_edits.proofs.Steps.{step-gap, finish-gap, opens-more}
+use Rattle.theory_edits.proofs.Steps.{step-gap, finish-gap}
 use Rattle.theory_edits.proofs.Stand.{At, at-next, at-same, rest, rest-begin, puts}
+use Rattle.theory_edits.proofs.Gap.{opens-more}
 use Rattle.theory_edits.proofs.Look.{listed, seeAfter, seeAt, seeMove, lookBytes}
 
 -- Before hi no row starts where `meet` says yes, and no byte decides a refusal.
@@ -26,7 +27,7 @@ pub data Quiet (meet : ℕ → Bool) (hi : ℕ) : Reading → Type 0 where
 
 pub data Checked (meet : ℕ → Bool) (hi t : ℕ) (st : St) : Type 0 where
   waits : st ≡ gap → Checked meet hi t st
-  passed : (t < hi → meet t ≡ false) → Checked meet hi t st
+  passes : (t < hi → meet t ≡ false) → Checked meet hi t st
 
 isFresh : Move → Bool
 isFresh fresh = true
@@ -52,7 +53,7 @@ far meet n hi h l = absurd (let z : ⊥ = omega arith in z)
 
 checked : {meet : ℕ → Bool} {hi t : ℕ} {st : St} → Checked meet hi t st → (st ≡ gap → ⊥) → t < hi → meet t ≡ false
 checked (waits g) n = absurd (n g)
-checked (passed h) n = h
+checked (passes h) n = h
 
 not-listed : (l : Reading) → isShort (listed l) ≡ false
 unfolding isShort listed
@@ -65,108 +66,125 @@ abbrev pub Plain : List ℕ → (ℕ → Bool) → Type 0
 Plain T meet = (m b : ℕ) (s : List ℕ) → At T (b ∷ s) m → meet m ≡ true → opens (b ∷ s) ≡ false
 
 module _ (T : List ℕ) (meet : ℕ → Bool) (hi : ℕ) where
-  quiet-row : (x : Token) (t e : ℕ) (l : Reading) → (t < hi → meet t ≡ false) → Quiet meet hi l
-      → Quiet meet hi (put (rowAt (placeAt T t) (x .kind) e (x .bits)) l)
+  quiet-row : (c : ℕ) (x : Token) (t e : ℕ) (l : Reading) → (t < hi → meet t ≡ false) → Quiet meet hi l
+      → Quiet meet hi (put (rowAt (placeAt T t) c (x .kind) e (x .bits)) l)
   unfolding rowAt placeAt
-  quiet-row x t e l h q = quiet-put {r = rowAt (placeAt T t) (x .kind) e (x .bits)} h q
+  quiet-row c x t e l h q = quiet-put {r = rowAt (placeAt T t) c (x .kind) e (x .bits)} h q
 
-  quiet-eof : (n : ℕ) → (n < hi → meet n ≡ false) → Quiet meet hi (put (eofRow (placeAt T n)) ends)
+  quiet-eof : (c n : ℕ) → (n < hi → meet n ≡ false) → Quiet meet hi (put (eofRow (placeAt T n) c) ends)
   unfolding eofRow rowAt placeAt
-  quiet-eof n h = quiet-put {r = eofRow (placeAt T n)} h quiet-ends
+  quiet-eof c n h = quiet-put {r = eofRow (placeAt T n) c} h quiet-ends
 
   -- behind the window
-  module _ (r : ℕ → ℕ → St → Reading) (ih : (t k : ℕ) (st : St) → hi ≤ t + k → Checked meet hi t st → Quiet meet hi (r t k st)) where
-    after-beyond : (t k : ℕ) (x : First) → hi ≤ t + k → (t < hi → meet t ≡ false) → Quiet meet hi (after (placeAt T) r t k x)
+  module _ (r : (c t k : ℕ) → St → Reading)
+      (ih : (c t k : ℕ) (st : St) → hi ≤ t + k → Checked meet hi t st → Quiet meet hi (r c t k st)) where
+    -- where a piece has ended
+    next-beyond : (c n : ℕ) → hi ≤ n → Quiet meet hi (r c n 0 gap)
+    next-beyond c n h = ih c n 0 gap (omega arith) (waits refl)
+
+    after-beyond : (c t k : ℕ) (x : First) → hi ≤ t + k → (t < hi → meet t ≡ false) → Quiet meet hi (after (placeAt T) r c t k x)
     unfolding after
-    after-beyond t k (go st) h c = ih t (suc k) st (omega arith) (passed c)
-    after-beyond t k clear h c = ih (t + suc k) 0 gap (omega arith) (waits refl)
-    after-beyond t k (over x) h c = quiet-row x t (t + suc k) _ c (ih (t + suc k) 0 gap (omega arith) (waits refl))
-    after-beyond t k (bad why x) h c = quiet-stops h
+    after-beyond c t k (go st) h y = ih c t (suc k) st (omega arith) (passes y)
+    after-beyond c t k clear h y = next-beyond (passed c k) (t + suc k) (omega arith)
+    after-beyond c t k (over x) h y = quiet-row c x t (t + suc k) _ y (next-beyond 0 (t + suc k) (omega arith))
+    after-beyond c t k (bad why x) h y = quiet-stops h
 
-    move-beyond : (b t k : ℕ) (st : St) (m : Move) → step st k b ≡ m → hi ≤ t + k → Checked meet hi t st → Quiet meet hi (move (placeAt T) r b t k m)
+    begin-beyond : (b c n : ℕ) → hi ≤ n → Quiet meet hi (after (placeAt T) r c n 0 (begin b))
+    begin-beyond b c n h = after-beyond c n 0 (begin b) (omega arith) (far meet n hi h)
+
+    move-beyond : (b c t k : ℕ) (st : St) (m : Move) → step st k b ≡ m → hi ≤ t + k → Checked meet hi t st
+        → Quiet meet hi (move (placeAt T) r b c t k m)
     unfolding move isFresh
-    move-beyond b t k st fresh e h c = after-beyond (t + k) 0 (begin b) (omega arith) (far meet _ hi h)
-    move-beyond b t k st (on x) e h c = after-beyond t k x h (checked c (not-gap st k b (on x) e refl))
-    move-beyond b t k st (back x) e h c =
-        quiet-row x t (t + k) _ (checked c (not-gap st k b (back x) e refl)) (after-beyond (t + k) 0 (begin b) (omega arith) (far meet _ hi h))
+    move-beyond b c t k st fresh e h y = begin-beyond b (passed c k) (t + k) h
+    move-beyond b c t k st (on x) e h y = after-beyond c t k x h (checked y (not-gap st k b (on x) e refl))
+    move-beyond b c t k st (back x) e h y =
+        quiet-row c x t (t + k) _ (checked y (not-gap st k b (back x) e refl)) (begin-beyond b 0 (t + k) h)
 
-  close-beyond : (t k : ℕ) (st : St) (x : Last) → finish st k ≡ x → hi ≤ t + k → Checked meet hi t st → Quiet meet hi (close (placeAt T) t k x)
+  close-beyond : (c t k : ℕ) (st : St) (x : Last) → finish st k ≡ x → hi ≤ t + k → Checked meet hi t st
+      → Quiet meet hi (close (placeAt T) c t k x)
   unfolding close isClean
-  close-beyond t k st clean e h c = quiet-eof (t + k) (far meet _ hi h)
-  close-beyond t k st (ended x) e h c = quiet-row x t (t + k) _ (checked c (not-gap-end st k (ended x) e refl)) (quiet-eof (t + k) (far meet _ hi h))
-  close-beyond t k st (cut why x) e h c = quiet-stops h
+  close-beyond c t k st clean e h y = quiet-eof (passed c k) (t + k) (far meet _ hi h)
+  close-beyond c t k st (ended x) e h y =
+      quiet-row c x t (t + k) _ (checked y (not-gap-end st k (ended x) e refl)) (quiet-eof 0 (t + k) (far meet _ hi h))
+  close-beyond c t k st (cut why x) e h y = quiet-stops h
 
-  beyond : (s : List ℕ) (t k : ℕ) (st : St) → hi ≤ t + k → Checked meet hi t st → Quiet meet hi (run (placeAt T) s t k st)
+  beyond : (s : List ℕ) (c t k : ℕ) (st : St) → hi ≤ t + k → Checked meet hi t st → Quiet meet hi (run (placeAt T) s c t k st)
   unfolding run
-  beyond [] t k st h c = close-beyond t k st (finish st k) refl h c
-  beyond (b ∷ s) t k st h c = move-beyond (run (placeAt T) s) (beyond s) b t k st (step st k b) refl h c
+  beyond [] c t k st h y = close-beyond c t k st (finish st k) refl h y
+  beyond (b ∷ s) c t k st h y = move-beyond (run (placeAt T) s) (beyond s) b c t k st (step st k b) refl h y
 
   module _ (posw : ℕ → Cursor) (plain : Plain T meet) where
-    module _ (w z : List ℕ) (rf : ℕ → ℕ → St → Reading) (rs : ℕ → ℕ → St → Seen)
-        (ih : (t k : ℕ) (st : St) → t + k + length w ≡ hi → At T (w ++ z) (t + k) → Checked meet hi t st → isShort (rs t k st) ≡ true → Quiet meet hi (rf t k st)) where
-      after-quiet : (t k : ℕ) (x : First) → t + suc k + length w ≡ hi → At T (w ++ z) (t + suc k) → (t < hi → meet t ≡ false)
-          → isShort (seeAfter posw meet rs t k x) ≡ true → Quiet meet hi (after (placeAt T) rf t k x)
-      unfolding after seeAfter isShort
-      after-quiet t k (go st) h d c i = ih t (suc k) st h d (passed c) i
-      after-quiet t k clear h d c i = ih (t + suc k) 0 gap (omega arith) (at-same d (omega arith)) (waits refl) i
-      after-quiet t k (over x) h d c i = quiet-row x t (t + suc k) _ c (ih (t + suc k) 0 gap (omega arith) (at-same d (omega arith)) (waits refl) i)
-      after-quiet t k (bad why x) h d c i = absurd (true≢false (sym i))
+    module _ (w z : List ℕ) (rf : (c t k : ℕ) → St → Reading) (rs : (c t k : ℕ) → St → Seen)
+        (ih : (c t k : ℕ) (st : St) → t + k + length w ≡ hi → At T (w ++ z) (t + k) → Checked meet hi t st → isShort (rs c t k st) ≡ true
+        → Quiet meet hi (rf c t k st)) where
+      next-quiet : (c n : ℕ) → n + length w ≡ hi → At T (w ++ z) n → isShort (rs c n 0 gap) ≡ true → Quiet meet hi (rf c n 0 gap)
+      next-quiet c n h d i = ih c n 0 gap (omega arith) (at-same d (omega arith)) (waits refl) i
 
-      at-quiet : (b m : ℕ) → m + suc (length w) ≡ hi → At T (b ∷ (w ++ z)) m → isShort (seeAt posw meet w rs b m) ≡ true
-          → Quiet meet hi (after (placeAt T) rf m 0 (begin b))
+      after-quiet : (c t k : ℕ) (x : First) → t + suc k + length w ≡ hi → At T (w ++ z) (t + suc k) → (t < hi → meet t ≡ false)
+          → isShort (seeAfter posw meet rs c t k x) ≡ true → Quiet meet hi (after (placeAt T) rf c t k x)
+      unfolding after seeAfter isShort
+      after-quiet c t k (go st) h d y i = ih c t (suc k) st h d (passes y) i
+      after-quiet c t k clear h d y i = next-quiet (passed c k) (t + suc k) h d i
+      after-quiet c t k (over x) h d y i = quiet-row c x t (t + suc k) _ y (next-quiet 0 (t + suc k) h d i)
+      after-quiet c t k (bad why x) h d y i = absurd (true≢false (sym i))
+
+      at-quiet : (b c m : ℕ) → m + suc (length w) ≡ hi → At T (b ∷ (w ++ z)) m → isShort (seeAt posw meet w rs b c m) ≡ true
+          → Quiet meet hi (after (placeAt T) rf c m 0 (begin b))
       unfolding seeAt isShort
-      at-quiet b m h d i = by (meet m) refl (opens (b ∷ w)) refl
+      at-quiet b c m h d i = by (meet m) refl (opens (b ∷ w)) refl
         where
-          by : (q : Bool) → meet m ≡ q → (o : Bool) → opens (b ∷ w) ≡ o → Quiet meet hi (after (placeAt T) rf m 0 (begin b))
+          by : (q : Bool) → meet m ≡ q → (o : Bool) → opens (b ∷ w) ≡ o → Quiet meet hi (after (placeAt T) rf c m 0 (begin b))
           by true q true o = absurd (true≢false (sym (opens-more b w z o) ∙ plain m b (w ++ z) d q))
           by true q false o = absurd (true≢false (sym (rw (q, o) at i)))
-          by false q r o = after-quiet m 0 (begin b) (omega arith) (at-next d (omega arith)) (λ l. q) (rw q at i)
+          by false q r o = after-quiet c m 0 (begin b) (omega arith) (at-next d (omega arith)) (λ l. q) (rw q at i)
 
-      move-quiet : (b t k : ℕ) (st : St) (m : Move) → step st k b ≡ m → t + k + suc (length w) ≡ hi → At T (b ∷ (w ++ z)) (t + k)
-          → Checked meet hi t st → isShort (seeMove posw meet w rs b t k m) ≡ true → Quiet meet hi (move (placeAt T) rf b t k m)
+      move-quiet : (b c t k : ℕ) (st : St) (m : Move) → step st k b ≡ m → t + k + suc (length w) ≡ hi → At T (b ∷ (w ++ z)) (t + k)
+          → Checked meet hi t st → isShort (seeMove posw meet w rs b c t k m) ≡ true → Quiet meet hi (move (placeAt T) rf b c t k m)
       unfolding move seeMove isShort isFresh
-      move-quiet b t k st fresh e h d c i = at-quiet b (t + k) h d i
-      move-quiet b t k st (on x) e h d c i = after-quiet t k x (omega arith) (at-next d (omega arith)) (checked c (not-gap st k b (on x) e refl)) i
-      move-quiet b t k st (back x) e h d c i = quiet-row x t (t + k) _ (checked c (not-gap st k b (back x) e refl)) (at-quiet b (t + k) h d i)
+      move-quiet b c t k st fresh e h d y i = at-quiet b (passed c k) (t + k) h d i
+      move-quiet b c t k st (on x) e h d y i =
+          after-quiet c t k x (omega arith) (at-next d (omega arith)) (checked y (not-gap st k b (on x) e refl)) i
+      move-quiet b c t k st (back x) e h d y i =
+          quiet-row c x t (t + k) _ (checked y (not-gap st k b (back x) e refl)) (at-quiet b 0 (t + k) h d i)
 
     -- a short window: the text goes on behind it, and nothing was to be seen in it
-    pub short-quiet : (whole : Bool) (w z : List ℕ) (t k : ℕ) (st : St) → t + k + length w ≡ hi → At T (w ++ z) (t + k) → Checked meet hi t st
-        → isShort (lookBytes posw meet whole w t k st) ≡ true
-        → Quiet meet hi (run (placeAt T) (w ++ z) t k st)
+    pub short-quiet : (whole : Bool) (w z : List ℕ) (c t k : ℕ) (st : St) → t + k + length w ≡ hi → At T (w ++ z) (t + k) → Checked meet hi t st
+        → isShort (lookBytes posw meet whole w c t k st) ≡ true
+        → Quiet meet hi (run (placeAt T) (w ++ z) c t k st)
     unfolding lookBytes run
-    short-quiet true [] z t k st h d c i = absurd (true≢false (sym i ∙ not-listed _))
-    short-quiet false [] z t k st h d c i = beyond z t k st (omega arith) c
-    short-quiet whole (b ∷ w) z t k st h d c i =
-        move-quiet w z (run (placeAt T) (w ++ z)) (lookBytes posw meet whole w) (short-quiet whole w z) b t k st (step st k b) refl h d c i
+    short-quiet true [] z c t k st h d y i = absurd (true≢false (sym i ∙ not-listed _))
+    short-quiet false [] z c t k st h d y i = beyond z c t k st (omega arith) y
+    short-quiet whole (b ∷ w) z c t k st h d y i =
+        move-quiet w z (run (placeAt T) (w ++ z)) (lookBytes posw meet whole w) (short-quiet whole w z) b c t k st (step st k b) refl h d y i
 
 -- a window that ends the text is never short
 module _ (posw : ℕ → Cursor) (meet : ℕ → Bool) where
-  module _ (w : List ℕ) (rs : ℕ → ℕ → St → Seen) (ih : (t k : ℕ) (st : St) → isShort (rs t k st) ≡ false) where
-    after-ends : (t k : ℕ) (x : First) → isShort (seeAfter posw meet rs t k x) ≡ false
+  module _ (w : List ℕ) (rs : (c t k : ℕ) → St → Seen) (ih : (c t k : ℕ) (st : St) → isShort (rs c t k st) ≡ false) where
+    after-ends : (c t k : ℕ) (x : First) → isShort (seeAfter posw meet rs c t k x) ≡ false
     unfolding seeAfter isShort
-    after-ends t k (go st) = ih t (suc k) st
-    after-ends t k clear = ih (t + suc k) 0 gap
-    after-ends t k (over x) = ih (t + suc k) 0 gap
-    after-ends t k (bad why x) = refl
+    after-ends c t k (go st) = ih c t (suc k) st
+    after-ends c t k clear = ih (passed c k) (t + suc k) 0 gap
+    after-ends c t k (over x) = ih 0 (t + suc k) 0 gap
+    after-ends c t k (bad why x) = refl
 
-    at-ends : (b m : ℕ) → isShort (seeAt posw meet w rs b m) ≡ false
+    at-ends : (b c m : ℕ) → isShort (seeAt posw meet w rs b c m) ≡ false
     unfolding seeAt isShort
-    at-ends b m = by (meet m && not (opens (b ∷ w)))
+    at-ends b c m = by (meet m && not (opens (b ∷ w)))
       where
-        by : (q : Bool) → isShort (cond q (met m) (seeAfter posw meet rs m 0 (begin b))) ≡ false
+        by : (q : Bool) → isShort (cond q (met m c) (seeAfter posw meet rs c m 0 (begin b))) ≡ false
         by true = refl
-        by false = after-ends m 0 (begin b)
+        by false = after-ends c m 0 (begin b)
 
-    move-ends : (b t k : ℕ) (m : Move) → isShort (seeMove posw meet w rs b t k m) ≡ false
+    move-ends : (b c t k : ℕ) (m : Move) → isShort (seeMove posw meet w rs b c t k m) ≡ false
     unfolding seeMove isShort
-    move-ends b t k fresh = at-ends b (t + k)
-    move-ends b t k (on x) = after-ends t k x
-    move-ends b t k (back x) = at-ends b (t + k)
+    move-ends b c t k fresh = at-ends b (passed c k) (t + k)
+    move-ends b c t k (on x) = after-ends c t k x
+    move-ends b c t k (back x) = at-ends b 0 (t + k)
 
-  pub never-short : (w : List ℕ) (t k : ℕ) (st : St) → isShort (lookBytes posw meet true w t k st) ≡ false
+  pub never-short : (w : List ℕ) (c t k : ℕ) (st : St) → isShort (lookBytes posw meet true w c t k st) ≡ false
   unfolding lookBytes
-  never-short [] t k st = not-listed _
-  never-short (b ∷ w) t k st = move-ends w (lookBytes posw meet true w) (never-short w) b t k (step st k b)
+  never-short [] c t k st = not-listed _
+  never-short (b ∷ w) c t k st = move-ends w (lookBytes posw meet true w) (never-short w) b c t k (step st k b)
 
 -- Before hi a row starts where `meet` says yes, or a byte decides a refusal.
 pub data Meets (meet : ℕ → Bool) (hi : ℕ) (l : Reading) : Type 0 where
@@ -183,41 +201,48 @@ unfolding puts
 meets-puts [] h = h
 meets-puts (r ∷ rs) h = meets-put r (meets-puts rs h)
 
-module _ (T : List ℕ) (posw : ℕ → Cursor) (meet : ℕ → Bool) (hi : ℕ) (starts : (m : ℕ) → meet m ≡ true → Starts m (readRows (rest T m))) where
-  module _ (w z : List ℕ) (rf : ℕ → ℕ → St → Reading) (rs : ℕ → ℕ → St → Seen) (rf-is : rf ≡ run (placeAt T) (w ++ z))
-      (ih : (t k : ℕ) (st : St) → t + k + length w ≡ hi → At T (w ++ z) (t + k) → isShort (rs t k st) ≡ false → Meets meet hi (rf t k st)) where
-    after-meets : (t k : ℕ) (x : First) → t + suc k + length w ≡ hi → At T (w ++ z) (t + suc k) → isShort (seeAfter posw meet rs t k x) ≡ false
-        → Meets meet hi (after (placeAt T) rf t k x)
+module _ (T : List ℕ) (posw : ℕ → Cursor) (meet : ℕ → Bool) (hi : ℕ)
+    (starts : (m : ℕ) → meet m ≡ true → (c : ℕ) → Starts m (readRows (rest T c m))) where
+  module _ (w z : List ℕ) (rf : (c t k : ℕ) → St → Reading) (rs : (c t k : ℕ) → St → Seen) (rf-is : rf ≡ run (placeAt T) (w ++ z))
+      (ih : (c t k : ℕ) (st : St) → t + k + length w ≡ hi → At T (w ++ z) (t + k) → isShort (rs c t k st) ≡ false
+      → Meets meet hi (rf c t k st)) where
+    next-meets : (c n : ℕ) → n + length w ≡ hi → At T (w ++ z) n → isShort (rs c n 0 gap) ≡ false → Meets meet hi (rf c n 0 gap)
+    next-meets c n h d i = ih c n 0 gap (omega arith) (at-same d (omega arith)) i
+
+    after-meets : (c t k : ℕ) (x : First) → t + suc k + length w ≡ hi → At T (w ++ z) (t + suc k) → isShort (seeAfter posw meet rs c t k x) ≡ false
+        → Meets meet hi (after (placeAt T) rf c t k x)
     unfolding after seeAfter isShort
-    after-meets t k (go st) h d i = ih t (suc k) st h d i
-    after-meets t k clear h d i = ih (t + suc k) 0 gap (omega arith) (at-same d (omega arith)) i
-    after-meets t k (over x) h d i = meets-put _ (ih (t + suc k) 0 gap (omega arith) (at-same d (omega arith)) i)
-    after-meets t k (bad why x) h d i = refusal (t + k) (omega arith) (here refl)
+    after-meets c t k (go st) h d i = ih c t (suc k) st h d i
+    after-meets c t k clear h d i = next-meets (passed c k) (t + suc k) h d i
+    after-meets c t k (over x) h d i = meets-put _ (next-meets 0 (t + suc k) h d i)
+    after-meets c t k (bad why x) h d i = refusal (t + k) (omega arith) (here refl)
 
-    at-meets : (b m : ℕ) → m + suc (length w) ≡ hi → At T (b ∷ (w ++ z)) m → isShort (seeAt posw meet w rs b m) ≡ false
-        → Meets meet hi (after (placeAt T) rf m 0 (begin b))
+    at-meets : (b c m : ℕ) → m + suc (length w) ≡ hi → At T (b ∷ (w ++ z)) m → isShort (seeAt posw meet w rs b c m) ≡ false
+        → Meets meet hi (after (placeAt T) rf c m 0 (begin b))
     unfolding seeAt isShort
-    at-meets b m h d i = by (meet m && not (opens (b ∷ w))) refl
+    at-meets b c m h d i = by (meet m && not (opens (b ∷ w))) refl
       where
-        by : (q : Bool) → (meet m && not (opens (b ∷ w))) ≡ q → Meets meet hi (after (placeAt T) rf m 0 (begin b))
+        by : (q : Bool) → (meet m && not (opens (b ∷ w))) ≡ q → Meets meet hi (after (placeAt T) rf c m 0 (begin b))
         by true q =
-            let e : meet m ≡ true = both-true (meet m) (not (opens (b ∷ w))) q .0 in row-starts m (omega arith) e (rw rf-is (rw (rest-begin d) at (starts m e)))
-        by false q = after-meets m 0 (begin b) (omega arith) (at-next d (omega arith)) (rw q at i)
+            let e : meet m ≡ true = both-true (meet m) (not (opens (b ∷ w))) q .0 in
+            row-starts m (omega arith) e (rw rf-is (rw (rest-begin c d) at (starts m e c)))
+        by false q = after-meets c m 0 (begin b) (omega arith) (at-next d (omega arith)) (rw q at i)
 
-    move-meets : (b t k : ℕ) (x : Move) → t + k + suc (length w) ≡ hi → At T (b ∷ (w ++ z)) (t + k) → isShort (seeMove posw meet w rs b t k x) ≡ false
-        → Meets meet hi (move (placeAt T) rf b t k x)
+    move-meets : (b c t k : ℕ) (x : Move) → t + k + suc (length w) ≡ hi → At T (b ∷ (w ++ z)) (t + k)
+        → isShort (seeMove posw meet w rs b c t k x) ≡ false
+        → Meets meet hi (move (placeAt T) rf b c t k x)
     unfolding move seeMove isShort
-    move-meets b t k fresh h d i = at-meets b (t + k) h d i
-    move-meets b t k (on x) h d i = after-meets t k x (omega arith) (at-next d (omega arith)) i
-    move-meets b t k (back x) h d i = meets-put _ (at-meets b (t + k) h d i)
+    move-meets b c t k fresh h d i = at-meets b (passed c k) (t + k) h d i
+    move-meets b c t k (on x) h d i = after-meets c t k x (omega arith) (at-next d (omega arith)) i
+    move-meets b c t k (back x) h d i = meets-put _ (at-meets b 0 (t + k) h d i)
 
   -- a window that is not short, though the text goes on behind it, shows something
-  pub part-meets : (w z : List ℕ) (t k : ℕ) (st : St) → t + k + length w ≡ hi → At T (w ++ z) (t + k)
-      → isShort (lookBytes posw meet false w t k st) ≡ false → Meets meet hi (run (placeAt T) (w ++ z) t k st)
+  pub part-meets : (w z : List ℕ) (c t k : ℕ) (st : St) → t + k + length w ≡ hi → At T (w ++ z) (t + k)
+      → isShort (lookBytes posw meet false w c t k st) ≡ false → Meets meet hi (run (placeAt T) (w ++ z) c t k st)
   unfolding lookBytes run isShort
-  part-meets [] z t k st h d i = absurd (true≢false i)
-  part-meets (b ∷ w) z t k st h d i =
-      move-meets w z (run (placeAt T) (w ++ z)) (lookBytes posw meet false w) refl (part-meets w z) b t k (step st k b) h d i
+  part-meets [] z c t k st h d i = absurd (true≢false i)
+  part-meets (b ∷ w) z c t k st h d i =
+      move-meets w z (run (placeAt T) (w ++ z)) (lookBytes posw meet false w) refl (part-meets w z) b c t k (step st k b) h d i
 
 -- ---- what is quiet shows nothing
 

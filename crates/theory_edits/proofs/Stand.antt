@@ -9,7 +9,7 @@ use lib.Seq.{drop-drop}
 use Rattle.rules.specs.Text.{placeAt}
 use Rattle.rules.specs.Rows.{Row, eofRow}
 use Rattle.rules.specs.Scan.{Reading, put, ends, readRows, readEnding}
-use Rattle.theory_machine.specs.Machine.{gap, begin, after, move, close, run}
+use Rattle.theory_machine.specs.Machine.{gap, begin, passed, after, move, close, run}
 use Rattle.theory_edits.proofs.Steps.{step-gap, finish-gap}
 
 -- the text T from offset n on is s
@@ -23,21 +23,21 @@ at-next {T} {s} {n} {m} {b} h e =
 pub at-same : {T s : List ℕ} {n m : ℕ} → At T s n → m ≡ n → At T s m
 at-same {T} h e = record { text = ap (λ (i : ℕ). drop i T) e ∙ h .text }
 
--- the scan of T from n on, behind a row or in a gap
-unfoldable pub rest : List ℕ → ℕ → Reading
-rest T n = run (placeAt T) (drop n T) n 0 gap
+-- the scan of T from n on, behind a row or in a gap of which c comments stand before n
+unfoldable pub rest : List ℕ → (c n : ℕ) → Reading
+rest T c n = run (placeAt T) (drop n T) c n 0 gap
 
-pub rest-at : {T s : List ℕ} {n : ℕ} → At T s n → rest T n ≡ run (placeAt T) s n 0 gap
+pub rest-at : {T s : List ℕ} {n : ℕ} (c : ℕ) → At T s n → rest T c n ≡ run (placeAt T) s c n 0 gap
 unfolding rest
-rest-at h = rw (h .text)
+rest-at c h = rw (h .text)
 
-pub rest-begin : {T s : List ℕ} {n b : ℕ} → At T (b ∷ s) n → rest T n ≡ after (placeAt T) (run (placeAt T) s) n 0 (begin b)
-unfolding rest run move
-rest-begin h = rw (h .text, run, step-gap, move, add-zero)
+pub rest-begin : {T s : List ℕ} {n b : ℕ} (c : ℕ) → At T (b ∷ s) n → rest T c n ≡ after (placeAt T) (run (placeAt T) s) c n 0 (begin b)
+unfolding rest run move passed
+rest-begin c h = rw (h .text, run, step-gap, move, add-zero)
 
-pub rest-end : {T : List ℕ} {n : ℕ} → At T [] n → rest T n ≡ put (eofRow (placeAt T n)) ends
-unfolding rest run close
-rest-end h = rw (h .text, run, finish-gap, close, add-zero)
+pub rest-end : {T : List ℕ} {n : ℕ} (c : ℕ) → At T [] n → rest T c n ≡ put (eofRow (placeAt T n) c) ends
+unfolding rest run close passed
+rest-end c h = rw (h .text, run, finish-gap, close, add-zero)
 
 -- rows before a reading
 unfoldable pub puts : List Row → Reading → Reading

@@ -1,5 +1,4 @@
--- All that the theorems on edits know of `begin`, `step` and `finish`: a machine in a gap only begins, no row holds a newline, and no row
--- starts where a gap goes on.
+-- All that the theorems on edits know of `begin`, `step` and `finish`: a machine in a gap only begins, and no row holds a newline.
 use Prim.Native.Nat.{ℕ}
 use mathlib.Core.Bool.{Bool, true, false, cond, not, _&&_, _||_, true≢false}
 use mathlib.Core.List.{List, [], _∷_, _++_}
@@ -164,47 +163,3 @@ comment-closes (zer n) k h = absurd (true≢false (sym h))
 comment-closes (hex0 n) k h = refl
 comment-closes (dec n v) k h = absurd (true≢false (sym h))
 comment-closes (hex n v) k h = absurd (true≢false (sym h))
-
--- ---- no row starts where a gap goes on
-
-pub data Opens (b : ℕ) (s : List ℕ) : Type 0 where
-  blank : begin b ≡ clear → Opens b s
-  opening : {x : ℕ} {s′ : List ℕ} {st : St} → begin b ≡ go slash → s ≡ x ∷ s′ → step slash 1 x ≡ on (go st) → comment st ≡ true → Opens b s
-
-pub opens-more : (b : ℕ) (w z : List ℕ) → opens (b ∷ w) ≡ true → opens (b ∷ (w ++ z)) ≡ true
-unfolding opens slashOrStar
-opens-more b [] z h = by (isBlank b) (eqb b 47) (slashOrStar z) h
-  where
-    by : (x y t : Bool) → (x || (y && false)) ≡ true → (x || (y && t)) ≡ true
-    by true y t h = refl
-    by false true t h = absurd (true≢false (sym h))
-    by false false t h = h
-opens-more b (x ∷ w) z h = h
-
-begin-slash : (b : ℕ) → b ≡ 47 → begin b ≡ go slash
-unfolding begin isBlank
-begin-slash b e = rw e
-
-if-clear : (t : Bool) (y : First) → t ≡ true → cond t clear y ≡ clear
-if-clear true y h = refl
-if-clear false y h = absurd (true≢false (sym h))
-
-begin-blank : (b : ℕ) → isBlank b ≡ true → begin b ≡ clear
-unfolding begin
-begin-blank b e = if-clear (isBlank b) _ e
-
-slash-opens : (b x : ℕ) (s : List ℕ) → b ≡ 47 → (p q : Bool) → eqb x 47 ≡ p → eqb x 42 ≡ q → (p || q) ≡ true → Opens b (x ∷ s)
-unfolding step comment
-slash-opens b x s e true q h i j = opening {st = line} (begin-slash b e) refl (rw h) refl
-slash-opens b x s e false true h i j = opening {st = block} (begin-slash b e) refl (rw (h, i)) refl
-slash-opens b x s e false false h i j = absurd (true≢false (sym j))
-
-pub opens-is : (b : ℕ) (s : List ℕ) → opens (b ∷ s) ≡ true → Opens b s
-unfolding opens slashOrStar
-opens-is b s h = by s (isBlank b) refl (eqb b 47) refl h
-  where
-    by : (s : List ℕ) (p : Bool) → isBlank b ≡ p → (q : Bool) → eqb b 47 ≡ q → (p || (q && slashOrStar s)) ≡ true → Opens b s
-    by s true e q f i = blank (begin-blank b e)
-    by [] false e true f i = absurd (true≢false (sym i))
-    by (x ∷ s) false e true f i = slash-opens b x s (eqb-true b 47 f) (eqb x 47) (eqb x 42) refl refl i
-    by s false e false f i = absurd (true≢false (sym i))

@@ -1,5 +1,6 @@
 -- What the machine makes of the bytes of a row is as a well-formed row has it: its kind is made and has that length, its value is in range.
-use Prim.Native.Nat.{ℕ, zero, suc, _-_, _^_, _≤_, _<_}
+-- A comment has two bytes or more.
+use Prim.Native.Nat.{ℕ, zero, suc, _+_, _-_, _*_, _^_, _≤_, _<_}
 use native.Mathlib.Nat.{div-add-mod', mod-eq-of-lt}
 use native.Mathlib.Omega.{arith}
 use mathlib.Core.Bool.{Bool, true, false, cond, not, _&&_, _||_, true≢false}
@@ -15,7 +16,7 @@ use Rattle.rules.specs.Kinds.{Identifier, StringLiteral, Number, SlashEquals, S
 use Rattle.rules.specs.Rows.{bitsOf, valueBits, rowAt, lengthFits, valueFits}
 use Rattle.rules.specs.Text.{isBlank}
 use Rattle.rules.specs.Lex.{isDigit, isLetter, isWord, isHexDigit, isEscape, largest, isLone, maybeTwo}
-use Rattle.theory_machine.specs.Machine.{Token, tok, St, gap, slash, line, block, star, minus, str, esc, two, name, zer, hex0, dec, hex, Spot, First, go, clear, over, bad, Move, fresh, on, back, Last, clean, ended, cut, word, number, numberEnd, oneSign, twoSign, begin, step, finish}
+use Rattle.theory_machine.specs.Machine.{Token, tok, St, gap, slash, line, block, star, minus, str, esc, two, name, zer, hex0, dec, hex, Spot, First, go, clear, over, bad, Move, fresh, on, back, Last, clean, ended, cut, word, number, numberEnd, oneSign, twoSign, begin, step, finish, passed}
 use Rattle.laws.proofs.Tests.{both-true, either}
 use Rattle.laws.proofs.Spelled.{same-eq}
 
@@ -24,13 +25,13 @@ pub record Fit (x : Token) (n : ℕ) : Type 0 where
   pub made : isMade (x .kind) ≡ true
   pub proper : eqb (x .kind) Kinds.Eof ≡ false
   pub long : lengthFits (x .kind) n ≡ true
-  pub value : (p : Cursor) (e : ℕ) → valueFits (rowAt p (x .kind) e (x .bits)) ≡ true
+  pub value : (p : Cursor) (c e : ℕ) → valueFits (rowAt p c (x .kind) e (x .bits)) ≡ true
 
 -- ---- kinds that have no value
 
-no-value : (kind : ℕ) (p : Cursor) (e : ℕ) → valueFits (rowAt p kind e 0) ≡ true
+no-value : (kind : ℕ) (p : Cursor) (c e : ℕ) → valueFits (rowAt p c kind e 0) ≡ true
 unfolding valueFits rowAt valueBits
-no-value kind p e = by (eqb kind Number)
+no-value kind p c e = by (eqb kind Number)
   where
     by : (t : Bool) → cond t true true ≡ true
     by true = refl
@@ -122,21 +123,43 @@ bits-in-range true (suc v) h e =
     let f : 2 ^ 64 - suc v ≡ 2 ^ 63 = sym (mod-eq-of-lt l) ∙ e in
     omega arith
 
-value-fits : (negative : Bool) (v : ℕ) → v ≤ largest → (p : Cursor) (e : ℕ) → valueFits (rowAt p Number e (bitsOf negative v)) ≡ true
+value-fits : (negative : Bool) (v : ℕ) → v ≤ largest → (p : Cursor) (c e : ℕ) → valueFits (rowAt p c Number e (bitsOf negative v)) ≡ true
 unfolding valueFits rowAt valueBits
-value-fits negative v h p e =
+value-fits negative v h p c e =
     rw (div-add-mod' (bitsOf negative v) (2 ^ 32), ne-eqb (bitsOf negative v) (2 ^ 63) (bits-in-range negative v h))
 
 number-fit : (negative : Bool) (v n : ℕ) → v ≤ largest → 1 ≤ n → Fit (record { kind = Number; bits = bitsOf negative v }) n
 unfolding isMade lengthFits
 number-fit negative v n h l = record { made = refl; proper = refl; long = le-leb 1 n l; value = value-fits negative v h }
 
--- ---- the states: what has been read of a row, and how many bytes
+-- ---- a comment has two bytes or more
+
+-- where a gap is passed with k bytes of its last piece read, it has two bytes for each of its comments more
+pub record Wide (k : ℕ) : Type 0 where
+  pub wide : (c : ℕ) → 2 * passed c k ≤ 2 * c + k
+
+nothing-wide : (k : ℕ) → k ≡ 0 → Wide k
+unfolding passed
+nothing-wide zero h = record { wide = λ c. omega arith }
+nothing-wide (suc k) h = absurd (let z : ⊥ = omega arith in z)
+
+comment-wide : (k : ℕ) → 2 ≤ k → Wide k
+unfolding passed
+comment-wide zero h = absurd (let z : ⊥ = omega arith in z)
+comment-wide (suc k) h = record { wide = λ c. omega arith }
+
+-- and so it has behind a byte that closes the piece
+pub closed-wide : (c k : ℕ) → 2 * passed c k ≤ 2 * c + suc k
+unfolding passed
+closed-wide c zero = omega arith
+closed-wide c (suc k) = omega arith
+
+-- ---- the states: what has been read of a piece, and how many bytes
 
 unfoldable pub good : St → ℕ → Bool
-good gap k = true
+good gap k = eqb k 0
 good slash k = eqb k 1
-good line k = true
+good line k = leb 2 k
 good block k = true
 good star k = true
 good minus k = eqb k 1
@@ -156,12 +179,12 @@ pub data GoodFirst (k : ℕ) : First → Type 0 where
   good-bad : {why : Lexical} {x : Spot} → GoodFirst k (bad why x)
 
 pub data GoodMove (k : ℕ) : Move → Type 0 where
-  good-fresh : GoodMove k fresh
+  good-fresh : Wide k → GoodMove k fresh
   good-on : {x : First} → GoodFirst k x → GoodMove k (on x)
   good-back : {x : Token} → Fit x k → GoodMove k (back x)
 
 pub data GoodLast (k : ℕ) : Last → Type 0 where
-  good-clean : GoodLast k clean
+  good-clean : Wide k → GoodLast k clean
   good-ended : {x : Token} → Fit x k → GoodLast k (ended x)
   good-cut : {why : Lexical} {x : Spot} → GoodLast k (cut why x)
 
@@ -241,14 +264,16 @@ maybe-is x h l =
 
 pub step-good : (st : St) (k b : ℕ) → good st k ≡ true → GoodMove k (step st k b)
 unfolding step good
-step-good gap k b h = good-fresh
+step-good gap k b h = good-fresh (nothing-wide k (eqb-true k 0 h))
 step-good slash k b h =
     let e : k ≡ 1 = eqb-true k 1 h in
-    if-move (eqb b 47) (λ t. good-on (good-go refl)) (λ t.
+    if-move (eqb b 47) (λ t. good-on (good-go (le-leb 2 (suc k) (omega arith)))) (λ t.
     if-move (eqb b 42) (λ t. good-on (good-go refl)) (λ t.
     if-move (eqb b 61) (λ t. good-on (good-over (fixed SlashEquals 2 slash-equals (suc k) (ap suc e)))) (λ t.
     good-back (fixed Slash 1 slash-alone k e))))
-step-good line k b h = if-move (eqb b 10) (λ t. good-on good-clear) (λ t. good-on (good-go refl))
+step-good line k b h =
+    let l : 2 ≤ k = leb-true 2 k h in
+    if-move (eqb b 10) (λ t. good-on good-clear) (λ t. good-on (good-go (le-leb 2 (suc k) (omega arith))))
 step-good block k b h = if-move (eqb b 42) (λ t. good-on (good-go refl)) (λ t. good-on (good-go refl))
 step-good star k b h =
     if-move (eqb b 47) (λ t. good-on good-clear) (λ t.
@@ -284,9 +309,9 @@ step-good (hex n v) k b h = if-move (isHexDigit b) (λ t. good-on (good-go (long
 
 pub finish-good : (st : St) (k : ℕ) → good st k ≡ true → GoodLast k (finish st k)
 unfolding finish good
-finish-good gap k h = good-clean
+finish-good gap k h = good-clean (nothing-wide k (eqb-true k 0 h))
 finish-good slash k h = good-ended (fixed Slash 1 slash-alone k (eqb-true k 1 h))
-finish-good line k h = good-clean
+finish-good line k h = good-clean (comment-wide k (leb-true 2 k h))
 finish-good block k h = good-cut
 finish-good star k h = good-cut
 finish-good minus k h = good-ended (fixed Minus 1 minus-alone k (eqb-true k 1 h))

@@ -1,5 +1,5 @@
 -- What a scan gives is a well-formed table.
-use Prim.Native.Nat.{ℕ, _+_, _-_, _*_, _≤_}
+use Prim.Native.Nat.{ℕ, _+_, _-_, _*_, _/_, _≤_}
 use native.Mathlib.Omega.{arith}
 use mathlib.Core.Bool.{Bool, true, false, not, true≢false}
 use mathlib.Core.List.{List, [], _∷_, _++_}
@@ -19,7 +19,7 @@ use Rattle.rules.specs.declared.Told.the-variants.{Rows, Refused}
 use Rattle.rules.specs.Kinds
 use Rattle.rules.specs.Kinds.{isMade}
 use Rattle.rules.specs.Text.{mostBytes, validBytes, valid, placeAt, startPlace, textJudged}
-use Rattle.rules.specs.Rows.{Row, rowWords, rowIn, rowsIn, wordsOf, rowAt, eofRow, rowPlace, every, chained, lengthFits, spansFit, valueFits, rowFits, follows, lastRow, endsBehind, isEof, eofLast, endingFits, rowsFit, wellFormed}
+use Rattle.rules.specs.Rows.{Row, rowWords, rowIn, rowsIn, wordsOf, rowAt, eofRow, rowPlace, every, chained, lengthFits, spansFit, valueFits, rowFits, follows, gapFits, gapsFit, lastRow, endsBehind, isEof, eofLast, endingFits, rowsFit, wellFormed}
 use Rattle.rules.specs.Scan.{Reading, put, readRows, readEnding, scan, roomOf, told, scanTold, scanLeaves}
 use Rattle.theory_machine.specs.Machine.{Token}
 use Rattle.theory_edits.specs.Scanned.{tableOf, Scanned}
@@ -33,49 +33,62 @@ use Rattle.theory_edits.proofs.Well.{Well, well-row, well-eof, well-sto
 module _ (T : List ℕ) where
   -- ---- each row
 
-  row-fits : (t k : ℕ) (x : Token) → Fit x k → rowFits (rowAt (placeAt T t) (x .kind) (t + k) (x .bits)) ≡ true
+  row-fits : (c t k : ℕ) (x : Token) → Fit x k → rowFits (rowAt (placeAt T t) c (x .kind) (t + k) (x .bits)) ≡ true
   unfolding rowFits spansFit rowPlace rowAt placeAt
-  row-fits t k x f =
+  row-fits c t k x f =
       let e : t + k - t ≡ k = omega arith in
-      true-both (true-both (true-both (f .made) refl) (f .value (placeAt T t) (t + k)))
+      true-both (true-both (f .made) (f .value (placeAt T t) c (t + k)))
       (true-both (true-both (le-leb t (t + k) (omega arith)) (rw e (f .long))) (place-fits T t))
 
-  eof-fits : (n : ℕ) → rowFits (eofRow (placeAt T n)) ≡ true
+  eof-fits : (c n : ℕ) → rowFits (eofRow (placeAt T n) c) ≡ true
   unfolding rowFits spansFit rowPlace eofRow rowAt placeAt isMade lengthFits valueFits
-  eof-fits n = true-both refl (true-both (true-both (le-leb n n (omega arith)) (eq-eqb (n - n) 0 (omega arith))) (place-fits T n))
+  eof-fits c n = true-both refl (true-both (true-both (le-leb n n (omega arith)) (eq-eqb (n - n) 0 (omega arith))) (place-fits T n))
 
   every-fits : {lo : ℕ} {l : Reading} → Well T lo l → every rowFits (readRows l) ≡ true
   unfolding every readRows
-  every-fits (well-row {t = t} {k = k} {x = x} a h f w) = true-both (row-fits t k x f) (every-fits w)
-  every-fits (well-eof {n = n} a h) = true-both (eof-fits n) refl
+  every-fits (well-row {t = t} {k = k} {x = x} c a h f w) = true-both (row-fits c t k x f) (every-fits w)
+  every-fits (well-eof {n = n} c a h) = true-both (eof-fits c n) refl
   every-fits (well-stops a h) = refl
 
   -- ---- each row and the next
 
-  pair-fits : (t k j lo : ℕ) (x : Token) (kind end bits : ℕ) → t ≤ lo → lo ≤ j → j ≤ length T
-      → follows (rowAt (placeAt T t) (x .kind) lo (x .bits)) (rowAt (placeAt T j) kind end bits) ≡ true
+  pair-fits : (c t lo j : ℕ) (x : Token) (c′ kind end bits : ℕ) → t ≤ lo → lo ≤ j → j ≤ length T
+      → follows (rowAt (placeAt T t) c (x .kind) lo (x .bits)) (rowAt (placeAt T j) c′ kind end bits) ≡ true
   unfolding follows rowPlace rowAt placeAt
-  pair-fits t k j lo x kind end bits a h l = true-both (le-leb lo j h) (places-fit T t j (omega arith) l)
+  pair-fits c t lo j x c′ kind end bits a h l = true-both (le-leb lo j h) (places-fit T t j (omega arith) l)
 
-  chained-put : (t k : ℕ) (x : Token) {l : Reading} → Well T (t + k) l → chained follows (readRows l) ≡ true
-      → chained follows (readRows (put (rowAt (placeAt T t) (x .kind) (t + k) (x .bits)) l)) ≡ true
+  chained-put : (c t k : ℕ) (x : Token) {l : Reading} → Well T (t + k) l → chained follows (readRows l) ≡ true
+      → chained follows (readRows (put (rowAt (placeAt T t) c (x .kind) (t + k) (x .bits)) l)) ≡ true
   unfolding chained readRows eofRow
-  chained-put t k x (well-row {t = j} {k = i} {x = y} a h f w) c =
-      true-both (pair-fits t k j (t + k) x (y .kind) (j + i) (y .bits) (omega arith) a (omega arith)) c
-  chained-put t k x (well-eof {n = n} a h) c = true-both (pair-fits t k n (t + k) x Kinds.Eof _ 0 (omega arith) a (omega arith)) c
-  chained-put t k x (well-stops a h) c = refl
+  chained-put c t k x (well-row {t = j} {k = i} {x = y} c′ a h f w) g =
+      true-both (pair-fits c t (t + k) j x c′ (y .kind) (j + i) (y .bits) (omega arith) (omega arith) (omega arith)) g
+  chained-put c t k x (well-eof {n = n} c′ a h) g =
+      true-both (pair-fits c t (t + k) n x c′ Kinds.Eof _ 0 (omega arith) (omega arith) (omega arith)) g
+  chained-put c t k x (well-stops a h) g = refl
 
   chained-fits : {lo : ℕ} {l : Reading} → Well T lo l → chained follows (readRows l) ≡ true
   unfolding chained readRows
-  chained-fits (well-row {t = t} {k = k} {x = x} a h f w) = chained-put t k x w (chained-fits w)
-  chained-fits (well-eof a h) = refl
+  chained-fits (well-row {t = t} {k = k} {x = x} c a h f w) = chained-put c t k x w (chained-fits w)
+  chained-fits (well-eof c a h) = refl
   chained-fits (well-stops a h) = refl
+
+  -- ---- each gap
+
+  gap-fits : (lo c t kind e bits : ℕ) → lo + 2 * c ≤ t → gapFits lo (rowAt (placeAt T t) c kind e bits) ≡ true
+  unfolding gapFits rowAt placeAt
+  gap-fits lo c t kind e bits h = le-leb c ((t - lo) / 2) (omega arith)
+
+  gaps-fit : {lo : ℕ} {l : Reading} → Well T lo l → gapsFit lo (readRows l) ≡ true
+  unfolding gapsFit readRows rowAt eofRow placeAt
+  gaps-fit {lo} (well-row {t = t} {k = k} {x = x} c a h f w) = true-both (gap-fits lo c t (x .kind) (t + k) (x .bits) a) (gaps-fit w)
+  gaps-fit {lo} (well-eof {n = n} c a h) = true-both (gap-fits lo c n Kinds.Eof n 0 a) refl
+  gaps-fit (well-stops a h) = refl
 
   -- ---- the ending
 
-  not-eof : (t e : ℕ) (x : Token) {k : ℕ} → Fit x k → not (isEof (rowAt (placeAt T t) (x .kind) e (x .bits))) ≡ true
+  not-eof : (c t e : ℕ) (x : Token) {k : ℕ} → Fit x k → not (isEof (rowAt (placeAt T t) c (x .kind) e (x .bits))) ≡ true
   unfolding isEof rowAt
-  not-eof t e x f = rw (f .proper)
+  not-eof c t e x f = rw (f .proper)
 
   eof-put : (r : Row) (n : ℕ) (rs : List Row) → not (isEof r) ≡ true → eofLast n rs ≡ true → eofLast n (r ∷ rs) ≡ true
   unfolding eofLast
@@ -84,8 +97,9 @@ module _ (T : List ℕ) where
 
   eof-last : {lo : ℕ} {l : Reading} → Well T lo l → readEnding l ≡ ending.None → eofLast (length T) (readRows l) ≡ true
   unfolding readRows readEnding eofLast isEof eofRow rowAt placeAt
-  eof-last (well-row {t = t} {k = k} {x = x} {l = l} a h f w) e = eof-put _ (length T) (readRows l) (not-eof t (t + k) x f) (eof-last w e)
-  eof-last (well-eof {n = n} a h) e = eq-eqb n (length T) h
+  eof-last (well-row {t = t} {k = k} {x = x} {l = l} c a h f w) e =
+      eof-put _ (length T) (readRows l) (not-eof c t (t + k) x f) (eof-last w e)
+  eof-last (well-eof {n = n} c a h) e = eq-eqb n (length T) h
   eof-last (well-stops a h) e = absurd (let z : _≡_ {A = ℕ} 0 1 = cc in let y : ⊥ = omega arith in y)
 
   -- a refused ending: it stands at a place of the text, behind the rows, of which none is Eof
@@ -102,24 +116,25 @@ module _ (T : List ℕ) where
   last-put r [] p e h = e
   last-put r (q ∷ rs) p e h = h
 
-  stopped-row : (lo t k : ℕ) (x : Token) (rs : List Row) (p : Cursor) → lo ≤ t → Fit x k → Stopped (t + k) rs p
-      → Stopped lo (rowAt (placeAt T t) (x .kind) (t + k) (x .bits) ∷ rs) p
+  stopped-row : (lo c t k : ℕ) (x : Token) (rs : List Row) (p : Cursor) → lo ≤ t → Fit x k → Stopped (t + k) rs p
+      → Stopped lo (rowAt (placeAt T t) c (x .kind) (t + k) (x .bits) ∷ rs) p
   unfolding every endsBehind rowPlace rowAt placeAt
-  stopped-row lo t k x rs p a f s =
+  stopped-row lo c t k x rs p a f s =
       let g : t + k ≤ p .offset .0 = s .far in
       record {
         far = omega arith;
         inside = s .inside;
         place = s .place;
-        rows = true-both (not-eof t (t + k) x f) (s .rows);
+        rows = true-both (not-eof c t (t + k) x f) (s .rows);
         last = last-put _ rs p
             (true-both (le-leb (t + k) (p .offset .0) g) (rw (s .place) (places-fit T t (p .offset .0) (omega arith) (s .inside)))) (s .last);
       }
 
   stopped : {lo : ℕ} {l : Reading} → Well T lo l → (why : Lexical) (p : Cursor) → readEnding l ≡ ending.Refused why p → Stopped lo (readRows l) p
   unfolding readRows readEnding every lastRow endsBehind placeAt
-  stopped {lo} (well-row {t = t} {k = k} {x = x} {l = l} a h f w) why p e = stopped-row lo t k x (readRows l) p a f (stopped w why p e)
-  stopped (well-eof a h) why p e = absurd (let z : _≡_ {A = ℕ} 0 1 = cc in let y : ⊥ = omega arith in y)
+  stopped {lo} (well-row {t = t} {k = k} {x = x} {l = l} c a h f w) why p e =
+      stopped-row lo c t k x (readRows l) p (omega arith) f (stopped w why p e)
+  stopped (well-eof c a h) why p e = absurd (let z : _≡_ {A = ℕ} 0 1 = cc in let y : ⊥ = omega arith in y)
   stopped {lo} (well-stops {m = m} a h) why p e =
       let c : placeAt T m ≡ p = cc in
       subst (λ (y : Cursor). Stopped lo [] y) c (record { far = a; inside = h; place = refl; rows = refl; last = refl })
@@ -133,7 +148,9 @@ module _ (T : List ℕ) where
 
   pub scan-fits : rowsFit (length T) (readRows (scan T)) (readEnding (scan T)) ≡ true
   unfolding rowsFit
-  scan-fits = true-both (every-fits (scan-well T)) (true-both (chained-fits (scan-well T)) (ending-fits (scan-well T) (readEnding (scan T)) refl))
+  scan-fits =
+      let w : Well T 0 (scan T) = scan-well T in
+      true-both (every-fits w) (true-both (chained-fits w) (true-both (gaps-fit w) (ending-fits w (readEnding (scan T)) refl)))
 
 -- ---- the words of rows
 

@@ -41,13 +41,13 @@ same-item false s = part-item s ∙ ap (within (length s)) (whole-item s) ∙ wi
 
 -- ---- the same scan
 
--- from any offset on, whatever gives the places
-pub same-read : (pos : ℕ → Cursor) (s : List ℕ) (k : ℕ) → run pos s k 0 gap ≡ read pos 0 k s
-same-read pos s k = run-same pos s k
+-- from any offset on, behind so many comments of the gap, whatever gives the places
+pub same-read : (pos : ℕ → Cursor) (s : List ℕ) (c k : ℕ) → run pos s c k 0 gap ≡ read pos c 0 k s
+same-read pos s c k = run-same pos s c k
 
 pub same-scan : (t : List ℕ) → scanBytes t ≡ scan t
 unfolding scanBytes scan
-same-scan t = same-read (placeAt t) t 0
+same-scan t = same-read (placeAt t) t 0 0
 
 -- ---- what a part of a text shows
 

@@ -1,6 +1,6 @@
 -- The scan rules as a machine that reads one byte at a time. A row ends with the byte just read (`over`) or before it (`back`), so no
 -- row looks further than the one byte behind it: that is in the types, and nothing else need be known of `step`.
-use Prim.Native.Nat.{ℕ, suc, _+_, _-_, _*_, min}
+use Prim.Native.Nat.{ℕ, zero, suc, _+_, _-_, _*_, min}
 use mathlib.Core.Bool.{Bool, true, false, cond}
 use mathlib.Core.List.{List, [], _∷_, _++_}
 use lib.Dec.{eqb, leb}
@@ -128,28 +128,36 @@ finish (hex0 n) k = cut NoHexDigit here
 finish (dec n v) k = numberEnd n v
 finish (hex n v) k = numberEnd n v
 
--- ---- the machine run over a text: t is the mark, k bytes of the row have been read, the scan stands at t + k
+-- ---- the machine run over a text
+
+-- the comments of a gap that is passed with k bytes of its last piece read, c comments standing before that: with none it is a blank, or
+-- nothing, and with any it is one comment more
+unfoldable pub passed : (c k : ℕ) → ℕ
+passed c zero = c
+passed c (suc k) = suc c
+
+-- c comments stand in the gap behind the last row, t is the mark, k bytes of the row have been read, the scan stands at t + k
 module _ (pos : ℕ → Cursor) where
-  unfoldable pub after : (ℕ → ℕ → St → Reading) → ℕ → ℕ → First → Reading
-  after r t k (go st) = r t (suc k) st
-  after r t k clear = r (t + suc k) 0 gap
-  after r t k (over x) = put (rowAt (pos t) (x .kind) (t + suc k) (x .bits)) (r (t + suc k) 0 gap)
-  after r t k (bad why x) = stops why (pos (t + spot x k)) (t + k)
+  unfoldable pub after : ((c t k : ℕ) → St → Reading) → (c t k : ℕ) → First → Reading
+  after r c t k (go st) = r c t (suc k) st
+  after r c t k clear = r (passed c k) (t + suc k) 0 gap
+  after r c t k (over x) = put (rowAt (pos t) c (x .kind) (t + suc k) (x .bits)) (r 0 (t + suc k) 0 gap)
+  after r c t k (bad why x) = stops why (pos (t + spot x k)) (t + k)
 
-  unfoldable pub move : (ℕ → ℕ → St → Reading) → ℕ → ℕ → ℕ → Move → Reading
-  move r b t k fresh = after r (t + k) 0 (begin b)
-  move r b t k (on f) = after r t k f
-  move r b t k (back x) = put (rowAt (pos t) (x .kind) (t + k) (x .bits)) (after r (t + k) 0 (begin b))
+  unfoldable pub move : ((c t k : ℕ) → St → Reading) → (b c t k : ℕ) → Move → Reading
+  move r b c t k fresh = after r (passed c k) (t + k) 0 (begin b)
+  move r b c t k (on f) = after r c t k f
+  move r b c t k (back x) = put (rowAt (pos t) c (x .kind) (t + k) (x .bits)) (after r 0 (t + k) 0 (begin b))
 
-  unfoldable pub close : ℕ → ℕ → Last → Reading
-  close t k clean = put (eofRow (pos (t + k))) ends
-  close t k (ended x) = put (rowAt (pos t) (x .kind) (t + k) (x .bits)) (put (eofRow (pos (t + k))) ends)
-  close t k (cut why x) = stops why (pos (t + spot x k)) (t + k)
+  unfoldable pub close : (c t k : ℕ) → Last → Reading
+  close c t k clean = put (eofRow (pos (t + k)) (passed c k)) ends
+  close c t k (ended x) = put (rowAt (pos t) c (x .kind) (t + k) (x .bits)) (put (eofRow (pos (t + k)) 0) ends)
+  close c t k (cut why x) = stops why (pos (t + spot x k)) (t + k)
 
-  unfoldable pub run : List ℕ → ℕ → ℕ → St → Reading
-  run [] t k st = close t k (finish st k)
-  run (b ∷ s) t k st = move (run s) b t k (step st k b)
+  unfoldable pub run : List ℕ → (c t k : ℕ) → St → Reading
+  run [] c t k st = close c t k (finish st k)
+  run (b ∷ s) c t k st = move (run s) b c t k (step st k b)
 
 -- the scan of a text, byte by byte
 unfoldable pub scanBytes : List ℕ → Reading
-scanBytes t = run (placeAt t) t 0 0 gap
+scanBytes t = run (placeAt t) t 0 0 0 gap

@@ -7,7 +7,7 @@ use lib.ListN.{length, drop}
 use borrow.Author.Needs.{needs}
 use Rattle.rules.specs.declared.Cursor.{Cursor}
 use Rattle.rules.specs.Rows.{rowPlace, rowsIn, wordsOf}
-use Rattle.rules.specs.Edit.{carryRow, carryEnding}
+use Rattle.rules.specs.Edit.{carryRow, carryEnding, recounted}
 use Rattle.rows.specs.Shape.{rowNo}
 use Rattle.edit_carry.specs.Moves.{MovesRow, MovesEnding}
 use Rattle.edit.specs.Job.{endingBehind}
@@ -47,8 +47,8 @@ returns c =
     let w = c .before .before in
     let k = w .before .before .before .before in
     let a = k .before .before .before .before .args in
-    follow-full (a .old .now) (a .table) (a .row) (a .p) (a .tail .now) (w .before .before .if1 .taken) (w .carry-rows .last .1 .1 .1 .1 .1 .0)
-    (w .carry-rows .ensures ∙ ap (λ (z : Cursor). wordsOf (map (carryRow z (a .p)) (rowsIn (length (a .tail .now) / 8) (drop (8 * a .row) (a .old .now)))) ++ drop (8 * (length (a .tail .now) / 8)) (a .tail .now)) (home k))
+    follow-full (a .old .now) (a .table) (a .row) (a .p) (a .comments) (a .tail .now) (w .before .before .if1 .taken) (w .carry-rows .last .1 .1 .1 .1 .1 .1 .0)
+    (w .carry-rows .ensures ∙ ap (λ (z : Cursor). wordsOf (recounted (a .comments) (map (carryRow z (a .p)) (rowsIn (length (a .tail .now) / 8) (drop (8 * a .row) (a .old .now))))) ++ drop (8 * (length (a .tail .now) / 8)) (a .tail .now)) (home k))
 
 carry-rows-requires-2 : tie.Need-carry-rows-requires-2
 carry-rows-requires-2 c κs =
@@ -74,8 +74,8 @@ returns-2 c =
     let w = c .before .before .before in
     let k = w .before .before .before .before in
     let a = k .before .before .before .before .args in
-    follow-all (a .old .now) (a .table) (a .row) (a .p) (a .tail .now) (w .before .before .if1 .left) (w .carry-rows2 .last .1 .1 .1 .1 .1 .0)
-    (w .carry-rows2 .ensures ∙ ap (λ (z : Cursor). wordsOf (map (carryRow z (a .p)) (rowsIn (a .table .count - a .row) (drop (8 * a .row) (a .old .now)))) ++ drop (8 * (a .table .count - a .row)) (a .tail .now)) (home k))
+    follow-all (a .old .now) (a .table) (a .row) (a .p) (a .comments) (a .tail .now) (w .before .before .if1 .left) (w .carry-rows2 .last .1 .1 .1 .1 .1 .1 .0)
+    (w .carry-rows2 .ensures ∙ ap (λ (z : Cursor). wordsOf (recounted (a .comments) (map (carryRow z (a .p)) (rowsIn (a .table .count - a .row) (drop (8 * a .row) (a .old .now))))) ++ drop (8 * (a .table .count - a .row)) (a .tail .now)) (home k))
     (c .carry-ending .result) (c .carry-ending .ensures ∙ ap (λ (z : Cursor). carryEnding z (a .p) (a .table .ending)) (home k))
 
 pub follow-spec : {M : Type 1} → statement M

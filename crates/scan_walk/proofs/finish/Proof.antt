@@ -20,8 +20,8 @@ apart h e = omega arith
 put-behind-requires : tie.Need-put-behind-requires
 put-behind-requires c κs = search needs
 
-add-t12 : tie.Need-add-t12
-add-t12 c = search needs
+add-t13 : tie.Need-add-t13
+add-t13 c = search needs
 
 same-length : tie.Need-same-length
 same-length c = search needs
@@ -68,7 +68,7 @@ finish-spec =
     tie.close
     (tie.spec
     put-behind-requires
-    add-t12
+    add-t13
     same-length
     returns
     returns-2
