@@ -29,6 +29,11 @@ fn scanned(text: &[u8], rows: &mut [u32; WORDS]) -> Table {
     table_of(scan::scan(text, rows))
 }
 
+// The rows of the first so many bytes of a text, in lent memory.
+fn scanned_first(text: &[u8; BYTES], size: usize, rows: &mut [u32; WORDS]) {
+    scanned(replay_input::first(text, size as u64), rows);
+}
+
 // The restart place of an edit at a against the sample's.
 fn restart_compared(
     sample: &[u8],
@@ -63,7 +68,7 @@ fn edit_compared(sample: &[u8], tally: Tally) -> Tally {
         edit,
         part::bytes_of(sample, new),
     );
-    scanned(replay_input::first(&text, size as u64), &mut rows);
+    scanned_first(&text, size, &mut rows);
     let begun = restart_compared(
         sample,
         tally.moved(new.end).next_edit(),
