@@ -96,7 +96,8 @@ module _ (c : ℕ) (f : Row → Row) (ws new : List ℕ) (i : ℕ) where
       let w = wordsOf (recounted c (map f (rowsIn i ws))) in
       let e : 8 * i + 8 ≡ 8 * (i + 1) = omega arith in
       rw (take-at w (drop (8 * i) new) (8 * i) carried-words, drop-at w (drop (8 * i) new) (8 * i) carried-words, drop-drop, e)
-      (sym (ap (λ (z : List Row). wordsOf (recounted c (map f z)) ++ drop (8 * (i + 1)) new) (ap (λ (k : ℕ). rowsIn k ws) (add-one i) ∙ rows-snoc i ws)
+      (sym (ap (λ (z : List Row). wordsOf (recounted c (map f z)) ++ drop (8 * (i + 1)) new)
+      (ap (λ (k : ℕ). rowsIn k ws) (add-one i) ∙ rows-snoc i ws)
       ∙ rw (map-append f (rowsIn i ws) (rowNo ws i ∷ []), recounted-snoc c (map f (rowsIn i ws)) (f (rowNo ws i)), mapped-length)
       (rw (words-append, append-assoc, append-nil))))
 
@@ -112,4 +113,5 @@ module _ (c : ℕ) (f : Row → Row) (ws new : List ℕ) (i : ℕ) where
   carried-step h xs ys e q =
       let l : i * 8 ≤ length xs = omega (arith, ap length e, carried-length c f ws new i (omega arith)) in
       let m : i * 8 ≡ 8 * i = omega arith in
-      back-tail xs (i * 8) l ys ∙ ap (λ (z : List ℕ). take (i * 8) xs ++ z) q ∙ rw (lent-tail xs (i * 8) l, m, e) (carried-more c f ws new i h)
+      back-tail xs (i * 8) l ys ∙ ap (λ (z : List ℕ). take (i * 8) xs ++ z) q
+      ∙ rw (lent-tail xs (i * 8) l, m, e) (carried-more c f ws new i h)

@@ -1,5 +1,6 @@
 // Holds the edit call against a stored sample of edits: reads the sample on standard input, scans each old text, asks where the window
-// of its edit starts, makes the calls, and writes how many agree with what is expected in answer, rows and memory. Where a call writes
+// of its edit starts, makes the calls, and writes how many agree with what is expected in answer, rows and memory. How many comments
+// stand before a row is expected as a fresh scan of the new text counts them, which the sample does not do. Where a call writes
 // rows, its edit is made as a change too, of which the same is expected. `cargo run --release --offline --bin edits` in compare/ writes
 // `stdin`, which says at its head where each expectation comes from.
 use call::calls_compared;
@@ -62,6 +63,7 @@ fn edit_compared(sample: &[u8], tally: Tally) -> Tally {
         edit,
         part::bytes_of(sample, new),
     );
+    scanned(replay_input::first(&text, size as u64), &mut rows);
     let begun = restart_compared(
         sample,
         tally.moved(new.end).next_edit(),

@@ -17,12 +17,14 @@ use Rattle.rules.specs.declared.Table.{Table}
 use Rattle.rules.specs.Text
 use Rattle.rules.specs.Text.{mostBytes}
 use Rattle.rules.specs.Kinds.{Eof, isMade, signs, reserved, lengthIn}
-use Rattle.rules.specs.Rows.{Row, rowIn, rowsIn, rowPlace, every, chained, lengthFits, spansFit, valueFits, placeFits, linesFit, rowFits, follows, gapFits, gapsFit, lastRow, endsBehind, isEof, endingFits, rowsFit, wellFormed}
+use Rattle.rules.specs.Rows.{Row, rowIn, rowsIn, rowPlace, every, chained, gapFits, gapsFit, rowsFit, wellFormed}
+use Rattle.rules.specs.Rows.{lengthFits, spansFit, valueFits, placeFits, linesFit, rowFits, follows, lastRow, endsBehind, isEof, endingFits}
 use Rattle.rows.specs.Shape.{rowNo, behind}
 use Rattle.laws.specs.Tests.{allBelow}
 use Rattle.laws.proofs.Tests.{both-true, true-both, false-by, below}
 use Rattle.laws.proofs.Rows.{rows-length, rows-at}
-use Rattle.rows.proofs.Lists.{every-at, every-by, chained-at, chained-by, gap-first, gaps-chain, gaps-by, Closed, closed, closes, behind-at, behind-by}
+use Rattle.rows.proofs.Lists.{every-at, every-by, chained-at, chained-by, gap-first, gaps-chain, gaps-by}
+use Rattle.rows.proofs.Lists.{Closed, closed, closes, behind-at, behind-by}
 
 -- ---- a row and its kind
 

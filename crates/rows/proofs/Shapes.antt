@@ -11,7 +11,8 @@ use lib.Dec.{eqb, leb}
 use borrow.Author.Tests.{leb-true, le-leb, lt-leb, eq-eqb, ne-eqb}
 use Rattle.rules.specs.Text.{within}
 use Rattle.rules.specs.Kinds.{Number, isMade}
-use Rattle.rules.specs.Rows.{Row, rowIn, rowPlace, lengthFits, spansFit, valueFits, valueBits, placeFits, linesFit, rowFits, follows, gapFits}
+use Rattle.rules.specs.Rows.{Row, rowIn, rowPlace, lengthFits, spansFit, valueFits, valueBits, placeFits, linesFit}
+use Rattle.rules.specs.Rows.{rowFits, follows, gapFits}
 use Rattle.rows.specs.Shape.{LengthTable, sane, fitsAfter}
 use Rattle.laws.proofs.Tests.{both-true, same-bool}
 use Rattle.rows.proofs.Inside.{sound}
@@ -94,7 +95,8 @@ gap-fits e c s = go (decLe e s)
 
 pub sane-stands : {ls ms : List ℕ} → LengthTable ls ms → (r q : Row) → q .kind ≤ 52 → q .end < 2 ^ 32 → sane q ≡ true →
     ((((((valueFits q && leb (q .start + getD ls (q .kind) 0) (q .end)) && leb (q .end) (q .start + getD ms (q .kind) 0))
-    && leb (q .line) (q .start + 1)) && leb (q .column) (q .start + 1)) && leb (r .end + q .comments * 2) (q .start)) && linesFit (rowPlace r) (rowPlace q))
+    && leb (q .line) (q .start + 1)) && leb (q .column) (q .start + 1)) && leb (r .end + q .comments * 2) (q .start))
+    && linesFit (rowPlace r) (rowPlace q))
     ≡ (rowFits q && fitsAfter r q)
 unfolding sane rowFits spansFit placeFits rowPlace follows fitsAfter gapFits
 sane-stands {ls} {ms} t r q k e s =

@@ -7,7 +7,7 @@ use lib.ListN.{length, take, drop, length-take, length-drop}
 use borrow.Author.Needs.{needs}
 use Rattle.rules.specs.Rows.{Row, rowWords}
 use Rattle.rules.specs.Edit.{carryRow}
-use Rattle.rows.specs.Shape.{asRow, rowNo}
+use Rattle.rows.specs.Shape.{asRow}
 use Rattle.laws.proofs.Rows.{row-from}
 use Rattle.edit_carry.proofs.Carried.{recountedAt, recounted-row, carried-step, carried, carried-none, carried-length}
 use Rattle.edit_carry.proofs.carry_rows.Statement.{statement}
@@ -94,8 +94,9 @@ loop-again c =
     let ws = drop (8 * a .from) (a .old .now) in
     let f = carryRow (a .o) (a .p) in
     let lent = take (length (l .loop .new) - l .loop .i * 8) (drop (l .loop .i * 8) (l .loop .new)) in
-    let e = carried-step (a .comments) f ws (a .new .now) (l .loop .i) (omega (arith, l .loop .inv .0)) (l .loop .new) (c .before .before .put-row .last .0) (l .loop .inv .2)
-    (c .before .before .put-row .ensures ∙ ap (λ (z : Row). rowWords z ++ drop 8 lent) (moved-row k)) in
+    let put = c .before .before .put-row in
+    let e = carried-step (a .comments) f ws (a .new .now) (l .loop .i) (omega (arith, l .loop .inv .0)) (l .loop .new) (put .last .0)
+    (l .loop .inv .2) (put .ensures ∙ ap (λ (z : Row). rowWords z ++ drop 8 lent) (moved-row k)) in
     (omega arith, ap length e ∙ carried-length (a .comments) f ws (a .new .now) (l .loop .i + 1) (omega (arith, l .loop .inv .0)), e)
 
 same-length : tie.Need-same-length Inv-loop μ-loop

@@ -75,8 +75,9 @@ returns c =
     let s = w .before .before in
     rw (c .lines-fit .ensures, to .row-place2 .ensures, to .before .row-place .ensures, gap .wide8 .ensures, gap .before .wide7 .ensures)
     (rw (place .wide6 .ensures, place .before .wide5 .ensures, v .value-fits .ensures, high .wide4 .ensures)
-    (rw (high .before .own-length2 .ensures, low .wide3 .ensures, low .before .own-length .ensures, w .wide2 .ensures, w .before .wide .ensures)
-    (sane-stands (s .pre .1) (asRow (s .args .r)) (asRow (s .args .q)) (s .pre .0 .0) (omega (arith, s .good)) (s .pre .0 .1))))
+    (rw (high .before .own-length2 .ensures, low .wide3 .ensures, low .before .own-length .ensures)
+    (rw (w .wide2 .ensures, w .before .wide .ensures)
+    (sane-stands (s .pre .1) (asRow (s .args .r)) (asRow (s .args .q)) (s .pre .0 .0) (omega (arith, s .good)) (s .pre .0 .1)))))
 
 pub row-stands-spec : {M : Type 1} → statement M
 row-stands-spec =
