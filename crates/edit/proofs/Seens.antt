@@ -13,7 +13,8 @@ use Rattle.rules.specs.declared.Ending.{Ending}
 use Rattle.rules.specs.declared.Ending.the-variants as ending
 use Rattle.rules.specs.Rows.{Row, rowAt, eofRow}
 use Rattle.rules.specs.Lex.{Item, item, piece, decidedAt, known, blank, comment, row, refused, end, unknown}
-use Rattle.rules.specs.Edit.{Seen, sees, over′, met, short, isShort, look, opens, from, some, firstPlace, carryRow, carryEnding, recounted, oldOffset, restart, windowPlace, seenRows, seenEnding}
+use Rattle.rules.specs.Edit.{Seen, sees, over′, met, short, isShort, look, opens, from, some, firstPlace, carryRow, carryEnding, recounted}
+use Rattle.rules.specs.Edit.{oldOffset, restart, windowPlace, seenRows, seenEnding}
 use Rattle.laws.proofs.Tests.{both-true}
 use Rattle.scan_reader.specs.declared.Spot.{Spot}
 use Rattle.scan_reader.specs.Read.{onward}
@@ -183,8 +184,8 @@ module _ (ws : List ℕ) (j : Job) (w : List ℕ) where
   seen-few (sees r s) = omega (arith, seen-few s)
   seen-few (over′ x) = omega arith
   seen-few (met m c) =
-      let moved = map (carryRow (firstPlace (old-from m)) (place-at m)) (old-from m) in
-      omega (arith, recounted-length c moved, length-map (old-from m) (carryRow (firstPlace (old-from m)) (place-at m)), from-few (old-at m) olds)
+      let f = carryRow (firstPlace (old-from m)) (place-at m) in
+      omega (arith, recounted-length c (map f (old-from m)), length-map (old-from m) f, from-few (old-at m) olds)
   seen-few short = omega arith
 
   pub record Begins (x : Seen) : Type 0 where
@@ -262,6 +263,7 @@ module _ (ws : List ℕ) (j : Job) (w : List ℕ) where
           rows-met = ap (_∷_ z) (m .rows-met);
           ending-met = m .ending-met;
         }
-    by-met whole k (met m d) h l s r c q = meeting m d (record { meeting = l .meeting; low = omega (arith, l .low); high = l .high }) s r c q
+    by-met whole k (met m d) h l s r c q =
+        meeting m d (record { meeting = l .meeting; low = omega (arith, l .low); high = l .high }) s r c q
     by-met whole k (over′ x) h l s r c q = absurd (let z : _≡_ {A = ℕ} 0 1 = cc in omega arith)
     by-met whole k short h l s r c q = absurd (let z : _≡_ {A = ℕ} 0 1 = cc in omega arith)

@@ -109,8 +109,9 @@ module _ (f : Row → Row) (c : ℕ) (xs ws : List ℕ) (left : ℕ) where
 
   pub laid-room : roomOf ws ≤ left → wordsOf (changed (roomOf ws)) ++ drop (8 * roomOf ws) ws ≡ laid (changed left) ws
   laid-room h =
+      let m = roomOf ws in
       sym (laid-part (changed left) ws (rw many h)
-      ∙ rw (recounted-take c (roomOf ws) (map f (rowsIn left xs)), map-take f (roomOf ws) (rowsIn left xs), take-rows left xs (roomOf ws) h))
+      ∙ rw (recounted-take c m (map f (rowsIn left xs)), map-take f m (rowsIn left xs), take-rows left xs m h))
 
 -- the tail behind the window's rows is lent, and comes back
 module _ (ys : List Row) (ws xs : List ℕ) (count : ℕ) (e : xs ≡ laid ys ws) (h : length ys ≤ roomOf ws) (n : count ≡ length ys) where

@@ -14,7 +14,8 @@ use Rattle.rules.specs.declared.Told.{Told}
 use Rattle.rules.specs.declared.Told.the-variants as tells
 use Rattle.rules.specs.Text.{mostBytes, startPlace, over}
 use Rattle.rules.specs.Rows.{Row, rowsIn, rowPlace, wellFormed}
-use Rattle.rules.specs.Edit.{Seen, kept, restart, newLength, seen, isShort, seenRows, seenEnding, carryRow, carryEnding, recounted, ends, unjudged, windowBytes, windowValid, windowShort, newRows, newEnding}
+use Rattle.rules.specs.Edit.{Seen, kept, restart, newLength, seen, isShort, seenRows, seenEnding, carryRow, carryEnding, recounted}
+use Rattle.rules.specs.Edit.{ends, unjudged, windowBytes, windowValid, windowShort, newRows, newEnding}
 use Rattle.rules.specs.Scan.{told, laid}
 use Rattle.rows.specs.Shape.{rowNo}
 use Rattle.edit_carry.specs.Moves.{MovesRow, MovesEnding}

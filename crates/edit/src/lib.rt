@@ -129,7 +129,8 @@ fn follow(
     requires { ⌜ Follows (now old) table row p ⌝ }
     ensures { λ r. ⌜ (r ≡ tailTold (roomOf (now (tail .entry))) (rowsBehind (now (old .entry)) table row p comments) (endingBehind (now (old .entry)) table row p)) × (now (tail .exit) ≡ laid (rowsBehind (now (old .entry)) table row p comments) (now (tail .entry))) ⌝ }
 {
-    let o = row_place(row_at(old, row));
+    let met = row_at(old, row);
+    let o = row_place(met);
     let left = table.count as usize - row;
     let room = tail.len() / row::WORDS;
     if room < left {

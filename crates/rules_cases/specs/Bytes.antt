@@ -111,5 +111,5 @@ tellings =
     ∷ []
 
 pub told-right : map (λ (c : Scanned). scanned (c .text)) tellings ≡ tellings
-unfolding scanned Text.front Text.utf8 Text.met Text.lineIn Text.charAt Text.isCut Text.validFrom Text.validBytes Text.valid Text.cutBytes Text.isBlank Text.newlines Text.lineAt Text.columnAt Text.placeAt Text.textJudged Text.moved Text.over Text.along Kinds.isMade Kinds.reserved Kinds.signs Kinds.sameBytes Kinds.kindIn Kinds.lengthIn rows.rowWords rows.rowIn rows.rowsIn rows.wordsOf rows.bitsOf rows.valueBits rows.rowAt rows.eofRow rows.rowPlace rows.every rows.chained rows.lengthFits rows.spansFit rows.valueFits rows.placeFits rows.linesFit rows.rowFits rows.follows rows.lastRow rows.endsBehind rows.isEof rows.eofLast rows.endingFits rows.rowsFit rows.wellFormed rows.spelling Lex.lineComment Lex.beforeClose Lex.blockComment Lex.isDigit Lex.isLetter Lex.isWord Lex.word Lex.isHexDigit Lex.digitValue Lex.spelt Lex.numberOf Lex.decimal Lex.hex Lex.number Lex.isEscape Lex.string Lex.maybeTwo Lex.single Lex.sign Lex.slashed Lex.dashed Lex.beginning Lex.piece Lex.decidedAt Lex.item Scan.readRows Scan.readEnding Scan.read Scan.scan Scan.roomOf Scan.told Scan.laid Scan.scanTold Scan.scanLeaves
+unfolding scanned Text.front Text.utf8 Text.met Text.lineIn Text.charAt Text.isCut Text.validFrom Text.validBytes Text.valid Text.cutBytes Text.isBlank Text.newlines Text.lineAt Text.columnAt Text.placeAt Text.textJudged Text.moved Text.over Text.along Kinds.isMade Kinds.reserved Kinds.signs Kinds.sameBytes Kinds.kindIn Kinds.lengthIn rows.rowWords rows.rowIn rows.rowsIn rows.wordsOf rows.bitsOf rows.valueBits rows.rowAt rows.eofRow rows.rowPlace rows.every rows.chained rows.lengthFits rows.spansFit rows.valueFits rows.placeFits rows.linesFit rows.rowFits rows.follows rows.gapFits rows.gapsFit rows.lastRow rows.endsBehind rows.isEof rows.eofLast rows.endingFits rows.rowsFit rows.wellFormed rows.spelling Lex.lineComment Lex.beforeClose Lex.blockComment Lex.isDigit Lex.isLetter Lex.isWord Lex.word Lex.isHexDigit Lex.digitValue Lex.spelt Lex.numberOf Lex.decimal Lex.hex Lex.number Lex.isEscape Lex.string Lex.maybeTwo Lex.single Lex.sign Lex.slashed Lex.dashed Lex.beginning Lex.piece Lex.decidedAt Lex.item Scan.readRows Scan.readEnding Scan.read Scan.scan Scan.roomOf Scan.told Scan.laid Scan.scanTold Scan.scanLeaves
 told-right = refl

@@ -131,10 +131,23 @@ cases =
     ∷ record { text = bytes "\""; a = 0; b = 0; added = 0xC3 ∷ []; shown = 2; room = 10; short = false }
     -- 11 is decided by the first byte of a character that the window's end cuts
     ∷ record { text = bytes "\n" ++ smile; a = 0; b = 0; added = []; shown = 4; room = 10; short = false }
+    -- the meeting row counts the comments of its new gap, where its old one had none: `a` behind a new comment, and `b` keeps its count
+    ∷ record { text = bytes "a b"; a = 0; b = 0; added = bytes "//\n"; shown = 6; room = 10; short = false }
+    -- where its old one had the same comment, which is not counted twice
+    ∷ record { text = bytes "//\na"; a = 0; b = 0; added = []; shown = 4; room = 10; short = false }
+    -- where its old one had a comment that is gone
+    ∷ record { text = bytes "//\na"; a = 0; b = 3; added = []; shown = 1; room = 10; short = false }
+    -- the rows behind it keep their counts: `*` is met, and Eof counts the comment between
+    ∷ record { text = bytes "*//"; a = 0; b = 0; added = []; shown = 3; room = 10; short = false }
+    -- Eof's row counts as any other, whatever its old row had
+    ∷ record { text = []; a = 0; b = 0; added = bytes "//"; shown = 2; room = 10; short = false }
+    ∷ record { text = bytes "//"; a = 0; b = 0; added = []; shown = 2; room = 10; short = false }
+    -- and where there was none: an open string becomes a comment
+    ∷ record { text = bytes "\""; a = 0; b = 0; added = bytes "//"; shown = 3; room = 10; short = false }
     ∷ []
 
 pub right : map told cases ≡ map means cases
-unfolding newText told means Text.front Text.utf8 Text.met Text.lineIn Text.charAt Text.isCut Text.validFrom Text.validBytes Text.valid Text.cutBytes Text.isBlank Text.newlines Text.lineAt Text.columnAt Text.placeAt Text.textJudged Text.moved Text.over Text.along Kinds.isMade Kinds.reserved Kinds.signs Kinds.sameBytes Kinds.kindIn Kinds.lengthIn Rows.rowWords Rows.rowIn Rows.rowsIn Rows.wordsOf Rows.bitsOf Rows.valueBits Rows.rowAt Rows.eofRow Rows.rowPlace Rows.every Rows.chained Rows.lengthFits Rows.spansFit Rows.valueFits Rows.placeFits Rows.linesFit Rows.rowFits Rows.follows Rows.lastRow Rows.endsBehind Rows.isEof Rows.eofLast Rows.endingFits Rows.rowsFit Rows.wellFormed Rows.spelling Lex.lineComment Lex.beforeClose Lex.blockComment Lex.isDigit Lex.isLetter Lex.isWord Lex.word Lex.isHexDigit Lex.digitValue Lex.spelt Lex.numberOf Lex.decimal Lex.hex Lex.number Lex.isEscape Lex.string Lex.maybeTwo Lex.single Lex.sign Lex.slashed Lex.dashed Lex.beginning Lex.piece Lex.decidedAt Lex.item Scan.readRows Scan.readEnding Scan.read Scan.scan Scan.roomOf Scan.told Scan.laid Scan.scanTold Scan.scanLeaves Edit.kept Edit.endPlace Edit.lastEnd Edit.restart Edit.slashOrStar Edit.opens Edit.look Edit.isShort Edit.from Edit.some Edit.firstPlace Edit.carry Edit.carryRow Edit.carryEnding Edit.meets Edit.windowPlace Edit.seenRows Edit.seenEnding Edit.seen Edit.newRows Edit.newEnding Edit.newLength Edit.sensible Edit.unjudged Edit.windowBytes Edit.windowValid Edit.windowShort Edit.editTold Edit.editLeaves Edit.restartTold
+unfolding newText told means Text.front Text.utf8 Text.met Text.lineIn Text.charAt Text.isCut Text.validFrom Text.validBytes Text.valid Text.cutBytes Text.isBlank Text.newlines Text.lineAt Text.columnAt Text.placeAt Text.textJudged Text.moved Text.over Text.along Kinds.isMade Kinds.reserved Kinds.signs Kinds.sameBytes Kinds.kindIn Kinds.lengthIn Rows.rowWords Rows.rowIn Rows.rowsIn Rows.wordsOf Rows.bitsOf Rows.valueBits Rows.rowAt Rows.eofRow Rows.rowPlace Rows.every Rows.chained Rows.lengthFits Rows.spansFit Rows.valueFits Rows.placeFits Rows.linesFit Rows.rowFits Rows.follows Rows.gapFits Rows.gapsFit Rows.lastRow Rows.endsBehind Rows.isEof Rows.eofLast Rows.endingFits Rows.rowsFit Rows.wellFormed Rows.spelling Lex.lineComment Lex.beforeClose Lex.blockComment Lex.isDigit Lex.isLetter Lex.isWord Lex.word Lex.isHexDigit Lex.digitValue Lex.spelt Lex.numberOf Lex.decimal Lex.hex Lex.number Lex.isEscape Lex.string Lex.maybeTwo Lex.single Lex.sign Lex.slashed Lex.dashed Lex.beginning Lex.piece Lex.decidedAt Lex.item Scan.readRows Scan.readEnding Scan.read Scan.scan Scan.roomOf Scan.told Scan.laid Scan.scanTold Scan.scanLeaves Edit.kept Edit.endPlace Edit.lastEnd Edit.restart Edit.slashOrStar Edit.opens Edit.look Edit.isShort Edit.from Edit.some Edit.firstPlace Edit.carry Edit.carryRow Edit.withComments Edit.recounted Edit.carryEnding Edit.meets Edit.windowPlace Edit.seenRows Edit.seenEnding Edit.seen Edit.newRows Edit.newEnding Edit.newLength Edit.sensible Edit.unjudged Edit.windowBytes Edit.windowValid Edit.windowShort Edit.editTold Edit.editLeaves Edit.restartTold
 right = refl
 
 -- ---- windows that are no part of the new text
@@ -181,5 +194,5 @@ strange =
     ∷ []
 
 pub strange-right : map strangely strange ≡ strange
-unfolding strangely Text.front Text.utf8 Text.met Text.lineIn Text.charAt Text.isCut Text.validFrom Text.validBytes Text.valid Text.cutBytes Text.isBlank Text.newlines Text.lineAt Text.columnAt Text.placeAt Text.textJudged Text.moved Text.over Text.along Kinds.isMade Kinds.reserved Kinds.signs Kinds.sameBytes Kinds.kindIn Kinds.lengthIn Rows.rowWords Rows.rowIn Rows.rowsIn Rows.wordsOf Rows.bitsOf Rows.valueBits Rows.rowAt Rows.eofRow Rows.rowPlace Rows.every Rows.chained Rows.lengthFits Rows.spansFit Rows.valueFits Rows.placeFits Rows.linesFit Rows.rowFits Rows.follows Rows.lastRow Rows.endsBehind Rows.isEof Rows.eofLast Rows.endingFits Rows.rowsFit Rows.wellFormed Rows.spelling Lex.lineComment Lex.beforeClose Lex.blockComment Lex.isDigit Lex.isLetter Lex.isWord Lex.word Lex.isHexDigit Lex.digitValue Lex.spelt Lex.numberOf Lex.decimal Lex.hex Lex.number Lex.isEscape Lex.string Lex.maybeTwo Lex.single Lex.sign Lex.slashed Lex.dashed Lex.beginning Lex.piece Lex.decidedAt Lex.item Scan.readRows Scan.readEnding Scan.read Scan.scan Scan.roomOf Scan.told Scan.laid Scan.scanTold Scan.scanLeaves Edit.kept Edit.endPlace Edit.lastEnd Edit.restart Edit.slashOrStar Edit.opens Edit.look Edit.isShort Edit.from Edit.some Edit.firstPlace Edit.carry Edit.carryRow Edit.carryEnding Edit.meets Edit.windowPlace Edit.seenRows Edit.seenEnding Edit.seen Edit.newRows Edit.newEnding Edit.newLength Edit.sensible Edit.unjudged Edit.windowBytes Edit.windowValid Edit.windowShort Edit.editTold Edit.editLeaves Edit.restartTold
+unfolding strangely Text.front Text.utf8 Text.met Text.lineIn Text.charAt Text.isCut Text.validFrom Text.validBytes Text.valid Text.cutBytes Text.isBlank Text.newlines Text.lineAt Text.columnAt Text.placeAt Text.textJudged Text.moved Text.over Text.along Kinds.isMade Kinds.reserved Kinds.signs Kinds.sameBytes Kinds.kindIn Kinds.lengthIn Rows.rowWords Rows.rowIn Rows.rowsIn Rows.wordsOf Rows.bitsOf Rows.valueBits Rows.rowAt Rows.eofRow Rows.rowPlace Rows.every Rows.chained Rows.lengthFits Rows.spansFit Rows.valueFits Rows.placeFits Rows.linesFit Rows.rowFits Rows.follows Rows.gapFits Rows.gapsFit Rows.lastRow Rows.endsBehind Rows.isEof Rows.eofLast Rows.endingFits Rows.rowsFit Rows.wellFormed Rows.spelling Lex.lineComment Lex.beforeClose Lex.blockComment Lex.isDigit Lex.isLetter Lex.isWord Lex.word Lex.isHexDigit Lex.digitValue Lex.spelt Lex.numberOf Lex.decimal Lex.hex Lex.number Lex.isEscape Lex.string Lex.maybeTwo Lex.single Lex.sign Lex.slashed Lex.dashed Lex.beginning Lex.piece Lex.decidedAt Lex.item Scan.readRows Scan.readEnding Scan.read Scan.scan Scan.roomOf Scan.told Scan.laid Scan.scanTold Scan.scanLeaves Edit.kept Edit.endPlace Edit.lastEnd Edit.restart Edit.slashOrStar Edit.opens Edit.look Edit.isShort Edit.from Edit.some Edit.firstPlace Edit.carry Edit.carryRow Edit.withComments Edit.recounted Edit.carryEnding Edit.meets Edit.windowPlace Edit.seenRows Edit.seenEnding Edit.seen Edit.newRows Edit.newEnding Edit.newLength Edit.sensible Edit.unjudged Edit.windowBytes Edit.windowValid Edit.windowShort Edit.editTold Edit.editLeaves Edit.restartTold
 strange-right = refl

@@ -1,13 +1,12 @@
 -- What is seen from an index on, piece by piece, and behind blanks.
-use mathlib.Core.Path.{_≡_, refl, sym, ap, _∙_}
+use mathlib.Core.Path.{_≡_, refl, ap, _∙_}
 use mathlib.Core.Bool.{Bool, true, false, cond, not, _&&_, _||_}
 use mathlib.Core.List.{List, [], _∷_}
-use Prim.Native.Nat.{ℕ, zero, suc, _+_, _-_, _≤_, _<_}
+use Prim.Native.Nat.{ℕ, zero, suc, _+_, _-_, _≤_}
 use native.Mathlib.Nat.{not-suc-le-zero, le-of-suc-le-suc, add-zero}
 use native.Mathlib.Numerals.{add-one}
 use native.Mathlib.Omega.{arith}
-use lib.ListN.{length, drop, getD, length-drop, drop-of-length-le}
-use lib.Seq.{drop-cons}
+use lib.ListN.{length, drop}
 use lib.Dec.{ltb}
 use borrow.Author.Tests.{lt-ltb}
 use Rattle.rules.specs.Text.{front, isBlank}
@@ -91,7 +90,9 @@ module _ (pos : ℕ → Cursor) (meet : ℕ → Bool) (whole : Bool) where
   pub look-met : (s : List ℕ) (c k : ℕ) → stopsBefore k s ≡ true → look pos meet whole c 0 k s ≡ met k c
   unfolding look
   look-met [] c k e = absurd (let z : _≡_ {A = ℕ} 0 1 = cc in omega arith)
-  look-met (b ∷ s) c k e = let f : (meet k && not (opens (b ∷ s))) ≡ true = rw (lt-ltb 0 (suc (length s)) (omega arith)) at e in rw (f, look)
+  look-met (b ∷ s) c k e =
+      let f : (meet k && not (opens (b ∷ s))) ≡ true = rw (lt-ltb 0 (suc (length s)) (omega arith)) at e in
+      rw (f, look)
 
   pub look-by : (s : List ℕ) (c k : ℕ) → stopsBefore k s ≡ false → look pos meet whole c 0 k s ≡ lookBy (item whole s) c k s
   look-by [] c k e = look-none c k
@@ -109,7 +110,8 @@ module _ (pos : ℕ → Cursor) (meet : ℕ → Bool) (whole : Bool) where
       pick true = refl
       pick false = refl
 
-  pub look-blanks : (c n k : ℕ) (s : List ℕ) → n ≤ front isBlank s → look pos meet whole c 0 k s ≡ look pos meet whole c 0 (k + n) (drop n s)
+  pub look-blanks : (c n k : ℕ) (s : List ℕ) → n ≤ front isBlank s →
+      look pos meet whole c 0 k s ≡ look pos meet whole c 0 (k + n) (drop n s)
   unfolding look front opens
   look-blanks c zero k s h = rw add-zero
   look-blanks c (suc n) k [] h = absurd (not-suc-le-zero h)
@@ -119,7 +121,8 @@ module _ (pos : ℕ → Cursor) (meet : ℕ → Bool) (whole : Bool) where
       and-false true = refl
       and-false false = refl
 
-      pick : (q : Bool) → isBlank b ≡ q → (n ≤ front isBlank s → look pos meet whole c 0 (suc k) s ≡ look pos meet whole c 0 (suc k + n) (drop n s)) →
+      pick : (q : Bool) → isBlank b ≡ q →
+          (n ≤ front isBlank s → look pos meet whole c 0 (suc k) s ≡ look pos meet whole c 0 (suc k + n) (drop n s)) →
           look pos meet whole c 0 k (b ∷ s) ≡ look pos meet whole c 0 (k + suc n) (drop n s)
       pick true e r =
           let m : suc k + n ≡ k + suc n = omega arith in

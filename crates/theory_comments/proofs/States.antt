@@ -1,4 +1,5 @@
--- What a state of the byte machine stands for: how many comments end in the bytes behind it. A byte that the machine takes takes them along.
+-- What a state of the byte machine stands for: how many comments end in the bytes behind it. No byte that the machine takes changes that,
+-- but for the one that closes a comment.
 use Prim.Native.Nat.{ℕ, suc}
 use mathlib.Core.Bool.{Bool, true, false, cond}
 use mathlib.Core.List.{List, [], _∷_}
@@ -80,16 +81,20 @@ module _ (b k : ℕ) (s : List ℕ) where
   abbrev Goes : ℕ → Move → Type 0
   Goes n = Moves b k s n
 
+  -- outside of comments and strings
+  abbrev Passes : Move → Type 0
+  Passes = Goes (comments code (b ∷ s))
+
   -- a byte that is neither a slash nor a quote is taken in a row
-  goes-plain : (st : St) → ahead st (suc k) s ≡ comments code s → eqb b 47 ≡ false → eqb b 34 ≡ false → Goes (comments code (b ∷ s)) (on (go st))
+  goes-plain : (st : St) → ahead st (suc k) s ≡ comments code s → eqb b 47 ≡ false → eqb b 34 ≡ false → Passes (on (go st))
   goes-plain st h e f = moves-on _ (takes-go st (plain s b e f ∙ sym h))
 
   goes-class : (p : ℕ → Bool) (st : St) → ahead st (suc k) s ≡ comments code s → p 47 ≡ false → p 34 ≡ false → p b ≡ true →
-      Goes (comments code (b ∷ s)) (on (go st))
+      Passes (on (go st))
   goes-class p st h u v e = goes-plain st h (differs p 47 b u e) (differs p 34 b v e)
 
   -- the row ends before the byte, or is refused
-  number-goes : (negative : Bool) (v : ℕ) → Goes (comments code (b ∷ s)) (number negative v)
+  number-goes : (negative : Bool) (v : ℕ) → Passes (number negative v)
   unfolding number
   number-goes negative v = split (Goes _) (leb v largest) (λ e. moves-back _ refl) (λ e. moves-on _ (takes-bad _ _))
 
@@ -101,7 +106,7 @@ module _ (b k : ℕ) (s : List ℕ) where
       split (Goes _) (eqb b 61) (λ g. moves-on _ (takes-over _ (slash-alone s b e f ∙ rw (eqb-true b 61 g) (plain s 61 refl refl)))) (λ g.
       moves-back _ (slash-alone s b e f))))
 
-  minus-goes : Goes (comments code (b ∷ s)) (step minus k b)
+  minus-goes : Passes (step minus k b)
   unfolding step ahead isDigit
   minus-goes =
       split (Goes _) (eqb b 48) (λ e. goes-class (λ x. eqb x 48) _ refl refl refl e) (λ e.
@@ -125,29 +130,29 @@ module _ (b k : ℕ) (s : List ℕ) where
   unfolding step ahead
   escape-goes = split (Goes _) (isEscape b) (λ e. moves-on _ (takes-go _ (escape-passes s b))) (λ e. moves-on _ (takes-bad _ _))
 
-  two-goes : (x : ℕ) → Goes (comments code (b ∷ s)) (step (two x) k b)
+  two-goes : (x : ℕ) → Passes (step (two x) k b)
   unfolding step
   two-goes x =
       split (Goes _) (eqb (twoSign x b) Kinds.Eof) (λ e.
       split (Goes _) (isLone x) (λ f. moves-on _ (takes-bad _ _)) (λ f. moves-back _ refl)) (λ e.
       let z = sign-second x b e in moves-on _ (takes-over _ (plain s b (z .0) (z .1))))
 
-  name-goes : (w : List ℕ) → Goes (comments code (b ∷ s)) (step (name w) k b)
+  name-goes : (w : List ℕ) → Passes (step (name w) k b)
   unfolding step ahead isWord isLetter isDigit
   name-goes w = split (Goes _) (isWord b) (λ e. goes-class isWord _ refl refl refl e) (λ e. moves-back _ refl)
 
-  zero-goes : (negative : Bool) → Goes (comments code (b ∷ s)) (step (zer negative) k b)
+  zero-goes : (negative : Bool) → Passes (step (zer negative) k b)
   unfolding step ahead isDigit
   zero-goes negative =
       split (Goes _) (eqb b 120) (λ e. goes-class (λ x. eqb x 120) _ refl refl refl e) (λ e.
       split (Goes _) (isDigit b) (λ f. goes-class isDigit _ refl refl refl f) (λ f. number-goes negative 0))
 
   -- a hex digit, and else what the state does with any other byte
-  hex-goes : (negative : Bool) (v : ℕ) (x : Move) → Goes (comments code (b ∷ s)) x → Goes (comments code (b ∷ s)) (cond (isHexDigit b) (on (go (hex negative v))) x)
+  hex-goes : (negative : Bool) (v : ℕ) (x : Move) → Passes x → Passes (cond (isHexDigit b) (on (go (hex negative v))) x)
   unfolding ahead isHexDigit isDigit
   hex-goes negative v x h = split (Goes _) (isHexDigit b) (λ e. goes-class isHexDigit _ refl refl refl e) (λ e. h)
 
-  decimal-goes : (negative : Bool) (v : ℕ) → Goes (comments code (b ∷ s)) (step (dec negative v) k b)
+  decimal-goes : (negative : Bool) (v : ℕ) → Passes (step (dec negative v) k b)
   unfolding step ahead isDigit
   decimal-goes negative v = split (Goes _) (isDigit b) (λ e. goes-class isDigit _ refl refl refl e) (λ e. number-goes negative v)
 

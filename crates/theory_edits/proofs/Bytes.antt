@@ -124,7 +124,8 @@ module _ (p o i q w z : List ℕ) where
       says : Says (rowsFrom rows e a b n w) (endingFrom rows e a b n w) (bytes whole) goesOn
       unfolding seenBytes
       says =
-          look-says T′ pos s0 hi agree meet _ _ rows-meet ending-meets whole w z ends-text 0 s0 0 gap (le-refl s0) (omega arith) (at-same d (omega arith))
+          look-says T′ pos s0 hi agree meet _ _ rows-meet ending-meets whole w z ends-text
+          0 s0 0 gap (le-refl s0) (omega arith) (at-same d (omega arith))
 
       pub fresh-rows : isShort (bytes whole) ≡ false
           → kept a rows ++ seenRows rows e a b n w (bytes whole) ≡ readRows (scan T′)
@@ -168,4 +169,5 @@ module _ (p o i q w z : List ℕ) where
     unfolding seenBytes
     part-shows h =
         to-shows (rw behind-kept (meets-puts (kept a rows)
-        (part-meets T′ pos meet hi (λ m t c. follows p o i q w m t c .starts-there) w z 0 s0 0 gap (omega arith) (at-same d (omega arith)) h)))
+        (part-meets T′ pos meet hi (λ m t c. follows p o i q w m t c .starts-there) w z
+        0 s0 0 gap (omega arith) (at-same d (omega arith)) h)))

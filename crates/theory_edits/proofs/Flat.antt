@@ -47,7 +47,8 @@ module _ (T : List ℕ) where
   unfolding along moved
   on-next s t k b d q h = rw (add-suc t k, place-next s (t + k) b d, h, moved, q) (place-eq _ _ (omega arith) refl (omega arith))
 
-  flat-row : (c : ℕ) (x : Token) (t k : ℕ) (l : Reading) → On t k → Flat l → Flat (put (rowAt (placeAt T t) c (x .kind) (t + k) (x .bits)) l)
+  flat-row : (c : ℕ) (x : Token) (t k : ℕ) (l : Reading) → On t k → Flat l
+      → Flat (put (rowAt (placeAt T t) c (x .kind) (t + k) (x .bits)) l)
   unfolding rowAt endPlace along placeAt
   flat-row c x t k l h f =
       let n : t ≤ t + k = omega arith in
@@ -109,12 +110,15 @@ module _ (T : List ℕ) where
 
     begin-flat : (b c n : ℕ) → At T (b ∷ s) n → Flat (after (placeAt T) r c n 0 (begin b))
     begin-flat b c n d =
-        after-flat c n 0 (begin b) (at-next d (omega arith)) (led-near s n 0 b (begin b) (at-same d (omega arith)) (begin-newline b) (on-none n))
+        after-flat c n 0 (begin b) (at-next d (omega arith))
+        (led-near s n 0 b (begin b) (at-same d (omega arith)) (begin-newline b) (on-none n))
 
-    move-flat : (b c t k : ℕ) (st : St) (m : Move) → step st k b ≡ m → At T (b ∷ s) (t + k) → Ok t k st → Flat (move (placeAt T) r b c t k m)
+    move-flat : (b c t k : ℕ) (st : St) (m : Move) → step st k b ≡ m → At T (b ∷ s) (t + k) → Ok t k st
+        → Flat (move (placeAt T) r b c t k m)
     unfolding move ceases stays
     move-flat b c t k st fresh e d o = begin-flat b (passed c k) (t + k) d
-    move-flat b c t k st (on x) e d (away o) = after-flat c t k x (at-next d (omega arith)) (led-away t k x (rw e at (comment-stays st k b o)))
+    move-flat b c t k st (on x) e d (away o) =
+        after-flat c t k x (at-next d (omega arith)) (led-away t k x (rw e at (comment-stays st k b o)))
     move-flat b c t k st (on x) e d (near o) = after-flat c t k x (at-next d (omega arith)) (by (comment st) refl)
       where
         by : (q : Bool) → comment st ≡ q → Led t k x

@@ -49,7 +49,8 @@ module _ (X : List ℕ) (a : ℕ) where
 pub record Keeps (T : List ℕ) (a : ℕ) (p : Cursor) (old new : Reading) : Type 0 where
   pub same : new ≡ puts (kept a (readRows old)) (rest T 0 (lastEnd p (kept a (readRows old)) .offset .0))
 
-keeps-none : (T : List ℕ) (a : ℕ) (p : Cursor) (old new : Reading) → kept a (readRows old) ≡ [] → rest T 0 (p .offset .0) ≡ new → Keeps T a p old new
+keeps-none : (T : List ℕ) (a : ℕ) (p : Cursor) (old new : Reading) → kept a (readRows old) ≡ [] → rest T 0 (p .offset .0) ≡ new
+    → Keeps T a p old new
 unfolding lastEnd puts
 keeps-none T a p old new h e = record { same = rw (h, lastEnd) (sym e) }
 
@@ -106,14 +107,16 @@ unfolding placeAt lineAt columnAt
 place-agree u x y n h = rw (take-append-le n u x h, take-append-le n u y h)
 
 kept-bytes : (u x y : List ℕ)
-    → scanBytes (u ++ y) ≡ puts (kept (length u) (readRows (scanBytes (u ++ x)))) (rest (u ++ y) 0 (restart (readRows (scanBytes (u ++ x))) (length u) .offset .0))
+    → scanBytes (u ++ y) ≡ puts (kept (length u) (readRows (scanBytes (u ++ x))))
+    (rest (u ++ y) 0 (restart (readRows (scanBytes (u ++ x))) (length u) .offset .0))
 unfolding scanBytes rest restart
 kept-bytes u x y =
     kept-run (u ++ x) (u ++ y) (length u) (place-agree u x y) u x y 0 0 0 gap startPlace (omega arith) (record { text = refl }) refl .same
 
 -- The rows of u ++ x that end inside u begin the scan of u ++ y too, which goes on from the last one's end, with no comment counted.
 pub kept-scan : (u x y : List ℕ)
-    → scan (u ++ y) ≡ puts (kept (length u) (readRows (scan (u ++ x)))) (rest (u ++ y) 0 (restart (readRows (scan (u ++ x))) (length u) .offset .0))
+    → scan (u ++ y) ≡ puts (kept (length u) (readRows (scan (u ++ x))))
+    (rest (u ++ y) 0 (restart (readRows (scan (u ++ x))) (length u) .offset .0))
 kept-scan u x y = rw (same-scan (u ++ x), same-scan (u ++ y)) at (kept-bytes u x y)
 
 -- reading restarts at a or before it

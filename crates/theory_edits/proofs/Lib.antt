@@ -1,6 +1,6 @@
 -- The theorems on edits. To be read from the end: `Demand3` is the theorem, `Calls` and `Whole` what follows of it; `Fresh`, `WellFormed` and
 -- `FourBytes` are its three parts. Before them, about the machine: what is known of its steps, of its scan (from a place on, its kept rows,
--- its rows from one on, moved, without newlines, between characters), and of its scan of a window.
+-- its rows from one on, moved, without newlines, behind other comments, between characters), and of its scan of a window.
 pub mod Places
 pub mod Lines
 pub mod Steps

@@ -118,7 +118,8 @@ module _ (T : List ℕ) (pos : ℕ → Cursor) (lo hi : ℕ) (agree : (n : ℕ) 
         by : (q : Bool) → (meet n && not (opens (b ∷ w))) ≡ q → Says g h (seeAt pos meet w rs b c n) (after (placeAt T) rf c n 0 (begin b))
         by true q =
             let y : meet n ≡ true = both-true (meet n) (not (opens (b ∷ w))) q .0 in
-            rw q (says-met n c _ (ap readRows (sym is) ∙ meets-rows n c l (omega arith) y) (ap readEnding (sym is) ∙ meets-ending n c l (omega arith) y))
+            rw q (says-met n c _ (ap readRows (sym is) ∙ meets-rows n c l (omega arith) y)
+            (ap readEnding (sym is) ∙ meets-ending n c l (omega arith) y))
         by false q = rw q (after-says c n 0 (begin b) l (omega arith) (at-next d (omega arith)))
 
     move-says : (b c t k : ℕ) (x : Move) → lo ≤ t → t + k + suc (length w) ≡ hi → At T (b ∷ (w ++ z)) (t + k)
@@ -138,7 +139,8 @@ module _ (T : List ℕ) (pos : ℕ → Cursor) (lo hi : ℕ) (agree : (n : ℕ) 
       → At T (w ++ z) (t + k)
       → Says g h (lookBytes pos meet whole w c t k st) (run (placeAt T) (w ++ z) c t k st)
   unfolding lookBytes run
-  look-says true [] z y c t k st l e d = rw (y refl, close-says c t k (finish st k) l (omega arith)) (says-listed (close pos c t k (finish st k)))
+  look-says true [] z y c t k st l e d =
+      rw (y refl, close-says c t k (finish st k) l (omega arith)) (says-listed (close pos c t k (finish st k)))
   look-says false [] z y c t k st l e d = says-short _
   look-says whole (b ∷ w) z y c t k st l e d =
       move-says w z (run (placeAt T) (w ++ z)) (lookBytes pos meet whole w) refl (look-says whole w z y) b c t k (step st k b) l e d

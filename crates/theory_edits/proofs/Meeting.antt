@@ -105,7 +105,8 @@ module _ (p o i q : List ℕ) where
   unfolding rest placeAt
   rest-carried c m h =
       let k : old m + m - old m ≡ m = omega arith in
-      rw (same-rest m h) (rw k at (run-carried T T′ (placeAt T (old m)) (placeAt T′ m) (slides m h) (drop m T′) c (old m) 0 gap (omega arith)))
+      rw (same-rest m h)
+      (rw k at (run-carried T T′ (placeAt T (old m)) (placeAt T′ m) (slides m h) (drop m T′) c (old m) 0 gap (omega arith)))
 
   -- what a meeting place is
   pub meets-is : (w : List ℕ) (m : ℕ) → a + n ≤ m → Starts (old m) rows → meets rows e a b n w m ≡ true

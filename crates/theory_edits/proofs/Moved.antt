@@ -46,7 +46,8 @@ module _ (X X′ : List ℕ) (o p : Cursor) (slides : (n : ℕ) → o .offset .0
   eof-carried c t h = rw (slides t h)
 
   -- Eof behind t
-  end-carried : (c t j : ℕ) → o .offset .0 ≤ t → put (eofRow (placeAt X′ (f t + j)) c) ends ≡ carried o p (put (eofRow (placeAt X (t + j)) c) ends)
+  end-carried : (c t j : ℕ) → o .offset .0 ≤ t
+      → put (eofRow (placeAt X′ (f t + j)) c) ends ≡ carried o p (put (eofRow (placeAt X (t + j)) c) ends)
   unfolding carried
   end-carried c t j h = rw (f-add t j h) (ap (λ (r : Row). put r ends) (eof-carried c (t + j) (omega arith)))
 
@@ -61,7 +62,8 @@ module _ (X X′ : List ℕ) (o p : Cursor) (slides : (n : ℕ) → o .offset .0
     next-carried : (c t j : ℕ) → o .offset .0 ≤ t → r′ c (f t + j) 0 gap ≡ carried o p (r c (t + j) 0 gap)
     next-carried c t j h = rw (f-add t j h) (ih c (t + j) 0 gap (omega arith))
 
-    after-carried : (c t k : ℕ) (x : First) → o .offset .0 ≤ t → after (placeAt X′) r′ c (f t) k x ≡ carried o p (after (placeAt X) r c t k x)
+    after-carried : (c t k : ℕ) (x : First) → o .offset .0 ≤ t
+        → after (placeAt X′) r′ c (f t) k x ≡ carried o p (after (placeAt X) r c t k x)
     unfolding after carried
     after-carried c t k (go st) h = ih c t (suc k) st h
     after-carried c t k clear h = next-carried (passed c k) t (suc k) h
@@ -72,7 +74,8 @@ module _ (X X′ : List ℕ) (o p : Cursor) (slides : (n : ℕ) → o .offset .0
         → after (placeAt X′) r′ c (f t + k) 0 (begin b) ≡ carried o p (after (placeAt X) r c (t + k) 0 (begin b))
     begin-carried b c t k h = rw (f-add t k h) (after-carried c (t + k) 0 (begin b) (omega arith))
 
-    move-carried : (b c t k : ℕ) (m : Move) → o .offset .0 ≤ t → move (placeAt X′) r′ b c (f t) k m ≡ carried o p (move (placeAt X) r b c t k m)
+    move-carried : (b c t k : ℕ) (m : Move) → o .offset .0 ≤ t
+        → move (placeAt X′) r′ b c (f t) k m ≡ carried o p (move (placeAt X) r b c t k m)
     unfolding move carried
     move-carried b c t k fresh h = begin-carried b (passed c k) t k h
     move-carried b c t k (on x) h = after-carried c t k x h

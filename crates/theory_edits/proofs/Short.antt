@@ -148,14 +148,15 @@ module _ (T : List ℕ) (meet : ℕ → Bool) (hi : ℕ) where
           quiet-row c x t (t + k) _ (checked y (not-gap st k b (back x) e refl)) (at-quiet b 0 (t + k) h d i)
 
     -- a short window: the text goes on behind it, and nothing was to be seen in it
-    pub short-quiet : (whole : Bool) (w z : List ℕ) (c t k : ℕ) (st : St) → t + k + length w ≡ hi → At T (w ++ z) (t + k) → Checked meet hi t st
-        → isShort (lookBytes posw meet whole w c t k st) ≡ true
+    pub short-quiet : (whole : Bool) (w z : List ℕ) (c t k : ℕ) (st : St) → t + k + length w ≡ hi → At T (w ++ z) (t + k)
+        → Checked meet hi t st → isShort (lookBytes posw meet whole w c t k st) ≡ true
         → Quiet meet hi (run (placeAt T) (w ++ z) c t k st)
     unfolding lookBytes run
     short-quiet true [] z c t k st h d y i = absurd (true≢false (sym i ∙ not-listed _))
     short-quiet false [] z c t k st h d y i = beyond z c t k st (omega arith) y
     short-quiet whole (b ∷ w) z c t k st h d y i =
-        move-quiet w z (run (placeAt T) (w ++ z)) (lookBytes posw meet whole w) (short-quiet whole w z) b c t k st (step st k b) refl h d y i
+        move-quiet w z (run (placeAt T) (w ++ z)) (lookBytes posw meet whole w) (short-quiet whole w z)
+        b c t k st (step st k b) refl h d y i
 
 -- a window that ends the text is never short
 module _ (posw : ℕ → Cursor) (meet : ℕ → Bool) where
@@ -209,8 +210,8 @@ module _ (T : List ℕ) (posw : ℕ → Cursor) (meet : ℕ → Bool) (hi : ℕ)
     next-meets : (c n : ℕ) → n + length w ≡ hi → At T (w ++ z) n → isShort (rs c n 0 gap) ≡ false → Meets meet hi (rf c n 0 gap)
     next-meets c n h d i = ih c n 0 gap (omega arith) (at-same d (omega arith)) i
 
-    after-meets : (c t k : ℕ) (x : First) → t + suc k + length w ≡ hi → At T (w ++ z) (t + suc k) → isShort (seeAfter posw meet rs c t k x) ≡ false
-        → Meets meet hi (after (placeAt T) rf c t k x)
+    after-meets : (c t k : ℕ) (x : First) → t + suc k + length w ≡ hi → At T (w ++ z) (t + suc k)
+        → isShort (seeAfter posw meet rs c t k x) ≡ false → Meets meet hi (after (placeAt T) rf c t k x)
     unfolding after seeAfter isShort
     after-meets c t k (go st) h d i = ih c t (suc k) st h d i
     after-meets c t k clear h d i = next-meets (passed c k) (t + suc k) h d i

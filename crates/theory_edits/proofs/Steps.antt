@@ -1,15 +1,13 @@
 -- All that the theorems on edits know of `begin`, `step` and `finish`: a machine in a gap only begins, and no row holds a newline.
 use Prim.Native.Nat.{ℕ}
-use mathlib.Core.Bool.{Bool, true, false, cond, not, _&&_, _||_, true≢false}
-use mathlib.Core.List.{List, [], _∷_, _++_}
+use mathlib.Core.Bool.{Bool, true, false, cond, not, _&&_, true≢false}
+use mathlib.Core.List.{List, [], _∷_}
 use mathlib.Core.Path.{_≡_, refl, sym, _∙_}
 use lib.Dec.{eqb, leb}
-use borrow.Author.Tests.{eqb-true}
 use Rattle.rules.specs.Text.{isBlank}
 use Rattle.rules.specs.Kinds
 use Rattle.rules.specs.Kinds.{Spelt, signs, sameBytes, kindIn}
 use Rattle.rules.specs.Lex.{isDigit, isLetter, isWord, isHexDigit, isEscape, largest, isLone}
-use Rattle.rules.specs.Edit.{opens, slashOrStar}
 use Rattle.laws.proofs.Tests.{both-true}
 use Rattle.theory_machine.specs.Machine.{St, gap, slash, line, block, star, minus, str, esc, two, name, zer, hex0, dec, hex, First, go, clear, over, bad, Move, fresh, on, back, Last, clean, ended, cut, number, begin, step, finish}
 

@@ -13,7 +13,7 @@ use Rattle.rules.specs.Scan.{Reading, put, ends, stops, scan}
 use Rattle.theory_machine.specs.Machine.{Token, St, gap, First, go, clear, over, bad, Move, fresh, on, back, Last, clean, ended, cut, spot, begin, step, finish, passed, after, move, close, run, scanBytes}
 use Rattle.theory_machine.proofs.Same.{same-scan}
 use Rattle.theory_machine.proofs.Spans.{spot-le}
-use Rattle.theory_edits.proofs.Tokens.{Fit, Wide, closed-wide, good, GoodFirst, good-go, good-clear, good-over, good-bad, GoodMove, good-fresh, good-on, good-back, GoodLast, good-clean, good-ended, good-cut, begin-good, step-good, finish-good}
+use Rattle.theory_edits.proofs.Tokens.{Fit, closed-wide, good, GoodFirst, good-go, good-clear, good-over, good-bad, GoodMove, good-fresh, good-on, good-back, GoodLast, good-clean, good-ended, good-cut, begin-good, step-good, finish-good}
 
 module _ (T : List ℕ) where
   -- a reading from lo on, where the last row ended: between that and a row lie two bytes or more for each comment that the row tells of

@@ -55,7 +55,8 @@ module _ (pos : ℕ → Cursor) where
         let f : suc t ≡ t + 1 = omega arith in
         rw (e, f) (sym (pass c n t 0 h))
 
-    reads-piece : {m : ℕ} (c t : ℕ) (p : Piece) → piece (b ∷ s) ≡ p → Spans 1 0 m (known p) → reads c t 0 (b ∷ s) (known p) ≡ read pos c 0 t (b ∷ s)
+    reads-piece : {m : ℕ} (c t : ℕ) (p : Piece) → piece (b ∷ s) ≡ p → Spans 1 0 m (known p) →
+        reads c t 0 (b ∷ s) (known p) ≡ read pos c 0 t (b ∷ s)
     unfolding reads read
     reads-piece c t p e (blank-spans r) = rw (read, e) (first-byte c 1 t (omega arith))
     reads-piece c t p e (comment-spans n d r) = rw (read, e) (first-byte (suc c) n t (r .long))

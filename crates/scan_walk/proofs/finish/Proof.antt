@@ -1,13 +1,12 @@
 -- `scan_walk::finish` meets its contract.
-use mathlib.Core.Path.{_≡_, refl, sym, ap, _∙_}
+use mathlib.Core.Path.{_≡_, refl, sym, _∙_}
 use Prim.Native.Nat.{ℕ, _<_}
 use native.Mathlib.Omega.{arith}
 use borrow.Author.Needs.{needs}
 use native.Mathlib.Nat.{add-zero}
 use Rattle.rules.specs.Rows.{eofRow}
-use Rattle.scan_reader.specs.Brief.{End, Unknown}
 use Rattle.scan_reader.proofs.Reasons.{code-least}
-use Rattle.scan_walk.specs.Walk.{rowOf, placed, Finished}
+use Rattle.scan_walk.specs.Walk.{rowOf}
 use Rattle.scan_walk.proofs.finish.Statement.{statement}
 use Rattle.scan_walk.proofs.finish.Tie as tie
 

@@ -1,5 +1,5 @@
 -- `scan_walk::walk` meets its contract: the loop's invariant is `Walking`, and each way through a turn is one of its laws.
-use mathlib.Core.Path.{_≡_, sym, ap, subst, _∙_}
+use mathlib.Core.Path.{_≡_, sym, subst, _∙_}
 use mathlib.Core.Bool.{Bool, true, false}
 use mathlib.Core.List.{List}
 use mathlib.Core.Logic.{⊎-elim}
@@ -14,18 +14,21 @@ use Rattle.laws.proofs.Rows.{laid-length}
 use Rattle.laws.proofs.Places.{roomy-less}
 use Rattle.scan_reader.specs.declared.Spot.{Spot}
 use Rattle.scan_reader.specs.declared.Brief.{Brief}
-use Rattle.scan_reader.specs.Brief.{Blank, End, told}
+use Rattle.scan_reader.specs.Brief.{End, told}
 use Rattle.scan_walk.specs.declared.Olds.{Olds}
 use Rattle.scan_walk.specs.declared.Stop.the-variants.{Met}
 use Rattle.scan_walk.specs.declared.Walked.{Walked}
 use Rattle.scan_walk.specs.Meeting.{Passed, stopsAt}
-use Rattle.scan_walk.specs.Walk.{rowOf, placed, blanks, Passable}
-use Rattle.scan_walk.proofs.Walks.{Walking, Answer, walking-start, at-index, at-offset, ahead, blanks-more, blanks-none, walking-blanks, walking-found, tells, walking-met, last, walking-last, passable, walking-comment, walking-row, walking-less}
+use Rattle.scan_walk.specs.Walk.{blanks, Passable}
+use Rattle.scan_walk.proofs.Walks.{Walking, Answer, walking-start, at-offset, ahead, blanks-more, blanks-none, walking-blanks}
+use Rattle.scan_walk.proofs.Walks.{tells, walking-found, walking-met, last, walking-last, passable}
+use Rattle.scan_walk.proofs.Walks.{walking-comment, walking-row, walking-less}
 use Rattle.scan_walk.proofs.walk.Statement.{statement}
 use Rattle.scan_walk.proofs.walk.Tie as tie
 
 abbrev Inv-loop : tie.InvT-loop
-Inv-loop old olds text whole rows₀ classes slots here₀ i₀ row₀ count₀ comments₀ rows here i row count comments = Walking old olds text (here₀ .cursor) whole rows₀ rows here i row count comments
+Inv-loop old olds text whole rows₀ classes slots here₀ i₀ row₀ count₀ comments₀ rows here i row count comments =
+    Walking old olds text (here₀ .cursor) whole rows₀ rows here i row count comments
 
 abbrev μ-loop : tie.MeasureT-loop
 μ-loop old olds text whole rows₀ classes slots here₀ i₀ row₀ count₀ comments₀ rows here i row count comments = length text + 1 - i
@@ -77,10 +80,9 @@ Passed-blanks = tie.After-past-blanks Inv-loop μ-loop
 abbrev loop-of : Passed-blanks → Loop
 loop-of c = c .before .before
 
-stands : (c : Passed-blanks) → let l = loop-of c in let s = c .past-blanks .result in Stands l (l .loop .rows) s (s .at) (l .loop .row) (l .loop .count) (l .loop .comments)
-stands c =
-    let l = loop-of c in
-    walking-blanks (old-of l) (olds-of l) (text-of l) (begin-of l) (whole-of l) (lent-of l) (l .loop .rows) (l .loop .here) (l .loop .i) (l .loop .row) (l .loop .count) (l .loop .comments) (l .loop .inv) (c .past-blanks .result) (c .past-blanks .ensures)
+stands : (c : Passed-blanks) → let l = loop-of c in let s = c .past-blanks .result in
+    Stands l (l .loop .rows) s (s .at) (l .loop .row) (l .loop .count) (l .loop .comments)
+stands c = walking-blanks (loop-of c .loop .inv) (c .past-blanks .result) (c .past-blanks .ensures)
 
 -- ---- an old row was looked for
 
@@ -93,15 +95,13 @@ head f = loop-of (f .before)
 abbrev spot : Looked → Spot
 spot f = f .before .past-blanks .result
 
-found : (f : Looked) → let l = head f in Stands l (l .loop .rows) (spot f) (spot f .at) (f .find .result .row) (l .loop .count) (l .loop .comments)
-found f =
-    let l = head f in
-    walking-found (old-of l) (olds-of l) (text-of l) (begin-of l) (whole-of l) (lent-of l) (l .loop .rows) (spot f) (spot f .at) (l .loop .row) (l .loop .count) (l .loop .comments) (stands (f .before)) (f .find .result) (f .find .ensures)
+found : (f : Looked) → let l = head f in
+    Stands l (l .loop .rows) (spot f) (spot f .at) (f .find .result .row) (l .loop .count) (l .loop .comments)
+found f = walking-found (stands (f .before)) (f .find .result) (f .find .ensures)
 
-met : (f : Looked) → f .find .result .met ≡ true → Answers (head f) (record { count = head f .loop .count; stop = Met (spot f) (f .find .result .row) (head f .loop .comments) }) (head f .loop .rows)
-met f e =
-    let l = head f in
-    walking-met (old-of l) (olds-of l) (text-of l) (begin-of l) (whole-of l) (lent-of l) (l .loop .rows) (spot f) (spot f .at) (l .loop .row) (l .loop .count) (l .loop .comments) (stands (f .before)) (f .find .result) (f .find .ensures) e
+met : (f : Looked) → f .find .result .met ≡ true → let l = head f in
+    Answers l (record { count = l .loop .count; stop = Met (spot f) (f .find .result .row) (l .loop .comments) }) (l .loop .rows)
+met f e = walking-met (stands (f .before)) (f .find .result) (f .find .ensures) e
 
 -- ---- nothing meets, and what stands there was told
 
@@ -114,20 +114,19 @@ looked b = b .before .before .before .before
 abbrev told-of : Told → Brief
 told-of b = b .brief .result
 
-off : (b : Told) → let f = looked b in let l = head f in stopsAt (rowsIn (olds-of l .count) (old-of l)) (olds-of l .least) (olds-of l .b) (begin-of l .offset .0 + spot f .at) (drop (spot f .at) (text-of l)) ≡ false
+off : (b : Told) → let f = looked b in let l = head f in let o = olds-of l in
+    stopsAt (rowsIn (o .count) (old-of l)) (o .least) (o .b) (begin-of l .offset .0 + spot f .at) (drop (spot f .at) (text-of l)) ≡ false
 off b =
     let f = looked b in
-    let l = head f in
-    sym (tells (old-of l) (olds-of l) (text-of l) (begin-of l) (whole-of l) (lent-of l) (l .loop .rows) (spot f) (spot f .at) (l .loop .row) (l .loop .count) (l .loop .comments) (stands (f .before)) (f .find .result) (f .find .ensures))
-    ∙ b .before .before .before .if1 .left
+    sym (tells (stands (f .before)) (f .find .result) (f .find .ensures)) ∙ b .before .before .before .if1 .left
 
 none : (b : Told) → let f = looked b in blanks (drop (spot f .at) (text-of (head f))) ≡ 0
 none b =
     let k = looked b .before in
-    let l = loop-of k in
-    blanks-none (old-of l) (olds-of l) (text-of l) (begin-of l) (whole-of l) (lent-of l) (l .loop .rows) (l .loop .here) (l .loop .i) (l .loop .row) (l .loop .count) (l .loop .comments) (l .loop .inv) (k .past-blanks .result) (k .past-blanks .ensures)
+    blanks-none (loop-of k .loop .inv) (k .past-blanks .result) (k .past-blanks .ensures)
 
-told-here : (b : Told) → let f = looked b in let l = head f in told-of b ≡ told (drop (spot f .at) (text-of l)) (item (whole-of l) (drop (spot f .at) (text-of l)))
+told-here : (b : Told) → let f = looked b in let l = head f in
+    told-of b ≡ told (drop (spot f .at) (text-of l)) (item (whole-of l) (drop (spot f .at) (text-of l)))
 told-here b = b .brief .ensures
 
 -- the bytes are few enough to be counted
@@ -149,8 +148,7 @@ finished : (c : Finishes) → Answers (head (looked (told-last c))) (c .finish .
 finished c =
     let b = told-last c in
     let f = looked b in
-    let l = head f in
-    walking-last (old-of l) (olds-of l) (text-of l) (begin-of l) (whole-of l) (lent-of l) (l .loop .rows) (spot f) (spot f .at) (f .find .result .row) (l .loop .count) (l .loop .comments) (found f) (off b) (none b) (told-of b) (told-here b) (is-last c)
+    walking-last (found f) (off b) (none b) (told-of b) (told-here b) (is-last c)
     (c .finish .result) (c .finish .last .0) (c .finish .ensures)
 
 -- ---- it goes on
@@ -168,8 +166,7 @@ can-pass : (d : Goes-on) → let b = told-on d in let f = looked b in Passable (
 can-pass d =
     let b = told-on d in
     let f = looked b in
-    let l = head f in
-    passable (old-of l) (olds-of l) (text-of l) (begin-of l) (whole-of l) (lent-of l) (l .loop .rows) (spot f) (spot f .at) (f .find .result .row) (l .loop .count) (l .loop .comments) (found f) (off b) (none b) (told-of b) (told-here b) (goes-on d) (start-of l .pre .roomy)
+    passable (found f) (off b) (none b) (told-of b) (told-here b) (goes-on d) (start-of (head f) .pre .roomy)
 
 -- a row is put
 abbrev to-put : tie.After-put-behind-arg Inv-loop μ-loop → Goes-on
@@ -179,7 +176,8 @@ same-words : (l : Loop) {us vs : List ℕ} {m n c d : ℕ} (s : Spot) (row : ℕ
     Stands l us s (s .at) row m c
 same-words l s row e f h g = rw (e, f, h) g
 
-stands-behind : (c : tie.After-behind Inv-loop μ-loop) → let j = c .before in let f = looked (told-on (j .before)) in let s = c .behind .result in
+stands-behind : (c : tie.After-behind Inv-loop μ-loop) →
+    let j = c .before in let f = looked (told-on (j .before)) in let s = c .behind .result in
     Stands (head f) (j .if3 .rows) s (s .at) (f .find .result .row) (j .if3 .count) (j .if3 .comments)
 stands-behind c =
     let j = c .before in
@@ -189,9 +187,10 @@ stands-behind c =
     let s = c .behind .result in
     ⊎-elim
     (λ x. same-words l s (f .find .result .row) (x .5 ∙ x .2 .ensures) (x .6) (x .7)
-    (walking-row (old-of l) (olds-of l) (text-of l) (begin-of l) (whole-of l) (lent-of l) (l .loop .rows) (spot f) (spot f .at) (f .find .result .row) (l .loop .count) (l .loop .comments) (found f) (off b) (none b) (told-of b) (told-here b) s (c .behind .ensures) (x .0 .taken)))
+    (walking-row (found f) (off b) (none b) (told-of b) (told-here b) s (c .behind .ensures) (x .0 .taken)))
     (λ x. same-words l s (f .find .result .row) (x .1) (x .2) (x .3)
-    (walking-comment (old-of l) (olds-of l) (text-of l) (begin-of l) (whole-of l) (lent-of l) (l .loop .rows) (spot f) (spot f .at) (f .find .result .row) (l .loop .count) (l .loop .comments) (found f) (off b) (none b) (told-of b) (told-here b) s (c .behind .ensures) (omega (arith, x .0 .left)) (goes-on (j .before))))
+    (walking-comment (found f) (off b) (none b) (told-of b) (told-here b) s (c .behind .ensures) (omega (arith, x .0 .left))
+    (goes-on (j .before))))
     (j .if3 .came)
 
 table-requires : tie.Need-table-requires Inv-loop μ-loop
@@ -208,14 +207,14 @@ loop-holds c =
 past-blanks-requires : tie.Need-past-blanks-requires Inv-loop μ-loop
 past-blanks-requires c κs =
     let l = c .before in
-    ahead (old-of l) (olds-of l) (text-of l) (begin-of l) (whole-of l) (lent-of l) (l .loop .rows) (l .loop .here) (l .loop .i) (l .loop .row) (l .loop .count) (l .loop .comments) (l .loop .inv) (start-of l .pre .roomy)
+    ahead (l .loop .inv) (start-of l .pre .roomy)
 
 find-requires : tie.Need-find-requires Inv-loop μ-loop
 find-requires c κs =
     let l = loop-of c in
     let p = start-of l .pre in
     let s = c .past-blanks .result in
-    let o = at-offset (old-of l) (olds-of l) (text-of l) (begin-of l) (whole-of l) (lent-of l) (l .loop .rows) s (s .at) (l .loop .row) (l .loop .count) (l .loop .comments) (stands c) in
+    let o = at-offset (stands c) in
     ((p .lent, stands c .few), (p .rising, subst (Passed (old-of l) (olds-of l .least) (olds-of l .b) (l .loop .row)) (sym o) (stands c .passed)))
 
 same-length : tie.Need-same-length Inv-loop μ-loop
@@ -235,7 +234,7 @@ finish-requires c κs =
     let b = c .before .before .before .before in
     let f = looked b in
     let l = head f in
-    last (old-of l) (olds-of l) (text-of l) (begin-of l) (whole-of l) (lent-of l) (l .loop .rows) (spot f) (spot f .at) (f .find .result .row) (l .loop .count) (l .loop .comments) (found f) (off b) (none b) (told-of b) (told-here b) (c .before .if2 .taken)
+    last (found f) (off b) (none b) (told-of b) (told-here b) (c .before .if2 .taken)
     (omega (arith, few l, found f .inside)) (start-of l .pre .roomy)
 
 same-length-2 : tie.Need-same-length-2 Inv-loop μ-loop
@@ -250,7 +249,8 @@ put-behind-requires c κs =
     let b = told-on d in
     let f = looked b in
     let g = can-pass d in
-    roomy-less (length (text-of (head f)) - spot f .at) (told-of b .size) (spot f .cursor) (omega (arith, g .inside)) (g .ahead .roomy) .offset
+    let n = length (text-of (head f)) - spot f .at in
+    roomy-less n (told-of b .size) (spot f .cursor) (omega (arith, g .inside)) (g .ahead .roomy) .offset
 
 add-count : tie.Need-add-count Inv-loop μ-loop
 add-count c =
@@ -272,8 +272,8 @@ loop-less c =
     let b = told-on d in
     let f = looked b in
     let l = head f in
-    let h = walking-less (old-of l) (olds-of l) (text-of l) (begin-of l) (whole-of l) (lent-of l) (l .loop .rows) (spot f) (spot f .at) (f .find .result .row) (l .loop .count) (l .loop .comments) (found f) (off b) (none b) (told-of b) (told-here b) (c .behind .result) (c .behind .ensures) (goes-on d) in
-    let k = blanks-more (old-of l) (olds-of l) (text-of l) (begin-of l) (whole-of l) (lent-of l) (l .loop .rows) (l .loop .here) (l .loop .i) (l .loop .row) (l .loop .count) (l .loop .comments) (l .loop .inv) (spot f) (f .before .past-blanks .ensures) in
+    let h = walking-less (found f) (off b) (none b) (told-of b) (told-here b) (c .behind .result) (c .behind .ensures) (goes-on d) in
+    let k = blanks-more (l .loop .inv) (spot f) (f .before .past-blanks .ensures) in
     omega arith
 
 loop-again : tie.Need-loop-again Inv-loop μ-loop
