@@ -121,7 +121,7 @@ module _ {ws : List ℕ} {j : Job} {w : List ℕ} (r : Ready ws j w) where
 
     is-shown : Shown (meetsOf ws j w) whole begin end (jobSeen ws j w whole)
     unfolding seenFrom
-    is-shown = subst (Shown (meetsOf ws j w) whole begin end) seen-same (shown (placeIn (j .begin) w) (meetsOf ws j w) whole 0 begin w)
+    is-shown = subst (Shown (meetsOf ws j w) whole begin end) seen-same (shown (placeIn (j .begin) w) (meetsOf ws j w) whole 0 0 begin w)
 
     -- a window that ends the text is not short
     pub whole-long : whole ≡ true → isShort (jobSeen ws j w whole) ≡ false
@@ -176,10 +176,10 @@ module _ {ws : List ℕ} {j : Job} {w : List ℕ} (r : Ready ws j w) where
       unfolding jobRows jobEnding
       over-by y f = let q = by-over ws j w (jobSeen ws j w whole) y (stopped ∙ f) in (q .0 ∙ ours-seen, q .1)
 
-      -- an old row meets
-      module _ (s : Spot) (row : ℕ) (f : x .stop ≡ Met s row) where
-        there : Meeting ws j w (jobSeen ws j w whole) s row
-        there = by-met ws j w (r .begin) whole begin (jobSeen ws j w whole) (omega arith) is-shown s row (stopped ∙ f)
+      -- an old row meets, with c comments before it
+      module _ (s : Spot) (row c : ℕ) (f : x .stop ≡ Met s row c) where
+        there : Meeting ws j w (jobSeen ws j w whole) s row c
+        there = by-met ws j w (r .begin) whole begin (jobSeen ws j w whole) (omega arith) is-shown s row c (stopped ∙ f)
 
         row-there : row < j .table .count
         row-there = rw (rows-length (j .table .count) ws) at (there .there)
@@ -190,7 +190,7 @@ module _ {ws : List ℕ} {j : Job} {w : List ℕ} (r : Ready ws j w) where
             ap firstPlace (drop-cons (oldRows ws j) row (rowIn []) (there .there))
             ∙ ap rowPlace (rows-at (j .table .count) ws (rowIn []) row row-there)
 
-        pub met-rows : jobRows ws j w whole ≡ ours ++ rowsBehind ws (j .table) row (s .cursor)
+        pub met-rows : jobRows ws j w whole ≡ ours ++ rowsBehind ws (j .table) row (s .cursor) c
         unfolding jobRows rowsBehind
         met-rows = there .rows-met ∙ rw (place-old, ours-seen)
 

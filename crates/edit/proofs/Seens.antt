@@ -13,7 +13,8 @@ use Rattle.rules.specs.declared.Ending.{Ending}
 use Rattle.rules.specs.declared.Ending.the-variants as ending
 use Rattle.rules.specs.Rows.{Row, rowAt, eofRow}
 use Rattle.rules.specs.Lex.{Item, item, piece, decidedAt, known, blank, comment, row, refused, end, unknown}
-use Rattle.rules.specs.Edit.{Seen, sees, over′, met, short, isShort, look, opens, from, some, firstPlace, carryRow, carryEnding, oldOffset, restart, windowPlace, seenRows, seenEnding}
+use Rattle.rules.specs.Edit.{Seen, sees, over′, met, short, isShort, look, opens, from, some, firstPlace, carryRow, carryEnding, recounted}
+use Rattle.rules.specs.Edit.{oldOffset, restart, windowPlace, seenRows, seenEnding}
 use Rattle.laws.proofs.Tests.{both-true}
 use Rattle.scan_reader.specs.declared.Spot.{Spot}
 use Rattle.scan_reader.specs.Read.{onward}
@@ -23,6 +24,7 @@ use Rattle.edit.specs.declared.Job.{Job}
 use Rattle.scan_walk.specs.Meeting.{meetsAt}
 use Rattle.scan_walk.specs.Walk.{startOf, rowsSeen, stopSeen}
 use Rattle.edit.specs.Job.{oldRows}
+use Rattle.edit.proofs.Tails.{recounted-length}
 
 -- ---- the rows from a start on are the last ones
 
@@ -63,28 +65,28 @@ module _ (meet : ℕ → Bool) (whole : Bool) where
   unfoldable pub Shown : (k e : ℕ) → Seen → Type 0
   Shown k e (sees r s) = (k ≤ e) × Shown (suc k) e s
   Shown k e (over′ x) = Unit
-  Shown k e (met m) = Lies meet k e m
+  Shown k e (met m c) = Lies meet k e m
   Shown k e short = whole ≡ false
 
   shown-less : (k e : ℕ) (x : Seen) → Shown (suc k) e x → Shown k e x
   unfolding Shown
   shown-less k e (sees r s) h = (omega (arith, h .0), shown-less (suc k) e s (h .1))
   shown-less k e (over′ x) h = tt
-  shown-less k e (met m) h = record { meeting = h .meeting; low = omega (arith, h .low); high = h .high }
+  shown-less k e (met m c) h = record { meeting = h .meeting; low = omega (arith, h .low); high = h .high }
   shown-less k e short h = h
 
   pub shown-few : (k e : ℕ) (x : Seen) → k ≤ e + 1 → Shown k e x → k + length (rowsSeen x) ≤ e + 1
   unfolding Shown rowsSeen
   shown-few k e (sees r s) l h = omega (arith, shown-few (suc k) e s (omega (arith, h .0)) (h .1))
   shown-few k e (over′ x) l h = omega arith
-  shown-few k e (met m) l h = omega arith
+  shown-few k e (met m c) l h = omega arith
   shown-few k e short l h = omega arith
 
   pub shown-whole : (k e : ℕ) (x : Seen) → Shown k e x → whole ≡ true → isShort x ≡ false
   unfolding Shown isShort
   shown-whole k e (sees r s) h w = shown-whole (suc k) e s (h .1) w
   shown-whole k e (over′ x) h w = refl
-  shown-whole k e (met m) h w = refl
+  shown-whole k e (met m c) h w = refl
   shown-whole k e short h w = sym w ∙ h
 
 module _ (pos : ℕ → Cursor) (meet : ℕ → Bool) (whole : Bool) where
@@ -100,43 +102,43 @@ module _ (pos : ℕ → Cursor) (meet : ℕ → Bool) (whole : Bool) where
   abbrev ShownTo : ℕ → ℕ → Seen → Type 0
   ShownTo = Shown meet whole
 
-  pub shown : (n k : ℕ) (s : List ℕ) → ShownTo k (k + length s) (look pos meet whole n k s)
+  pub shown : (c n k : ℕ) (s : List ℕ) → ShownTo k (k + length s) (look pos meet whole c n k s)
   unfolding look Shown
-  shown n k [] = pick whole
+  shown c n k [] = pick whole
     where
-      pick : (p : Bool) → Shown meet p k (k + 0) (cond p (sees (eofRow (pos k)) (over′ ending.None)) short)
+      pick : (p : Bool) → Shown meet p k (k + 0) (cond p (sees (eofRow (pos k) c) (over′ ending.None)) short)
       pick true = (omega arith, tt)
       pick false = refl
-  shown (suc n) k (b ∷ s) =
+  shown c (suc n) k (b ∷ s) =
       let e : suc k + length s ≡ k + suc (length s) = omega arith in
-      shown-less meet whole k (k + suc (length s)) (look pos meet whole n (suc k) s) (rw e at (shown n (suc k) s))
-  shown zero k (b ∷ s) =
+      shown-less meet whole k (k + suc (length s)) (look pos meet whole c n (suc k) s) (rw e at (shown c n (suc k) s))
+  shown c zero k (b ∷ s) =
       pick (meet k && not (opens (b ∷ s))) refl
-      (λ n. let e : suc k + length s ≡ k + suc (length s) = omega arith in rw e at (shown n (suc k) s))
+      (λ d n. let e : suc k + length s ≡ k + suc (length s) = omega arith in rw e at (shown d n (suc k) s))
     where
       all : ℕ
       all = k + suc (length s)
 
-      by : (x : Item) → item whole (b ∷ s) ≡ x → ((n : ℕ) → ShownTo (suc k) all (look pos meet whole n (suc k) s)) →
+      by : (x : Item) → item whole (b ∷ s) ≡ x → ((d n : ℕ) → ShownTo (suc k) all (look pos meet whole d n (suc k) s)) →
           ShownTo k all (elim x as (λ _. Seen) [
             | known p ↦ elim p as (λ _. Seen) [
-              | blank ↦ look pos meet whole zero (suc k) s
-              | comment n d ↦ look pos meet whole (pred n) (suc k) s
-              | row kind n bits d ↦ sees (rowAt (pos k) kind (k + n) bits) (look pos meet whole (pred n) (suc k) s)
+              | blank ↦ look pos meet whole c zero (suc k) s
+              | comment n d ↦ look pos meet whole (suc c) (pred n) (suc k) s
+              | row kind n bits d ↦ sees (rowAt (pos k) c kind (k + n) bits) (look pos meet whole zero (pred n) (suc k) s)
               | refused why p d ↦ over′ (ending.Refused why (pos (k + p)))
             ]
             | end ↦ short
             | unknown ↦ short
           ])
-      by (known blank) f r = shown-less meet whole k all (look pos meet whole 0 (suc k) s) (r 0)
-      by (known (comment n d)) f r = shown-less meet whole k all (look pos meet whole (pred n) (suc k) s) (r (pred n))
-      by (known (row kind n bits d)) f r = (omega arith, r (pred n))
+      by (known blank) f r = shown-less meet whole k all (look pos meet whole c 0 (suc k) s) (r c 0)
+      by (known (comment n d)) f r = shown-less meet whole k all (look pos meet whole (suc c) (pred n) (suc k) s) (r (suc c) (pred n))
+      by (known (row kind n bits d)) f r = (omega arith, r 0 (pred n))
       by (known (refused why p d)) f r = tt
       by end f r = not-known b s end f (λ z. let y : _≡_ {A = ℕ} 0 1 = cc in omega arith)
       by unknown f r = not-known b s unknown f (λ z. let y : _≡_ {A = ℕ} 0 1 = cc in omega arith)
 
-      pick : (m : Bool) → (meet k && not (opens (b ∷ s))) ≡ m → ((n : ℕ) → ShownTo (suc k) all (look pos meet whole n (suc k) s)) →
-          ShownTo k all (look pos meet whole 0 k (b ∷ s))
+      pick : (m : Bool) → (meet k && not (opens (b ∷ s))) ≡ m → ((d n : ℕ) → ShownTo (suc k) all (look pos meet whole d n (suc k) s)) →
+          ShownTo k all (look pos meet whole c 0 k (b ∷ s))
       pick true f r = rw (look, f) (record { meeting = both-true (meet k) (not (opens (b ∷ s))) f .0; low = le-refl k; high = omega arith })
       pick false f r = rw (look, f) (by (item whole (b ∷ s)) refl r)
 
@@ -144,7 +146,7 @@ module _ (pos : ℕ → Cursor) (meet : ℕ → Bool) (whole : Bool) where
 
 -- it stopped for want of bytes
 unfoldable pub isLacking : Stop → Bool
-isLacking (Met s r) = false
+isLacking (Met s r c) = false
 isLacking (Over e) = false
 isLacking Short = true
 
@@ -181,8 +183,9 @@ module _ (ws : List ℕ) (j : Job) (w : List ℕ) where
   unfolding seenRows rowsSeen
   seen-few (sees r s) = omega (arith, seen-few s)
   seen-few (over′ x) = omega arith
-  seen-few (met m) =
-      omega (arith, length-map (old-from m) (carryRow (firstPlace (old-from m)) (place-at m)), from-few (old-at m) olds)
+  seen-few (met m c) =
+      let f = carryRow (firstPlace (old-from m)) (place-at m) in
+      omega (arith, recounted-length c (map f (old-from m)), length-map (old-from m) f, from-few (old-at m) olds)
   seen-few short = omega arith
 
   pub record Begins (x : Seen) : Type 0 where
@@ -193,14 +196,14 @@ module _ (ws : List ℕ) (j : Job) (w : List ℕ) where
   unfolding seenRows rowsSeen
   begins (sees r s) = let h = begins s in record { others = h .others; all = ap (_∷_ r) (h .all) }
   begins (over′ x) = record { others = []; all = refl }
-  begins (met m) = record { others = rowsOf (met m); all = refl }
+  begins (met m c) = record { others = rowsOf (met m c); all = refl }
   begins short = record { others = []; all = refl }
 
   pub by-lacking : (x : Seen) → isShort x ≡ isLacking (stopOf x)
   unfolding isShort stopSeen isLacking
   by-lacking (sees r s) = by-lacking s
   by-lacking (over′ x) = refl
-  by-lacking (met m) = refl
+  by-lacking (met m c) = refl
   by-lacking short = refl
 
   -- the text is over
@@ -208,56 +211,59 @@ module _ (ws : List ℕ) (j : Job) (w : List ℕ) where
   unfolding seenRows seenEnding rowsSeen stopSeen
   by-over (sees r s) y q = let h = by-over s y q in (ap (_∷_ r) (h .0), h .1)
   by-over (over′ x) y q = (refl, cc)
-  by-over (met m) y q = absurd (let z : _≡_ {A = ℕ} 0 1 = cc in omega arith)
+  by-over (met m c) y q = absurd (let z : _≡_ {A = ℕ} 0 1 = cc in omega arith)
   by-over short y q = absurd (let z : _≡_ {A = ℕ} 0 1 = cc in omega arith)
 
-  -- an old row meets at an index of the window, and the rows from it on follow
-  pub record Meeting (x : Seen) (s : Spot) (r : ℕ) : Type 0 where
+  -- an old row meets at an index of the window, with c comments before it, and the rows from it on follow
+  pub record Meeting (x : Seen) (s : Spot) (r c : ℕ) : Type 0 where
     pub at : ℕ
     pub inside : at < length w
     pub spot : s ≡ onward w (startOf (j .begin)) at
     pub there : r < length olds
-    pub rows-met : rowsOf x ≡ rowsSeen x ++ map (carryRow (firstPlace (drop r olds)) (s .cursor)) (drop r olds)
+    pub rows-met : rowsOf x ≡ rowsSeen x ++ recounted c (map (carryRow (firstPlace (drop r olds)) (s .cursor)) (drop r olds))
     pub ending-met : endingOf x ≡ carryEnding (firstPlace (drop r olds)) (s .cursor) (j .table .ending)
 
   module _ (begin : j .begin ≡ restart olds (j .a)) where
-    meeting : (m : ℕ) → Lies meetsOf (j .begin .offset .0) (j .begin .offset .0 + length w) m →
-        (s : Spot) (r : ℕ) → stopOf (met m) ≡ Met s r → Meeting (met m) s r
+    meeting : (m d : ℕ) → Lies meetsOf (j .begin .offset .0) (j .begin .offset .0 + length w) m →
+        (s : Spot) (r c : ℕ) → stopOf (met m d) ≡ Met s r c → Meeting (met m d) s r c
     unfolding seenRows seenEnding rowsSeen stopSeen meetsAt windowPlace onward
-    meeting m l s r q =
+    meeting m d l s r c q =
         let i = m - j .begin .offset .0 in
         let f = old-from m in
         let g = both-true (leb (j .a + j .n) m) (some f) (l .meeting) in
         let y : r ≡ length olds - length f = cc in
         let z : s ≡ onward w (startOf (j .begin)) i = cc in
+        let x : d ≡ c = cc in
         let v : f ≡ drop r olds = from-drop (old-at m) olds ∙ ap (λ (k : ℕ). drop k olds) (sym y) in
-        let u : place-at m ≡ s .cursor = rw (← begin) (sym (ap (λ (c : Spot). c .cursor) z)) in
+        let u : place-at m ≡ s .cursor = rw (← begin) (sym (ap (λ (h : Spot). h .cursor) z)) in
         record {
           at = i;
           inside = omega (arith, l .low, l .high);
           spot = z;
           there = omega (arith, some-length f (g .1), from-few (old-at m) olds);
           rows-met =
-              ap (λ (c : Cursor). map (carryRow (firstPlace f) c) f) u
-              ∙ ap (λ (rs : List Row). map (carryRow (firstPlace rs) (s .cursor)) rs) v;
+              ap (λ (h : Cursor). recounted d (map (carryRow (firstPlace f) h) f)) u
+              ∙ ap (λ (rs : List Row). recounted d (map (carryRow (firstPlace rs) (s .cursor)) rs)) v
+              ∙ ap (λ (k : ℕ). recounted k (map (carryRow (firstPlace (drop r olds)) (s .cursor)) (drop r olds))) x;
           ending-met =
-              ap (λ (c : Cursor). carryEnding (firstPlace f) c (j .table .ending)) u
+              ap (λ (h : Cursor). carryEnding (firstPlace f) h (j .table .ending)) u
               ∙ ap (λ (rs : List Row). carryEnding (firstPlace rs) (s .cursor) (j .table .ending)) v;
         }
 
     pub by-met : (whole : Bool) (k : ℕ) (x : Seen) → j .begin .offset .0 ≤ k → Shown meetsOf whole k (j .begin .offset .0 + length w) x →
-        (s : Spot) (r : ℕ) → stopOf x ≡ Met s r → Meeting x s r
+        (s : Spot) (r c : ℕ) → stopOf x ≡ Met s r c → Meeting x s r c
     unfolding seenRows seenEnding rowsSeen stopSeen Shown
-    by-met whole k (sees c x) h l s r q =
-        let m = by-met whole (suc k) x (omega arith) (l .1) s r q in
+    by-met whole k (sees z x) h l s r c q =
+        let m = by-met whole (suc k) x (omega arith) (l .1) s r c q in
         record {
           at = m .at;
           inside = m .inside;
           spot = m .spot;
           there = m .there;
-          rows-met = ap (_∷_ c) (m .rows-met);
+          rows-met = ap (_∷_ z) (m .rows-met);
           ending-met = m .ending-met;
         }
-    by-met whole k (met m) h l s r q = meeting m (record { meeting = l .meeting; low = omega (arith, l .low); high = l .high }) s r q
-    by-met whole k (over′ x) h l s r q = absurd (let z : _≡_ {A = ℕ} 0 1 = cc in omega arith)
-    by-met whole k short h l s r q = absurd (let z : _≡_ {A = ℕ} 0 1 = cc in omega arith)
+    by-met whole k (met m d) h l s r c q =
+        meeting m d (record { meeting = l .meeting; low = omega (arith, l .low); high = l .high }) s r c q
+    by-met whole k (over′ x) h l s r c q = absurd (let z : _≡_ {A = ℕ} 0 1 = cc in omega arith)
+    by-met whole k short h l s r c q = absurd (let z : _≡_ {A = ℕ} 0 1 = cc in omega arith)

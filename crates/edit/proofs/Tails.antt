@@ -20,7 +20,7 @@ use Rattle.rules.specs.declared.Told.the-variants as tells
 use Rattle.rules.specs.Text.{startPlace}
 use Rattle.rules.specs.Rows.{Row, rowsIn, rowPlace, wordsOf}
 use Rattle.rules.specs.Scan.{roomOf, laid, told}
-use Rattle.rules.specs.Edit.{carryRow}
+use Rattle.rules.specs.Edit.{carryRow, recounted}
 use Rattle.rows.specs.Shape.{rowNo}
 use Rattle.laws.proofs.Lists.{lent-tail, back-tail}
 use Rattle.laws.proofs.Rows.{rows-length, words-length, take-rows, drop-rows, told-full, room-behind, laid-append, laid-front, laid-part, laid-all}
@@ -84,18 +84,34 @@ map-take f zero xs = refl
 map-take f (suc n) [] = refl
 map-take f (suc n) (x ∷ xs) = ap (_∷_ (f x)) (map-take f n xs)
 
--- rows that are changed by f, as far as there is room
-module _ (f : Row → Row) (xs ws : List ℕ) (left : ℕ) where
-  many : length (map f (rowsIn left xs)) ≡ left
-  many = length-map (rowsIn left xs) f ∙ rows-length left xs
+-- a new count for the first row leaves how many there are, and which come first
+pub recounted-length : (c : ℕ) (rs : List Row) → length (recounted c rs) ≡ length rs
+unfolding recounted
+recounted-length c [] = refl
+recounted-length c (r ∷ rs) = refl
 
-  pub laid-left : left ≤ roomOf ws → wordsOf (map f (rowsIn left xs)) ++ drop (8 * left) ws ≡ laid (map f (rowsIn left xs)) ws
-  laid-left h = sym (laid-all (map f (rowsIn left xs)) ws (rw many h) ∙ rw many)
+recounted-take : (c n : ℕ) (rs : List Row) → take n (recounted c rs) ≡ recounted c (take n rs)
+unfolding recounted
+recounted-take c zero rs = refl
+recounted-take c (suc n) [] = refl
+recounted-take c (suc n) (r ∷ rs) = refl
 
-  pub laid-room : roomOf ws ≤ left → wordsOf (map f (rowsIn (roomOf ws) xs)) ++ drop (8 * roomOf ws) ws ≡ laid (map f (rowsIn left xs)) ws
+-- rows that are changed by f, with c comments before the first, as far as there is room
+module _ (f : Row → Row) (c : ℕ) (xs ws : List ℕ) (left : ℕ) where
+  abbrev changed : ℕ → List Row
+  changed n = recounted c (map f (rowsIn n xs))
+
+  many : length (changed left) ≡ left
+  many = recounted-length c (map f (rowsIn left xs)) ∙ length-map (rowsIn left xs) f ∙ rows-length left xs
+
+  pub laid-left : left ≤ roomOf ws → wordsOf (changed left) ++ drop (8 * left) ws ≡ laid (changed left) ws
+  laid-left h = sym (laid-all (changed left) ws (rw many h) ∙ rw many)
+
+  pub laid-room : roomOf ws ≤ left → wordsOf (changed (roomOf ws)) ++ drop (8 * roomOf ws) ws ≡ laid (changed left) ws
   laid-room h =
-      sym (laid-part (map f (rowsIn left xs)) ws (rw many h)
-      ∙ rw (map-take f (roomOf ws) (rowsIn left xs), take-rows left xs (roomOf ws) h))
+      let m = roomOf ws in
+      sym (laid-part (changed left) ws (rw many h)
+      ∙ rw (recounted-take c m (map f (rowsIn left xs)), map-take f m (rowsIn left xs), take-rows left xs m h))
 
 -- the tail behind the window's rows is lent, and comes back
 module _ (ys : List Row) (ws xs : List ℕ) (count : ℕ) (e : xs ≡ laid ys ws) (h : length ys ≤ roomOf ws) (n : count ≡ length ys) where
@@ -119,41 +135,44 @@ module _ (ys : List Row) (ws xs : List ℕ) (count : ℕ) (e : xs ≡ laid ys ws
   pub back-behind : (zs : List ℕ) → putMid (count * 8) (length xs - count * 8) xs zs ≡ wordsOf ys ++ zs
   back-behind zs = back-tail xs (count * 8) inside zs ∙ rw (base, words, take-at (wordsOf ys) (drop (8 * length ys) ws) (8 * length ys) (words-length ys))
 
--- ---- the old rows from one on
+-- ---- the old rows from one on, with c comments before the first
 
-module _ (ws : List ℕ) (t : Table) (row : ℕ) (p : Cursor) (xs : List ℕ) where
+module _ (ws : List ℕ) (t : Table) (row : ℕ) (p : Cursor) (c : ℕ) (xs : List ℕ) where
   left : ℕ
   left = t .count - row
 
   f : Row → Row
   f = carryRow (rowPlace (rowNo ws row)) p
 
-  rows-behind : rowsBehind ws t row p ≡ map f (rowsIn left (drop (8 * row) ws))
-  unfolding rowsBehind left f
-  rows-behind = ap (map (carryRow (rowPlace (rowNo ws row)) p)) (drop-rows (t .count) ws row)
+  abbrev rows : List Row
+  rows = rowsBehind ws t row p c
 
-  pub count-behind : length (rowsBehind ws t row p) ≡ t .count - row
+  rows-behind : rows ≡ recounted c (map f (rowsIn left (drop (8 * row) ws)))
+  unfolding rowsBehind left f
+  rows-behind = ap (λ (rs : List Row). recounted c (map (carryRow (rowPlace (rowNo ws row)) p) rs)) (drop-rows (t .count) ws row)
+
+  pub count-behind : length rows ≡ t .count - row
   unfolding left
-  count-behind = ap length rows-behind ∙ length-map (rowsIn left (drop (8 * row) ws)) f ∙ rows-length left (drop (8 * row) ws)
+  count-behind = ap length rows-behind ∙ many f c (drop (8 * row) ws) xs left
 
   -- so many words are written, of all or of those for which there is room
   abbrev Carried : ℕ → List ℕ → Type 0
-  Carried n ys = ys ≡ wordsOf (map (carryRow (rowPlace (rowNo ws row)) p) (rowsIn n (drop (8 * row) ws))) ++ drop (8 * n) xs
+  Carried n ys = ys ≡ wordsOf (recounted c (map (carryRow (rowPlace (rowNo ws row)) p) (rowsIn n (drop (8 * row) ws)))) ++ drop (8 * n) xs
 
   pub follow-full : length xs / 8 < t .count - row → (ys : List ℕ) → Carried (length xs / 8) ys →
-      (Full ≡ tailTold (roomOf xs) (rowsBehind ws t row p) (endingBehind ws t row p)) × (ys ≡ laid (rowsBehind ws t row p) xs)
+      (Full ≡ tailTold (roomOf xs) rows (endingBehind ws t row p)) × (ys ≡ laid rows xs)
   unfolding roomOf tailTold left f
   follow-full h ys e = (
-    rw (lt-leb (length (rowsBehind ws t row p)) (length xs / 8) (omega (arith, count-behind))),
-    e ∙ laid-room f (drop (8 * row) ws) xs left (omega arith) ∙ ap (λ (z : List Row). laid z xs) (sym rows-behind),
+    rw (lt-leb (length rows) (length xs / 8) (omega (arith, count-behind))),
+    e ∙ laid-room f c (drop (8 * row) ws) xs left (omega arith) ∙ ap (λ (z : List Row). laid z xs) (sym rows-behind),
   )
 
   pub follow-all : t .count - row ≤ length xs / 8 → (ys : List ℕ) → Carried (t .count - row) ys → (e : Ending) → e ≡ endingBehind ws t row p →
-      (Rows (t .count - row) e ≡ tailTold (roomOf xs) (rowsBehind ws t row p) (endingBehind ws t row p)) × (ys ≡ laid (rowsBehind ws t row p) xs)
+      (Rows (t .count - row) e ≡ tailTold (roomOf xs) rows (endingBehind ws t row p)) × (ys ≡ laid rows xs)
   unfolding roomOf tailTold left f
   follow-all h ys e x q = (
-    rw (le-leb (length (rowsBehind ws t row p)) (length xs / 8) (omega (arith, count-behind)), count-behind, q),
-    e ∙ laid-left f (drop (8 * row) ws) xs left h ∙ ap (λ (z : List Row). laid z xs) (sym rows-behind),
+    rw (le-leb (length rows) (length xs / 8) (omega (arith, count-behind)), count-behind, q),
+    e ∙ laid-left f c (drop (8 * row) ws) xs left h ∙ ap (λ (z : List Row). laid z xs) (sym rows-behind),
   )
 
 -- ---- rows, and others behind them

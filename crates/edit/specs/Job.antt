@@ -14,7 +14,8 @@ use Rattle.rules.specs.declared.Told.{Told}
 use Rattle.rules.specs.declared.Told.the-variants as tells
 use Rattle.rules.specs.Text.{mostBytes, startPlace, over}
 use Rattle.rules.specs.Rows.{Row, rowsIn, rowPlace, wellFormed}
-use Rattle.rules.specs.Edit.{Seen, kept, restart, newLength, seen, isShort, seenRows, seenEnding, carryRow, carryEnding, ends, unjudged, windowBytes, windowValid, windowShort, newRows, newEnding}
+use Rattle.rules.specs.Edit.{Seen, kept, restart, newLength, seen, isShort, seenRows, seenEnding, carryRow, carryEnding, recounted}
+use Rattle.rules.specs.Edit.{ends, unjudged, windowBytes, windowValid, windowShort, newRows, newEnding}
 use Rattle.rules.specs.Scan.{told, laid}
 use Rattle.rows.specs.Shape.{rowNo}
 use Rattle.edit_carry.specs.Moves.{MovesRow, MovesEnding}
@@ -80,9 +81,9 @@ pub record Showing (ws : List ℕ) (j : Job) (w : List ℕ) (whole : Bool) : Typ
 unfoldable pub tailTold : ℕ → List Row → Ending → Tail
 tailTold m rows e = cond (leb (length rows) m) (Rows (length rows) e) Full
 
--- the old rows from one on, moved: what stood at that row's start stands at p
-unfoldable pub rowsBehind : List ℕ → Table → ℕ → Cursor → List Row
-rowsBehind ws t row p = map (carryRow (rowPlace (rowNo ws row)) p) (drop row (rowsIn (t .count) ws))
+-- the old rows from one on, moved: what stood at that row's start stands at p, with c comments in the gap before it
+unfoldable pub rowsBehind : List ℕ → Table → ℕ → Cursor → ℕ → List Row
+rowsBehind ws t row p c = recounted c (map (carryRow (rowPlace (rowNo ws row)) p) (drop row (rowsIn (t .count) ws)))
 
 unfoldable pub endingBehind : List ℕ → Table → ℕ → Cursor → Ending
 endingBehind ws t row p = carryEnding (rowPlace (rowNo ws row)) p (t .ending)

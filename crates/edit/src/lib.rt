@@ -111,25 +111,33 @@ fn is_short(old: &[u32], job: Job, window: &[u8], whole: bool) -> bool
     let begin = job.begin;
     let stop = walk(old, olds_of(job), window, begin, whole, &mut none).stop;
     match stop {
-        Stop::Met(_, _) => false,
+        Stop::Met(_, _, _) => false,
         Stop::Over(_) => false,
         Stop::Short => true,
     }
 }
 
-// The old rows from one on, moved: what stood at that row's start stands at p.
-fn follow(old: &[u32], table: Table, row: usize, p: Cursor, tail: &mut [u32]) -> Tail
+// The old rows from one on, moved: what stood at that row's start stands at p, with so many comments in the gap before it.
+fn follow(
+    old: &[u32],
+    table: Table,
+    row: usize,
+    p: Cursor,
+    comments: u32,
+    tail: &mut [u32],
+) -> Tail
     requires { ⌜ Follows (now old) table row p ⌝ }
-    ensures { λ r. ⌜ (r ≡ tailTold (roomOf (now (tail .entry))) (rowsBehind (now (old .entry)) table row p) (endingBehind (now (old .entry)) table row p)) × (now (tail .exit) ≡ laid (rowsBehind (now (old .entry)) table row p) (now (tail .entry))) ⌝ }
+    ensures { λ r. ⌜ (r ≡ tailTold (roomOf (now (tail .entry))) (rowsBehind (now (old .entry)) table row p comments) (endingBehind (now (old .entry)) table row p)) × (now (tail .exit) ≡ laid (rowsBehind (now (old .entry)) table row p comments) (now (tail .entry))) ⌝ }
 {
-    let o = row_place(row_at(old, row));
+    let met = row_at(old, row);
+    let o = row_place(met);
     let left = table.count as usize - row;
     let room = tail.len() / row::WORDS;
     if room < left {
-        carry_rows(old, row, room, o, p, tail);
+        carry_rows(old, row, room, o, p, comments, tail);
         return Tail::Full;
     }
-    carry_rows(old, row, left, o, p, tail);
+    carry_rows(old, row, left, o, p, comments, tail);
     let ending = table.ending;
     Tail::Rows(left, carry_ending(ending, o, p))
 }
@@ -158,11 +166,11 @@ fn fill_tail(old: &[u32], job: Job, window: &[u8], whole: bool, tail: &mut [u32]
     }
     let stop = walked.stop;
     match stop {
-        Stop::Met(spot, row) => {
+        Stop::Met(spot, row, comments) => {
             let base = count * row::WORDS;
             let table = job.table;
             let p = spot.cursor;
-            behind(count, follow(old, table, row, p, &mut tail[base..]))
+            behind(count, follow(old, table, row, p, comments, &mut tail[base..]))
         }
         Stop::Over(ending) => Tail::Rows(count, ending),
         Stop::Short => Tail::Full,

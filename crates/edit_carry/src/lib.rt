@@ -12,7 +12,7 @@ ghost use Prim.Native.Nat.{ℕ, suc, _+_, _-_, _*_, _≤_, _<_};
 ghost use lib.ListN.{length, drop};
 ghost use Rattle.rules.specs.Text.{startPlace};
 ghost use Rattle.rules.specs.Rows.{rowWords, rowsIn, wordsOf};
-ghost use Rattle.rules.specs.Edit.{kept, lastEnd, carry, carryRow, carryEnding};
+ghost use Rattle.rules.specs.Edit.{kept, lastEnd, carry, carryRow, carryEnding, withComments, recounted};
 ghost use Rattle.rows.specs.Shape.{asRow, rowNo};
 ghost use Rattle.edit_carry.specs.Moves.{EndsRise, Moves, MovesPlace, MovesRow, MovesEnding, Ended};
 
@@ -106,10 +106,22 @@ pub fn carry_ending(e: Ending, o: Cursor, p: Cursor) -> Ending
     }
 }
 
-// A row moved.
-fn carry_row(r: Row, o: Cursor, p: Cursor) -> Row
+// How many comments a moved row has before it, by its number among the moved ones: the first as many as stand in its new gap, any other
+// as many as it had.
+fn count_of(i: usize, comments: u32, had: u32) -> u32
+    ensures first { λ r. ⌜ (i ≡ 0 → r ≡ comments) ⌝ }
+    ensures other { λ r. ⌜ (0 < i → r ≡ had) ⌝ }
+{
+    if i == 0 {
+        return comments;
+    }
+    had
+}
+
+// A row moved, with so many comments before it.
+fn carry_row(r: Row, o: Cursor, p: Cursor, comments: u32) -> Row
     requires { ⌜ MovesRow o p (asRow r) ⌝ }
-    ensures { λ q. ⌜ asRow q ≡ carryRow o p (asRow r) ⌝ }
+    ensures { λ q. ⌜ asRow q ≡ withComments comments (carryRow o p (asRow r)) ⌝ }
 {
     let start = carry_place(rows::shape::row_place(r), o, p);
     let end = moved(r.end, o.offset.0, p.offset.0);
@@ -121,7 +133,7 @@ fn carry_row(r: Row, o: Cursor, p: Cursor) -> Row
         column: start.column.0,
         low: r.low,
         high: r.high,
-        spare: r.spare,
+        comments,
     }
 }
 
@@ -137,19 +149,30 @@ fn put_row(words: &mut [u32], r: Row)
     words[row::COLUMN] = r.column;
     words[row::LOW] = r.low;
     words[row::HIGH] = r.high;
-    words[row::SPARE] = r.spare;
+    words[row::COMMENTS] = r.comments;
 }
 
-// The n rows from row `from` on, moved, into the first words.
-pub fn carry_rows(old: &[u32], from: usize, n: usize, o: Cursor, p: Cursor, new: &mut [u32])
+// The n rows from row `from` on, moved, into the first words; so many comments stand in the first one's new gap.
+pub fn carry_rows(
+    old: &[u32],
+    from: usize,
+    n: usize,
+    o: Cursor,
+    p: Cursor,
+    comments: u32,
+    new: &mut [u32],
+)
     requires { ⌜ (from * 8 + n * 8 ≤ length (now old)) × ((n * 8 ≤ length (now new)) × ((i : ℕ) → i < n → MovesRow o p (rowNo (now old) (from + i)))) ⌝ }
-    ensures { λ _. ⌜ now (new .exit) ≡ wordsOf (map (carryRow o p) (rowsIn n (drop (8 * from) (now (old .entry))))) ++ drop (8 * n) (now (new .entry)) ⌝ }
+    ensures { λ _. ⌜ now (new .exit)
+        ≡ wordsOf (recounted comments (map (carryRow o p) (rowsIn n (drop (8 * from) (now (old .entry))))))
+        ++ drop (8 * n) (now (new .entry)) ⌝ }
 {
     let mut i = 0;
     while i < n {
-        let r = carry_row(rows::shape::row_at(old, from + i), o, p);
+        let r = rows::shape::row_at(old, from + i);
+        let moved = carry_row(r, o, p, count_of(i, comments, r.comments));
         let base = i * row::WORDS;
-        put_row(&mut new[base..], r);
+        put_row(&mut new[base..], moved);
         i += 1;
     }
 }

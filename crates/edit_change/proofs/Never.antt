@@ -85,7 +85,7 @@ module _ (rows : List Row) (e : Ending) (len a b n : ℕ) (text : List ℕ) (f :
 
   seen-whole : (w : List ℕ) → isShort (seen rows e a b n w true) ≡ false
   unfolding seen
-  seen-whole w = ap isShort (same-look _ _ true w _) ∙ window.never-short _ _ w _ 0 _
+  seen-whole w = ap isShort (same-look _ _ true w 0 _) ∙ window.never-short _ _ w 0 _ 0 _
 
   ends-text : ends rows len a b n (drop from text) ≡ true
   ends-text = rw (stops, eq-eqb (length text) (newLength len a b n) (f .same))

@@ -76,8 +76,9 @@ unfolding
     Lines.listedRows Lines.listedNodes Lines.listedParse Lines.listedTree Lines.listedScan Lines.listedText Lines.listed Text.front Text.utf8 Text.met
     Text.lineIn Text.charAt Text.validFrom Text.validBytes Text.valid Text.isBlank Text.newlines Text.lineAt Text.columnAt Text.placeAt Text.textJudged Text.moved Text.over Text.along Kinds.isMade Kinds.reserved
     Kinds.signs Kinds.sameBytes Kinds.kindIn Kinds.lengthIn Rows.rowWords Rows.rowIn Rows.rowsIn Rows.wordsOf Rows.bitsOf Rows.valueBits Rows.rowAt Rows.eofRow Rows.rowPlace Rows.every
-    Rows.chained Rows.lengthFits Rows.spansFit Rows.valueFits Rows.placeFits Rows.linesFit Rows.rowFits Rows.follows Rows.lastRow Rows.endsBehind
-    Rows.isEof Rows.eofLast Rows.endingFits Rows.rowsFit Rows.wellFormed Rows.spelling Lex.lineComment Lex.beforeClose Lex.blockComment Lex.isDigit
+    Rows.chained Rows.lengthFits Rows.spansFit Rows.valueFits Rows.placeFits Rows.linesFit Rows.rowFits Rows.follows Rows.gapFits
+    Rows.gapsFit Rows.lastRow Rows.endsBehind Rows.isEof Rows.eofLast Rows.endingFits Rows.rowsFit Rows.wellFormed Rows.spelling
+    Lex.lineComment Lex.beforeClose Lex.blockComment Lex.isDigit
     Lex.isLetter Lex.isWord Lex.word Lex.isHexDigit Lex.digitValue Lex.spelt Lex.numberOf Lex.decimal Lex.hex Lex.number Lex.isEscape Lex.string
     Lex.maybeTwo Lex.single Lex.sign Lex.slashed Lex.dashed Lex.beginning Lex.piece Lex.decidedAt Lex.item Scan.readRows Scan.readEnding Scan.read
     Scan.scan Scan.roomOf Scan.told Scan.laid Scan.scanTold Scan.scanLeaves Sets.sections Sets.fits Sets.kindOfSection Sets.fromSection Sets.allowed

@@ -91,12 +91,14 @@ pub fn damaged(sample: &[u8], at: usize, rows: &mut [u32; WORDS]) -> usize {
     next
 }
 
-// The two words of a number's value, which no other row has.
+// The two words of a value: a number's are the sample's, any other row's are zeros.
 fn value_read(sample: &[u8], at: usize, rows: &mut [u32; WORDS], base: usize) -> usize {
     if LAST_ROW < base {
         return LOST;
     }
     if rows[base] != kind::NUMBER {
+        rows[base + row::LOW] = 0;
+        rows[base + row::HIGH] = 0;
         return at;
     }
     let low = number(sample, at);
@@ -124,7 +126,7 @@ fn row_read(sample: &[u8], at: usize, rows: &mut [u32; WORDS], base: usize) -> u
     value_read(sample, column.next, rows, base)
 }
 
-// The rows that are expected: the place behind them.
+// The rows that are expected, in all words but the last, which the sample does not have: the place behind them.
 pub fn rows_read(sample: &[u8], at: usize, rows: &mut [u32; WORDS]) -> usize {
     let size = count(sample, letter(sample, at, b'R'));
     let mut next = size.next;

@@ -1,5 +1,6 @@
 // Holds the edit call against a stored sample of edits: reads the sample on standard input, scans each old text, asks where the window
-// of its edit starts, makes the calls, and writes how many agree with what is expected in answer, rows and memory. Where a call writes
+// of its edit starts, makes the calls, and writes how many agree with what is expected in answer, rows and memory. How many comments
+// stand before a row is expected as a fresh scan of the new text counts them, which the sample does not do. Where a call writes
 // rows, its edit is made as a change too, of which the same is expected. `cargo run --release --offline --bin edits` in compare/ writes
 // `stdin`, which says at its head where each expectation comes from.
 use call::calls_compared;
@@ -26,6 +27,11 @@ mod words;
 // The table of a text, its rows in lent memory.
 fn scanned(text: &[u8], rows: &mut [u32; WORDS]) -> Table {
     table_of(scan::scan(text, rows))
+}
+
+// The rows of the first so many bytes of a text, in lent memory.
+fn scanned_first(text: &[u8; BYTES], size: usize, rows: &mut [u32; WORDS]) {
+    scanned(replay_input::first(text, size as u64), rows);
 }
 
 // The restart place of an edit at a against the sample's.
@@ -62,6 +68,7 @@ fn edit_compared(sample: &[u8], tally: Tally) -> Tally {
         edit,
         part::bytes_of(sample, new),
     );
+    scanned_first(&text, size, &mut rows);
     let begun = restart_compared(
         sample,
         tally.moved(new.end).next_edit(),

@@ -13,7 +13,7 @@ use replay_input::told::table_of;
 use rules::Told;
 use rules::row;
 
-// The next so many rows of the sample against ours, in all words but the spare one.
+// The next so many rows of the sample against ours, in all words but the last: the sample counts no comments.
 fn rows_compared(sample: &[u8], tally: Tally, rows: &[u32], own: usize, size: u64) -> Tally {
     let mut now = tally;
     let mut i = 0;
@@ -21,7 +21,7 @@ fn rows_compared(sample: &[u8], tally: Tally, rows: &[u32], own: usize, size: u6
         if now.at == LOST {
             return now;
         }
-        now = compared(sample, now, ROWS, part(rows, own, i), row::SPARE);
+        now = compared(sample, now, ROWS, part(rows, own, i), row::COMMENTS);
         i += 1;
     }
     now

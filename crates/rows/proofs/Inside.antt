@@ -17,12 +17,14 @@ use Rattle.rules.specs.declared.Table.{Table}
 use Rattle.rules.specs.Text
 use Rattle.rules.specs.Text.{mostBytes}
 use Rattle.rules.specs.Kinds.{Eof, isMade, signs, reserved, lengthIn}
-use Rattle.rules.specs.Rows.{Row, rowIn, rowsIn, rowPlace, every, chained, lengthFits, spansFit, valueFits, placeFits, linesFit, rowFits, follows, lastRow, endsBehind, isEof, endingFits, rowsFit, wellFormed}
+use Rattle.rules.specs.Rows.{Row, rowIn, rowsIn, rowPlace, every, chained, gapFits, gapsFit, rowsFit, wellFormed}
+use Rattle.rules.specs.Rows.{lengthFits, spansFit, valueFits, placeFits, linesFit, rowFits, follows, lastRow, endsBehind, isEof, endingFits}
 use Rattle.rows.specs.Shape.{rowNo, behind}
 use Rattle.laws.specs.Tests.{allBelow}
 use Rattle.laws.proofs.Tests.{both-true, true-both, false-by, below}
 use Rattle.laws.proofs.Rows.{rows-length, rows-at}
-use Rattle.rows.proofs.Lists.{every-at, every-by, chained-at, chained-by, Closed, closed, closes, behind-at, behind-by}
+use Rattle.rows.proofs.Lists.{every-at, every-by, chained-at, chained-by, gap-first, gaps-chain, gaps-by}
+use Rattle.rows.proofs.Lists.{Closed, closed, closes, behind-at, behind-by}
 
 -- ---- a row and its kind
 
@@ -59,6 +61,8 @@ pub record Fine (ws : List ℕ) (t : Table) : Type 0 where
   pub short : t .length ≤ mostBytes
   pub fit : (i : ℕ) → i < t .count → rowFits (rowNo ws i) ≡ true
   pub chain : (i : ℕ) → suc i < t .count → follows (rowNo ws i) (rowNo ws (suc i)) ≡ true
+  pub first : 0 < t .count → gapFits 0 (rowNo ws 0) ≡ true
+  pub gaps : (i : ℕ) → suc i < t .count → gapFits (rowNo ws i .end) (rowNo ws (suc i)) ≡ true
   pub ends : Ends ws (t .count) (t .length) (t .ending)
 
 noRow : Row
@@ -96,6 +100,15 @@ module _ (ws : List ℕ) (count : ℕ) where
       chained-by p noRow (rowsIn count ws) (λ i h.
       let l = list-below h in
       rw (at-list i (omega arith), at-list (suc i) l) (f i l))
+
+  first-no : gapsFit 0 (rowsIn count ws) ≡ true → 0 < count → gapFits 0 (rowNo ws 0) ≡ true
+  first-no e h = rw (at-list 0 h) at (gap-first noRow 0 (rowsIn count ws) e (below-list h))
+
+  no-gaps : (0 < count → gapFits 0 (rowNo ws 0) ≡ true) → ((i : ℕ) → suc i < count → gapFits (rowNo ws i .end) (rowNo ws (suc i)) ≡ true) →
+      gapsFit 0 (rowsIn count ws) ≡ true
+  no-gaps f g =
+      gaps-by noRow 0 (rowsIn count ws) (λ h. rw (at-list 0 (list-below h)) (f (list-below h)))
+      (no-chained (λ r q. gapFits (r .end) q) g)
 
   closed-no : (n : ℕ) → Closed n noRow (rowsIn count ws) → Clean ws count n
   closed-no n c =
@@ -149,14 +162,18 @@ module _ (ws : List ℕ) (t : Table) where
       let fit = rowsFit (t .length) rows (t .ending) in
       let a = both-true (leb (t .count * 8) (length ws) && leb (t .length) mostBytes) fit e in
       let b = both-true (leb (t .count * 8) (length ws)) (leb (t .length) mostBytes) (a .0) in
-      let c = both-true (every rowFits rows) (chained follows rows && endingFits (t .length) rows (t .ending)) (a .1) in
-      let d = both-true (chained follows rows) (endingFits (t .length) rows (t .ending)) (c .1) in
+      let ends = endingFits (t .length) rows (t .ending) in
+      let c = both-true (every rowFits rows) (chained follows rows && (gapsFit 0 rows && ends)) (a .1) in
+      let d = both-true (chained follows rows) (gapsFit 0 rows && ends) (c .1) in
+      let g = both-true (gapsFit 0 rows) ends (d .1) in
       record {
         lent = leb-true (t .count * 8) (length ws) (b .0);
         short = leb-true (t .length) mostBytes (b .1);
         fit = every-no ws (t .count) rowFits (c .0);
         chain = chained-no ws (t .count) follows (d .0);
-        ends = ends-of ws (t .count) (t .length) (t .ending) (d .1);
+        first = first-no ws (t .count) (g .0);
+        gaps = chained-no ws (t .count) (λ r q. gapFits (r .end) q) (gaps-chain noRow 0 rows (g .0));
+        ends = ends-of ws (t .count) (t .length) (t .ending) (g .1);
       }
 
   pub well : Fine ws t → wellFormed ws t ≡ true
@@ -167,14 +184,14 @@ module _ (ws : List ℕ) (t : Table) where
       true-both (true-both (le-leb (t .count * 8) (length ws) (f .lent)) (le-leb (t .length) mostBytes (f .short)))
       (true-both (no-every ws (t .count) rowFits (f .fit))
       (true-both (no-chained ws (t .count) follows (f .chain))
-      (of-ends ws (t .count) (t .length) (t .ending) (f .ends))))
+      (true-both (no-gaps ws (t .count) (f .first) (f .gaps))
+      (of-ends ws (t .count) (t .length) (t .ending) (f .ends)))))
 
 -- ---- a row that fits
 
 -- the row's own fields: its kind is made, it starts before its end, at a line and a column of 1 or more and at most its start + 1
 pub record Sound (r : Row) : Type 0 where
   pub made : isMade (r .kind) ≡ true
-  pub spare : r .spare ≡ 0
   pub value : valueFits r ≡ true
   pub ordered : r .start ≤ r .end
   pub long : lengthFits (r .kind) (r .end - r .start) ≡ true
@@ -189,17 +206,15 @@ sound r e =
     let span = leb (r .start) (r .end) && lengthFits (r .kind) (r .end - r .start) in
     let low = leb 1 (r .line) && leb 1 (r .column) in
     let high = leb (r .line) (r .start + 1) && leb (r .column) (r .start + 1) in
-    let a = both-true ((isMade (r .kind) && eqb (r .spare) 0) && valueFits r) (span && (low && high)) e in
-    let b = both-true (isMade (r .kind) && eqb (r .spare) 0) (valueFits r) (a .0) in
-    let c = both-true (isMade (r .kind)) (eqb (r .spare) 0) (b .0) in
+    let a = both-true (isMade (r .kind) && valueFits r) (span && (low && high)) e in
+    let b = both-true (isMade (r .kind)) (valueFits r) (a .0) in
     let d = both-true span (low && high) (a .1) in
     let s = both-true (leb (r .start) (r .end)) (lengthFits (r .kind) (r .end - r .start)) (d .0) in
     let p = both-true low high (d .1) in
     let l = both-true (leb 1 (r .line)) (leb 1 (r .column)) (p .0) in
     let h = both-true (leb (r .line) (r .start + 1)) (leb (r .column) (r .start + 1)) (p .1) in
     record {
-      made = c .0;
-      spare = eqb-true (r .spare) 0 (c .1);
+      made = b .0;
       value = b .1;
       ordered = leb-true (r .start) (r .end) (s .0);
       long = s .1;

@@ -1,4 +1,4 @@
--- Laws of lists of rows: a test of every row, of each row and the next, and of the last row, said for each number of a row.
+-- Laws of lists of rows: a test of every row, of each row and the next, of the gaps, and of the last row, said for each number of a row.
 use mathlib.Core.Path.{_≡_, refl, ap}
 use mathlib.Core.Bool.{Bool, true, false, not}
 use mathlib.Core.List.{List, [], _∷_}
@@ -9,7 +9,7 @@ use lib.ListN.{length, getD}
 use lib.Dec.{eqb}
 use borrow.Author.Tests.{eqb-true, eq-eqb, not-true}
 use Rattle.rules.specs.declared.Cursor.{Cursor}
-use Rattle.rules.specs.Rows.{Row, every, chained, lastRow, endsBehind, isEof, eofLast}
+use Rattle.rules.specs.Rows.{Row, every, chained, gapFits, gapsFit, lastRow, endsBehind, isEof, eofLast}
 use Rattle.laws.proofs.Tests.{both-true, true-both}
 use Rattle.rows.specs.Shape.{behind}
 
@@ -42,6 +42,32 @@ chained-by p d [] f = refl
 chained-by p d (r ∷ []) f = refl
 chained-by p d (r ∷ q ∷ rs) f =
     true-both (f 0 (omega arith)) (chained-by p d (q ∷ rs) (λ i h. f (suc i) (omega arith)))
+
+-- ---- the gap before each row
+
+-- the first gap starts at e, any other where the row before it ends
+module _ (d : Row) where
+  pub gap-first : (e : ℕ) (rs : List Row) → gapsFit e rs ≡ true → 0 < length rs → gapFits e (getD rs 0 d) ≡ true
+  unfolding gapsFit
+  gap-first e [] g h = absurd (not-suc-le-zero h)
+  gap-first e (r ∷ rs) g h = both-true (gapFits e r) (gapsFit (r .end) rs) g .0
+
+  pub gaps-chain : (e : ℕ) (rs : List Row) → gapsFit e rs ≡ true → chained (λ r q. gapFits (r .end) q) rs ≡ true
+  unfolding gapsFit chained
+  gaps-chain e [] g = refl
+  gaps-chain e (r ∷ []) g = refl
+  gaps-chain e (r ∷ q ∷ rs) g =
+      let b = both-true (gapFits e r) (gapsFit (r .end) (q ∷ rs)) g .1 in
+      true-both (both-true (gapFits (r .end) q) (gapsFit (q .end) rs) b .0) (gaps-chain (r .end) (q ∷ rs) b)
+
+  pub gaps-by : (e : ℕ) (rs : List Row) → (0 < length rs → gapFits e (getD rs 0 d) ≡ true) →
+      chained (λ r q. gapFits (r .end) q) rs ≡ true → gapsFit e rs ≡ true
+  unfolding gapsFit chained
+  gaps-by e [] f c = refl
+  gaps-by e (r ∷ []) f c = true-both (f (omega arith)) refl
+  gaps-by e (r ∷ q ∷ rs) f c =
+      let b = both-true (gapFits (r .end) q) (chained (λ x y. gapFits (x .end) y) (q ∷ rs)) c in
+      true-both (f (omega arith)) (gaps-by (r .end) (q ∷ rs) (λ h. b .0) (b .1))
 
 -- ---- the last row
 

@@ -1,19 +1,20 @@
 -- Laws of a row: the range of its kind, its value, its test behind another row, and its words in memory.
 use mathlib.Core.Path.{_≡_, refl, sym}
-use mathlib.Core.Bool.{Bool, true, false, not, _&&_, _||_}
+use mathlib.Core.Bool.{Bool, true, false, not, _&&_, _||_, and-true, and-false}
 use mathlib.Core.List.{List}
-use Prim.Native.Nat.{ℕ, _+_, _-_, _*_, _^_, _≤_, _<_}
-use native.Mathlib.Decide.{ℕ-discrete}
+use Prim.Native.Nat.{ℕ, _+_, _-_, _*_, _/_, _^_, _≤_, _<_}
+use native.Mathlib.Decide.{ℕ-discrete, decLe}
 use native.Mathlib.Omega.{arith}
 use lib.ListN.{getD, drop}
 use lib.Seq.{getD-drop}
 use lib.Dec.{eqb, leb}
-use borrow.Author.Tests.{leb-true, le-leb, eq-eqb, ne-eqb}
+use borrow.Author.Tests.{leb-true, le-leb, lt-leb, eq-eqb, ne-eqb}
 use Rattle.rules.specs.Text.{within}
 use Rattle.rules.specs.Kinds.{Number, isMade}
-use Rattle.rules.specs.Rows.{Row, rowIn, rowPlace, lengthFits, spansFit, valueFits, valueBits, placeFits, linesFit, rowFits, follows}
-use Rattle.rows.specs.Shape.{LengthTable, sane}
-use Rattle.laws.proofs.Tests.{both-true}
+use Rattle.rules.specs.Rows.{Row, rowIn, rowPlace, lengthFits, spansFit, valueFits, valueBits, placeFits, linesFit}
+use Rattle.rules.specs.Rows.{rowFits, follows, gapFits}
+use Rattle.rows.specs.Shape.{LengthTable, sane, fitsAfter}
+use Rattle.laws.proofs.Tests.{both-true, same-bool}
 use Rattle.rows.proofs.Inside.{sound}
 use Rattle.rows.proofs.Lengths.{span-fits}
 
@@ -63,35 +64,49 @@ pub fits-sane : (r : Row) → rowFits r ≡ true → sane r ≡ true
 unfolding sane
 fits-sane r f =
     let s = sound r f in
-    rw (eq-eqb (r .spare) 0 (s .spare), le-leb 1 (r .line) (s .line-low), le-leb 1 (r .column) (s .column-low))
+    rw (le-leb 1 (r .line) (s .line-low), le-leb 1 (r .column) (s .column-low))
 
 -- the parts of both tests, in the order in which they are made
-regroup : (v x y m s a b o j : Bool) → (x && y) ≡ (m && s) →
-    ((((((v && x) && y) && a) && b) && o) && j) ≡ ((((m && true) && v) && (s && (a && b))) && (o && j))
-regroup false x y false s a b o j e = refl
-regroup false x y true s a b o j e = refl
-regroup true x y m s a b o j e = rw e (go m s a b)
+regroup : (v x y m s a b g o j k : Bool) → (x && y) ≡ (m && s) → g ≡ (o && k) →
+    ((((((v && x) && y) && a) && b) && g) && j) ≡ (((m && v) && (s && (a && b))) && ((o && j) && k))
+regroup false x y false s a b g o j k e f = refl
+regroup false x y true s a b g o j k e f = refl
+regroup true x y m s a b g o j k e f = rw (e, f) (go m s a b o j)
   where
-    go : (m s a b : Bool) → (((((m && s) && a) && b) && o) && j) ≡ ((((m && true) && true) && (s && (a && b))) && (o && j))
-    go false s a b = refl
-    go true false a b = refl
-    go true true false b = refl
-    go true true true false = refl
-    go true true true true = refl
+    go : (m s a b o j : Bool) → (((((m && s) && a) && b) && (o && k)) && j) ≡ (((m && true) && (s && (a && b))) && ((o && j) && k))
+    go false s a b o j = refl
+    go true false a b o j = refl
+    go true true false b o j = refl
+    go true true true false o j = refl
+    go true true true true false j = refl
+    go true true true true true false = and-false k
+    go true true true true true true = and-true k
+
+-- the gap between e and s has room for c comments, of two bytes each or more
+gap-fits : (e c s : ℕ) → leb (e + c * 2) s ≡ (leb e s && leb c ((s - e) / 2))
+gap-fits e c s = go (decLe e s)
+  where
+    go : Dec (e ≤ s) → leb (e + c * 2) s ≡ (leb e s && leb c ((s - e) / 2))
+    go (yes p) =
+        rw (le-leb e s p)
+        (same-bool (leb (e + c * 2) s) (leb c ((s - e) / 2)) (λ a. le-leb c ((s - e) / 2) (omega (arith, leb-true (e + c * 2) s a)))
+        (λ a. le-leb (e + c * 2) s (omega (arith, leb-true c ((s - e) / 2) a))))
+    go (no p) = rw (lt-leb (e + c * 2) s (omega arith), lt-leb e s (omega arith))
 
 pub sane-stands : {ls ms : List ℕ} → LengthTable ls ms → (r q : Row) → q .kind ≤ 52 → q .end < 2 ^ 32 → sane q ≡ true →
     ((((((valueFits q && leb (q .start + getD ls (q .kind) 0) (q .end)) && leb (q .end) (q .start + getD ms (q .kind) 0))
-    && leb (q .line) (q .start + 1)) && leb (q .column) (q .start + 1)) && leb (r .end) (q .start)) && linesFit (rowPlace r) (rowPlace q))
-    ≡ (rowFits q && follows r q)
-unfolding sane rowFits spansFit placeFits rowPlace follows
+    && leb (q .line) (q .start + 1)) && leb (q .column) (q .start + 1)) && leb (r .end + q .comments * 2) (q .start))
+    && linesFit (rowPlace r) (rowPlace q))
+    ≡ (rowFits q && fitsAfter r q)
+unfolding sane rowFits spansFit placeFits rowPlace follows fitsAfter gapFits
 sane-stands {ls} {ms} t r q k e s =
-    let a = both-true (eqb (q .spare) 0) (leb 1 (q .line) && leb 1 (q .column)) s in
-    let b = both-true (leb 1 (q .line)) (leb 1 (q .column)) (a .1) in
-    rw (a .0, b .0, b .1)
+    let b = both-true (leb 1 (q .line)) (leb 1 (q .column)) s in
+    rw (b .0, b .1)
     (regroup (valueFits q) (leb (q .start + getD ls (q .kind) 0) (q .end)) (leb (q .end) (q .start + getD ms (q .kind) 0))
     (isMade (q .kind)) (leb (q .start) (q .end) && lengthFits (q .kind) (q .end - q .start))
-    (leb (q .line) (q .start + 1)) (leb (q .column) (q .start + 1)) (leb (r .end) (q .start)) (linesFit (rowPlace r) (rowPlace q))
-    (span-fits t (q .kind) (q .start) (q .end) k e))
+    (leb (q .line) (q .start + 1)) (leb (q .column) (q .start + 1)) (leb (r .end + q .comments * 2) (q .start)) (leb (r .end) (q .start))
+    (linesFit (rowPlace r) (rowPlace q)) (leb (q .comments) ((q .start - r .end) / 2)) (span-fits t (q .kind) (q .start) (q .end) k e)
+    (gap-fits (r .end) (q .comments) (q .start)))
 
 -- ---- the words of row i
 
@@ -108,7 +123,7 @@ module _ (ws : List ℕ) (i : ℕ) where
     column = getD ws (i * 8 + 4) 0;
     low = getD ws (i * 8 + 5) 0;
     high = getD ws (i * 8 + 6) 0;
-    spare = getD ws (i * 8 + 7) 0;
+    comments = getD ws (i * 8 + 7) 0;
   } ≡ rowIn (drop (8 * i) ws)
   unfolding rowIn
   row-words j = record {
@@ -119,5 +134,5 @@ module _ (ws : List ℕ) (i : ℕ) where
     column = word 4 (i * 8 + 4) (omega arith) j;
     low = word 5 (i * 8 + 5) (omega arith) j;
     high = word 6 (i * 8 + 6) (omega arith) j;
-    spare = word 7 (i * 8 + 7) (omega arith) j;
+    comments = word 7 (i * 8 + 7) (omega arith) j;
   }

@@ -15,9 +15,9 @@ use Rattle.rules.specs.declared.Ending.the-variants.{None, Refused}
 use Rattle.rules.specs.declared.Table.{Table}
 use Rattle.rules.specs.Text.{mostBytes}
 use Rattle.rules.specs.Kinds.{Eof}
-use Rattle.rules.specs.Rows.{Row, rowIn, rowPlace, rowFits, follows, linesFit, placeFits, isEof, wellFormed}
+use Rattle.rules.specs.Rows.{Row, rowIn, rowPlace, rowFits, follows, gapFits, linesFit, placeFits, isEof, wellFormed}
 use Rattle.laws.specs.Tests.{allBelow}
-use Rattle.rows.specs.Shape.{rowNo, sane, behind, rowBefore, joined, stands, closes, breaks}
+use Rattle.rows.specs.Shape.{rowNo, sane, behind, rowBefore, fitsAfter, joined, stands, closes, breaks}
 use Rattle.laws.proofs.Tests.{both-true, true-both, false-by, same-bool, below, below-by}
 use Rattle.rows.proofs.Shapes.{made-le, fits-sane}
 use Rattle.rows.proofs.Inside.{sound, plain-kind, clean, broken, Fine, fine, well, not-well, clean-of, broken-of}
@@ -25,15 +25,15 @@ use Rattle.rows.proofs.Inside.{sound, plain-kind, clean, broken, Fine, 
 -- ---- a row and the row before it
 
 module _ (ws : List ℕ) (i : ℕ) where
-  pub joined-first : i ≡ 0 → joined ws i ≡ true
+  pub joined-first : i ≡ 0 → joined ws i ≡ gapFits 0 (rowNo ws i)
   unfolding joined
   joined-first e = rw (eq-eqb i 0 e)
 
-  pub joined-next : (i ≡ 0 → ⊥) → joined ws i ≡ follows (rowNo ws (i - 1)) (rowNo ws i)
+  pub joined-next : (i ≡ 0 → ⊥) → joined ws i ≡ fitsAfter (rowNo ws (i - 1)) (rowNo ws i)
   unfolding joined
   joined-next e = rw (ne-eqb i 0 e)
 
-join-next : (ws : List ℕ) (i : ℕ) → joined ws (suc i) ≡ follows (rowNo ws i) (rowNo ws (suc i))
+join-next : (ws : List ℕ) (i : ℕ) → joined ws (suc i) ≡ fitsAfter (rowNo ws i) (rowNo ws (suc i))
 join-next ws i = joined-next ws (suc i) (λ e. omega arith) ∙ (let j : suc i - 1 ≡ i = omega arith in rw j)
 
 module _ (ws : List ℕ) (i : ℕ) where
@@ -48,17 +48,17 @@ module _ (ws : List ℕ) (i : ℕ) where
 pub before-on : (ws : List ℕ) (i : ℕ) → rowBefore ws (i + 1) ≡ rowNo ws i
 before-on ws i = before-next ws (i + 1) (λ e. omega arith) ∙ (let j : i + 1 - 1 ≡ i = omega arith in rw j)
 
--- a row that fits follows the row before it just where it is joined to it; the first has a line, so it follows the row of zeros
-follows-before : (ws : List ℕ) (i : ℕ) → rowFits (rowNo ws i) ≡ true → follows (rowBefore ws i) (rowNo ws i) ≡ joined ws i
-unfolding rowIn follows linesFit rowPlace
-follows-before ws zero f = rw (before-first ws 0 refl) (go (sound q f .line-low))
+-- a row that fits fits after the row before it just where it is joined to it; the first has a line, so it follows the row of zeros
+fits-before : (ws : List ℕ) (i : ℕ) → rowFits (rowNo ws i) ≡ true → fitsAfter (rowBefore ws i) (rowNo ws i) ≡ joined ws i
+unfolding rowIn follows fitsAfter linesFit rowPlace
+fits-before ws zero f = rw (before-first ws 0 refl) (go (sound q f .line-low))
   where
     q : Row
     q = rowNo ws 0
 
-    go : 1 ≤ q .line → follows (rowIn []) q ≡ joined ws 0
+    go : 1 ≤ q .line → fitsAfter (rowIn []) q ≡ joined ws 0
     go h = rw (joined-first ws 0 refl, le-leb 0 (q .start) (omega arith), le-leb 0 (q .line) (omega arith), ne-eqb 0 (q .line) (λ z. omega arith))
-follows-before ws (suc i) f = rw (← add-one i, before-on ws i) (rw add-one (sym (join-next ws i)))
+fits-before ws (suc i) f = rw (← add-one i, before-on ws i) (rw add-one (sym (join-next ws i)))
 
 both-same : (b c d : Bool) → (b ≡ true → c ≡ d) → (b && c) ≡ (b && d)
 both-same false c d f = refl
@@ -87,11 +87,11 @@ below-on f n p g e h = rw (e, h, add-one)
 
 -- row i, read as q
 module _ (ws : List ℕ) (i : ℕ) (q : Row) (e : q ≡ rowNo ws i) where
-  fits-joined : (rowFits q && follows (rowBefore ws i) q) ≡ (rowFits q && joined ws i)
+  fits-joined : (rowFits q && fitsAfter (rowBefore ws i) q) ≡ (rowFits q && joined ws i)
   fits-joined =
-      rw e (both-same (rowFits (rowNo ws i)) (follows (rowBefore ws i) (rowNo ws i)) (joined ws i) (follows-before ws i))
+      rw e (both-same (rowFits (rowNo ws i)) (fitsAfter (rowBefore ws i) (rowNo ws i)) (joined ws i) (fits-before ws i))
 
-  pub stands-plain : q .kind < Eof → (rowFits q && follows (rowBefore ws i) q) ≡ stands ws i
+  pub stands-plain : q .kind < Eof → (rowFits q && fitsAfter (rowBefore ws i) q) ≡ stands ws i
   unfolding stands isEof
   stands-plain h = fits-joined ∙ rw (← e, ne-eqb (q .kind) Eof (λ z. omega arith))
 
@@ -114,7 +114,7 @@ module _ (ws : List ℕ) (i : ℕ) (q : Row) (e : q ≡ rowNo ws i) where
     unfolding closes isEof
     closes-apart k s = rw (← e, eq-eqb (q .kind) Eof k, ne-eqb (q .start) n s)
 
-    pub closes-fit : q .kind ≡ Eof → q .start ≡ n → (rowFits q && follows (rowBefore ws i) q) ≡ closes ws n i
+    pub closes-fit : q .kind ≡ Eof → q .start ≡ n → (rowFits q && fitsAfter (rowBefore ws i) q) ≡ closes ws n i
     unfolding closes isEof
     closes-fit k s = fits-joined ∙ rw (← e, eq-eqb (q .kind) Eof k, eq-eqb (q .start) n s)
 
@@ -188,10 +188,21 @@ of-breaks ws n (suc i) p b =
     breaks-last ws n (suc i) p (b .within) (b .place) (λ e. omega arith)
     ∙ (let j : suc i - 1 ≡ i = omega arith in rw j (b .last i refl))
 
--- rows that follow one another are joined
-join-by : (ws : List ℕ) (count : ℕ) → ((i : ℕ) → suc i < count → follows (rowNo ws i) (rowNo ws (suc i)) ≡ true) → (i : ℕ) → i < count → joined ws i ≡ true
-join-by ws count f zero h = joined-first ws 0 refl
-join-by ws count f (suc i) h = join-next ws i ∙ f i h
+-- the rows of a well-formed table are joined
+join-by : (ws : List ℕ) (t : Table) → Fine ws t → (i : ℕ) → i < t .count → joined ws i ≡ true
+unfolding fitsAfter
+join-by ws t f zero h = joined-first ws 0 refl ∙ f .first h
+join-by ws t f (suc i) h = join-next ws i ∙ true-both (f .chain i h) (f .gaps i h)
+
+-- what it says of a row that it is joined to the row before it
+join-first : (ws : List ℕ) → joined ws 0 ≡ true → gapFits 0 (rowNo ws 0) ≡ true
+join-first ws j = sym (joined-first ws 0 refl) ∙ j
+
+join-parts : (ws : List ℕ) (i : ℕ) → joined ws (suc i) ≡ true →
+    (follows (rowNo ws i) (rowNo ws (suc i)) ≡ true) × (gapFits (rowNo ws i .end) (rowNo ws (suc i)) ≡ true)
+unfolding fitsAfter
+join-parts ws i j =
+    both-true (follows (rowNo ws i) (rowNo ws (suc i))) (gapFits (rowNo ws i .end) (rowNo ws (suc i))) (sym (join-next ws i) ∙ j)
 
 -- ---- the test of a table
 
@@ -208,7 +219,7 @@ module _ (ws : List ℕ) (t : Table) where
       none-to : Fine ws t → (allBelow (stands ws) i && closes ws (t .length) i) ≡ true
       none-to f =
           let c = clean-of f e in
-          let join = join-by ws (t .count) (f .chain) in
+          let join = join-by ws t f in
           true-both (below-by (stands ws) i (λ k l. of-stands ws k (record { plain = c .middle k (omega arith); fit = f .fit k (omega arith); join = join k (omega arith) })))
           (of-closes ws (t .length) i (record { eof = c .last i h; start = c .start i h; fit = f .fit i (omega arith); join = join i (omega arith) }))
 
@@ -217,11 +228,14 @@ module _ (ws : List ℕ) (t : Table) where
           let a = both-true (allBelow (stands ws) i) (closes ws (t .length) i) b in
           let z = closes-of ws (t .length) i (a .1) in
           let s : (k : ℕ) → k < i → Stands ws k = λ k l. stands-of ws k (below (stands ws) i (a .0) k l) in
+          let join : (k : ℕ) → k < t .count → joined ws k ≡ true = upto (λ (m : ℕ). joined ws m ≡ true) (λ m o. s m o .join) (z .join) in
           record {
             lent = lent;
             short = short;
             fit = λ k l. upto (λ (m : ℕ). rowFits (rowNo ws m) ≡ true) (λ m o. s m o .fit) (z .fit) k l;
-            chain = λ k l. sym (join-next ws k) ∙ upto (λ (m : ℕ). joined ws m ≡ true) (λ m o. s m o .join) (z .join) (suc k) l;
+            chain = λ k l. join-parts ws k (join (suc k) l) .0;
+            first = λ l. join-first ws (join 0 l);
+            gaps = λ k l. join-parts ws k (join (suc k) l) .1;
             ends = rw e (clean (record {
               some = omega arith;
               middle = λ k l. s k (omega arith) .plain;
@@ -242,7 +256,7 @@ module _ (ws : List ℕ) (t : Table) where
       refused-to : Fine ws t → (allBelow (stands ws) (t .count) && breaks ws (t .length) (t .count) p) ≡ true
       refused-to f =
           let b = broken-of f e in
-          let join = join-by ws (t .count) (f .chain) in
+          let join = join-by ws t f in
           true-both (below-by (stands ws) (t .count) (λ k l. of-stands ws k (record { plain = b .plain k l; fit = f .fit k l; join = join k l })))
           (of-breaks ws (t .length) (t .count) p (record { within = b .within; place = b .place; last = b .last }))
 
@@ -255,7 +269,9 @@ module _ (ws : List ℕ) (t : Table) where
             lent = lent;
             short = short;
             fit = λ k l. s k l .fit;
-            chain = λ k l. sym (join-next ws k) ∙ s (suc k) l .join;
+            chain = λ k l. join-parts ws k (s (suc k) l .join) .0;
+            first = λ l. join-first ws (s 0 l .join);
+            gaps = λ k l. join-parts ws k (s (suc k) l .join) .1;
             ends = rw e (broken (record { plain = λ k l. s k l .plain; within = z .within; place = z .place; last = z .last }));
           }
 

@@ -9,7 +9,7 @@ use Rattle.rules.specs.declared.Cursor.{Cursor}
 use Rattle.rules.specs.Kinds.{Eof, isMade}
 use Rattle.rules.specs.Rows
 pub use Rattle.rules.specs.Rows.{rowNo}
-use Rattle.rules.specs.Rows.{rowIn, rowPlace, lengthFits, rowFits, follows, linesFit, placeFits, isEof}
+use Rattle.rules.specs.Rows.{rowIn, rowPlace, lengthFits, rowFits, follows, gapFits, linesFit, placeFits, isEof}
 use Rattle.rows.specs.declared.shape.Row.{Row}
 
 abbrev pub asRow : Row → Rows.Row
@@ -21,16 +21,16 @@ asRow r = record {
   column = r .column;
   low = r .low;
   high = r .high;
-  spare = r .spare;
+  comments = r .comments;
 }
 
 -- the entries of a kind say how long its spelling is, at least and at most, and fit no length where the kind is not made
 pub record LengthTable (least most : List ℕ) : Type 0 where
   pub fits : (k n : ℕ) → k ≤ Eof → n < 2 ^ 32 → (leb (getD least k 0) n && leb n (getD most k 0)) ≡ (isMade k && lengthFits k n)
 
--- what is asked of a row's words one by one: the last is 0, its line and its column are not
+-- what is asked of a row's words one by one: its line and its column are not 0
 unfoldable pub sane : Rows.Row → Bool
-sane r = eqb (r .spare) 0 && (leb 1 (r .line) && leb 1 (r .column))
+sane r = leb 1 (r .line) && leb 1 (r .column)
 
 -- a place stands behind a row
 unfoldable pub behind : Rows.Row → Cursor → Bool
@@ -40,9 +40,13 @@ behind r p = leb (r .end) (p .offset .0) && linesFit (rowPlace r) p
 unfoldable pub rowBefore : List ℕ → ℕ → Rows.Row
 rowBefore ws i = cond (eqb i 0) (rowIn []) (rowNo ws (i - 1))
 
--- row i follows the row before it
+-- row q follows row r, and its comments fit the gap between them
+unfoldable pub fitsAfter : Rows.Row → Rows.Row → Bool
+fitsAfter r q = follows r q && gapFits (r .end) q
+
+-- row i fits after the row before it; the first row's gap starts at 0
 unfoldable pub joined : List ℕ → ℕ → Bool
-joined ws i = cond (eqb i 0) true (follows (rowNo ws (i - 1)) (rowNo ws i))
+joined ws i = cond (eqb i 0) (gapFits 0 (rowNo ws i)) (fitsAfter (rowNo ws (i - 1)) (rowNo ws i))
 
 -- row i fits where it stands, and is not Eof
 unfoldable pub stands : List ℕ → ℕ → Bool

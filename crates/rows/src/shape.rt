@@ -11,8 +11,8 @@ ghost use mathlib.Core.Bool.{true, _&&_};
 ghost use mathlib.Core.List.{[]};
 ghost use Prim.Native.Nat.{_+_, _*_, _≤_};
 ghost use lib.ListN.{length, getD, drop};
-ghost use Rattle.rules.specs.Rows.{rowIn, rowPlace, valueFits, placeFits, linesFit, rowFits, follows};
-ghost use Rattle.rows.specs.Shape.{LengthTable, asRow, sane, behind};
+ghost use Rattle.rules.specs.Rows.{rowIn, rowPlace, valueFits, placeFits, linesFit, rowFits};
+ghost use Rattle.rows.specs.Shape.{LengthTable, asRow, sane, behind, fitsAfter};
 
 // A row is eight words.
 pub struct Row {
@@ -23,7 +23,7 @@ pub struct Row {
     pub column: u32,
     pub low: u32,
     pub high: u32,
-    pub spare: u32,
+    pub comments: u32,
 }
 
 // How long the spelling of each kind is at least.
@@ -140,6 +140,9 @@ pub const MOST: [u32; kind::KINDS] = [
     0,
 ];
 
+// How long a comment is at least: `//`, and nothing behind it.
+const SHORTEST_COMMENT: u64 = 2;
+
 // A word as a wider one, in which sums of words fit.
 pub fn wide(x: u32) -> u64
     ensures { λ r. ⌜ r ≡ x ⌝ }
@@ -161,11 +164,11 @@ pub fn row_at(rows: &[u32], i: usize) -> Row
         column: rows[base + row::COLUMN],
         low: rows[base + row::LOW],
         high: rows[base + row::HIGH],
-        spare: rows[base + row::SPARE],
+        comments: rows[base + row::COMMENTS],
     }
 }
 
-// A row of zeros, behind which every row fits that fits by itself.
+// A row of zeros, which stands for the row before the first: the first row's gap starts at 0.
 pub fn no_row() -> Row
     ensures { λ r. ⌜ asRow r ≡ rowIn [] ⌝ }
 {
@@ -177,7 +180,7 @@ pub fn no_row() -> Row
         column: 0,
         low: 0,
         high: 0,
-        spare: 0,
+        comments: 0,
     }
 }
 
@@ -229,18 +232,18 @@ fn lines_fit(p: Cursor, q: Cursor) -> bool
     (from <= to) & ((to != from) | (left == right))
 }
 
-// Whether a row's last word is 0, and its line and its column are not.
+// Whether a row's line and its column are not 0.
 pub fn row_sane(r: Row) -> bool
     ensures { λ b. ⌜ b ≡ sane (asRow r) ⌝ }
 {
-    (r.spare == 0) & ((1 <= r.line) & (1 <= r.column))
+    (1 <= r.line) & (1 <= r.column)
 }
 
-// Whether a row q that is sane fits by itself and may follow row r: one conjunction from left to right, so that the compiler makes one
-// chain of comparisons of it.
+// Whether a row q that is sane fits by itself and may stand behind row r, its comments in the gap between them: one conjunction from left
+// to right, so that the compiler makes one chain of comparisons of it.
 pub fn row_stands(least: &[u32; kind::KINDS], most: &[u32; kind::KINDS], r: Row, q: Row) -> bool
     requires { ⌜ ((q .kind ≤ 52) × (sane (asRow q) ≡ true)) × LengthTable (now least) (now most) ⌝ }
-    ensures { λ b. ⌜ b ≡ (rowFits (asRow q) && follows (asRow r) (asRow q)) ⌝ }
+    ensures { λ b. ⌜ b ≡ (rowFits (asRow q) && fitsAfter (asRow r) (asRow q)) ⌝ }
 {
     let start = wide(q.start);
     let end = wide(q.end);
@@ -249,9 +252,10 @@ pub fn row_stands(least: &[u32; kind::KINDS], most: &[u32; kind::KINDS], r: Row,
     let high = start + wide(own_length(most, q.kind));
     let spans = (value_fits(q) & (low <= end)) & (end <= high);
     let place = (spans & (wide(q.line) <= next)) & (wide(q.column) <= next);
+    let gap = wide(r.end) + wide(q.comments) * SHORTEST_COMMENT;
     let from = row_place(r);
     let to = row_place(q);
-    (place & (r.end <= q.start)) & lines_fit(from, to)
+    (place & (gap <= start)) & lines_fit(from, to)
 }
 
 // Whether a place may stand behind row r.

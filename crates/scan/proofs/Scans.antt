@@ -28,22 +28,22 @@ use Rattle.scan_walk.specs.Walk.{placeIn, rowsSeen, stopSeen, seenFrom, walkRow
 
 -- ---- as many rows as bytes and one more, at most
 
-pub few-rows : (pos : ℕ → Cursor) (n k : ℕ) (s : List ℕ) → length (readRows (read pos n k s)) ≤ length s + 1
+pub few-rows : (pos : ℕ → Cursor) (c n k : ℕ) (s : List ℕ) → length (readRows (read pos c n k s)) ≤ length s + 1
 unfolding read readRows
-few-rows pos n k [] = omega arith
-few-rows pos (suc n) k (b ∷ s) = omega (arith, few-rows pos n (suc k) s)
-few-rows pos zero k (b ∷ s) = pick (piece (b ∷ s)) (λ m. few-rows pos m (suc k) s)
+few-rows pos c n k [] = omega arith
+few-rows pos c (suc n) k (b ∷ s) = omega (arith, few-rows pos c n (suc k) s)
+few-rows pos c zero k (b ∷ s) = pick (piece (b ∷ s)) (λ d m. few-rows pos d m (suc k) s)
   where
-    pick : (x : Piece) → ((m : ℕ) → length (readRows (read pos m (suc k) s)) ≤ length s + 1) →
+    pick : (x : Piece) → ((d m : ℕ) → length (readRows (read pos d m (suc k) s)) ≤ length s + 1) →
         length (readRows (elim x as (λ _. Reading) [
-          | blank ↦ read pos zero (suc k) s
-          | comment n d ↦ read pos (pred n) (suc k) s
-          | row kind n bits d ↦ put (rowAt (pos k) kind (k + n) bits) (read pos (pred n) (suc k) s)
+          | blank ↦ read pos c zero (suc k) s
+          | comment n d ↦ read pos (suc c) (pred n) (suc k) s
+          | row kind n bits d ↦ put (rowAt (pos k) c kind (k + n) bits) (read pos zero (pred n) (suc k) s)
           | refused why p d ↦ stops why (pos (k + p)) (k + d)
         ])) ≤ suc (length s) + 1
-    pick blank h = omega (arith, h 0)
-    pick (comment n d) h = omega (arith, h (pred n))
-    pick (row kind n bits d) h = omega (arith, h (pred n))
+    pick blank h = omega (arith, h c 0)
+    pick (comment n d) h = omega (arith, h (suc c) (pred n))
+    pick (row kind n bits d) h = omega (arith, h 0 (pred n))
     pick (refused why p d) h = omega arith
 
 -- ---- a reading as what is seen
@@ -72,38 +72,39 @@ unfolding placeIn
 at-place t k h = rw sub-zero (over-start t k h)
 
 module _ (t : List ℕ) (meet : ℕ → Bool) (never : (m : ℕ) → meet m ≡ false) where
-  -- what is seen from offset k on, of whose bytes the first n belong to the piece that was read last
-  abbrev seen : ℕ → ℕ → List ℕ → Seen
-  seen n k s = look (placeIn startPlace t) meet true n k s
+  -- what is seen from offset k on, behind c comments, where the first n bytes belong to the piece that was read last
+  abbrev seen : (c n k : ℕ) → List ℕ → Seen
+  seen c n k s = look (placeIn startPlace t) meet true c n k s
 
   -- by the piece at offset k, with s behind its first byte
-  step : (k : ℕ) (s : List ℕ) → k + suc (length s) ≡ length t → ((n : ℕ) → seen n (suc k) s ≡ asSeen (read (placeAt t) n (suc k) s)) →
+  step : (c k : ℕ) (s : List ℕ) → k + suc (length s) ≡ length t →
+      ((d n : ℕ) → seen d n (suc k) s ≡ asSeen (read (placeAt t) d n (suc k) s)) →
       (x : Piece) → Spans 1 0 (suc (length s)) (known x) →
       elim x as (λ _. Seen) [
-        | blank ↦ seen zero (suc k) s
-        | comment n d ↦ seen (pred n) (suc k) s
-        | row kind n bits d ↦ sees (rowAt (placeIn startPlace t k) kind (k + n) bits) (seen (pred n) (suc k) s)
+        | blank ↦ seen c zero (suc k) s
+        | comment n d ↦ seen (suc c) (pred n) (suc k) s
+        | row kind n bits d ↦ sees (rowAt (placeIn startPlace t k) c kind (k + n) bits) (seen zero (pred n) (suc k) s)
         | refused why p d ↦ over′ (ending.Refused why (placeIn startPlace t (k + p)))
       ]
       ≡ asSeen (elim x as (λ _. Reading) [
-        | blank ↦ read (placeAt t) zero (suc k) s
-        | comment n d ↦ read (placeAt t) (pred n) (suc k) s
-        | row kind n bits d ↦ put (rowAt (placeAt t k) kind (k + n) bits) (read (placeAt t) (pred n) (suc k) s)
+        | blank ↦ read (placeAt t) c zero (suc k) s
+        | comment n d ↦ read (placeAt t) (suc c) (pred n) (suc k) s
+        | row kind n bits d ↦ put (rowAt (placeAt t k) c kind (k + n) bits) (read (placeAt t) zero (pred n) (suc k) s)
         | refused why p d ↦ stops why (placeAt t (k + p)) (k + d)
       ])
   unfolding asSeen
-  step k s e h blank f = h 0
-  step k s e h (comment n d) f = h (pred n)
-  step k s e h (row kind n bits d) f = rw (at-place t k (omega arith), h (pred n))
-  step k s e h (refused why p d) (refused-spans _ _ _ l m u) = rw (at-place t (k + p) (omega arith))
+  step c k s e h blank f = h c 0
+  step c k s e h (comment n d) f = h (suc c) (pred n)
+  step c k s e h (row kind n bits d) f = rw (at-place t k (omega arith), h 0 (pred n))
+  step c k s e h (refused why p d) (refused-spans _ _ _ l m u) = rw (at-place t (k + p) (omega arith))
 
   -- Where nothing meets and the bytes end the text, what is seen is what is read.
-  seen-read : (n k : ℕ) (s : List ℕ) → k + length s ≡ length t → seen n k s ≡ asSeen (read (placeAt t) n k s)
+  seen-read : (c n k : ℕ) (s : List ℕ) → k + length s ≡ length t → seen c n k s ≡ asSeen (read (placeAt t) c n k s)
   unfolding look read asSeen item
-  seen-read n k [] e = rw (at-place t k (omega arith))
-  seen-read (suc n) k (b ∷ s) e = seen-read n (suc k) s (omega arith)
-  seen-read zero k (b ∷ s) e =
-      rw (look, never k) (step k s e (λ n. seen-read n (suc k) s (omega arith)) (piece (b ∷ s)) (piece-spans b s))
+  seen-read c n k [] e = rw (at-place t k (omega arith))
+  seen-read c (suc n) k (b ∷ s) e = seen-read c n (suc k) s (omega arith)
+  seen-read c zero k (b ∷ s) e =
+      rw (look, never k) (step c k s e (λ d n. seen-read d n (suc k) s (omega arith)) (piece (b ∷ s)) (piece-spans b s))
 
 -- ---- the walk that meets no old row
 
@@ -121,7 +122,7 @@ module _ (ws : List ℕ) (least : ℕ) (t : List ℕ) where
 
   seen-scan : seenFrom [] least 0 t startPlace true ≡ asSeen (scan t)
   unfolding seenFrom scan
-  seen-scan = seen-read t (meetsAt [] least 0) no-meeting 0 0 t (omega arith)
+  seen-scan = seen-read t (meetsAt [] least 0) no-meeting 0 0 0 t (omega arith)
 
   pub walk-rows : walkRows ws (none least) t startPlace true ≡ readRows (scan t)
   unfolding walkRows rowsIn
@@ -144,7 +145,7 @@ module _ (ws : List ℕ) (least : ℕ) (t : List ℕ) where
 
   pub count-fits : length t ≤ mostBytes → walkOf ws (none least) t startPlace true .count < 2 ^ 32
   unfolding scan
-  count-fits h = rw walk-told (omega (arith, few-rows (placeAt t) 0 0 t))
+  count-fits h = rw walk-told (omega (arith, few-rows (placeAt t) 0 0 0 t))
 
 -- ---- the answer
 

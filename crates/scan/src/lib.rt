@@ -27,7 +27,7 @@ fn ending_of(stop: Stop) -> Ending
 {
     match stop {
         Stop::Over(ending) => ending,
-        Stop::Met(_, _) => Ending::None,
+        Stop::Met(_, _, _) => Ending::None,
         Stop::Short => Ending::None,
     }
 }

@@ -34,19 +34,19 @@ placeIn p t k = over p (take (k - p .offset .0) t)
 unfoldable pub rowsSeen : Seen → List Row
 rowsSeen (sees r s) = r ∷ rowsSeen s
 rowsSeen (over′ e) = []
-rowsSeen (met m) = []
+rowsSeen (met m c) = []
 rowsSeen short = []
 
 module _ (rows : List Row) (least b : ℕ) (t : List ℕ) (p : Cursor) where
   unfoldable pub stopSeen : Seen → Stop
   stopSeen (sees r s) = stopSeen s
   stopSeen (over′ e) = Over e
-  stopSeen (met m) = Met (onward t (startOf p) (m - p .offset .0)) (length rows - length (from (m + b - least) rows))
+  stopSeen (met m c) = Met (onward t (startOf p) (m - p .offset .0)) (length rows - length (from (m + b - least) rows)) c
   stopSeen short = Short
 
   -- of the bytes from their first on; whole: they end the text
   unfoldable pub seenFrom : Bool → Seen
-  seenFrom whole = look (placeIn p t) (meetsAt rows least b) whole 0 (p .offset .0) t
+  seenFrom whole = look (placeIn p t) (meetsAt rows least b) whole 0 0 (p .offset .0) t
 
 -- ---- the call
 
@@ -70,9 +70,9 @@ pub record Walkable (ws : List ℕ) (o : Olds) (t : List ℕ) (p : Cursor) : Typ
 
 -- ---- its parts
 
--- the row that was told at a place
-unfoldable pub rowOf : Cursor → Brief → Row
-rowOf at r = rowAt at (r .kind) (at .offset .0 + r .size) (r .bits)
+-- the row that was told at a place, behind so many comments
+unfoldable pub rowOf : Cursor → ℕ → Brief → Row
+rowOf at c r = rowAt at c (r .kind) (at .offset .0 + r .size) (r .bits)
 
 -- a row's words behind n rows, where there is room
 unfoldable pub placed : ℕ → Row → List ℕ → List ℕ
@@ -96,8 +96,8 @@ pub record Last (n : ℕ) (at : Cursor) (r : Brief) : Type 0 where
   pub few : n + 1 < 2 ^ 64
   pub roomy : Roomy (r .size) at
 
--- and what is then answered: ws are the lent words, us what stands in them afterwards
-pub record Finished (n : ℕ) (at : Cursor) (r : Brief) (x : Walked) (ws us : List ℕ) : Type 0 where
-  pub end : r .kind ≡ End → (x ≡ record { count = n + 1; stop = Over ending.None }) × (us ≡ placed n (eofRow at) ws)
+-- and what is then answered, behind c comments: ws are the lent words, us what stands in them afterwards
+pub record Finished (n : ℕ) (at : Cursor) (c : ℕ) (r : Brief) (x : Walked) (ws us : List ℕ) : Type 0 where
+  pub end : r .kind ≡ End → (x ≡ record { count = n + 1; stop = Over ending.None }) × (us ≡ placed n (eofRow at c) ws)
   pub unknown : r .kind ≡ Unknown → (x ≡ record { count = n; stop = Short }) × (us ≡ ws)
   pub refused : (why : Lexical) → r .kind ≡ refusalCode why → (x ≡ record { count = n; stop = Over (ending.Refused why (along at (r .size))) }) × (us ≡ ws)

@@ -38,9 +38,10 @@ pub struct Found {
     pub met: bool,
 }
 
-// How a walk stops: at a spot where an old row, by its number, meets; the text is over, with its ending; or more bytes must be shown.
+// How a walk stops: at a spot where an old row, by its number, meets, with so many comments in the gap before it; the text is over, with
+// its ending; or more bytes must be shown.
 pub enum Stop {
-    Met(Spot, usize),
+    Met(Spot, usize, u32),
     Over(Ending),
     Short,
 }
@@ -51,10 +52,11 @@ pub struct Walked {
     pub stop: Stop,
 }
 
-// The walk stops behind n rows at what was told there: the text's end, which has a row, a refusal, or that more bytes must be shown.
-fn finish(rows: &mut [u32], n: usize, at: Cursor, told: Brief) -> Walked
+// The walk stops behind n rows, and so many comments, at what was told there: the text's end, which has a row, a refusal, or that more
+// bytes must be shown.
+fn finish(rows: &mut [u32], n: usize, at: Cursor, comments: u32, told: Brief) -> Walked
     requires { ⌜ Last n at told ⌝ }
-    ensures { λ r. ⌜ Finished n at told r (now (rows .entry)) (now (rows .exit)) ⌝ }
+    ensures { λ r. ⌜ Finished n at comments told r (now (rows .entry)) (now (rows .exit)) ⌝ }
 {
     let kind = told.kind;
     if kind == codes::END {
@@ -63,7 +65,7 @@ fn finish(rows: &mut [u32], n: usize, at: Cursor, told: Brief) -> Walked
             kind: kind::EOF,
             bits: 0,
         };
-        put_behind(rows, n, at, end);
+        put_behind(rows, n, at, comments, end);
         return Walked {
             count: n + 1,
             stop: Stop::Over(Ending::None),
@@ -82,7 +84,7 @@ fn finish(rows: &mut [u32], n: usize, at: Cursor, told: Brief) -> Walked
     }
 }
 
-// The walk over bytes that begin at a place. whole: they end the text.
+// The walk over bytes that begin at a place. whole: they end the text. What stands behind blanks is a row, a comment or the last.
 pub fn walk(
     old: &[u32],
     olds: Olds,
@@ -102,6 +104,7 @@ pub fn walk(
     let mut i = 0;
     let mut row = olds.first;
     let mut count = 0;
+    let mut comments: u32 = 0;
     while i <= text.len() {
         let spot = past_blanks(text, here);
         let found = find(old, olds, row, text, spot);
@@ -109,17 +112,20 @@ pub fn walk(
         if found.met {
             return Walked {
                 count,
-                stop: Stop::Met(spot, row),
+                stop: Stop::Met(spot, row, comments),
             };
         }
         let told = brief(&classes, text, spot.at, whole);
         let cursor = spot.cursor;
         if codes::END <= told.kind {
-            return finish(rows, count, cursor, told);
+            return finish(rows, count, cursor, comments, told);
         }
         if told.kind < codes::BLANK {
-            put_behind(rows, count, cursor, told);
+            put_behind(rows, count, cursor, comments, told);
             count += 1;
+            comments = 0;
+        } else {
+            comments += 1;
         }
         here = behind(text, spot, told);
         i = here.at;

@@ -110,7 +110,7 @@ follow-requires c κs =
     let k = at-tail (c .before) in
     let w = walk-of (room-at k) in
     let s = start w in
-    met-follows (s .pre .ready) (s .args .whole) (w .walk .result) (walked w .0) _ _ (k .before .stop .given .1)
+    met-follows (s .pre .ready) (s .args .whole) (w .walk .result) (walked w .0) _ _ _ (k .before .stop .given .1)
 
 behind-requires : tie.Need-behind-requires
 unfolding roomOf
@@ -122,8 +122,9 @@ behind-requires c κs =
     let a = s .args in
     let p = k .before .stop .given .0 .0 .cursor in
     let row = k .before .stop .given .0 .1 .0 in
-    let zs = rowsBehind (a .old .now) (a .job .table) row p in
-    let n = count-behind (a .old .now) (a .job .table) row p (a .tail .now) in
+    let comments = k .before .stop .given .0 .1 .1 .0 in
+    let zs = rowsBehind (a .old .now) (a .job .table) row p comments in
+    let n = count-behind (a .old .now) (a .job .table) row p comments (a .tail .now) in
     subst (FewBehind (w .walk .result .count)) (sym (f .follow .ensures .0))
     (few-behind (w .walk .result .count) _ zs (endingBehind (a .old .now) (a .job .table) row p)
     (omega (arith, found-room (room-at k), many w, s .good .1 .1 .1 .1 .0 .1, n, lent-old (s .pre .ready), s .good .0 .1)))
@@ -147,11 +148,12 @@ returns-2 c =
     let e = k .before .stop .given .1 in
     let p = k .before .stop .given .0 .0 .cursor in
     let row = k .before .stop .given .0 .1 .0 in
-    let rows = met-rows (s .pre .ready) (a .whole) (w .walk .result) (walked w .0) _ _ e in
-    let ending = met-ending (s .pre .ready) (a .whole) (w .walk .result) (walked w .0) _ _ e in
-    let q = met-all (mine w) (rowsBehind (a .old .now) (a .job .table) row p) (endingBehind (a .old .now) (a .job .table) row p)
+    let comments = k .before .stop .given .0 .1 .1 .0 in
+    let rows = met-rows (s .pre .ready) (a .whole) (w .walk .result) (walked w .0) _ _ _ e in
+    let ending = met-ending (s .pre .ready) (a .whole) (w .walk .result) (walked w .0) _ _ _ e in
+    let q = met-all (mine w) (rowsBehind (a .old .now) (a .job .table) row p comments) (endingBehind (a .old .now) (a .job .table) row p)
     (a .tail .now) (w .walk .last .1 .1 .1 .1 .1 .0) (w .walk .result .count) (walked w .1) (found-room (room-at k)) (many w)
-    (f .follow .result) (c .behind .result) (f .follow .last .1 .1 .1 .1 .0) (f .follow .ensures) (c .behind .ensures) in
+    (f .follow .result) (c .behind .result) (f .follow .last .1 .1 .1 .1 .1 .0) (f .follow .ensures) (c .behind .ensures) in
     (q .0 ∙ rw (rows, ending), q .1 ∙ ap (λ (z : List Row). laid z (a .tail .now)) (sym rows))
 
 same-length-3 : tie.Need-same-length-3

@@ -1,6 +1,6 @@
 -- `carry::carry_row` meets its contract.
 use borrow.Author.Needs.{needs}
-use Rattle.rules.specs.Edit.{carryRow}
+use Rattle.rules.specs.Edit.{carryRow, withComments}
 use Rattle.edit_carry.proofs.carry_row.Statement.{statement}
 use Rattle.edit_carry.proofs.carry_row.Tie as tie
 
@@ -14,7 +14,7 @@ moved-requires : tie.Need-moved-requires
 moved-requires c κs = search needs
 
 returns : tie.Need-returns
-unfolding carryRow
+unfolding carryRow withComments
 returns c =
     rw (c .moved .ensures, c .before .carry-place .ensures, c .before .before .row-place .ensures)
 

@@ -2,8 +2,8 @@
 use mathlib.Core.Path.{sym, ap, _∙_}
 use mathlib.Core.Bool.{_&&_}
 use native.Mathlib.Omega.{arith}
-use Rattle.rules.specs.Rows.{Row, rowFits, follows}
-use Rattle.rows.specs.Shape.{asRow}
+use Rattle.rules.specs.Rows.{Row, rowFits}
+use Rattle.rows.specs.Shape.{asRow, fitsAfter}
 use Rattle.rows.proofs.Tables.{closes-plain, closes-apart, closes-fit, closes-not}
 use borrow.Author.Needs.{needs}
 use Rattle.rows.proofs.row_closes.Statement.{statement}
@@ -45,7 +45,7 @@ returns-3 c =
     let r = k .before .before in
     let a = r .before .before .args in
     let q = asRow (r .row-at .result) in
-    c .row-stands .ensures ∙ ap (λ (z : Row). rowFits q && follows z q) (b .row-before .ensures)
+    c .row-stands .ensures ∙ ap (λ (z : Row). rowFits q && fitsAfter z q) (b .row-before .ensures)
     ∙ closes-fit (a .rows .now) (a .i) q (r .row-at .ensures) (a .size) (k .if1 .left) (b .before .before .before .if2 .left)
 
 returns-4 : tie.Need-returns-4

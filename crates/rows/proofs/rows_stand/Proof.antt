@@ -6,9 +6,9 @@ use native.Mathlib.Omega.{arith}
 use lib.Dec.{leb}
 use borrow.Author.Needs.{needs}
 use borrow.Author.Tests.{leb-false, not-false}
-use Rattle.rules.specs.Rows.{Row, rowFits, follows}
+use Rattle.rules.specs.Rows.{Row, rowFits}
 use Rattle.laws.specs.Tests.{allBelow}
-use Rattle.rows.specs.Shape.{asRow, rowBefore, sane, stands}
+use Rattle.rows.specs.Shape.{asRow, rowBefore, fitsAfter, sane, stands}
 use Rattle.laws.proofs.Tests.{neither, below-not}
 use Rattle.rows.proofs.Tables.{before-first, before-on, below-on, stands-plain, stands-out}
 use Rattle.rows.proofs.rows_stand.Statement.{statement}
@@ -66,7 +66,7 @@ loop-again c =
     let l = r .before .before in
     let ws = l .before .before .before .args .rows .now in
     let q = asRow (r .row-at .result) in
-    let row = c .row-stands .ensures ∙ ap (λ (z : Row). rowFits q && follows z q) (l .loop .inv .1 .1)
+    let row = c .row-stands .ensures ∙ ap (λ (z : Row). rowFits q && fitsAfter z q) (l .loop .inv .1 .1)
     ∙ stands-plain ws (l .loop .i) q (r .row-at .ensures) (known (c .before) .0) in
     let good = below-on (stands ws) (l .loop .i) (c .row-stands .result) (l .loop .good) row (l .loop .inv .1 .0) in
     (omega arith, (good, r .row-at .ensures ∙ sym (before-on ws (l .loop .i))))

@@ -1,13 +1,12 @@
 -- `scan_walk::finish` meets its contract.
-use mathlib.Core.Path.{_≡_, refl, sym, ap, _∙_}
+use mathlib.Core.Path.{_≡_, refl, sym, _∙_}
 use Prim.Native.Nat.{ℕ, _<_}
 use native.Mathlib.Omega.{arith}
 use borrow.Author.Needs.{needs}
 use native.Mathlib.Nat.{add-zero}
 use Rattle.rules.specs.Rows.{eofRow}
-use Rattle.scan_reader.specs.Brief.{End, Unknown}
 use Rattle.scan_reader.proofs.Reasons.{code-least}
-use Rattle.scan_walk.specs.Walk.{rowOf, placed, Finished}
+use Rattle.scan_walk.specs.Walk.{rowOf}
 use Rattle.scan_walk.proofs.finish.Statement.{statement}
 use Rattle.scan_walk.proofs.finish.Tie as tie
 
@@ -20,8 +19,8 @@ apart h e = omega arith
 put-behind-requires : tie.Need-put-behind-requires
 put-behind-requires c κs = search needs
 
-add-t12 : tie.Need-add-t12
-add-t12 c = search needs
+add-t13 : tie.Need-add-t13
+add-t13 c = search needs
 
 same-length : tie.Need-same-length
 same-length c = search needs
@@ -68,7 +67,7 @@ finish-spec =
     tie.close
     (tie.spec
     put-behind-requires
-    add-t12
+    add-t13
     same-length
     returns
     returns-2

@@ -1,5 +1,5 @@
 -- `scan_walk::walk` meets its contract: the loop's invariant is `Walking`, and each way through a turn is one of its laws.
-use mathlib.Core.Path.{_≡_, sym, ap, subst, _∙_}
+use mathlib.Core.Path.{_≡_, sym, subst, _∙_}
 use mathlib.Core.Bool.{Bool, true, false}
 use mathlib.Core.List.{List}
 use mathlib.Core.Logic.{⊎-elim}
@@ -14,21 +14,24 @@ use Rattle.laws.proofs.Rows.{laid-length}
 use Rattle.laws.proofs.Places.{roomy-less}
 use Rattle.scan_reader.specs.declared.Spot.{Spot}
 use Rattle.scan_reader.specs.declared.Brief.{Brief}
-use Rattle.scan_reader.specs.Brief.{Blank, End, told}
+use Rattle.scan_reader.specs.Brief.{End, told}
 use Rattle.scan_walk.specs.declared.Olds.{Olds}
 use Rattle.scan_walk.specs.declared.Stop.the-variants.{Met}
 use Rattle.scan_walk.specs.declared.Walked.{Walked}
 use Rattle.scan_walk.specs.Meeting.{Passed, stopsAt}
-use Rattle.scan_walk.specs.Walk.{rowOf, placed}
-use Rattle.scan_walk.proofs.Walks.{Walking, Answer, walking-start, at-index, at-offset, ahead, blanks-more, walking-blanks, walking-found, tells, walking-met, last, walking-last, passable, walking-gap, walking-row, walking-less}
+use Rattle.scan_walk.specs.Walk.{blanks, Passable}
+use Rattle.scan_walk.proofs.Walks.{Walking, Answer, walking-start, at-offset, ahead, blanks-more, blanks-none, walking-blanks}
+use Rattle.scan_walk.proofs.Walks.{tells, walking-found, walking-met, last, walking-last, passable}
+use Rattle.scan_walk.proofs.Walks.{walking-comment, walking-row, walking-less}
 use Rattle.scan_walk.proofs.walk.Statement.{statement}
 use Rattle.scan_walk.proofs.walk.Tie as tie
 
 abbrev Inv-loop : tie.InvT-loop
-Inv-loop old olds text whole rows₀ classes here₀ i₀ row₀ count₀ rows here i row count = Walking old olds text (here₀ .cursor) whole rows₀ rows here i row count
+Inv-loop old olds text whole rows₀ classes here₀ i₀ row₀ count₀ comments₀ rows here i row count comments =
+    Walking old olds text (here₀ .cursor) whole rows₀ rows here i row count comments
 
 abbrev μ-loop : tie.MeasureT-loop
-μ-loop old olds text whole rows₀ classes here₀ i₀ row₀ count₀ rows here i row count = length text + 1 - i
+μ-loop old olds text whole rows₀ classes here₀ i₀ row₀ count₀ comments₀ rows here i row count comments = length text + 1 - i
 
 -- ---- the places of a turn
 
@@ -56,8 +59,8 @@ whole-of l = start-of l .args .whole
 abbrev lent-of : Loop → List ℕ
 lent-of l = start-of l .args .rows .now
 
-abbrev Stands : Loop → List ℕ → Spot → ℕ → ℕ → ℕ → Type 0
-Stands l rows here i row n = Walking (old-of l) (olds-of l) (text-of l) (begin-of l) (whole-of l) (lent-of l) rows here i row n
+abbrev Stands : Loop → List ℕ → Spot → (i row n c : ℕ) → Type 0
+Stands l rows here i row n c = Walking (old-of l) (olds-of l) (text-of l) (begin-of l) (whole-of l) (lent-of l) rows here i row n c
 
 abbrev Answers : Loop → Walked → List ℕ → Type 0
 Answers l r rows = Answer (old-of l) (olds-of l) (text-of l) (begin-of l) (whole-of l) (lent-of l) r rows
@@ -77,10 +80,9 @@ Passed-blanks = tie.After-past-blanks Inv-loop μ-loop
 abbrev loop-of : Passed-blanks → Loop
 loop-of c = c .before .before
 
-stands : (c : Passed-blanks) → let l = loop-of c in let s = c .past-blanks .result in Stands l (l .loop .rows) s (s .at) (l .loop .row) (l .loop .count)
-stands c =
-    let l = loop-of c in
-    walking-blanks (old-of l) (olds-of l) (text-of l) (begin-of l) (whole-of l) (lent-of l) (l .loop .rows) (l .loop .here) (l .loop .i) (l .loop .row) (l .loop .count) (l .loop .inv) (c .past-blanks .result) (c .past-blanks .ensures)
+stands : (c : Passed-blanks) → let l = loop-of c in let s = c .past-blanks .result in
+    Stands l (l .loop .rows) s (s .at) (l .loop .row) (l .loop .count) (l .loop .comments)
+stands c = walking-blanks (loop-of c .loop .inv) (c .past-blanks .result) (c .past-blanks .ensures)
 
 -- ---- an old row was looked for
 
@@ -93,15 +95,13 @@ head f = loop-of (f .before)
 abbrev spot : Looked → Spot
 spot f = f .before .past-blanks .result
 
-found : (f : Looked) → let l = head f in Stands l (l .loop .rows) (spot f) (spot f .at) (f .find .result .row) (l .loop .count)
-found f =
-    let l = head f in
-    walking-found (old-of l) (olds-of l) (text-of l) (begin-of l) (whole-of l) (lent-of l) (l .loop .rows) (spot f) (spot f .at) (l .loop .row) (l .loop .count) (stands (f .before)) (f .find .result) (f .find .ensures)
+found : (f : Looked) → let l = head f in
+    Stands l (l .loop .rows) (spot f) (spot f .at) (f .find .result .row) (l .loop .count) (l .loop .comments)
+found f = walking-found (stands (f .before)) (f .find .result) (f .find .ensures)
 
-met : (f : Looked) → f .find .result .met ≡ true → Answers (head f) (record { count = head f .loop .count; stop = Met (spot f) (f .find .result .row) }) (head f .loop .rows)
-met f e =
-    let l = head f in
-    walking-met (old-of l) (olds-of l) (text-of l) (begin-of l) (whole-of l) (lent-of l) (l .loop .rows) (spot f) (spot f .at) (l .loop .row) (l .loop .count) (stands (f .before)) (f .find .result) (f .find .ensures) e
+met : (f : Looked) → f .find .result .met ≡ true → let l = head f in
+    Answers l (record { count = l .loop .count; stop = Met (spot f) (f .find .result .row) (l .loop .comments) }) (l .loop .rows)
+met f e = walking-met (stands (f .before)) (f .find .result) (f .find .ensures) e
 
 -- ---- nothing meets, and what stands there was told
 
@@ -114,14 +114,19 @@ looked b = b .before .before .before
 abbrev told-of : Told → Brief
 told-of b = b .brief .result
 
-off : (b : Told) → let f = looked b in let l = head f in stopsAt (rowsIn (olds-of l .count) (old-of l)) (olds-of l .least) (olds-of l .b) (begin-of l .offset .0 + spot f .at) (drop (spot f .at) (text-of l)) ≡ false
+off : (b : Told) → let f = looked b in let l = head f in let o = olds-of l in
+    stopsAt (rowsIn (o .count) (old-of l)) (o .least) (o .b) (begin-of l .offset .0 + spot f .at) (drop (spot f .at) (text-of l)) ≡ false
 off b =
     let f = looked b in
-    let l = head f in
-    sym (tells (old-of l) (olds-of l) (text-of l) (begin-of l) (whole-of l) (lent-of l) (l .loop .rows) (spot f) (spot f .at) (l .loop .row) (l .loop .count) (stands (f .before)) (f .find .result) (f .find .ensures))
-    ∙ b .before .before .if1 .left
+    sym (tells (stands (f .before)) (f .find .result) (f .find .ensures)) ∙ b .before .before .if1 .left
 
-told-here : (b : Told) → let f = looked b in let l = head f in told-of b ≡ told (drop (spot f .at) (text-of l)) (item (whole-of l) (drop (spot f .at) (text-of l)))
+none : (b : Told) → let f = looked b in blanks (drop (spot f .at) (text-of (head f))) ≡ 0
+none b =
+    let k = looked b .before in
+    blanks-none (loop-of k .loop .inv) (k .past-blanks .result) (k .past-blanks .ensures)
+
+told-here : (b : Told) → let f = looked b in let l = head f in
+    told-of b ≡ told (drop (spot f .at) (text-of l)) (item (whole-of l) (drop (spot f .at) (text-of l)))
 told-here b = b .brief .ensures
 
 -- the bytes are few enough to be counted
@@ -143,37 +148,49 @@ finished : (c : Finishes) → Answers (head (looked (told-last c))) (c .finish .
 finished c =
     let b = told-last c in
     let f = looked b in
-    let l = head f in
-    walking-last (old-of l) (olds-of l) (text-of l) (begin-of l) (whole-of l) (lent-of l) (l .loop .rows) (spot f) (spot f .at) (f .find .result .row) (l .loop .count) (found f) (off b) (told-of b) (told-here b) (is-last c)
+    walking-last (found f) (off b) (none b) (told-of b) (told-here b) (is-last c)
     (c .finish .result) (c .finish .last .0) (c .finish .ensures)
 
 -- ---- it goes on
 
-abbrev Told-on : Type 0
-Told-on = tie.Joined3 Inv-loop μ-loop
+abbrev Goes-on : Type 0
+Goes-on = tie.After-struct-known2 Inv-loop μ-loop
 
-abbrev told-on : Told-on → Told
-told-on j = j .before .before .before .before .before
+abbrev told-on : Goes-on → Told
+told-on d = d .before .before .before .before
 
-goes-on : (j : Told-on) → told-of (told-on j) .kind < End
-goes-on j = omega (arith, j .before .before .if2 .left)
+goes-on : (d : Goes-on) → told-of (told-on d) .kind < End
+goes-on d = omega (arith, d .before .if2 .left)
 
-same-words : (l : Loop) {us vs : List ℕ} {m n : ℕ} (s : Spot) (row : ℕ) → us ≡ vs → m ≡ n → Stands l vs s (s .at) row n → Stands l us s (s .at) row m
-same-words l s row e f g = rw (e, f) g
+can-pass : (d : Goes-on) → let b = told-on d in let f = looked b in Passable (text-of (head f)) (spot f) (told-of b)
+can-pass d =
+    let b = told-on d in
+    let f = looked b in
+    passable (found f) (off b) (none b) (told-of b) (told-here b) (goes-on d) (start-of (head f) .pre .roomy)
 
-stands-behind : (c : tie.After-behind Inv-loop μ-loop) → let j = c .before in let f = looked (told-on j) in let s = c .behind .result in
-    Stands (head f) (j .if3 .rows) s (s .at) (f .find .result .row) (j .if3 .count)
+-- a row is put
+abbrev to-put : tie.After-put-behind-arg Inv-loop μ-loop → Goes-on
+to-put c = c .before .before
+
+same-words : (l : Loop) {us vs : List ℕ} {m n c d : ℕ} (s : Spot) (row : ℕ) → us ≡ vs → m ≡ n → c ≡ d → Stands l vs s (s .at) row n d →
+    Stands l us s (s .at) row m c
+same-words l s row e f h g = rw (e, f, h) g
+
+stands-behind : (c : tie.After-behind Inv-loop μ-loop) →
+    let j = c .before in let f = looked (told-on (j .before)) in let s = c .behind .result in
+    Stands (head f) (j .if3 .rows) s (s .at) (f .find .result .row) (j .if3 .count) (j .if3 .comments)
 stands-behind c =
     let j = c .before in
-    let b = told-on j in
+    let b = told-on (j .before) in
     let f = looked b in
     let l = head f in
     let s = c .behind .result in
     ⊎-elim
-    (λ x. same-words l s (f .find .result .row) (x .5 ∙ x .2 .ensures) (x .6)
-    (walking-row (old-of l) (olds-of l) (text-of l) (begin-of l) (whole-of l) (lent-of l) (l .loop .rows) (spot f) (spot f .at) (f .find .result .row) (l .loop .count) (found f) (off b) (told-of b) (told-here b) s (c .behind .ensures) (x .0 .taken)))
-    (λ x. same-words l s (f .find .result .row) (x .1) (x .2)
-    (walking-gap (old-of l) (olds-of l) (text-of l) (begin-of l) (whole-of l) (lent-of l) (l .loop .rows) (spot f) (spot f .at) (f .find .result .row) (l .loop .count) (found f) (off b) (told-of b) (told-here b) s (c .behind .ensures) (omega (arith, x .0 .left)) (goes-on j)))
+    (λ x. same-words l s (f .find .result .row) (x .5 ∙ x .2 .ensures) (x .6) (x .7)
+    (walking-row (found f) (off b) (none b) (told-of b) (told-here b) s (c .behind .ensures) (x .0 .taken)))
+    (λ x. same-words l s (f .find .result .row) (x .1) (x .2) (x .3)
+    (walking-comment (found f) (off b) (none b) (told-of b) (told-here b) s (c .behind .ensures) (omega (arith, x .0 .left))
+    (goes-on (j .before))))
     (j .if3 .came)
 
 table-requires : tie.Need-table-requires Inv-loop μ-loop
@@ -187,14 +204,14 @@ loop-holds c =
 past-blanks-requires : tie.Need-past-blanks-requires Inv-loop μ-loop
 past-blanks-requires c κs =
     let l = c .before in
-    ahead (old-of l) (olds-of l) (text-of l) (begin-of l) (whole-of l) (lent-of l) (l .loop .rows) (l .loop .here) (l .loop .i) (l .loop .row) (l .loop .count) (l .loop .inv) (start-of l .pre .roomy)
+    ahead (l .loop .inv) (start-of l .pre .roomy)
 
 find-requires : tie.Need-find-requires Inv-loop μ-loop
 find-requires c κs =
     let l = loop-of c in
     let p = start-of l .pre in
     let s = c .past-blanks .result in
-    let o = at-offset (old-of l) (olds-of l) (text-of l) (begin-of l) (whole-of l) (lent-of l) (l .loop .rows) s (s .at) (l .loop .row) (l .loop .count) (stands c) in
+    let o = at-offset (stands c) in
     ((p .lent, stands c .few), (p .rising, subst (Passed (old-of l) (olds-of l .least) (olds-of l .b) (l .loop .row)) (sym o) (stands c .passed)))
 
 same-length : tie.Need-same-length Inv-loop μ-loop
@@ -214,7 +231,7 @@ finish-requires c κs =
     let b = c .before .before .before .before in
     let f = looked b in
     let l = head f in
-    last (old-of l) (olds-of l) (text-of l) (begin-of l) (whole-of l) (lent-of l) (l .loop .rows) (spot f) (spot f .at) (f .find .result .row) (l .loop .count) (found f) (off b) (told-of b) (told-here b) (c .before .if2 .taken)
+    last (found f) (off b) (none b) (told-of b) (told-here b) (c .before .if2 .taken)
     (omega (arith, few l, found f .inside)) (start-of l .pre .roomy)
 
 same-length-2 : tie.Need-same-length-2 Inv-loop μ-loop
@@ -225,33 +242,35 @@ returns-2 c = finished (c .before .before)
 
 put-behind-requires : tie.Need-put-behind-requires Inv-loop μ-loop
 put-behind-requires c κs =
-    let b = c .before .before .before .before .before .before in
+    let d = to-put c in
+    let b = told-on d in
     let f = looked b in
-    let l = head f in
-    let h : told-of b .kind < End = omega (arith, c .before .if3 .taken) in
-    let g = passable (old-of l) (olds-of l) (text-of l) (begin-of l) (whole-of l) (lent-of l) (l .loop .rows) (spot f) (spot f .at) (f .find .result .row) (l .loop .count) (found f) (off b) (told-of b) (told-here b) h (start-of l .pre .roomy) in
-    roomy-less (length (text-of l) - spot f .at) (told-of b .size) (spot f .cursor) (omega (arith, g .inside)) (g .ahead .roomy) .offset
+    let g = can-pass d in
+    let n = length (text-of (head f)) - spot f .at in
+    roomy-less n (told-of b .size) (spot f .cursor) (omega (arith, g .inside)) (g .ahead .roomy) .offset
 
 add-count : tie.Need-add-count Inv-loop μ-loop
 add-count c =
-    let f = looked (c .before .before .before .before .before .before .before .before .before) in
+    let f = looked (told-on (to-put (c .before .before .before))) in
     omega (arith, few (head f), found f .small, found f .inside)
 
+add-comments : tie.Need-add-comments Inv-loop μ-loop
+add-comments c =
+    let f = looked (told-on (c .before)) in
+    let g = can-pass (c .before) in
+    omega (arith, found f .small-gap, g .some, g .inside, start-of (head f) .pre .roomy .offset)
+
 behind-requires : tie.Need-behind-requires Inv-loop μ-loop
-behind-requires c κs =
-    let b = told-on c in
-    let f = looked b in
-    let l = head f in
-    passable (old-of l) (olds-of l) (text-of l) (begin-of l) (whole-of l) (lent-of l) (l .loop .rows) (spot f) (spot f .at) (f .find .result .row) (l .loop .count) (found f) (off b) (told-of b) (told-here b) (goes-on c) (start-of l .pre .roomy)
+behind-requires c κs = can-pass (c .before)
 
 loop-less : tie.Need-loop-less Inv-loop μ-loop
 loop-less c =
-    let j = c .before in
-    let b = told-on j in
+    let d = c .before .before in
+    let b = told-on d in
     let f = looked b in
     let l = head f in
-    let h = walking-less (old-of l) (olds-of l) (text-of l) (begin-of l) (whole-of l) (lent-of l) (l .loop .rows) (spot f) (spot f .at) (f .find .result .row) (l .loop .count) (found f) (off b) (told-of b) (told-here b) (c .behind .result) (c .behind .ensures) (goes-on j) in
-    let k = blanks-more (old-of l) (olds-of l) (text-of l) (begin-of l) (whole-of l) (lent-of l) (l .loop .rows) (l .loop .here) (l .loop .i) (l .loop .row) (l .loop .count) (l .loop .inv) (spot f) (f .before .past-blanks .ensures) in
+    let h = walking-less (found f) (off b) (none b) (told-of b) (told-here b) (c .behind .result) (c .behind .ensures) (goes-on d) in
+    let k = blanks-more (l .loop .inv) (spot f) (f .before .past-blanks .ensures) in
     omega arith
 
 loop-again : tie.Need-loop-again Inv-loop μ-loop
@@ -281,6 +300,7 @@ walk-spec =
     returns-2
     put-behind-requires
     add-count
+    add-comments
     behind-requires
     loop-less
     loop-again

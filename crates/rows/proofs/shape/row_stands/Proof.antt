@@ -42,6 +42,18 @@ wide-requires-5 c κs = search needs
 wide-requires-6 : tie.Need-wide-requires-6
 wide-requires-6 c κs = search needs
 
+wide-requires-7 : tie.Need-wide-requires-7
+wide-requires-7 c κs = search needs
+
+wide-requires-8 : tie.Need-wide-requires-8
+wide-requires-8 c κs = search needs
+
+mul-gap : tie.Need-mul-gap
+mul-gap c = search needs
+
+add-gap : tie.Need-add-gap
+add-gap c = search needs
+
 row-place-requires : tie.Need-row-place-requires
 row-place-requires c κs = search needs
 
@@ -53,16 +65,19 @@ lines-fit-requires c κs = search needs
 
 returns : tie.Need-returns
 returns c =
-    let f = c .before .before .before in
-    let v = f .before .before .before .before in
-    let m = v .before in
-    let l = m .before .before in
-    let w = l .before .before in
+    let to = c .before in
+    let gap = to .before .before in
+    let place = gap .before .before in
+    let v = place .before .before in
+    let high = v .before in
+    let low = high .before .before in
+    let w = low .before .before in
     let s = w .before .before in
-    rw (c .lines-fit .ensures, f .row-place2 .ensures, f .before .row-place .ensures)
-    (rw (f .before .before .wide6 .ensures, f .before .before .before .wide5 .ensures, v .value-fits .ensures, m .wide4 .ensures)
-    (rw (m .before .own-length2 .ensures, l .wide3 .ensures, l .before .own-length .ensures, w .wide2 .ensures, w .before .wide .ensures)
-    (sane-stands (s .pre .1) (asRow (s .args .r)) (asRow (s .args .q)) (s .pre .0 .0) (omega (arith, s .good)) (s .pre .0 .1))))
+    rw (c .lines-fit .ensures, to .row-place2 .ensures, to .before .row-place .ensures, gap .wide8 .ensures, gap .before .wide7 .ensures)
+    (rw (place .wide6 .ensures, place .before .wide5 .ensures, v .value-fits .ensures, high .wide4 .ensures)
+    (rw (high .before .own-length2 .ensures, low .wide3 .ensures, low .before .own-length .ensures)
+    (rw (w .wide2 .ensures, w .before .wide .ensures)
+    (sane-stands (s .pre .1) (asRow (s .args .r)) (asRow (s .args .q)) (s .pre .0 .0) (omega (arith, s .good)) (s .pre .0 .1)))))
 
 pub row-stands-spec : {M : Type 1} → statement M
 row-stands-spec =
@@ -80,6 +95,10 @@ row-stands-spec =
     value-fits-requires
     wide-requires-5
     wide-requires-6
+    wide-requires-7
+    wide-requires-8
+    mul-gap
+    add-gap
     row-place-requires
     row-place-requires-2
     lines-fit-requires

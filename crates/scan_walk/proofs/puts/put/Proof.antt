@@ -51,7 +51,7 @@ returns : tie.Need-returns
 unfolding rowWords rowOf rowAt
 returns c =
     let s = c .before .before .before .before in
-    sets-eq (rowWords (rowOf (s .args .at) (s .args .told))) (s .args .rows .now) 0 (s .pre .0)
+    sets-eq (rowWords (rowOf (s .args .at) (s .args .comments) (s .args .told))) (s .args .rows .now) 0 (s .pre .0)
 
 pub put-spec : {M : Type 1} → statement M
 put-spec =

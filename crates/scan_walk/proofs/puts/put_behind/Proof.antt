@@ -1,5 +1,4 @@
 -- `scan_walk::puts::put_behind` meets its contract: the tail behind n rows is lent to `put`, where a row has room in it.
-use mathlib.Core.Path.{refl, sym, _∙_}
 use native.Mathlib.Omega.{arith}
 use borrow.Author.Tests.{le-ltb, lt-ltb}
 use Rattle.rules.specs.Scan.{roomOf}
@@ -36,7 +35,8 @@ returns c =
     let s = c .before .before .before .before .before .before in
     let n = s .args .n in
     let xs = s .args .rows .now in
-    rw (lt-ltb _ _ (c .before .before .before .before .if1 .taken), c .before .before .put .ensures) (row-back n (rowOf (s .args .at) (s .args .told)) xs (omega arith))
+    rw (lt-ltb _ _ (c .before .before .before .before .if1 .taken), c .before .before .put .ensures)
+    (row-back n (rowOf (s .args .at) (s .args .comments) (s .args .told)) xs (omega arith))
 
 returns-2 : tie.Need-returns-2
 unfolding roomOf placed
