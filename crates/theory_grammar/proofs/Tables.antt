@@ -15,7 +15,7 @@ use Rattle.rules.specs.declared.Syntax.{Syntax}
 use Rattle.rules.specs.declared.Table.{Table}
 use Rattle.rules.specs.Text.{mostBytes}
 use Rattle.rules.specs.Kinds.{Identifier, StringLiteral, Number, Eof}
-use Rattle.rules.specs.Rows.{Row, rowsIn, every, chained, follows, rowFits, isEof, eofLast, endingFits, rowsFit, wellFormed, spelling, valueBits}
+use Rattle.rules.specs.Rows.{Row, rowsIn, every, chained, follows, gapsFit, rowFits, isEof, eofLast, endingFits, rowsFit, wellFormed, spelling, valueBits}
 use Rattle.rules.specs.Tree.{Tok, sign, name, string, value, kindOf, tokOf, Tree, yield}
 use Rattle.rules.specs.Parse.{ok, no, tokAt, kindAt}
 use Rattle.rules.specs.Calls.{tokens, reading}
@@ -108,8 +108,10 @@ module _ (t ws : List ℕ) (tbl : Table) (good : wellFormed ws tbl ≡ true) (fi
   table-whole =
       let rows : List Row = rowsIn (tbl .count) ws in
       let fits : rowsFit (tbl .length) rows (tbl .ending) ≡ true = and-eq-true-iff (leb (tbl .count * 8) (length ws) && leb (tbl .length) mostBytes) (rowsFit (tbl .length) rows (tbl .ending)) .0 good .1 in
-      let placed : chained follows rows && endingFits (tbl .length) rows (tbl .ending) ≡ true = and-eq-true-iff (every rowFits rows) (chained follows rows && endingFits (tbl .length) rows (tbl .ending)) .0 fits .1 in
-      let ends : endingFits (tbl .length) rows (tbl .ending) ≡ true = and-eq-true-iff (chained follows rows) (endingFits (tbl .length) rows (tbl .ending)) .0 placed .1 in
+      let ending : Bool = endingFits (tbl .length) rows (tbl .ending) in
+      let placed : (chained follows rows && (gapsFit 0 rows && ending)) ≡ true = and-eq-true-iff (every rowFits rows) _ .0 fits .1 in
+      let spaced : (gapsFit 0 rows && ending) ≡ true = and-eq-true-iff (chained follows rows) _ .0 placed .1 in
+      let ends : ending ≡ true = and-eq-true-iff (gapsFit 0 rows) ending .0 spaced .1 in
       tokens-whole t (tbl .length) rows (subst (λ x. endingFits (tbl .length) rows x ≡ true) fine ends)
 
   -- The theorem: the table is read to a tree exactly if the tree is a program and the rows' tokens are its.
