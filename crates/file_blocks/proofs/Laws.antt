@@ -12,8 +12,8 @@ use lib.Dec.{eqb, leb}
 use borrow.Author.Tests.{eqb-true, eq-eqb, ne-eqb, lt-leb, not-true}
 use Rattle.laws.proofs.Tests.{false-by, same-bool, both-true, true-both}
 use Rattle.rules.specs.Kinds.{Eof}
-use Rattle.rules.specs.Rows.{Row, rowIn, isEof, rowFits, follows}
-use Rattle.rows.specs.Shape.{sane}
+use Rattle.rules.specs.Rows.{Row, rowIn, isEof, rowFits}
+use Rattle.rows.specs.Shape.{sane, fitsAfter}
 use Rattle.rows.proofs.Inside.{sound as inside, plain-kind}
 use Rattle.rows.proofs.Shapes.{made-le, fits-sane}
 use Rattle.file_rules.specs.Bytes.{little, number, numberAt, bytesOf, wordsIn}
@@ -117,7 +117,7 @@ pub row-words : (s : List ℕ) (at : ℕ) → rowFrom (drop at s) ≡ record {
   column = numberAt 4 (at + 16) s;
   low = numberAt 4 (at + 20) s;
   high = numberAt 4 (at + 24) s;
-  spare = numberAt 4 (at + 28) s;
+  comments = numberAt 4 (at + 28) s;
 }
 unfolding rowFrom rowIn
 row-words s at = rw (word 0 (omega arith), word 1 (omega arith), word 2 (omega arith), word 3 (omega arith), word 4 (omega arith), word 5 (omega arith), word 6 (omega arith), word 7 (omega arith), zero-on)
@@ -138,7 +138,7 @@ rows-more n i s h =
 -- ---- a row behind another
 
 module _ (r q : Row) where
-  pub stands-on-plain : q .kind < Eof → (rowFits q && follows r q) ≡ standsOn r q
+  pub stands-on-plain : q .kind < Eof → (rowFits q && fitsAfter r q) ≡ standsOn r q
   unfolding standsOn isEof
   stands-on-plain h = rw (ne-eqb (q .kind) Eof (λ e. omega arith))
 
@@ -148,8 +148,8 @@ module _ (r q : Row) where
     where
       out : standsOn r q ≡ true → ⊥
       out s =
-          let a = both-true (not (isEof q)) (rowFits q && follows r q) s in
-          let f = both-true (rowFits q) (follows r q) (a .1) .0 in
+          let a = both-true (not (isEof q)) (rowFits q && fitsAfter r q) s in
+          let f = both-true (rowFits q) (fitsAfter r q) (a .1) .0 in
           let k = made-le (q .kind) (inside q f .made) in
           let l : q .kind < Eof = omega (arith, plain-kind q (not-true (isEof q) (a .0))) in
           true≢false (sym h ∙ rw (lt-leb Eof (q .kind) l, fits-sane q f))

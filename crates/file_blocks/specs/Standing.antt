@@ -3,7 +3,8 @@ use mathlib.Core.Bool.{Bool, true, not, _&&_}
 use mathlib.Core.List.{List, [], _∷_}
 use Prim.Native.Nat.{ℕ, zero, suc}
 use lib.ListN.{drop}
-use Rattle.rules.specs.Rows.{Row, rowIn, wordsPerRow, isEof, rowFits, follows}
+use Rattle.rules.specs.Rows.{Row, rowIn, wordsPerRow, isEof, rowFits}
+use Rattle.rows.specs.Shape.{fitsAfter}
 use Rattle.file_rules.specs.Bytes.{wordsIn}
 use Rattle.file_rules.specs.Files.{rowBytes}
 
@@ -15,9 +16,9 @@ unfoldable pub rowsFrom : ℕ → List ℕ → List Row
 rowsFrom zero s = []
 rowsFrom (suc n) s = rowFrom s ∷ rowsFrom n (drop rowBytes s)
 
--- a row fits behind another, and is not Eof
+-- a row fits after another, and is not Eof
 unfoldable pub standsOn : Row → Row → Bool
-standsOn r q = not (isEof q) && (rowFits q && follows r q)
+standsOn r q = not (isEof q) && (rowFits q && fitsAfter r q)
 
 -- and so do rows, each behind the one before it
 unfoldable pub stand : Row → List Row → Bool

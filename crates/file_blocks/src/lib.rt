@@ -130,7 +130,7 @@ fn row_at(bytes: &[u8], at: usize) -> Row
         column: word_at(bytes, at + form::WORD * row::COLUMN),
         low: word_at(bytes, at + form::WORD * row::LOW),
         high: word_at(bytes, at + form::WORD * row::HIGH),
-        spare: word_at(bytes, at + form::WORD * row::SPARE),
+        comments: word_at(bytes, at + form::WORD * row::COMMENTS),
     }
 }
 

@@ -77,7 +77,7 @@ sizes = refl
 -- what a writer tells: into just enough room and into one byte less, of rows that are not lent, and of a table without rows
 pub stores : (storeTold letterWords letter 1024 ∷ storeTold letterWords letter 1023 ∷ storeTold (take 15 letterWords) letter 1024 ∷ storeTold [] bare 512 ∷ [])
     ≡ (stored.Bytes 1024 ∷ stored.Refused (Outer NoRowRoom) ∷ stored.Refused (Outer NotWellFormed) ∷ stored.Bytes 512 ∷ [])
-unfolding Blocks.blocksFor Blocks.fileLength Files.storeTold Rows.rowIn Rows.rowsIn Rows.valueBits Rows.rowPlace Rows.every Rows.chained Rows.lengthFits Rows.spansFit Rows.valueFits Rows.placeFits Rows.linesFit Rows.rowFits Rows.follows Rows.lastRow Rows.endsBehind Rows.isEof Rows.eofLast Rows.endingFits Rows.rowsFit Rows.wellFormed Kinds.isMade Kinds.lengthIn
+unfolding Blocks.blocksFor Blocks.fileLength Files.storeTold Rows.rowIn Rows.rowsIn Rows.valueBits Rows.rowPlace Rows.every Rows.chained Rows.lengthFits Rows.spansFit Rows.valueFits Rows.placeFits Rows.linesFit Rows.rowFits Rows.follows Rows.gapFits Rows.gapsFit Rows.lastRow Rows.endsBehind Rows.isEof Rows.eofLast Rows.endingFits Rows.rowsFit Rows.wellFormed Kinds.isMade Kinds.lengthIn
 stores = refl
 
 -- ---- what is read of a file
@@ -134,5 +134,5 @@ cases =
     ∷ []
 
 pub right : map (λ c. loadTold (fileOf c) (c .room)) cases ≡ map (λ c. c .told) cases
-unfolding fileOf sealed Bytes.little Bytes.number Bytes.numberAt Bytes.wordsIn Blocks.sumFrom Blocks.check Blocks.contentOf Blocks.zeros Blocks.sound Blocks.blocksFor Blocks.fileLength Blocks.soundFrom Blocks.bodyFrom Files.readRefused Files.readEnding Files.endingIn Files.rowWordsIn Files.soundIn Files.rowsTold Files.readTold Files.blocksTold Files.saidTold Files.loadTold Rows.rowIn Rows.rowsIn Rows.valueBits Rows.rowPlace Rows.every Rows.chained Rows.lengthFits Rows.spansFit Rows.valueFits Rows.placeFits Rows.linesFit Rows.rowFits Rows.follows Rows.lastRow Rows.endsBehind Rows.isEof Rows.eofLast Rows.endingFits Rows.rowsFit Rows.wellFormed Kinds.isMade Kinds.lengthIn
+unfolding fileOf sealed Bytes.little Bytes.number Bytes.numberAt Bytes.wordsIn Blocks.sumFrom Blocks.check Blocks.contentOf Blocks.zeros Blocks.sound Blocks.blocksFor Blocks.fileLength Blocks.soundFrom Blocks.bodyFrom Files.readRefused Files.readEnding Files.endingIn Files.rowWordsIn Files.soundIn Files.rowsTold Files.readTold Files.blocksTold Files.saidTold Files.loadTold Rows.rowIn Rows.rowsIn Rows.valueBits Rows.rowPlace Rows.every Rows.chained Rows.lengthFits Rows.spansFit Rows.valueFits Rows.placeFits Rows.linesFit Rows.rowFits Rows.follows Rows.gapFits Rows.gapsFit Rows.lastRow Rows.endsBehind Rows.isEof Rows.eofLast Rows.endingFits Rows.rowsFit Rows.wellFormed Kinds.isMade Kinds.lengthIn
 right = refl

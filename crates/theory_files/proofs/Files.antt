@@ -18,7 +18,7 @@ use Rattle.rules.specs.declared.Ending.{Ending}
 use Rattle.rules.specs.declared.Ending.the-variants.{None, Refused}
 use Rattle.rules.specs.declared.Table.{Table}
 use Rattle.rules.specs.Text.{place, mostBytes}
-use Rattle.rules.specs.Rows.{Row, rowIn, rowsIn, every, isEof, placeFits, endsBehind, lastRow, endingFits, rowsFit, chained, follows, rowFits, wellFormed}
+use Rattle.rules.specs.Rows.{Row, rowIn, rowsIn, every, isEof, placeFits, endsBehind, lastRow, endingFits, rowsFit, chained, follows, gapsFit, rowFits, wellFormed}
 use Rattle.rules.specs.Scan.{roomOf}
 use Rattle.rules.specs.Refusals.{lexicalNumber}
 use Rattle.file_rules.specs.declared.Fault.{Fault}
@@ -126,8 +126,11 @@ module _ (ws : List ℕ) (t : Table) (well : wellFormed ws t ≡ true) (few : t 
   unfolding rowsFit
   said-words =
       let w = well-of ws t well in
-      let a = both-true (every rowFits (rowsIn (t .count) ws)) (chained follows (rowsIn (t .count) ws) && endingFits (t .length) (rowsIn (t .count) ws) (t .ending)) (w .fit) in
-      let b = both-true (chained follows (rowsIn (t .count) ws)) (endingFits (t .length) (rowsIn (t .count) ws) (t .ending)) (a .1) in
+      let rows : List Row = rowsIn (t .count) ws in
+      let ends : Bool = endingFits (t .length) rows (t .ending) in
+      let a = both-true (every rowFits rows) (chained follows rows && (gapsFit 0 rows && ends)) (w .fit) in
+      let g = both-true (chained follows rows) (gapsFit 0 rows && ends) (a .1) in
+      let b = both-true (gapsFit 0 rows) ends (g .1) in
       let x : 1 < 2 ^ 32 = omega arith in
       let y : t .length < 2 ^ 32 = omega (arith, w .short) in
       let z : t .count < 2 ^ 32 = omega arith in
