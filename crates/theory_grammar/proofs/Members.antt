@@ -32,22 +32,24 @@ among (x ∷ xs) k = eqb k x || among xs k
 abbrev pub covers : ℕ → List ℕ → Bool
 covers s ks = ltb s (2 ^ bound) && allBelow (λ k. not (bit s k) || among ks k) bound
 
-abbrev pub Each : (ℕ → Type 0) → List ℕ → Type 0
-Each C [] = Unit {0}
-Each C (k ∷ ks) = C k × Each C ks
+-- what holds of each kind of a list
+infixr 20 _also_
+pub data Each (C : ℕ → Type 0) : List ℕ → Type 0 where
+  done : Each C []
+  _also_ : {k : ℕ} {ks : List ℕ} → C k → Each C ks → Each C (k ∷ ks)
 
 each-among : (C : ℕ → Type 0) (ks : List ℕ) → Each C ks → (k : ℕ) → among ks k ≡ true → C k
-each-among C [] h k e = absurd (true≢false (sym e))
-each-among C (x ∷ xs) h k e = go (eqb k x) refl e (each-among C xs (h .1) k)
+each-among C ks done k e = absurd (true≢false (sym e))
+each-among C ks (_also_ {k = x} {ks = xs} c h) k e = go (eqb k x) refl e (each-among C xs h k)
   where
     go : (b : Bool) → eqb k x ≡ b → b || among xs k ≡ true → (among xs k ≡ true → C k) → C k
-    go true q e r = subst C (sym (eqb-true k x q)) (h .0)
+    go true q e r = subst C (sym (eqb-true k x q)) c
     go false q e r = r e
 
 -- of two lists
-each-more : (C : ℕ → Type 0) (xs ys : List ℕ) → Each C xs → Each C ys → Each C (xs ++ ys)
-each-more C [] ys a b = b
-each-more C (x ∷ xs) ys a b = (a .0, each-more C xs ys (a .1) b)
+each-more : {C : ℕ → Type 0} {xs ys : List ℕ} → Each C xs → Each C ys → Each C (xs ++ ys)
+each-more done b = b
+each-more (c also a) b = c also each-more a b
 
 -- no set below the bound has a bit behind it
 none-behind : (s k : ℕ) → s < 2 ^ bound → bound ≤ k → has s k ≡ true → ⊥
@@ -156,9 +158,9 @@ module _ (C : ℕ → Type 0) (s : ℕ) (ks : List ℕ) (e : coversOnward s ks �
       each C (onwardSet b c s) (onwardKinds b c ks) (four-cases (λ b c. covers (onwardSet b c s) (onwardKinds b c ks)) e b c) (go b c shift call)
     where
       opens : (c : Bool) → (c ≡ true → C LParen) → Each C (openKinds c ks)
-      opens true h = (h refl, ends)
+      opens true h = h refl also ends
       opens false h = ends
 
       go : (b c : Bool) → (b ≡ false → Each C (Shr ∷ Shl ∷ [])) → (c ≡ true → C LParen) → Each C (onwardKinds b c ks)
-      go true c g h = each-more C joins (openKinds c ks) on (opens c h)
-      go false c g h = each-more C joins (Shr ∷ Shl ∷ openKinds c ks) on (each-more C (Shr ∷ Shl ∷ []) (openKinds c ks) (g refl) (opens c h))
+      go true c g h = each-more on (opens c h)
+      go false c g h = each-more on (each-more (g refl) (opens c h))

@@ -1,0 +1,227 @@
+-- What goes on with an expression: for each kind that may stand behind it, a longer expression whose rows are its own, one of that kind, and
+-- more. And what begins a thing of each sort.
+use mathlib.Core.Path.{_≡_, refl, sym, ap, _∙_, subst}
+use mathlib.Core.Bool.{Bool, true, false, not, _&&_, true≢false}
+use mathlib.Core.List.{List, [], _∷_, _++_, append-assoc, append-nil}
+use Prim.Native.Nat.{ℕ, zero, suc, _+_, _-_, _≤_, _<_}
+use native.Mathlib.Omega.{arith}
+use lib.Dec.{eqb}
+use lib.ListN.{length, drop, length-append}
+use lib.Seq.{getD-drop, drop-drop, drop-append-seam}
+use borrow.Author.Tests.{eqb-true, eq-eqb}
+use Rattle.laws.proofs.Tests.{both-true, false-by}
+use Rattle.rules.specs.Kinds.{LParen, RParen, Dot, Comma, Plus, Minus, Star, Slash, Percent, Shr, Shl, Identifier, StringLiteral, Number}
+use Rattle.rules.specs.Fits.{has}
+use Rattle.rules.specs.Tree.{Tok, sign, name, value, string, kindOf, Tree, none, num, star, group, field, call, bin, one, more, yield, isSum}
+use Rattle.rules.specs.Parse
+use Rattle.rules.specs.Parse.{isAdd, isShift, isMul, tokAt, kindAt, dotName}
+use Rattle.rules.specs.Grammar.{Nt, Add, Shift, Mul, Unary, Basic, Args, Is, i-num, i-var, i-group, i-field, i-bare, i-call, i-one, i-more, i-prim, i-star, i-unary, i-mul, i-lone, i-shift, i-up, i-add}
+use Rattle.theory_grammar.specs.Tokens.{Proper}
+use Rattle.theory_grammar.proofs.Runs.{Run}
+use Rattle.theory_grammar.proofs.Members.{Each, done, _also_, coversOnward, endsOnward, each-onward, ends-onward}
+
+-- ---- tokens that begin with a kind
+
+abbrev pub isOf : ℕ → Tok → Bool
+isOf k (sign c) = eqb c k
+isOf k (name w) = eqb Identifier k
+isOf k (string w) = eqb StringLiteral k
+isOf k (value v) = eqb Number k
+
+abbrev pub heads : ℕ → List Tok → Bool
+heads k [] = false
+heads k (x ∷ xs) = isOf k x
+
+pub heads-more : (k : ℕ) (xs ys : List Tok) → heads k xs ≡ true → heads k (xs ++ ys) ≡ true
+heads-more k [] ys e = absurd (true≢false (sym e))
+heads-more k (x ∷ xs) ys e = e
+
+-- ---- expressions that go on
+
+-- The rows of t, then one of kind k, and more: a tree of the nonterminal.
+pub record Grown (N : Nt) (d : ℕ) (t : Tree) (k : ℕ) : Type 0 where
+  pub tree : Tree
+  pub is : Is false N d tree
+  pub rest : List Tok
+  pub spells : yield tree ≡ yield t ++ rest
+  pub next : heads k rest ≡ true
+
+-- where the last part of a tree goes on, the tree does
+last-grown : {M N : Nt} {d e k : ℕ} {r : Tree} (F : Tree → Tree) → ((u : Tree) → Is false M d u → Is false N e (F u)) → (xs : List Tok)
+    → ((u : Tree) → yield (F u) ≡ xs ++ yield u) → Grown M d r k → Grown N e (F r) k
+last-grown {r = r} F made xs spells g = record {
+  tree = F (g .tree);
+  is = made (g .tree) (g .is);
+  rest = g .rest;
+  spells = spells (g .tree) ∙ ap (λ (l : List Tok). xs ++ l) (g .spells) ∙ sym (append-assoc xs (yield r) (g .rest)) ∙ ap (λ (l : List Tok). l ++ g .rest) (sym (spells r));
+  next = g .next;
+}
+
+-- a sign, and the least operand
+joined : {N : Nt} {d : ℕ} (t : Tree) (k : ℕ) → Is false N d (bin k t (num 0)) → eqb k k ≡ true → Grown N d t k
+unfolding yield
+joined t k h e = record { tree = bin k t (num 0); is = h; rest = sign k ∷ value 0 ∷ []; spells = refl; next = e }
+
+module _ (ts : List Tok) (proper : Proper ts) where
+  -- ---- rows by the tokens of a run
+
+  run-first : {i s : ℕ} {x : Tok} {xs : List Tok} → Run ts i (x ∷ xs) s → tokAt ts i ≡ x
+  run-first {i} r = ap (λ (n : ℕ). tokAt ts n) (omega arith) ∙ sym (getD-drop i ts 0 (sign 52)) ∙ rw (r .same proper)
+
+  run-behind : {i s : ℕ} (xs : List Tok) {ys : List Tok} → Run ts i (xs ++ ys) s → Run ts (i + length xs) ys s
+  run-behind {i} {s} xs {ys} r = record {
+    next = omega (arith, r .next, length-append xs ys);
+    inside = r .inside;
+    clear = λ n a b. r .clear n (omega arith) b;
+    same = λ p. sym (drop-drop (length xs) i ts) ∙ ap (drop (length xs)) (r .same p ∙ append-assoc xs ys (drop s ts)) ∙ drop-append-seam xs (ys ++ drop s ts);
+  }
+
+  -- ---- the last name of an expression
+
+  -- The rows of t end in front of row s, and the one in front of them is no dot.
+  pub record Behind (t : Tree) (s : ℕ) : Type 0 where
+    pub first : ℕ
+    pub run : Run ts first (yield t) s
+    pub undotted : eqb (kindAt ts (first - 1)) Dot ≡ false
+
+  -- of a tree whose last part is r, behind a sign that is no dot
+  part : {s : ℕ} {t r : Tree} (xs : List Tok) (k : ℕ) → yield t ≡ xs ++ (sign k ∷ yield r) → eqb k Dot ≡ false → Behind t s → Behind r s
+  unfolding kindOf
+  part {s} {t} {r} xs k e n b =
+      let x : Run ts (b .first + length xs) (sign k ∷ yield r) s = run-behind xs (subst (λ (l : List Tok). Run ts (b .first) l s) e (b .run)) in
+      record {
+        first = b .first + length xs + 1;
+        run = run-behind (sign k ∷ []) x;
+        undotted = ap (λ (j : ℕ). eqb (kindAt ts j) Dot) (omega arith) ∙ ap (λ (y : Tok). eqb (kindOf y) Dot) (run-first x) ∙ n;
+      }
+
+  -- behind a row that is no name
+  no-name : {s : ℕ} {t : Tree} (xs : List Tok) (x : Tok) → yield t ≡ xs ++ (x ∷ []) → eqb (kindOf x) Identifier ≡ false → Behind t s → dotName ts s ≡ true → ⊥
+  no-name {s} {t} xs x e n b d =
+      let y : Run ts (b .first + length xs) (x ∷ []) s = run-behind xs (subst (λ (l : List Tok). Run ts (b .first) l s) e (b .run)) in
+      let z : kindAt ts (s - 1) ≡ kindOf x = ap (λ (j : ℕ). kindAt ts j) (omega (arith, y .next)) ∙ ap kindOf (run-first y) in
+      true≢false (sym (both-true (eqb (kindAt ts (s - 1)) Identifier) (eqb (kindAt ts (s - 2)) Dot) d .0) ∙ ap (λ (j : ℕ). eqb j Identifier) z ∙ n)
+
+  -- behind a name alone
+  no-dot : {s : ℕ} {t : Tree} (x : Tok) → yield t ≡ x ∷ [] → Behind t s → dotName ts s ≡ true → ⊥
+  no-dot {s} {t} x e b d =
+      let y : Run ts (b .first) (x ∷ []) s = subst (λ (l : List Tok). Run ts (b .first) l s) e (b .run) in
+      true≢false (sym (both-true (eqb (kindAt ts (s - 1)) Identifier) (eqb (kindAt ts (s - 2)) Dot) d .1)
+      ∙ ap (λ (j : ℕ). eqb (kindAt ts j) Dot) (omega (arith, y .next)) ∙ b .undotted)
+
+  module _ (s : ℕ) where
+    -- what goes on with the last part of an expression: a dot always, a parenthesis behind the name of a field
+    pub data Latch : Tree → ℕ → Type 0 where
+      dotted : {t : Tree} → Latch t Dot
+      calling : {t : Tree} → dotName ts s ≡ true → Behind t s → Latch t LParen
+
+    latch-part : {k : ℕ} {t r : Tree} (xs : List Tok) (c : ℕ) → yield t ≡ xs ++ (sign c ∷ yield r) → eqb c Dot ≡ false → Latch t k → Latch r k
+    latch-part xs c e n dotted = dotted
+    latch-part xs c e n (calling d b) = calling d (part xs c e n b)
+
+    basic-on : {d k : ℕ} {t : Tree} → Is false Basic d t → Latch t k → Grown Basic d t k
+    unfolding yield kindOf
+    basic-on {t = t} h dotted = record { tree = field t []; is = i-field h; rest = sign Dot ∷ name [] ∷ []; spells = refl; next = refl }
+    basic-on (i-num {v = v}) (calling d b) = absurd (no-name [] (value v) refl refl b d)
+    basic-on (i-var {w = w}) (calling d b) = absurd (no-dot (name w) refl b d)
+    basic-on (i-group {t = t} h) (calling d b) = absurd (no-name (sign LParen ∷ yield t) (sign RParen) refl refl b d)
+    basic-on (i-field {t = t} {w = w} h) (calling d b) = record {
+      tree = call t w none;
+      is = i-bare h (λ e. absurd (true≢false (sym e)));
+      rest = sign LParen ∷ sign RParen ∷ [];
+      spells = sym (append-assoc (yield t) (sign Dot ∷ name w ∷ []) (sign LParen ∷ sign RParen ∷ []));
+      next = refl;
+    }
+    basic-on (i-bare {t = t} {w = w} h q) (calling d b) =
+        absurd (no-name (yield t ++ (sign Dot ∷ name w ∷ sign LParen ∷ [])) (sign RParen) (sym (append-assoc (yield t) (sign Dot ∷ name w ∷ sign LParen ∷ []) (sign RParen ∷ []))) refl b d)
+    basic-on (i-call {t = t} {a = a} {w = w} h q g) (calling d b) =
+        absurd (no-name (yield t ++ (sign Dot ∷ name w ∷ sign LParen ∷ yield a)) (sign RParen)
+        (sym (append-assoc (yield t) (sign Dot ∷ name w ∷ sign LParen ∷ yield a) (sign RParen ∷ []))) refl b d)
+
+    unary-on : {d k : ℕ} {t : Tree} → Is false Unary d t → Latch t k → Grown Unary d t k
+    unfolding yield
+    unary-on (i-prim h) l = last-grown (λ u. u) (λ u q. i-prim q) [] (λ u. refl) (basic-on h l)
+    unary-on (i-star h) l = last-grown star (λ u q. i-star q) (sign Star ∷ []) (λ u. refl) (unary-on h (latch-part [] Star refl refl l))
+
+    -- no kind that joins is a dot
+    joins-apart : (test : ℕ → Bool) → test Dot ≡ false → (k : ℕ) → test k ≡ true → eqb k Dot ≡ false
+    joins-apart test e k b = false-by (eqb k Dot) (λ q. true≢false (sym b ∙ ap test (eqb-true k Dot q) ∙ e))
+
+    -- what goes on with a product
+    pub data MulOn : Tree → ℕ → Type 0 where
+      at-last : {t : Tree} {k : ℕ} → Latch t k → MulOn t k
+      times : {t : Tree} {k : ℕ} → isMul k ≡ true → MulOn t k
+
+    mul-part : {k : ℕ} {t r : Tree} (xs : List Tok) (c : ℕ) → yield t ≡ xs ++ (sign c ∷ yield r) → eqb c Dot ≡ false → MulOn t k → MulOn r k
+    mul-part xs c e n (at-last l) = at-last (latch-part xs c e n l)
+    mul-part xs c e n (times m) = times m
+
+    self : (k : ℕ) → eqb k k ≡ true
+    self k = eq-eqb k k refl
+
+    mul-on : {d k : ℕ} {t : Tree} → Is false Mul d t → MulOn t k → Grown Mul d t k
+    unfolding yield
+    mul-on (i-unary h) (at-last l) = last-grown (λ u. u) (λ u q. i-unary q) [] (λ u. refl) (unary-on h l)
+    mul-on (i-mul {k = c} {l = l} {r = r} g b h) (at-last o) =
+        last-grown (λ u. bin c l u) (λ u q. i-mul g b q) (yield l ++ (sign c ∷ [])) (λ u. sym (append-assoc (yield l) (sign c ∷ []) (yield u)))
+        (unary-on h (latch-part (yield l) c refl (joins-apart isMul refl c b) o))
+    mul-on {k = k} {t = t} h (times m) = joined t k (i-mul h m (i-prim i-num)) (self k)
+
+    shift-on : {d k : ℕ} {t : Tree} → Is false Shift d t → MulOn t k → Grown Shift d t k
+    unfolding yield
+    shift-on (i-lone h) o = last-grown (λ u. u) (λ u q. i-lone q) [] (λ u. refl) (mul-on h o)
+    shift-on (i-shift {k = c} {l = l} {r = r} g b h) o =
+        last-grown (λ u. bin c l u) (λ u q. i-shift g b q) (yield l ++ (sign c ∷ [])) (λ u. sym (append-assoc (yield l) (sign c ∷ []) (yield u)))
+        (mul-on h (mul-part (yield l) c refl (joins-apart isShift refl c b) o))
+
+    -- what goes on with an expression, or with the last of some arguments
+    pub data On : Tree → ℕ → Type 0 where
+      multiplied : {t : Tree} {k : ℕ} → MulOn t k → On t k
+      shifting : {t : Tree} {k : ℕ} → isShift k ≡ true → isSum t ≡ false → On t k
+      added : {t : Tree} {k : ℕ} → isAdd k ≡ true → On t k
+
+    pub add-on : {d k : ℕ} {t : Tree} → Is false Add d t → On t k → Grown Add d t k
+    unfolding yield isSum
+    add-on (i-up h) (multiplied o) = last-grown (λ u. u) (λ u q. i-up q) [] (λ u. refl) (shift-on h o)
+    add-on (i-add {k = c} {l = l} {r = r} g b h) (multiplied o) =
+        last-grown (λ u. bin c l u) (λ u q. i-add g b q) (yield l ++ (sign c ∷ [])) (λ u. sym (append-assoc (yield l) (sign c ∷ []) (yield u)))
+        (mul-on h (mul-part (yield l) c refl (joins-apart isAdd refl c b) o))
+    add-on {k = k} {t = t} (i-up h) (shifting b n) = joined t k (i-up (i-shift h b (i-unary (i-prim i-num)))) (self k)
+    add-on (i-add g b h) (shifting c n) = absurd (true≢false (sym b ∙ n))
+    add-on {k = k} {t = t} h (added b) = joined t k (i-add h b (i-unary (i-prim i-num))) (self k)
+
+    -- of the last argument
+    on-last : {k : ℕ} {t a : Tree} → (MulOn a k → MulOn t k) → isSum a ≡ isSum t → On a k → On t k
+    on-last f e (multiplied o) = multiplied (f o)
+    on-last f e (shifting b n) = shifting b (sym e ∙ n)
+    on-last f e (added b) = added b
+
+    on-one : {k : ℕ} {t : Tree} → MulOn (one t) k → MulOn t k
+    unfolding yield
+    on-one (at-last dotted) = at-last dotted
+    on-one (at-last (calling d b)) = at-last (calling d (record { first = b .first; run = b .run; undotted = b .undotted }))
+    on-one (times m) = times m
+
+    pub args-on : {d k : ℕ} {a : Tree} → Is false Args d a → On a k → Grown Args d a k
+    unfolding yield isSum
+    args-on (i-one h) o = last-grown one (λ u q. i-one q) [] (λ u. refl) (add-on h (on-last on-one refl o))
+    args-on (i-more {a = a} {t = t} g h) o =
+        last-grown (λ u. more a u) (λ u q. i-more g q) (yield a ++ (sign Comma ∷ [])) (λ u. sym (append-assoc (yield a) (sign Comma ∷ []) (yield u)))
+        (add-on h (on-last (mul-part (yield a) Comma refl refl) refl o))
+
+    -- ---- the set that is told behind an expression
+
+    module _ (t : Tree) (S : ℕ) where
+      -- What holds of each kind that goes on with t, which ends in front of row s, and of those that may stand behind it holds of the whole set.
+      pub onward-each : (C : ℕ → Type 0) (ks : List ℕ) → coversOnward S ks ≡ true → Behind t s → ((k : ℕ) → On t k → C k) → Each C ks
+          → (k : ℕ) → has (Parse.onward ts t s + S) k ≡ true → C k
+      unfolding Parse.onward
+      onward-each C ks e b f ends =
+          each-onward C S ks e
+          (f Dot (multiplied (at-last dotted)) also f Star (multiplied (times refl)) also f Slash (multiplied (times refl))
+          also f Percent (multiplied (times refl)) also f Plus (added refl) also f Minus (added refl) also done)
+          (isSum t) (dotName ts s) (λ n. f Shr (shifting refl n) also f Shl (shifting refl n) also done) (λ d. f LParen (multiplied (at-last (calling d b)))) ends
+
+      pub onward-ends : (k : ℕ) → endsOnward S k ≡ true → has (Parse.onward ts t s + S) k ≡ true
+      unfolding Parse.onward
+      onward-ends k e = ends-onward S k e (isSum t) (dotName ts s)
