@@ -9,6 +9,7 @@ pub mod Refused
 pub mod Complete
 pub mod Same
 pub mod Local
+pub mod Unread
 pub mod Begun
 pub mod GoesOn
 pub mod Place
