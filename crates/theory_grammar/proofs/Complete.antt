@@ -238,13 +238,13 @@ assign-stops k b = either-kind (Stop Args) k Equals PlusEquals b (refl, refl, re
 
 -- ---- what a tree of a nonterminal begins with
 
-abbrev isBasic : ℕ → Bool
+abbrev pub isBasic : ℕ → Bool
 isBasic k = (eqb k Number || eqb k Identifier) || eqb k LParen
 
-abbrev isStart : ℕ → Bool
+abbrev pub isStart : ℕ → Bool
 isStart k = isBasic k || eqb k Star
 
-start-case : (C : ℕ → Type 0) (k : ℕ) → isStart k ≡ true → C Number → C Identifier → C LParen → C Star → C k
+pub start-case : (C : ℕ → Type 0) (k : ℕ) → isStart k ≡ true → C Number → C Identifier → C LParen → C Star → C k
 start-case C k b p q r s = go (isBasic k) refl b
   where
     go : (c : Bool) → isBasic k ≡ c → c || eqb k Star ≡ true → C k

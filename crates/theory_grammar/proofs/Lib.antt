@@ -11,6 +11,7 @@ pub mod Same
 pub mod Local
 pub mod Members
 pub mod Grow
+pub mod Unread
 pub mod Begun
 pub mod GoesOn
 pub mod Place
