@@ -14,19 +14,22 @@ use Rattle.rules.specs.declared.Syntax.the-variants.{Wanted, NotTopLevel, NotMa
 use Rattle.rules.specs.Kinds.{KeywordUnit, KeywordReturn, KeywordMap, KeywordType, KeywordKey, KeywordValue, KeywordMax, KeywordIf, KeywordElse, KeywordGuard, KeywordEvent, LBrace, RBrace, LParen, RParen, Colon, Dot, Comma, Semicolon, LBracket, RBracket, Equals, Star, Shl, Identifier, StringLiteral, Number, KeywordBytes, Eof}
 use Rattle.rules.specs.Tree.{Tok, sign, name, value, string, kindOf, spellingOf, bitsIn, Tree, none, num, star, group, field, call, bin, one, more, decl, ret, plain, assign, guard, thenBody, elseBody, seq, text, unit, mapType, typed, limit, first, shifted, mapDecl, plainField, bytesField, arrayField, event, program, yield, isVariable, mapTypeNumber, maxBits, typeOf, typedBy, limitOf, lacking}
 use Rattle.rules.specs.Refusals.{syntaxNumber}
+use Rattle.rules.specs.Fits.{only, has, operands, assigns, shifts, firstArguments, bodyThings, unitThings, eventFields, tops, mapFields, types, eventTypes, wrong, setTold, retold}
 use Rattle.rules.specs.Parse
-use Rattle.rules.specs.Parse.{Out, ok, no, P, then, pick, many, isAdd, isShift, isMul, isAssign, isText, isType, isTyped, most32, Lead, number, identifier, paren, other, lead, StmtLead, declaring, returning, branching, expression, stmtLead, FieldLead, typing, keying, limiting, nothing, fieldLead, EventLead, typeLead, bytesLead, noLead, eventLead, TopLead, mapLead, unitLead, eventTop, noTop, topLead, Sort, operand, whole, tokAt, kindAt}
+use Rattle.rules.specs.Parse.{Out, ok, no, P, then, pick, or, many, isAdd, isShift, isMul, isAssign, isText, isType, isTyped, most32, Lead, number, identifier, paren, other, lead, StmtLead, declaring, returning, branching, expression, stmtLead, FieldLead, typing, keying, limiting, nothing, fieldLead, EventLead, typeLead, bytesLead, noLead, eventLead, TopLead, mapLead, unitLead, eventTop, noTop, topLead, Sort, operand, whole, tokAt, kindAt}
 use Rattle.rules.specs.Grammar.{Nt, Add, Shift, Mul, Unary, Basic, Args, Stmt, Stmts, Item, Items, Chain, MapField, MapFields, EventField, EventFields, Decl, Decls, Program, Is, i-num, i-group, i-field, i-bare, i-call, i-one, i-more, i-prim, i-star, i-unary, i-mul, i-lone, i-shift, i-up, i-add, i-decl, i-ret, i-plain, i-assign, i-if, i-if-else, i-no-stmts, i-stmts, i-stmt, i-text, i-no-items, i-items, i-first, i-shifted, i-type, i-typed, i-limit, i-no-fields, i-fields, i-plain-field, i-bytes-field, i-array-field, i-no-event-fields, i-event-fields, i-unit, i-event, i-no-decls, i-decls, i-program}
 use Rattle.theory_grammar.specs.Tokens.{Proper}
 use Rattle.theory_grammar.specs.Lost.{isMisfit, isCheck, lost, LostAt, own, around, GoesOn, nesting}
 use Rattle.theory_grammar.proofs.Leads.{LeadIs, lead-is, StmtIs, stmt-is, FieldIs, field-is, EventIs, event-is, TopIs, top-is, add-mark, shift-mark, mul-mark, assign-mark, declaring-mark, text-mark, typed-mark, type-mark}
 use Rattle.theory_grammar.proofs.Laws.{here, fewest}
-use Rattle.theory_grammar.proofs.Runs.{Run, isMark, run-none, row, name-row, string-row, value-row, _▸_, All, all-any, all-both, then-all, map-all, need-all}
+use Rattle.theory_grammar.proofs.Runs.{Run, isMark, or-all, run-none, row, name-row, string-row, value-row, _▸_, All, all-any, all-both, then-all, map-all, need-all}
 use Rattle.theory_grammar.proofs.Sound.{Reads, Under, BodyUnder, ntOf, reads, run-of, taken-as, ones, atom-sound, arg-step, args-sound, post-sound, unary-sound, bin-step, mul-sound, shift-sound, inner-sound, expr-sound, list-next, list-sound, body-run, body-sound, stmt-sound, item-sound, chain-next, chain-sound, map-field-sound, event-field-sound, top-sound}
 use Rattle.theory_grammar.proofs.Cases
 use Rattle.theory_grammar.proofs.Local
-use Rattle.theory_grammar.proofs.Local.{Dead, dead-then, call-dead, Local, then-local, ok-local, type-lost, deep-row, group-row, list-row, brace-row, ChainEnd, chain-end, Alike, kept, later, inner-local, atom-local, post-local, unary-local, mul-local, shift-local, expr-local, body-at, body-over, branch-local, item-local, map-field-local, event-field-local, top-local}
-use Rattle.theory_grammar.proofs.Begun.{aside, over, lax, around-it, inside-it, nought, emptied, i-emptied, hash, filled, i-hash, i-filled, Open, opened, Where, code, fields, top, Arises, Halt, wrap, recast, widen, loosely, not-before, last-part, Start, start, stmt-starts, item-starts}
+use Rattle.theory_grammar.proofs.Local.{Dead, dead-then, or-dead, or-local, call-dead, Local, then-local, ok-local, type-lost, deep-row, group-row, list-row, brace-row, ChainEnd, chain-end, Alike, kept, later, inner-local, atom-local, post-local, unary-local, mul-local, shift-local, expr-local, body-at, body-over, branch-local, item-local, map-field-local, event-field-local, top-local}
+use Rattle.theory_grammar.proofs.Members.{covers, coversOnward, Each, done, _and_, each, holds, only-has, only-one, told-wrong, retold-as, listSet, listed, each-listed, listed-stop, endsOnward}
+use Rattle.theory_grammar.proofs.Grow.{heads, heads-more, joins-apart, Grown, Behind, On, each-as, add-on, args-on, onward-each, onward-ends, Begins, operandKinds, stmtKinds, itemKinds, mapFieldKinds, declKinds, unary-begins, stmt-begins, item-begins, map-field-begins, event-field-begins, decl-begins, stmts-else, items-else, map-fields-else, event-fields-else, decls-else}
+use Rattle.theory_grammar.proofs.Begun.{closedBy, fitting, any-next, shut, Due, aside, over, lax, around-it, inside-it, nought, emptied, i-emptied, hash, filled, i-hash, i-filled, Open, opened, Where, code, fields, top, Arises, Halt, wrap, recast, widen, loosely, not-before, last-part, Start, start, stmt-starts, item-starts}
 
 -- ---- refusals
 
@@ -51,21 +54,34 @@ module _ (ts : List Tok) (proper : Proper ts) where
     then-any : (o : Out) (f : Tree → P) → Stuck C o → ((t : Tree) (j : ℕ) → Stuck C (f t j)) → Stuck C (then o f)
     then-any o f h k = then-stuck (λ t j. Unit {0}) o f (all-any o) h (λ t j e a. k t j)
 
-    want-stuck : (k : ℕ) (f : P) (i : ℕ) → C (Wanted k (kindAt ts i)) i → (kindAt ts i ≡ k → Stuck C (f (i + 1))) → Stuck C (Parse.want ts k f i)
-    unfolding Parse.want Parse.wantBy
-    want-stuck k f i c h = go (eqb (kindAt ts i) k) refl
+    want-in-stuck : (s k : ℕ) (f : P) (i : ℕ) → C (wrong s) i → (kindAt ts i ≡ k → Stuck C (f (i + 1))) → Stuck C (Parse.wantIn ts s k f i)
+    unfolding Parse.wantIn Parse.wantBy
+    want-in-stuck s k f i c h = go (eqb (kindAt ts i) k) refl
       where
-        go : (b : Bool) → eqb (kindAt ts i) k ≡ b → Stuck C (Parse.wantBy ts b k f i)
+        go : (b : Bool) → eqb (kindAt ts i) k ≡ b → Stuck C (Parse.wantBy ts b s f i)
         go true b = h (eqb-true (kindAt ts i) k b)
         go false b = c
 
-    need-stuck : (k : ℕ) (f : P) (i : ℕ) → C (Wanted k (kindAt ts i)) i → (kindAt ts i ≡ k → Stuck C (f i)) → Stuck C (Parse.need ts k f i)
+    need-stuck : (k : ℕ) (f : P) (i : ℕ) → C (wrong (only k)) i → (kindAt ts i ≡ k → Stuck C (f i)) → Stuck C (Parse.need ts k f i)
     unfolding Parse.need Parse.needBy
     need-stuck k f i c h = go (eqb (kindAt ts i) k) refl
       where
         go : (b : Bool) → eqb (kindAt ts i) k ≡ b → Stuck C (Parse.needBy ts b k f i)
         go true b = h (eqb-true (kindAt ts i) k b)
         go false b = c
+
+    -- an answer in which 21 at row i tells the set s
+    or-stuck : (B : Syntax → ℕ → Type 0) (s i : ℕ) (o : Out) → Stuck B o → ((why : Syntax) (r : ℕ) → B why r → C why r)
+        → ((low high : ℕ) → B (Wanted low high) i → C (wrong s) i) → Stuck C (or s i o)
+    unfolding or
+    or-stuck B s i (ok t j) h f c = tt
+    or-stuck B s i (no why r) h f c = go (eqb r i) refl
+      where
+        go : (b : Bool) → eqb r i ≡ b → C (cond b (retold s why) why) r
+        go true e =
+            let q : r ≡ i = eqb-true r i e in
+            retold-as (λ x. C x r) s why (f why r h) (λ low high x. subst (C (wrong s)) (sym q) (c low high (subst (λ (y : Syntax). B y i) x (subst (B why) q h))))
+        go false e = f why r h
 
   -- ---- what a row dooms
 
@@ -88,6 +104,10 @@ module _ (ts : List Tok) (proper : Proper ts) where
   at-first : (i j : ℕ) (q : List Tok → Out) (f : List Tok → Tree → P) → i ≤ j → (s : ℕ) → Dooms j q s → Dooms i (λ x. then (q x) (f x)) s
   at-first i j q f l s h = (omega (arith, l, h .0), λ ts′ a. dead-then CallOnOther (q ts′) (f ts′) (h .1 ts′ a))
 
+  -- whatever set is told where row k itself is refused
+  at-or : (i k : ℕ) (q : List Tok → Out) (f : List Tok → ℕ) (s : ℕ) → Dooms i q s → Dooms i (λ x. or (f x) k (q x)) s
+  at-or i k q f s h = (h .0, λ ts′ a. or-dead CallOnOther (f ts′) k (q ts′) (h .1 ts′ a))
+
   -- the second, behind a first that is read alike
   at-next : (i j m k : ℕ) (q : List Tok → Out) (f : List Tok → Tree → P) (t : Tree) → q ts ≡ ok t j → i ≤ j
       → ((ts′ : List Tok) (n : ℕ) → Alike ts ts′ n → Local ts n k m (q ts) (q ts′)) → (s : ℕ) → Dooms j (λ x. f x t j) s → Dooms i (λ x. then (q x) (f x)) s
@@ -109,47 +129,79 @@ module _ (ts : List Tok) (proper : Proper ts) where
     may fields why b = not-other why b
     may top why b = tt
 
-    -- a refusal by no check
-    unchecked : (why : Syntax) (r s : ℕ) → isCheck why ≡ false → s ≡ lost ts why r → Open false (isMisfit why) ts N d i s → Halt c D ts N d i why r
-    unchecked why r s b e o = record {
+    -- a refusal by no check, which tells no set
+    unchecked : {k : ℕ} (why : Syntax) (r s : ℕ) → isCheck why ≡ false → isMisfit why ≡ false → s ≡ lost ts why r → Open false false ts N d i s k
+        → Halt c D ts N d i why r
+    unchecked {k} why r s b m e o = record {
       row = s;
       at = own e;
       arises = may c why b;
-      begun = subst (λ (y : Bool). Open y (isMisfit why) ts N d i s) (sym b) o;
+      wish = 0;
+      due = λ x. absurd (true≢false (sym x ∙ m));
+      begun = λ n q. subst (λ (y : Bool). Open y (isMisfit why) ts N d i s n) (sym b) (subst (λ (y : Bool). Open false y ts N d i s n) (sym m) (any-next o));
+      dooms = λ x. absurd (not-other why b x);
+    }
+
+    -- one that tells a set, some kind of it, and a tree for each
+    misfit : (why : Syntax) (r s k : ℕ) → isCheck why ≡ false → isMisfit why ≡ true → s ≡ lost ts why r → has (setTold why) k ≡ true
+        → ((n : ℕ) → has (setTold why) n ≡ true → Open false true ts N d i s n) → Halt c D ts N d i why r
+    misfit why r s k b m e h o = record {
+      row = s;
+      at = own e;
+      arises = may c why b;
+      wish = k;
+      due = λ _. h;
+      begun = λ n q. subst (λ (y : Bool). Open y (isMisfit why) ts N d i s n) (sym b) (subst (λ (y : Bool). Open false y ts N d i s n) (sym m) (o n (q m)));
       dooms = λ x. absurd (not-other why b x);
     }
 
     -- 21, at row j
-    wanted : (k x j : ℕ) → Open false true ts N d i j → Halt c D ts N d i (Wanted k x) j
+    wanted : (s k j : ℕ) → has s k ≡ true → ((n : ℕ) → has s n ≡ true → Open false true ts N d i j n) → Halt c D ts N d i (wrong s) j
     unfolding isCheck isMisfit lost
-    wanted k x j o = unchecked (Wanted k x) j j refl refl o
+    wanted s k j h o =
+        misfit (wrong s) j j k refl refl refl (ap (λ (x : ℕ). has x k) (told-wrong s) ∙ h) (λ n e. o n (ap (λ (x : ℕ). has x n) (sym (told-wrong s)) ∙ e))
+
+    -- where one kind alone is told
+    wanted-one : (k j : ℕ) → Open false true ts N d i j k → Halt c D ts N d i (wrong (only k)) j
+    wanted-one k j o = wanted (only k) k j (only-has k) (λ n e. subst (Open false true ts N d i j) (sym (only-one k n e)) o)
 
     -- 32, at row j
-    too-deep : (j s : ℕ) → lost ts TooDeep j ≡ s → Open false false ts N d i s → Halt c D ts N d i TooDeep j
+    too-deep : (j s : ℕ) → lost ts TooDeep j ≡ s → Open false false ts N d i s 0 → Halt c D ts N d i TooDeep j
     unfolding isCheck isMisfit
-    too-deep j s e o = unchecked TooDeep j s refl (sym e) o
+    too-deep j s e o = unchecked TooDeep j s refl refl (sym e) o
 
-    want-halt : (k : ℕ) (f : P) (j : ℕ) → Open false true ts N d i j → (kindAt ts j ≡ k → Stuck (Halt c D ts N d i) (f (j + 1)))
+    want-in-halt : (s k : ℕ) (f : P) (j : ℕ) → has s k ≡ true → ((n : ℕ) → has s n ≡ true → Open false true ts N d i j n)
+        → (kindAt ts j ≡ k → Stuck (Halt c D ts N d i) (f (j + 1))) → Stuck (Halt c D ts N d i) (Parse.wantIn ts s k f j)
+    want-in-halt s k f j b o h = want-in-stuck (Halt c D ts N d i) s k f j (wanted s k j b o) h
+
+    want-halt : (k : ℕ) (f : P) (j : ℕ) → Open false true ts N d i j k → (kindAt ts j ≡ k → Stuck (Halt c D ts N d i) (f (j + 1)))
         → Stuck (Halt c D ts N d i) (Parse.want ts k f j)
-    want-halt k f j o h = want-stuck (Halt c D ts N d i) k f j (wanted k (kindAt ts j) j o) h
+    unfolding Parse.want
+    want-halt k f j o h = want-in-stuck (Halt c D ts N d i) (only k) k f j (wanted-one k j o) h
 
-    named-halt : (f : List ℕ → P) (j : ℕ) → Open false true ts N d i j
+    -- behind the expression or arguments t
+    end-halt : (s k : ℕ) (t : Tree) (f : P) (j : ℕ) → endsOnward s k ≡ true → ((n : ℕ) → has (Parse.onward ts t j + s) n ≡ true → Open false true ts N d i j n)
+        → (kindAt ts j ≡ k → Stuck (Halt c D ts N d i) (f (j + 1))) → Stuck (Halt c D ts N d i) (Parse.endIn ts s k t f j)
+    unfolding Parse.endIn
+    end-halt s k t f j b o h = want-in-halt (Parse.onward ts t j + s) k f j (onward-ends ts proper j t s k b) o h
+
+    named-halt : (f : List ℕ → P) (j : ℕ) → Open false true ts N d i j Identifier
         → (kindAt ts j ≡ Identifier → Stuck (Halt c D ts N d i) (f (spellingOf (tokAt ts j)) (j + 1))) → Stuck (Halt c D ts N d i) (Parse.named ts f j)
     unfolding Parse.named
     named-halt f j o h = want-halt Identifier (f (spellingOf (tokAt ts j))) j o h
 
-    quoted-halt : (f : List ℕ → P) (j : ℕ) → Open false true ts N d i j
+    quoted-halt : (f : List ℕ → P) (j : ℕ) → Open false true ts N d i j StringLiteral
         → (kindAt ts j ≡ StringLiteral → Stuck (Halt c D ts N d i) (f (spellingOf (tokAt ts j)) (j + 1))) → Stuck (Halt c D ts N d i) (Parse.quoted ts f j)
     unfolding Parse.quoted
     quoted-halt f j o h = want-halt StringLiteral (f (spellingOf (tokAt ts j))) j o h
 
-    valued-halt : (f : ℕ → P) (j : ℕ) → Open false true ts N d i j → (kindAt ts j ≡ Number → Stuck (Halt c D ts N d i) (f (bitsIn (tokAt ts j)) (j + 1)))
+    valued-halt : (f : ℕ → P) (j : ℕ) → Open false true ts N d i j Number → (kindAt ts j ≡ Number → Stuck (Halt c D ts N d i) (f (bitsIn (tokAt ts j)) (j + 1)))
         → Stuck (Halt c D ts N d i) (Parse.valued ts f j)
     unfolding Parse.valued
     valued-halt f j o h = want-halt Number (f (bitsIn (tokAt ts j))) j o h
 
     -- a row of kind k, and a tree behind it
-    last-halt : (k : ℕ) (t : Tree) (j : ℕ) → Open false true ts N d i j → Stuck (Halt c D ts N d i) (Parse.want ts k (ok t) j)
+    last-halt : (k : ℕ) (t : Tree) (j : ℕ) → Open false true ts N d i j k → Stuck (Halt c D ts N d i) (Parse.want ts k (ok t) j)
     last-halt k t j o = want-halt k (ok t) j o (λ e. tt)
 
   -- ---- loops: a step while the test T of the row's kind holds; S is what is known of a tree and the row behind it
@@ -225,6 +277,23 @@ module _ (ts : List Tok) (proper : Proper ts) where
   under-some N zero o t j u = absurd u
   under-some N (suc d) o t j u = (d, refl)
 
+  -- ---- behind a part of a tree: t of the nonterminal M, up to row j, and F the tree around it, of N
+
+  module _ {M N : Nt} {d d′ i m j : ℕ} {xs : List Tok} (F : Tree → Tree) (zs : List Tok) (made : (u : Tree) → Is false M d′ u → Is false N (suc d) (F u))
+      (spells : (u : Tree) → yield (F u) ≡ xs ++ (yield u ++ zs)) (x : Run ts i xs m) (t : Tree) (r : Run ts m (yield t) j) where
+    grown-open : (k : ℕ) → Grown M d′ t k → Open false true ts N d i j k
+    grown-open k g =
+        fitting k (F (g .tree)) (made (g .tree) (g .is)) (g .rest ++ zs)
+        (spells (g .tree) ∙ ap (λ (l : List Tok). xs ++ (l ++ zs)) (g .spells) ∙ ap (λ (l : List Tok). xs ++ l) (append-assoc (yield t) (g .rest) zs)
+        ∙ sym (append-assoc xs (yield t) (g .rest ++ zs)))
+        (x ▸ r) (heads-more k (g .rest ++ zs) (closedBy N) (heads-more k (g .rest) zs (g .next)))
+
+    -- each kind that goes on with t, and each of those that may stand behind it
+    onward-open : (s : ℕ) (ks : List ℕ) → coversOnward s ks ≡ true → eqb (kindAt ts (m - 1)) Dot ≡ false → ((k : ℕ) → On ts proper j t k → Grown M d′ t k)
+        → Each (Open false true ts N d i j) ks → (n : ℕ) → has (Parse.onward ts t j + s) n ≡ true → Open false true ts N d i j n
+    onward-open s ks e u grows ends =
+        onward-each ts proper j t s (Open false true ts N d i j) ks e (record { first = m; run = r; undotted = u }) (λ k o. grown-open k (grows k o)) ends
+
   -- ---- expressions
 
   module _ (d : ℕ) (under : (s : Sort) → Below (ntOf s) d (λ x. Parse.inner x d s)) where
@@ -237,23 +306,27 @@ module _ (ts : List Tok) (proper : Proper ts) where
     atom-alike : (i : ℕ) (ts′ : List Tok) (n : ℕ) → Alike ts ts′ n → Local ts n i (i + 1) (Parse.atom ts (G ts) i) (Parse.atom ts′ (G ts′) i)
     atom-alike i ts′ n a = atom-local ts ts′ n a (G ts) (G ts′) (inner-local ts ts′ n a d) i
 
-    atom-by : (l : Lead) (i : ℕ) → LeadIs (kindAt ts i) l → Start ts i → Stuck (Halt code (Dooms i (λ x. Parse.atomBy x (G x) l i)) ts Basic d i) (Parse.atomBy ts (G ts) l i)
-    unfolding Parse.atomBy yield
-    atom-by number i f h = tt
-    atom-by identifier i f h = tt
-    atom-by paren i f h =
-        let l : i < length ts = here ts i LParen f refl in
-        then-stuck (Halt code (Dooms i (λ x. Parse.atomBy x (G x) paren i)) ts Basic d i) (Under ts Add d i) (G ts whole i) _ (inner-sound ts d whole i l)
-        (below Add d (λ x. G x whole) (under whole) (Halt code (Dooms i (λ x. Parse.atomBy x (G x) paren i)) ts Basic d i) i (start ts i LParen f refl)
-        (λ e. too-deep code (Dooms i (λ x. Parse.atomBy x (G x) paren i)) Basic d i i i (group-row ts i (ap (λ (x : ℕ). eqb x LBrace) f) (h .fresh))
+    -- a row that begins nothing is left to `unary`, which a star may begin
+    atom-by : (l : Lead) (i : ℕ) → LeadIs (kindAt ts i) l → (l ≡ other → ⊥) → Start ts i
+        → Stuck (Halt code (Dooms i (λ x. Parse.atomBy x (G x) l i)) ts Basic d i) (Parse.atomBy ts (G ts) l i)
+    unfolding Parse.atomBy Parse.end yield
+    atom-by number i f n h = tt
+    atom-by identifier i f n h = tt
+    atom-by paren i f n h =
+        let D : ℕ → Type 0 = Dooms i (λ x. Parse.atomBy x (G x) paren i) in
+        let x : Run ts i (sign LParen ∷ []) (i + 1) = row ts i LParen f refl in
+        let y : Start ts (i + 1) = start ts i LParen f refl refl in
+        then-stuck (Halt code D ts Basic d i) (Under ts Add d i) (G ts whole i) _ (inner-sound ts d whole i (here ts i LParen f refl))
+        (below Add d (λ x. G x whole) (under whole) (Halt code D ts Basic d i) i y
+        (λ e. too-deep code D Basic d i i i (group-row ts i (ap (λ (x : ℕ). eqb x LBrace) f) (h .fresh))
         (opened (num 0) i-num (value 0 ∷ []) refl (run-none ts i (h .inside))))
-        (λ d′ e why r o. wrap group (λ u q. around-it (isMisfit why) d d′ e (i-group q)) (λ _. at-first i (i + 1) (λ x. G x whole i) (λ x t j. Parse.want x RParen (ok (group t)) j) (omega arith))
-        (sign RParen ∷ []) (λ u. refl) (row ts i LParen f refl) o))
+        (λ d′ e why r o. wrap group (λ u q. around-it (isMisfit why) d d′ e (i-group q)) (λ _. at-first i (i + 1) (λ x. G x whole i) (λ x t j. Parse.end x RParen t (ok (group t)) j) (omega arith))
+        (sign RParen ∷ []) refl (λ u. refl) x o))
         (λ t j e u. let v : Is false Add d t × Run ts (i + 1) (yield t) j = under-read Add d i t j u in
-        last-halt code (Dooms i (λ x. Parse.atomBy x (G x) paren i)) Basic d i RParen (group t) j
-        (opened (group t) (i-group (v .0)) (sign RParen ∷ []) refl (row ts i LParen f refl ▸ v .1)))
-    atom-by other i f h =
-        wanted code (Dooms i (λ x. Parse.atomBy x (G x) other i)) Basic d i Identifier (kindAt ts i) i (opened (num 0) i-num (value 0 ∷ []) refl (run-none ts i (h .inside)))
+        end-halt code D Basic d i (only RParen) RParen t (ok (group t)) j refl
+        (onward-open group (sign RParen ∷ []) (λ u q. i-group q) (λ u. refl) x t (v .1) (only RParen) (RParen ∷ []) refl (y .undotted) (λ k o. add-on ts proper j (v .0) o)
+        (fitting RParen (group t) (i-group (v .0)) (sign RParen ∷ []) refl (x ▸ v .1) refl and done)) (λ e. tt))
+    atom-by other i f n h = absurd (n refl)
 
     atom-stuck : (i : ℕ) → Start ts i → Stuck (Halt code (Dooms i (λ x. Parse.atom x (G x) i)) ts Basic d i) (Parse.atom ts (G ts) i)
     unfolding Parse.atom

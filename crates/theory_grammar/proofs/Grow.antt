@@ -10,15 +10,15 @@ use lib.ListN.{length, drop, length-append}
 use lib.Seq.{getD-drop, drop-drop, drop-append-seam}
 use borrow.Author.Tests.{eqb-true, eq-eqb}
 use Rattle.laws.proofs.Tests.{both-true, false-by}
-use Rattle.rules.specs.Kinds.{LParen, RParen, Dot, Comma, Plus, Minus, Star, Slash, Percent, Shr, Shl, Identifier, StringLiteral, Number}
+use Rattle.rules.specs.Kinds.{TypeU32, KeywordUnit, KeywordSection, KeywordLicense, KeywordReturn, KeywordReg, KeywordImm, KeywordMap, KeywordType, KeywordKey, KeywordValue, KeywordMax, KeywordIf, KeywordElse, KeywordGuard, KeywordHeap, KeywordEvent, LBrace, RBrace, LParen, RParen, Dot, Comma, Semicolon, Plus, Minus, Star, Slash, Percent, Shr, Shl, Identifier, StringLiteral, Number}
 use Rattle.rules.specs.Fits.{has}
-use Rattle.rules.specs.Tree.{Tok, sign, name, value, string, kindOf, Tree, none, num, star, group, field, call, bin, one, more, yield, isSum}
+use Rattle.rules.specs.Tree.{Tok, sign, name, value, string, kindOf, Tree, none, num, var, star, group, field, call, bin, one, more, decl, ret, plain, guard, thenBody, elseBody, seq, text, unit, mapType, typed, limit, first, mapDecl, plainField, event, yield, isSum, hangs}
 use Rattle.rules.specs.Parse
 use Rattle.rules.specs.Parse.{isAdd, isShift, isMul, tokAt, kindAt, dotName}
-use Rattle.rules.specs.Grammar.{Nt, Add, Shift, Mul, Unary, Basic, Args, Is, i-num, i-var, i-group, i-field, i-bare, i-call, i-one, i-more, i-prim, i-star, i-unary, i-mul, i-lone, i-shift, i-up, i-add}
+use Rattle.rules.specs.Grammar.{Nt, Add, Shift, Mul, Unary, Basic, Args, Stmt, Stmts, Item, Items, MapField, MapFields, EventField, EventFields, Decl, Decls, Is, i-num, i-var, i-group, i-field, i-bare, i-call, i-one, i-more, i-prim, i-star, i-unary, i-mul, i-lone, i-shift, i-up, i-add, i-decl, i-ret, i-plain, i-assign, i-if, i-if-else, i-no-stmts, i-stmts, i-stmt, i-text, i-no-items, i-items, i-first, i-type, i-typed, i-limit, i-no-fields, i-fields, i-plain-field, i-bytes-field, i-array-field, i-no-event-fields, i-event-fields, i-unit, i-map, i-event, i-no-decls, i-decls}
 use Rattle.theory_grammar.specs.Tokens.{Proper}
 use Rattle.theory_grammar.proofs.Runs.{Run}
-use Rattle.theory_grammar.proofs.Members.{Each, done, _also_, coversOnward, endsOnward, each-onward, ends-onward}
+use Rattle.theory_grammar.proofs.Members.{Each, done, _and_, coversOnward, endsOnward, each-onward, ends-onward}
 
 -- ---- tokens that begin with a kind
 
@@ -61,6 +61,10 @@ last-grown {r = r} F made xs spells g = record {
 joined : {N : Nt} {d : ℕ} (t : Tree) (k : ℕ) → Is false N d (bin k t (num 0)) → eqb k k ≡ true → Grown N d t k
 unfolding yield
 joined t k h e = record { tree = bin k t (num 0); is = h; rest = sign k ∷ value 0 ∷ []; spells = refl; next = e }
+
+-- no kind that joins is a dot
+pub joins-apart : (test : ℕ → Bool) → test Dot ≡ false → (k : ℕ) → test k ≡ true → eqb k Dot ≡ false
+joins-apart test e k b = false-by (eqb k Dot) (λ q. true≢false (sym b ∙ ap test (eqb-true k Dot q) ∙ e))
 
 module _ (ts : List Tok) (proper : Proper ts) where
   -- ---- rows by the tokens of a run
@@ -143,10 +147,6 @@ module _ (ts : List Tok) (proper : Proper ts) where
     unary-on (i-prim h) l = last-grown (λ u. u) (λ u q. i-prim q) [] (λ u. refl) (basic-on h l)
     unary-on (i-star h) l = last-grown star (λ u q. i-star q) (sign Star ∷ []) (λ u. refl) (unary-on h (latch-part [] Star refl refl l))
 
-    -- no kind that joins is a dot
-    joins-apart : (test : ℕ → Bool) → test Dot ≡ false → (k : ℕ) → test k ≡ true → eqb k Dot ≡ false
-    joins-apart test e k b = false-by (eqb k Dot) (λ q. true≢false (sym b ∙ ap test (eqb-true k Dot q) ∙ e))
-
     -- what goes on with a product
     pub data MulOn : Tree → ℕ → Type 0 where
       at-last : {t : Tree} {k : ℕ} → Latch t k → MulOn t k
@@ -218,10 +218,143 @@ module _ (ts : List Tok) (proper : Proper ts) where
       unfolding Parse.onward
       onward-each C ks e b f ends =
           each-onward C S ks e
-          (f Dot (multiplied (at-last dotted)) also f Star (multiplied (times refl)) also f Slash (multiplied (times refl))
-          also f Percent (multiplied (times refl)) also f Plus (added refl) also f Minus (added refl) also done)
-          (isSum t) (dotName ts s) (λ n. f Shr (shifting refl n) also f Shl (shifting refl n) also done) (λ d. f LParen (multiplied (at-last (calling d b)))) ends
+          (f Dot (multiplied (at-last dotted)) and f Star (multiplied (times refl)) and f Slash (multiplied (times refl))
+          and f Percent (multiplied (times refl)) and f Plus (added refl) and f Minus (added refl) and done)
+          (isSum t) (dotName ts s) (λ n. f Shr (shifting refl n) and f Shl (shifting refl n) and done) (λ d. f LParen (multiplied (at-last (calling d b)))) ends
 
       pub onward-ends : (k : ℕ) → endsOnward S k ≡ true → has (Parse.onward ts t s + S) k ≡ true
       unfolding Parse.onward
       onward-ends k e = ends-onward S k e (isSum t) (dotName ts s)
+
+-- ---- what begins a thing
+
+-- A tree of the nonterminal begins with a row of kind k.
+pub record Begins (N : Nt) (d k : ℕ) : Type 0 where
+  pub tree : Tree
+  pub is : Is false N d tree
+  pub next : heads k (yield tree) ≡ true
+
+begins : {N : Nt} {d k : ℕ} (t : Tree) → Is false N d t → heads k (yield t) ≡ true → Begins N d k
+begins t h e = record { tree = t; is = h; next = e }
+
+-- checks aside
+unchecked : {b : Bool} → false ≡ true → b ≡ true
+unchecked e = absurd (true≢false (sym e))
+
+-- the least expression
+nil : {d : ℕ} → Is false Add d (num 0)
+nil = i-up (i-lone (i-unary (i-prim i-num)))
+
+abbrev pub operandKinds : List ℕ
+operandKinds = LParen ∷ Star ∷ Identifier ∷ Number ∷ []
+
+abbrev pub stmtKinds : List ℕ
+stmtKinds = KeywordReturn ∷ KeywordReg ∷ KeywordImm ∷ KeywordHeap ∷ KeywordIf ∷ operandKinds
+
+abbrev pub itemKinds : List ℕ
+itemKinds = KeywordSection ∷ KeywordLicense ∷ stmtKinds
+
+abbrev pub mapFieldKinds : List ℕ
+mapFieldKinds = KeywordType ∷ KeywordKey ∷ KeywordValue ∷ KeywordMax ∷ []
+
+abbrev pub declKinds : List ℕ
+declKinds = KeywordUnit ∷ KeywordMap ∷ KeywordEvent ∷ []
+
+-- in a tree of another nonterminal
+pub each-as : {C D : ℕ → Type 0} {ks : List ℕ} → ((k : ℕ) → C k → D k) → Each C ks → Each D ks
+each-as f done = done
+each-as f (_and_ {k = k} c h) = f k c and each-as f h
+
+pub unary-begins : (d : ℕ) → Each (Begins Unary (suc d)) operandKinds
+unfolding yield
+unary-begins d =
+    begins (group (num 0)) (i-prim (i-group nil)) refl and begins (star (num 0)) (i-star (i-prim i-num)) refl and begins (var []) (i-prim i-var) refl
+    and begins (num 0) (i-prim i-num) refl and done
+
+pub stmt-begins : (d : ℕ) → Each (Begins Stmt (suc d)) stmtKinds
+unfolding yield
+stmt-begins d =
+    begins (ret (num 0)) (i-ret nil) refl and begins (decl KeywordReg [] (num 0)) (i-decl refl nil) refl and begins (decl KeywordImm [] (num 0)) (i-decl refl nil) refl
+    and begins (decl KeywordHeap [] (num 0)) (i-decl refl nil) refl and begins (guard [] (thenBody none) none) (i-if i-no-stmts) refl
+    and each-as (λ k b. as-stmt k b) (unary-begins d)
+  where
+    as-stmt : (k : ℕ) → Begins Unary (suc d) k → Begins Stmt (suc d) k
+    as-stmt k b =
+        begins (plain (b .tree)) (i-plain (i-up (i-lone (i-unary (b .is))))) (heads-more k (yield (b .tree)) (sign Semicolon ∷ []) (b .next))
+
+pub item-begins : (d : ℕ) → Each (Begins Item (suc d)) itemKinds
+unfolding yield
+item-begins d =
+    begins (text KeywordSection []) (i-text refl) refl and begins (text KeywordLicense []) (i-text refl) refl
+    and each-as (λ k b. begins (b .tree) (i-stmt (b .is)) (b .next)) (stmt-begins d)
+
+pub map-field-begins : (d : ℕ) → Each (Begins MapField d) mapFieldKinds
+unfolding yield
+map-field-begins d =
+    begins (mapType []) (i-type unchecked) refl and begins (typed KeywordKey TypeU32) (i-typed refl refl) refl
+    and begins (typed KeywordValue TypeU32) (i-typed refl refl) refl and begins (limit (first 0)) (i-limit i-first unchecked) refl and done
+
+pub event-field-begins : (d : ℕ) → Each (Begins EventField d) (Identifier ∷ [])
+unfolding yield
+event-field-begins d = begins (plainField [] TypeU32) (i-plain-field refl) refl and done
+
+pub decl-begins : (d : ℕ) → Each (Begins Decl d) declKinds
+unfolding yield
+decl-begins d =
+    begins (unit [] none) (i-unit i-no-items) refl and begins (mapDecl [] none) (i-map i-no-fields unchecked) refl
+    and begins (event [] none) (i-event i-no-event-fields) refl and done
+
+-- ---- `else`, behind a list that ends in an `if` without it
+
+-- an `if` with an else body
+with-else : {d : ℕ} (w : List ℕ) (b : Tree) → Is false Stmts d b → Grown Stmt (suc d) (guard w (thenBody b) none) KeywordElse
+unfolding yield
+with-else w b h = record {
+  tree = guard w (thenBody b) (elseBody none);
+  is = i-if-else h i-no-stmts;
+  rest = sign KeywordElse ∷ sign LBrace ∷ sign RBrace ∷ [];
+  spells = ap (λ (l : List Tok). sign KeywordIf ∷ sign KeywordGuard ∷ sign LParen ∷ name w ∷ sign RParen ∷ (l ++ (sign KeywordElse ∷ sign LBrace ∷ sign RBrace ∷ [])))
+      (sym (append-nil (yield (thenBody b))));
+  next = refl;
+}
+
+stmt-else : {d : ℕ} {s : Tree} → Is false Stmt d s → hangs s ≡ true → Grown Stmt d s KeywordElse
+unfolding hangs yield
+stmt-else (i-decl b h) e = absurd (true≢false (sym e))
+stmt-else (i-ret h) e = absurd (true≢false (sym e))
+stmt-else (i-plain h) e = absurd (true≢false (sym e))
+stmt-else (i-assign b l r) e = absurd (true≢false (sym e))
+stmt-else (i-if {w = w} {b = b} h) e = with-else w b h
+stmt-else (i-if-else {e = l} b c) e = absurd (omega (arith, eqb-true (length (yield (elseBody l))) 0 e))
+
+pub stmts-else : {d : ℕ} {l : Tree} → Is false Stmts d l → hangs l ≡ true → Grown Stmts d l KeywordElse
+unfolding hangs yield
+stmts-else i-no-stmts e = absurd (true≢false (sym e))
+stmts-else (i-stmts {l = l} g h) e = last-grown (λ u. seq l u) (λ u q. i-stmts g q) (yield l) (λ u. refl) (stmt-else h e)
+
+pub items-else : {d : ℕ} {l : Tree} → Is false Items d l → hangs l ≡ true → Grown Items d l KeywordElse
+unfolding hangs yield
+items-else i-no-items e = absurd (true≢false (sym e))
+items-else (i-items {l = l} g (i-stmt h)) e = last-grown (λ u. seq l u) (λ u q. i-items g (i-stmt q)) (yield l) (λ u. refl) (stmt-else h e)
+items-else (i-items g (i-text b)) e = absurd (true≢false (sym e))
+
+pub map-fields-else : {d : ℕ} {l : Tree} → Is false MapFields d l → hangs l ≡ true → Grown MapFields d l KeywordElse
+unfolding hangs
+map-fields-else i-no-fields e = absurd (true≢false (sym e))
+map-fields-else (i-fields g (i-type q)) e = absurd (true≢false (sym e))
+map-fields-else (i-fields g (i-typed b c)) e = absurd (true≢false (sym e))
+map-fields-else (i-fields g (i-limit c q)) e = absurd (true≢false (sym e))
+
+pub event-fields-else : {d : ℕ} {l : Tree} → Is false EventFields d l → hangs l ≡ true → Grown EventFields d l KeywordElse
+unfolding hangs
+event-fields-else i-no-event-fields e = absurd (true≢false (sym e))
+event-fields-else (i-event-fields g (i-plain-field b)) e = absurd (true≢false (sym e))
+event-fields-else (i-event-fields g (i-bytes-field q)) e = absurd (true≢false (sym e))
+event-fields-else (i-event-fields g (i-array-field b q)) e = absurd (true≢false (sym e))
+
+pub decls-else : {d : ℕ} {l : Tree} → Is false Decls d l → hangs l ≡ true → Grown Decls d l KeywordElse
+unfolding hangs
+decls-else i-no-decls e = absurd (true≢false (sym e))
+decls-else (i-decls g (i-unit h)) e = absurd (true≢false (sym e))
+decls-else (i-decls g (i-map h q)) e = absurd (true≢false (sym e))
+decls-else (i-decls g (i-event h)) e = absurd (true≢false (sym e))

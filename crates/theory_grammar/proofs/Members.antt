@@ -11,8 +11,10 @@ use lib.Pow.{pow-pos, pow-mono, pow-lt, pow-add}
 use borrow.Author.Tests.{eqb-true, eqb-false, ltb-true, ltb-false}
 use Rattle.laws.specs.Tests.{allBelow}
 use Rattle.laws.proofs.Tests.{both-true, below}
-use Rattle.rules.specs.Kinds.{Dot, LParen, Plus, Minus, Star, Slash, Percent, Shr, Shl}
-use Rattle.rules.specs.Fits.{only, has, ons, shifts, wrong, setTold}
+use Rattle.rules.specs.declared.Syntax.{Syntax}
+use Rattle.rules.specs.declared.Syntax.the-variants.{Wanted, NotTopLevel, NotMapField, MapTypeUnknown, NotType, MaxNegative, OutOfRange, ShiftCount, MapLacks, NotEventType, CallOnOther, TooDeep}
+use Rattle.rules.specs.Kinds.{KeywordElse, Dot, LParen, Plus, Minus, Star, Slash, Percent, Shr, Shl}
+use Rattle.rules.specs.Fits.{only, has, ons, shifts, wrong, setTold, retold}
 
 -- ---- a set and a list of kinds
 
@@ -33,14 +35,14 @@ abbrev pub covers : ℕ → List ℕ → Bool
 covers s ks = ltb s (2 ^ bound) && allBelow (λ k. not (bit s k) || among ks k) bound
 
 -- what holds of each kind of a list
-infixr 20 _also_
+infixr 20 _and_
 pub data Each (C : ℕ → Type 0) : List ℕ → Type 0 where
   done : Each C []
-  _also_ : {k : ℕ} {ks : List ℕ} → C k → Each C ks → Each C (k ∷ ks)
+  _and_ : {k : ℕ} {ks : List ℕ} → C k → Each C ks → Each C (k ∷ ks)
 
 each-among : (C : ℕ → Type 0) (ks : List ℕ) → Each C ks → (k : ℕ) → among ks k ≡ true → C k
 each-among C ks done k e = absurd (true≢false (sym e))
-each-among C ks (_also_ {k = x} {ks = xs} c h) k e = go (eqb k x) refl e (each-among C xs h k)
+each-among C ks (_and_ {k = x} {ks = xs} c h) k e = go (eqb k x) refl e (each-among C xs h k)
   where
     go : (b : Bool) → eqb k x ≡ b → b || among xs k ≡ true → (among xs k ≡ true → C k) → C k
     go true q e r = subst C (sym (eqb-true k x q)) c
@@ -49,7 +51,7 @@ each-among C ks (_also_ {k = x} {ks = xs} c h) k e = go (eqb k x) refl e (each-a
 -- of two lists
 each-more : {C : ℕ → Type 0} {xs ys : List ℕ} → Each C xs → Each C ys → Each C (xs ++ ys)
 each-more done b = b
-each-more (c also a) b = c also each-more a b
+each-more (c and a) b = c and each-more a b
 
 -- no set below the bound has a bit behind it
 none-behind : (s k : ℕ) → s < 2 ^ bound → bound ≤ k → has s k ≡ true → ⊥
@@ -106,6 +108,53 @@ pub told-wrong : (s : ℕ) → setTold (wrong s) ≡ s
 unfolding setTold
 told-wrong s = omega (arith, div-add-mod' s (2 ^ 32))
 
+-- what holds of a refusal, and if it is 21 of 21 with another set, holds of it with that set
+pub retold-as : (C : Syntax → Type 0) (s : ℕ) (why : Syntax) → C why → ((low high : ℕ) → why ≡ Wanted low high → C (wrong s)) → C (retold s why)
+unfolding retold
+retold-as C s (Wanted low high) h w = w low high refl
+retold-as C s NotTopLevel h w = h
+retold-as C s NotMapField h w = h
+retold-as C s MapTypeUnknown h w = h
+retold-as C s NotType h w = h
+retold-as C s MaxNegative h w = h
+retold-as C s OutOfRange h w = h
+retold-as C s ShiftCount h w = h
+retold-as C s (MapLacks m) h w = h
+retold-as C s NotEventType h w = h
+retold-as C s CallOnOther h w = h
+retold-as C s TooDeep h w = h
+
+-- ---- what may stand in a list
+
+-- the set s of a list, with `else` behind an `if` without it (b)
+abbrev pub listSet : ℕ → Bool → ℕ
+listSet s b = s + cond b (only KeywordElse) 0
+
+-- The set is of the kind that ends the list and of the kinds ks; `else` is none of them.
+abbrev pub listed : ℕ → ℕ → List ℕ → Bool
+listed s stop ks =
+    (covers (listSet s false) (stop ∷ ks) && covers (listSet s true) (KeywordElse ∷ stop ∷ ks)) && (bit (listSet s false) stop && bit (listSet s true) stop)
+
+module _ (s stop : ℕ) (ks : List ℕ) (e : listed s stop ks ≡ true) where
+  abbrev covering : Bool
+  covering = covers (listSet s false) (stop ∷ ks) && covers (listSet s true) (KeywordElse ∷ stop ∷ ks)
+
+  abbrev ending : Bool
+  ending = bit (listSet s false) stop && bit (listSet s true) stop
+
+  pub each-listed : (C : ℕ → Type 0) (b : Bool) → (b ≡ true → C KeywordElse) → C stop → Each C ks → (k : ℕ) → has (listSet s b) k ≡ true → C k
+  each-listed C true c t h =
+      each C (listSet s true) (KeywordElse ∷ stop ∷ ks)
+      (both-true (covers (listSet s false) (stop ∷ ks)) (covers (listSet s true) (KeywordElse ∷ stop ∷ ks)) (both-true covering ending e .0) .1) (c refl and t and h)
+  each-listed C false c t h =
+      each C (listSet s false) (stop ∷ ks)
+      (both-true (covers (listSet s false) (stop ∷ ks)) (covers (listSet s true) (KeywordElse ∷ stop ∷ ks)) (both-true covering ending e .0) .0) (t and h)
+
+  pub listed-stop : (b : Bool) → has (listSet s b) stop ≡ true
+  unfolding has
+  listed-stop true = both-true (bit (listSet s false) stop) (bit (listSet s true) stop) (both-true covering ending e .1) .1
+  listed-stop false = both-true (bit (listSet s false) stop) (bit (listSet s true) stop) (both-true covering ending e .1) .0
+
 -- ---- what goes on with an expression, or stands behind it
 
 -- what goes on with an expression, a sum (b) or not, behind the name of a field (c) or not, and the set s of what may stand behind it
@@ -158,7 +207,7 @@ module _ (C : ℕ → Type 0) (s : ℕ) (ks : List ℕ) (e : coversOnward s ks �
       each C (onwardSet b c s) (onwardKinds b c ks) (four-cases (λ b c. covers (onwardSet b c s) (onwardKinds b c ks)) e b c) (go b c shift call)
     where
       opens : (c : Bool) → (c ≡ true → C LParen) → Each C (openKinds c ks)
-      opens true h = h refl also ends
+      opens true h = h refl and ends
       opens false h = ends
 
       go : (b c : Bool) → (b ≡ false → Each C (Shr ∷ Shl ∷ [])) → (c ≡ true → C LParen) → Each C (onwardKinds b c ks)
