@@ -328,12 +328,17 @@ module _ (ts : List Tok) (proper : Proper ts) where
         (fitting RParen (group t) (i-group (v .0)) (sign RParen ∷ []) refl (x ▸ v .1) refl and done)) (λ e. tt))
     atom-by other i f n h = absurd (n refl)
 
-    atom-stuck : (i : ℕ) → Start ts i → Stuck (Halt code (Dooms i (λ x. Parse.atom x (G x) i)) ts Basic d i) (Parse.atom ts (G ts) i)
+    atom-stuck : (i : ℕ) → (lead (kindAt ts i) ≡ other → ⊥) → Start ts i → Stuck (Halt code (Dooms i (λ x. Parse.atom x (G x) i)) ts Basic d i) (Parse.atom ts (G ts) i)
     unfolding Parse.atom
-    atom-stuck i h =
+    atom-stuck i n h =
         stuck-as (Halt code (Dooms i (λ x. Parse.atomBy x (G x) (lead (kindAt ts i)) i)) ts Basic d i) (Halt code (Dooms i (λ x. Parse.atomBy x (G x) (lead (kindAt x i)) i)) ts Basic d i)
-        (Parse.atomBy ts (G ts) (lead (kindAt ts i)) i) (atom-by (lead (kindAt ts i)) i (lead-is (kindAt ts i)) h)
+        (Parse.atomBy ts (G ts) (lead (kindAt ts i)) i) (atom-by (lead (kindAt ts i)) i (lead-is (kindAt ts i)) n h)
         (λ why r o. widen (at-kind (λ x k. Parse.atomBy x (G x) (lead k) i) i) o)
+
+    -- a refusal of the first argument behind the parenthesis at row o: no construct is left, or it stands one deeper
+    data Within (o : ℕ) (why : Syntax) (r : ℕ) : Type 0 where
+      too-many : d ≡ 0 → why ≡ TooDeep → r ≡ o → Within o why r
+      within : (d′ : ℕ) → d ≡ suc d′ → Halt code (Dooms (o + 1) (λ x. G x whole o)) ts Add d′ (o + 1) why r → Within o why r
 
     -- arguments behind the parenthesis at row o, where d′ constructs are left in them
     module _ (o d′ : ℕ) (z : d ≡ suc d′) where
@@ -349,8 +354,8 @@ module _ (ts : List Tok) (proper : Proper ts) where
           let v : Reads ts Args d′ (o + 1) a j = subst (λ (n : ℕ). Under ts Args n o a j) z u in
           let m : Below Add (suc d′) (λ x. G x whole) = subst (λ (n : ℕ). Below Add n (λ x. G x whole)) z (under whole) in
           then-any (HArgs (λ x. Parse.argStep x (G x) a j) j) (G ts whole j) _
-          (stuck-as (Halt code (Dooms (j + 1) (λ x. G x whole j)) ts Add d′ (j + 1)) (HArgs (λ x. Parse.argStep x (G x) a j) j) (G ts whole j) (m j (start ts j Comma e refl))
-          (λ why r h. wrap (λ u. more a u) (λ u q. i-more (lax (isMisfit why) (v .is)) q) (λ _. at-first j (j + 1) (λ x. G x whole j) (λ x t k. ok (more a t) k) (omega arith)) []
+          (stuck-as (Halt code (Dooms (j + 1) (λ x. G x whole j)) ts Add d′ (j + 1)) (HArgs (λ x. Parse.argStep x (G x) a j) j) (G ts whole j) (m j (start ts j Comma e refl refl))
+          (λ why r h. wrap (λ u. more a u) (λ u q. i-more (lax (isMisfit why) (v .is)) q) (λ _. at-first j (j + 1) (λ x. G x whole j) (λ x t k. ok (more a t) k) (omega arith)) [] refl
           (λ u. last-part (yield a) (sign Comma) (yield u)) (run-of v ▸ row ts j Comma e refl) h))
           (λ t k. tt)
 
@@ -361,23 +366,42 @@ module _ (ts : List Tok) (proper : Proper ts) where
           (λ a j b ts′ n x. Local.arg-step ts ts′ n x (G ts) (G ts′) (inner-local ts ts′ n x d) a j b)
           arg-stuck (one t) k (ones ts d o t k u)
 
-    -- the same, whether a construct is left or not
+    -- the first argument, and the whole, behind the parenthesis at row o
+    abbrev first-arg : ℕ → List Tok → Out
+    first-arg o x = or firstArguments (o + 1) (G x whole o)
+
+    abbrev further-args : List Tok → Tree → P
+    further-args x t k = Parse.loop x (λ r. eqb (kindAt x r) Comma) (Parse.argStep x (G x)) (one t) k
+
+    first-alike : (o : ℕ) → eqb (kindAt ts o) LBrace ≡ false → (ts′ : List Tok) (n : ℕ) → Alike ts ts′ n → Local ts n o (o + 1) (first-arg o ts) (first-arg o ts′)
+    first-alike o b ts′ n a = or-local ts n firstArguments (o + 1) (G ts whole o) (G ts′ whole o) (inner-alike whole o b ts′ n a)
+
+    -- the same, whether a construct is left or not; a row that begins no argument tells `)` too
     args-stuck : (C : Syntax → ℕ → Type 0) (o : ℕ) → Start ts (o + 1) → eqb (kindAt ts o) LBrace ≡ false → (d ≡ 0 → C TooDeep o)
+        → ((d′ : ℕ) → d ≡ suc d′ → C (wrong firstArguments) (o + 1))
         → ((d′ : ℕ) → d ≡ suc d′ → (why : Syntax) (r : ℕ) → Halt code (Dooms (o + 1) (λ x. Parse.args x (G x) o)) ts Args d′ (o + 1) why r → C why r)
         → Stuck C (Parse.args ts (G ts) o)
     unfolding Parse.args yield
-    args-stuck C o l b full inner =
-        then-stuck C (Under ts Add d o) (G ts whole o) _ (inner-sound ts d whole o (omega (arith, l .inside)))
-        (below Add d (λ x. G x whole) (under whole) C o l full
-        (λ d′ z why r h. inner d′ z why r (recast one (λ u q. i-one q)
-        (λ _. at-first (o + 1) (o + 1) (λ x. G x whole o) (λ x t k. Parse.loop x (λ r. eqb (kindAt x r) Comma) (Parse.argStep x (G x)) (one t) k) (omega arith)) (λ u. refl) h)))
+    args-stuck C o l b full bare inner =
+        then-stuck C (Under ts Add d o) (first-arg o ts) (further-args ts)
+        (or-all (Under ts Add d o) firstArguments (o + 1) (G ts whole o) (inner-sound ts d whole o (omega (arith, l .inside))))
+        (or-stuck C (Within o) firstArguments (o + 1) (G ts whole o)
+        (below Add d (λ x. G x whole) (under whole) (Within o) o l (λ e. too-many e refl refl) (λ d′ z why r h. within d′ z h)) (λ why r h. onto why r h)
+        (λ low high h. begins-none low high h))
         (λ t k e u. let z : (d′ : ℕ) × (d ≡ suc d′) = under-some Add d o t k u in
-        stuck-as (HArgs o (z .0) (z .1) (λ x. Parse.loop x (λ r. eqb (kindAt x r) Comma) (Parse.argStep x (G x)) (one t) k) k) C
-        (Parse.loop ts (λ r. eqb (kindAt ts r) Comma) (Parse.argStep ts (G ts)) (one t) k)
-        (rest-stuck o (z .0) (z .1) t k u)
-        (λ why r h. inner (z .0) (z .1) why r (widen (at-next (o + 1) k (o + 1) o (λ x. G x whole o)
-        (λ x t k. Parse.loop x (λ r. eqb (kindAt x r) Comma) (Parse.argStep x (G x)) (one t) k) t e
-        (later ts 0 o (o + 1) (G ts whole o) (G ts whole o) t k e (inner-alike whole o b ts 0 self)) (inner-alike whole o b)) h)))
+        stuck-as (HArgs o (z .0) (z .1) (λ x. further-args x t k) k) C (further-args ts t k) (rest-stuck o (z .0) (z .1) t k u)
+        (λ why r h. inner (z .0) (z .1) why r (widen (at-next (o + 1) k (o + 1) o (first-arg o) further-args t e
+        (later ts 0 o (o + 1) (first-arg o ts) (first-arg o ts) t k e (first-alike o b ts 0 self)) (first-alike o b)) h)))
+      where
+        onto : (why : Syntax) (r : ℕ) → Within o why r → C why r
+        onto why r (too-many e p q) = subst (λ (x : Syntax). C x r) (sym p) (subst (C TooDeep) (sym q) (full e))
+        onto why r (within d′ z h) =
+            inner d′ z why r (recast one (λ u q. i-one q)
+            (λ _ s x. at-first (o + 1) (o + 1) (first-arg o) further-args (omega arith) s (at-or (o + 1) (o + 1) (λ x. G x whole o) (λ x. firstArguments) s x)) refl (λ u. refl) h)
+
+        begins-none : (low high : ℕ) → Within o (Wanted low high) (o + 1) → C (wrong firstArguments) (o + 1)
+        begins-none low high (too-many e p q) = absurd (omega arith)
+        begins-none low high (within d′ z h) = bare d′ z
 
     -- a field or a call of a tree t that was read from row i on, its dot at row j
     module _ (i : ℕ) (t : Tree) (j : ℕ) (r : Reads ts Basic d i t j) (e : kindAt ts j ≡ Dot) (f : kindAt ts (j + 1) ≡ Identifier) where
@@ -388,7 +412,7 @@ module _ (ts : List Tok) (proper : Proper ts) where
       HPost = Halt code (Dooms j (λ x. Parse.post x (G x) t j)) ts Basic d i
 
       -- the dot and the name alone are a field
-      as-field : Open true false ts Basic d i (j + 1 + 1)
+      as-field : {k : ℕ} → Open true false ts Basic d i (j + 1 + 1) k
       unfolding yield
       as-field =
           opened (field t method) (i-field (lax false (r .is))) [] (sym (append-nil (yield t ++ (sign Dot ∷ name method ∷ []))))
@@ -429,7 +453,15 @@ module _ (ts : List Tok) (proper : Proper ts) where
           where
             go : (b : Bool) → isVariable t ≡ b → Stuck HPost (pick b (ok (call t method a) k) (no CallOnOther (j + 1)))
             go true v = tt
-            go false v = record { row = j + 1 + 1; at = own refl; arises = λ _. refl; begun = as-field; dooms = λ _. paren-dooms v }
+            go false v = record {
+              row = j + 1 + 1;
+              at = own refl;
+              arises = λ _. refl;
+              wish = 0;
+              due = λ e. absurd (true≢false (sym e));
+              begun = λ k q. as-field;
+              dooms = λ _. paren-dooms v;
+            }
 
         -- a refusal among the arguments: of a call on no variable the parenthesis is lost
         in-call : (b c : Bool) → isVariable t ≡ b → eqb (kindAt ts (j + 1 + 1 + 1)) RParen ≡ false → (d′ : ℕ) → d ≡ suc d′ → (why : Syntax) (q : ℕ) → isCheck why ≡ c
@@ -437,12 +469,12 @@ module _ (ts : List Tok) (proper : Proper ts) where
         unfolding yield isCheck isMisfit
         in-call true c v y d′ z why q w o =
             wrap (λ a. call t method a) (λ a s. around-it (isMisfit why) d d′ z (i-call (inside-it (isMisfit why) d d′ z (lax (isMisfit why) (r .is))) (λ _. v) s))
-            (λ _. args-doom y) (sign RParen ∷ [])
+            (λ _. args-doom y) (sign RParen ∷ []) refl
             (λ a. sym (append-assoc (yield t) (sign Dot ∷ name method ∷ sign LParen ∷ []) (yield a ++ (sign RParen ∷ [])))) head o
         in-call false false v y d′ z why q w o =
             wrap (λ a. call t method a)
             (λ a s. around-it (isMisfit why) d d′ z
-            (i-call (inside-it (isMisfit why) d d′ z (lax (isMisfit why) (r .is))) (λ y. absurd (true≢false (sym y ∙ w))) s)) (λ _. args-doom y) (sign RParen ∷ [])
+            (i-call (inside-it (isMisfit why) d d′ z (lax (isMisfit why) (r .is))) (λ y. absurd (true≢false (sym y ∙ w))) s)) (λ _. args-doom y) (sign RParen ∷ []) refl
             (λ a. sym (append-assoc (yield t) (sign Dot ∷ name method ∷ sign LParen ∷ []) (yield a ++ (sign RParen ∷ [])))) head o
         in-call false true v y d′ z why q w o =
             let x : why ≡ CallOnOther = o .arises w in
@@ -462,27 +494,62 @@ module _ (ts : List Tok) (proper : Proper ts) where
                 here = refl;
               });
               arises = λ _. x;
-              begun = subst (λ (y : Syntax). Open (isCheck y) (isMisfit y) ts Basic d i (j + 1 + 1)) (sym x) as-field;
+              wish = o .wish;
+              due = o .due;
+              begun = λ k q. subst (λ (y : Syntax). Open (isCheck y) (isMisfit y) ts Basic d i (j + 1 + 1) k) (sym x) as-field;
               dooms = λ _. paren-dooms v;
             }
+
+        -- the tokens of a call, taken apart behind its parenthesis
+        call-spells : (l : List Tok) → yield t ++ (sign Dot ∷ name method ∷ sign LParen ∷ l) ≡ (yield t ++ (sign Dot ∷ name method ∷ sign LParen ∷ [])) ++ l
+        call-spells l = sym (append-assoc (yield t) (sign Dot ∷ name method ∷ sign LParen ∷ []) l)
+
+        -- a call with no argument, or with one that begins with an operand's first row
+        first-open : (d′ : ℕ) → d ≡ suc d′ → (k : ℕ) → has firstArguments k ≡ true → Open false true ts Basic d i (j + 1 + 1 + 1) k
+        unfolding yield
+        first-open d′ z =
+            each (Open false true ts Basic d i (j + 1 + 1 + 1)) firstArguments (RParen ∷ operandKinds) refl
+            (fitting RParen (call t method none) (i-bare (lax true (r .is)) aside) (sign RParen ∷ []) (call-spells (sign RParen ∷ [])) head refl
+            and each-as (λ k b. as-argument k b) (unary-begins d′))
+          where
+            as-argument : (k : ℕ) → Begins Unary (suc d′) k → Open false true ts Basic d i (j + 1 + 1 + 1) k
+            as-argument k b =
+                fitting k (call t method (one (b .tree)))
+                (i-call (lax true (r .is)) aside (i-one (i-up (i-lone (i-unary (subst (λ (n : ℕ). Is false Unary n (b .tree)) (sym z) (b .is)))))))
+                (yield (b .tree) ++ (sign RParen ∷ [])) (call-spells (yield (b .tree) ++ (sign RParen ∷ []))) head
+                (heads-more k (yield (b .tree) ++ (sign RParen ∷ [])) [] (heads-more k (yield (b .tree)) (sign RParen ∷ []) (b .next)))
+
+        -- the arguments a go on, or end
+        args-open : (a : Tree) (k : ℕ) → Is false Args d a → Run ts (j + 1 + 1 + 1) (yield a) k → (n : ℕ)
+            → has (Parse.onward ts a k + (only Comma + only RParen)) n ≡ true → Open false true ts Basic d i k n
+        unfolding yield
+        args-open a k g x =
+            onward-open (λ u. call t method u) (sign RParen ∷ []) (λ u q. i-call (lax true (r .is)) aside q) (λ u. call-spells (yield u ++ (sign RParen ∷ []))) head a x
+            (only Comma + only RParen) (Comma ∷ RParen ∷ []) refl (start ts (j + 1 + 1) LParen h refl refl .undotted) (λ n o. args-on ts proper k g o)
+            (fitting Comma (call t method (more a (num 0))) (i-call (lax true (r .is)) aside (i-more g nought)) (sign Comma ∷ value 0 ∷ sign RParen ∷ [])
+            (ap (λ (l : List Tok). yield t ++ (sign Dot ∷ name method ∷ sign LParen ∷ l)) (append-assoc (yield a) (sign Comma ∷ value 0 ∷ []) (sign RParen ∷ []))
+            ∙ call-spells (yield a ++ (sign Comma ∷ value 0 ∷ sign RParen ∷ []))
+            ∙ sym (append-assoc (yield t ++ (sign Dot ∷ name method ∷ sign LParen ∷ [])) (yield a) (sign Comma ∷ value 0 ∷ sign RParen ∷ []))) (head ▸ x) refl
+            and fitting RParen (call t method a) (i-call (lax true (r .is)) aside g) (sign RParen ∷ [])
+            (call-spells (yield a ++ (sign RParen ∷ []))
+            ∙ sym (append-assoc (yield t ++ (sign Dot ∷ name method ∷ sign LParen ∷ [])) (yield a) (sign RParen ∷ []))) (head ▸ x) refl
+            and done)
 
         -- behind the parenthesis
         call-by : (b : Bool) → eqb (kindAt ts (j + 1 + 1 + 1)) RParen ≡ b → Stuck HPost (Parse.callBy ts (G ts) b t method (j + 1) (j + 1 + 1))
         unfolding Parse.callBy yield
         call-by true y = called-stuck none (j + 1 + 1 + 1 + 1)
         call-by false y =
-            let l : j + 1 + 1 < length ts = here ts (j + 1 + 1) LParen h refl in
-            then-stuck HPost (Under ts Args d (j + 1 + 1)) (Parse.args ts (G ts) (j + 1 + 1)) _ (args-sound ts d (G ts) (inner-sound ts d) (j + 1 + 1) l)
-            (args-stuck HPost (j + 1 + 1) (start ts (j + 1 + 1) LParen h refl) (ap (λ (k : ℕ). eqb k LBrace) h)
-            (λ z. too-deep code (Dooms j (λ x. Parse.post x (G x) t j)) Basic d i (j + 1 + 1) (j + 1 + 1 + 1) (list-row ts (j + 1) f h)
-            (opened (call t method none) (i-bare (lax false (r .is)) aside) (sign RParen ∷ [])
-            (sym (append-assoc (yield t) (sign Dot ∷ name method ∷ sign LParen ∷ []) (sign RParen ∷ []))) head))
+            let D : ℕ → Type 0 = Dooms j (λ x. Parse.post x (G x) t j) in
+            then-stuck HPost (Under ts Args d (j + 1 + 1)) (Parse.args ts (G ts) (j + 1 + 1)) _
+            (args-sound ts d (G ts) (inner-sound ts d) (j + 1 + 1) (here ts (j + 1 + 1) LParen h refl))
+            (args-stuck HPost (j + 1 + 1) (start ts (j + 1 + 1) LParen h refl refl) (ap (λ (k : ℕ). eqb k LBrace) h)
+            (λ z. too-deep code D Basic d i (j + 1 + 1) (j + 1 + 1 + 1) (list-row ts (j + 1) f h)
+            (opened (call t method none) (i-bare (lax false (r .is)) aside) (sign RParen ∷ []) (call-spells (sign RParen ∷ [])) head))
+            (λ d′ z. wanted code D Basic d i firstArguments RParen (j + 1 + 1 + 1) (holds firstArguments RParen refl) (first-open d′ z))
             (λ d′ z why q o. in-call (isVariable t) (isCheck why) refl y d′ z why q refl o))
             (λ a k q u. let v : Is false Args d a × Run ts (j + 1 + 1 + 1) (yield a) k = under-read Args d (j + 1 + 1) a k u in
-            want-halt code (Dooms j (λ x. Parse.post x (G x) t j)) Basic d i RParen (Parse.called ts t method a (j + 1)) k
-            (opened (call t method a) (i-call (lax true (r .is)) aside (v .0)) (sign RParen ∷ [])
-            (sym (append-assoc (yield t) (sign Dot ∷ name method ∷ sign LParen ∷ []) (yield a ++ (sign RParen ∷ [])))
-            ∙ sym (append-assoc (yield t ++ (sign Dot ∷ name method ∷ sign LParen ∷ [])) (yield a) (sign RParen ∷ []))) (head ▸ v .1))
+            end-halt code D Basic d i (only Comma + only RParen) RParen a (Parse.called ts t method a (j + 1)) k refl (args-open a k (v .0) (v .1))
             (λ c. called-stuck a (k + 1)))
 
       open-by : (b : Bool) → eqb (kindAt ts (j + 1 + 1)) LParen ≡ b → Stuck HPost (Parse.openBy ts (G ts) b t method (j + 1) (j + 1 + 1))
@@ -495,15 +562,16 @@ module _ (ts : List Tok) (proper : Proper ts) where
     unfolding Parse.post yield
     post-stuck i t j r e =
         named-halt code (Dooms j (λ x. Parse.post x (G x) t j)) Basic d i _ (j + 1)
-        (opened (field t []) (i-field (lax true (r .is))) (name [] ∷ []) (sym (append-assoc (yield t) (sign Dot ∷ []) (name [] ∷ []))) (run-of r ▸ row ts j Dot e refl))
+        (fitting Identifier (field t []) (i-field (lax true (r .is))) (name [] ∷ []) (sym (append-assoc (yield t) (sign Dot ∷ []) (name [] ∷ [])))
+        (run-of r ▸ row ts j Dot e refl) refl)
         (λ f. open-by i t j r e f (eqb (kindAt ts (j + 1 + 1)) LParen) refl)
 
-    prim-stuck : (i : ℕ) → Start ts i → Stuck (Halt code (Dooms i (λ x. Parse.prim x (G x) i)) ts Basic d i) (Parse.prim ts (G ts) i)
+    prim-stuck : (i : ℕ) → (lead (kindAt ts i) ≡ other → ⊥) → Start ts i → Stuck (Halt code (Dooms i (λ x. Parse.prim x (G x) i)) ts Basic d i) (Parse.prim ts (G ts) i)
     unfolding Parse.prim
-    prim-stuck i h =
+    prim-stuck i m h =
         let posts : List Tok → Tree → P = λ x t j. Parse.loop x (λ r. eqb (kindAt x r) Dot) (Parse.post x (G x)) t j in
         then-stuck (Halt code (Dooms i (λ x. Parse.prim x (G x) i)) ts Basic d i) (Reads ts Basic d i) (Parse.atom ts (G ts) i) (posts ts) (atom-sound ts d (G ts) (inner-sound ts d) i)
-        (stuck-as (Halt code (Dooms i (λ x. Parse.atom x (G x) i)) ts Basic d i) (Halt code (Dooms i (λ x. Parse.prim x (G x) i)) ts Basic d i) (Parse.atom ts (G ts) i) (atom-stuck i h)
+        (stuck-as (Halt code (Dooms i (λ x. Parse.atom x (G x) i)) ts Basic d i) (Halt code (Dooms i (λ x. Parse.prim x (G x) i)) ts Basic d i) (Parse.atom ts (G ts) i) (atom-stuck i m h)
         (λ why r o. widen (at-first i i (λ x. Parse.atom x (G x) i) posts (omega arith)) o))
         (λ t j e r. stuck-as (Halt code (Dooms j (λ x. posts x t j)) ts Basic d i) (Halt code (Dooms i (λ x. Parse.prim x (G x) i)) ts Basic d i) (posts ts t j)
         (loop-stuck code Basic d i (λ x. eqb x Dot) (λ x. Parse.post x (G x)) (Reads ts Basic d i) (post-sound ts d (G ts) (inner-sound ts d) i)
@@ -517,15 +585,27 @@ module _ (ts : List Tok) (proper : Proper ts) where
         let e : kindAt ts i ≡ Star = eqb-true (kindAt ts i) Star b in
         let l : i < length ts = here ts i Star e refl in
         then-any (Halt code (Dooms i (λ x. Parse.unaryBy x (G x) true i)) ts Unary d i) (G ts operand i) _
-        (below Unary d (λ x. G x operand) (under operand) (Halt code (Dooms i (λ x. Parse.unaryBy x (G x) true i)) ts Unary d i) i (start ts i Star e refl)
+        (below Unary d (λ x. G x operand) (under operand) (Halt code (Dooms i (λ x. Parse.unaryBy x (G x) true i)) ts Unary d i) i (start ts i Star e refl refl)
         (λ z. too-deep code (Dooms i (λ x. Parse.unaryBy x (G x) true i)) Unary d i i i (group-row ts i (ap (λ (x : ℕ). eqb x LBrace) e) (h .fresh))
         (opened (num 0) (i-prim i-num) (value 0 ∷ []) refl (run-none ts i (h .inside))))
-        (λ d′ z why r o. wrap star (λ u q. around-it (isMisfit why) d d′ z (i-star q)) (λ _. at-first i (i + 1) (λ x. G x operand i) (λ x t j. ok (star t) j) (omega arith)) []
+        (λ d′ z why r o. wrap star (λ u q. around-it (isMisfit why) d d′ z (i-star q)) (λ _. at-first i (i + 1) (λ x. G x operand i) (λ x t j. ok (star t) j) (omega arith)) [] refl
         (λ u. ap (λ (x : List Tok). sign Star ∷ x) (sym (append-nil (yield u)))) (row ts i Star e refl) o))
         (λ t j. tt)
-    unary-by false i b h =
-        stuck-as (Halt code (Dooms i (λ x. Parse.prim x (G x) i)) ts Basic d i) (Halt code (Dooms i (λ x. Parse.prim x (G x) i)) ts Unary d i) (Parse.prim ts (G ts) i) (prim-stuck i h)
-        (λ why r o. recast (λ u. u) (λ u q. i-prim q) (λ _ s x. x) (λ u. refl) o)
+    unary-by false i b h = go (lead (kindAt ts i)) refl
+      where
+        H : Syntax → ℕ → Type 0
+        H = Halt code (Dooms i (λ x. Parse.prim x (G x) i)) ts Unary d i
+
+        prims : (lead (kindAt ts i) ≡ other → ⊥) → Stuck H (Parse.prim ts (G ts) i)
+        prims n =
+            stuck-as (Halt code (Dooms i (λ x. Parse.prim x (G x) i)) ts Basic d i) H (Parse.prim ts (G ts) i) (prim-stuck i n h)
+            (λ why r o. recast (λ u. u) (λ u q. i-prim q) (λ _ s x. x) refl (λ u. refl) o)
+
+        go : (l : Lead) → lead (kindAt ts i) ≡ l → Stuck H (Parse.prim ts (G ts) i)
+        go other e = subst (Stuck H) (sym (none-read i e)) (none-begun i h)
+        go number e = prims (λ q. tell (sym e ∙ q))
+        go identifier e = prims (λ q. tell (sym e ∙ q))
+        go paren e = prims (λ q. tell (sym e ∙ q))
 
     unary-stuck : (i : ℕ) → Start ts i → Stuck (Halt code (Dooms i (λ x. Parse.unary x (G x) i)) ts Unary d i) (Parse.unary ts (G ts) i)
     unfolding Parse.unary
