@@ -579,6 +579,16 @@ module _ (ts : List Tok) (proper : Proper ts) where
         (λ u k r b. post-stuck i u k r (eqb-true (kindAt ts k) Dot b)) t j r)
         (λ why q o. widen (at-next i j (i + 1) i (λ x. Parse.atom x (G x) i) posts t e (omega (arith, r .next)) (atom-alike i)) o))
 
+    -- at a row that begins nothing each operand would have fitted
+    none-read : (i : ℕ) → lead (kindAt ts i) ≡ other → Parse.prim ts (G ts) i ≡ no (wrong operands) i
+    unfolding Parse.prim Parse.atom Parse.atomBy
+    none-read i e = Cases.then-no (Parse.atom ts (G ts) i) _ (wrong operands) i (ap (λ (l : Lead). Parse.atomBy ts (G ts) l i) e)
+
+    none-begun : (D : ℕ → Type 0) (i : ℕ) → Start ts i → Halt code D ts Unary d i (wrong operands) i
+    none-begun D i h =
+        wanted code D Unary d i operands Number i (holds operands Number refl) (each (Open false true ts Unary d i i) operands operandKinds refl
+        (each-as (λ k b. fitting k (b .tree) (b .is) (yield (b .tree)) refl (run-none ts i (h .inside)) (heads-more k (yield (b .tree)) [] (b .next))) (unary-begins d)))
+
     unary-by : (b : Bool) (i : ℕ) → eqb (kindAt ts i) Star ≡ b → Start ts i → Stuck (Halt code (Dooms i (λ x. Parse.unaryBy x (G x) b i)) ts Unary d i) (Parse.unaryBy ts (G ts) b i)
     unfolding Parse.unaryBy yield
     unary-by true i b h =
@@ -602,10 +612,10 @@ module _ (ts : List Tok) (proper : Proper ts) where
             (λ why r o. recast (λ u. u) (λ u q. i-prim q) (λ _ s x. x) refl (λ u. refl) o)
 
         go : (l : Lead) → lead (kindAt ts i) ≡ l → Stuck H (Parse.prim ts (G ts) i)
-        go other e = subst (Stuck H) (sym (none-read i e)) (none-begun i h)
-        go number e = prims (λ q. tell (sym e ∙ q))
-        go identifier e = prims (λ q. tell (sym e ∙ q))
-        go paren e = prims (λ q. tell (sym e ∙ q))
+        go other e = subst (Stuck H) (sym (none-read i e)) (none-begun (Dooms i (λ x. Parse.prim x (G x) i)) i h)
+        go number e = prims (λ q. let z : _≡_ {A = ℕ} 0 1 = cc in omega arith)
+        go identifier e = prims (λ q. let z : _≡_ {A = ℕ} 0 1 = cc in omega arith)
+        go paren e = prims (λ q. let z : _≡_ {A = ℕ} 0 1 = cc in omega arith)
 
     unary-stuck : (i : ℕ) → Start ts i → Stuck (Halt code (Dooms i (λ x. Parse.unary x (G x) i)) ts Unary d i) (Parse.unary ts (G ts) i)
     unfolding Parse.unary
@@ -616,7 +626,7 @@ module _ (ts : List Tok) (proper : Proper ts) where
         (λ why r o. widen (at-kind (λ x k. Parse.unaryBy x (G x) (eqb k Star) i) i) o)
 
     -- a ladder: operands q of the nonterminal M, the first of them by `one`, whose rows of operators `isOp` join them to the nonterminal N
-    module _ (N M : Nt) (isOp : ℕ → Bool) (mark : (k : ℕ) → isOp k ≡ true → isMark k ≡ true) (q : List Tok → P) (q-sound : (i : ℕ) → All (Reads ts M d i) (q ts i))
+    module _ (N M : Nt) (plain : closedBy M ≡ []) (isOp : ℕ → Bool) (mark : (k : ℕ) → isOp k ≡ true → isMark k ≡ true) (apart : isOp Dot ≡ false) (q : List Tok → P) (q-sound : (i : ℕ) → All (Reads ts M d i) (q ts i))
         (q-alike : (i : ℕ) (ts′ : List Tok) (n : ℕ) → Alike ts ts′ n → Local ts n i (i + 1) (q ts i) (q ts′ i))
         (q-stuck : (i : ℕ) → Start ts i → Stuck (Halt code (Dooms i (λ x. q x i)) ts M d i) (q ts i))
         (joins : (b : Bool) (n k : ℕ) (l r : Tree) → Is b N n l → isOp k ≡ true → Is b M n r → Is b N n (bin k l r)) where
@@ -627,9 +637,9 @@ module _ (ts : List Tok) (proper : Proper ts) where
           let x : Run ts j (sign (kindAt ts j) ∷ []) (j + 1) = row ts j (kindAt ts j) refl (mark (kindAt ts j) b) in
           then-any (Halt code (Dooms j (λ x. Parse.binStep x (G x) (q x) t j)) ts N d i) (q ts (j + 1)) _
           (stuck-as (Halt code (Dooms (j + 1) (λ x. q x (j + 1))) ts M d (j + 1)) (Halt code (Dooms j (λ x. Parse.binStep x (G x) (q x) t j)) ts N d i) (q ts (j + 1))
-          (q-stuck (j + 1) (start ts j (kindAt ts j) refl (mark (kindAt ts j) b)))
+          (q-stuck (j + 1) (start ts j (kindAt ts j) refl (mark (kindAt ts j) b) (joins-apart isOp apart (kindAt ts j) b)))
           (λ why s o. wrap (λ u. bin (kindAt ts j) t u) (λ u w. joins (isCheck why) (over (isMisfit why) d) (kindAt ts j) t u (lax (isMisfit why) (r .is)) b w)
-          (λ _. at-first j (j + 1) (λ x. q x (j + 1)) (λ x u k. ok (bin (kindAt x j) t u) k) (omega arith)) []
+          (λ _. at-first j (j + 1) (λ x. q x (j + 1)) (λ x u k. ok (bin (kindAt x j) t u) k) (omega arith)) [] plain
           (λ u. last-part (yield t) (sign (kindAt ts j)) (yield u)) (run-of r ▸ x) o))
           (λ u k. tt)
 
@@ -646,14 +656,14 @@ module _ (ts : List Tok) (proper : Proper ts) where
       climb : (M′ : Nt) (p : List Tok → P) → ((i : ℕ) → All (Reads ts M′ d i) (p ts i))
           → ((i : ℕ) (ts′ : List Tok) (n : ℕ) → Alike ts ts′ n → Local ts n i (i + 1) (p ts i) (p ts′ i))
           → ((i : ℕ) → Start ts i → Stuck (Halt code (Dooms i (λ x. p x i)) ts M′ d i) (p ts i))
-          → ((b : Bool) (n : ℕ) (u : Tree) → Is b M′ n u → Is b N n u) → (i : ℕ) → Start ts i
+          → ((b : Bool) (n : ℕ) (u : Tree) → Is b M′ n u → Is b N n u) → closedBy M′ ≡ closedBy N → (i : ℕ) → Start ts i
           → Stuck (Halt code (Dooms i (λ x. then (p x i) (λ t j. Parse.loop x (λ r. isOp (kindAt x r)) (Parse.binStep x (G x) (q x)) t j))) ts N d i)
           (then (p ts i) (λ t j. Parse.loop ts (λ r. isOp (kindAt ts r)) (Parse.binStep ts (G ts) (q ts)) t j))
-      climb M′ p p-sound p-alike p-stuck up i h =
+      climb M′ p p-sound p-alike p-stuck up alone i h =
           let f : List Tok → Tree → P = λ x t j. Parse.loop x (λ r. isOp (kindAt x r)) (Parse.binStep x (G x) (q x)) t j in
           then-stuck (Halt code (Dooms i (λ x. then (p x i) (f x))) ts N d i) (Reads ts M′ d i) (p ts i) (f ts) (p-sound i)
           (stuck-as (Halt code (Dooms i (λ x. p x i)) ts M′ d i) (Halt code (Dooms i (λ x. then (p x i) (f x))) ts N d i) (p ts i) (p-stuck i h)
-          (λ why r o. recast (λ u. u) (λ u w. up (isCheck why) (over (isMisfit why) d) u w) (λ _. at-first i i (λ x. p x i) f (omega arith)) (λ u. refl) o))
+          (λ why r o. recast (λ u. u) (λ u w. up (isCheck why) (over (isMisfit why) d) u w) (λ _. at-first i i (λ x. p x i) f (omega arith)) alone (λ u. refl) o))
           (λ t j e r. stuck-as (Halt code (Dooms j (λ x. f x t j)) ts N d i) (Halt code (Dooms i (λ x. then (p x i) (f x))) ts N d i) (f ts t j)
           (ladder i t j (taken-as (λ w. up true d t w) r))
           (λ why s o. widen (at-next i j (i + 1) i (λ x. p x i) f t e (omega (arith, r .next)) (p-alike i)) o))
@@ -670,20 +680,20 @@ module _ (ts : List Tok) (proper : Proper ts) where
     mul-stuck : (i : ℕ) → Start ts i → Stuck (Halt code (Dooms i (λ x. Parse.mul x (G x) i)) ts Mul d i) (Parse.mul ts (G ts) i)
     unfolding Parse.mul
     mul-stuck i h =
-        climb Mul Unary isMul mul-mark (λ x. Parse.unary x (G x)) (unary-sound ts d (G ts) (inner-sound ts d)) unary-alike unary-stuck (λ b n k l r a e c. i-mul a e c)
-        Unary (λ x. Parse.unary x (G x)) (unary-sound ts d (G ts) (inner-sound ts d)) unary-alike unary-stuck (λ b n u w. i-unary w) i h
+        climb Mul Unary refl isMul mul-mark refl (λ x. Parse.unary x (G x)) (unary-sound ts d (G ts) (inner-sound ts d)) unary-alike unary-stuck (λ b n k l r a e c. i-mul a e c)
+        Unary (λ x. Parse.unary x (G x)) (unary-sound ts d (G ts) (inner-sound ts d)) unary-alike unary-stuck (λ b n u w. i-unary w) refl i h
 
     shift-stuck : (i : ℕ) → Start ts i → Stuck (Halt code (Dooms i (λ x. Parse.shift x (G x) i)) ts Shift d i) (Parse.shift ts (G ts) i)
     unfolding Parse.shift
     shift-stuck i h =
-        climb Shift Mul isShift shift-mark (λ x. Parse.mul x (G x)) (mul-sound ts d (G ts) (inner-sound ts d)) mul-alike mul-stuck (λ b n k l r a e c. i-shift a e c)
-        Mul (λ x. Parse.mul x (G x)) (mul-sound ts d (G ts) (inner-sound ts d)) mul-alike mul-stuck (λ b n u w. i-lone w) i h
+        climb Shift Mul refl isShift shift-mark refl (λ x. Parse.mul x (G x)) (mul-sound ts d (G ts) (inner-sound ts d)) mul-alike mul-stuck (λ b n k l r a e c. i-shift a e c)
+        Mul (λ x. Parse.mul x (G x)) (mul-sound ts d (G ts) (inner-sound ts d)) mul-alike mul-stuck (λ b n u w. i-lone w) refl i h
 
     add-stuck : (i : ℕ) → Start ts i → Stuck (Halt code (Dooms i (λ x. Parse.add x (G x) i)) ts Add d i) (Parse.add ts (G ts) i)
     unfolding Parse.add
     add-stuck i h =
-        climb Add Mul isAdd add-mark (λ x. Parse.mul x (G x)) (mul-sound ts d (G ts) (inner-sound ts d)) mul-alike mul-stuck (λ b n k l r a e c. i-add a e c)
-        Shift (λ x. Parse.shift x (G x)) (shift-sound ts d (G ts) (inner-sound ts d)) shift-alike shift-stuck (λ b n u w. i-up w) i h
+        climb Add Mul refl isAdd add-mark refl (λ x. Parse.mul x (G x)) (mul-sound ts d (G ts) (inner-sound ts d)) mul-alike mul-stuck (λ b n k l r a e c. i-add a e c)
+        Shift (λ x. Parse.shift x (G x)) (shift-sound ts d (G ts) (inner-sound ts d)) shift-alike shift-stuck (λ b n u w. i-up w) refl i h
 
   inner-stuck : (d : ℕ) (s : Sort) → Below (ntOf s) d (λ x. Parse.inner x d s)
   unfolding Parse.inner
