@@ -11,7 +11,7 @@ use lib.Seq.{take-append-seam}
 use borrow.Author.Tests.{eqb-true, eq-eqb}
 use Rattle.rules.specs.declared.Syntax.{Syntax}
 use Rattle.rules.specs.declared.Syntax.the-variants.{Wanted, NotTopLevel, NotMapField, MapTypeUnknown, NotType, MaxNegative, OutOfRange, ShiftCount, MapLacks, NotEventType, CallOnOther, TooDeep}
-use Rattle.rules.specs.Kinds.{KeywordUnit, KeywordReturn, KeywordMap, KeywordType, KeywordKey, KeywordValue, KeywordMax, KeywordIf, KeywordElse, KeywordGuard, KeywordEvent, LBrace, RBrace, LParen, RParen, Colon, Dot, Comma, Semicolon, LBracket, RBracket, Equals, Star, Shl, Identifier, StringLiteral, Number, KeywordBytes, Eof}
+use Rattle.rules.specs.Kinds.{KeywordUnit, KeywordReturn, KeywordMap, KeywordType, KeywordKey, KeywordValue, KeywordMax, KeywordIf, KeywordElse, KeywordGuard, KeywordEvent, LBrace, RBrace, LParen, RParen, Colon, Dot, Comma, Semicolon, LBracket, RBracket, Equals, PlusEquals, Star, Shl, Identifier, StringLiteral, Number, KeywordBytes, Eof}
 use Rattle.rules.specs.Tree.{Tok, sign, name, value, string, kindOf, spellingOf, bitsIn, Tree, none, num, star, group, field, call, bin, one, more, decl, ret, plain, assign, guard, thenBody, elseBody, seq, text, unit, mapType, typed, limit, first, shifted, mapDecl, plainField, bytesField, arrayField, event, program, yield, isVariable, hangs, mapTypeNumber, maxBits, typeOf, typedBy, limitOf, lacking}
 use Rattle.rules.specs.Refusals.{syntaxNumber}
 use Rattle.rules.specs.Fits.{only, has, operands, assigns, shifts, firstArguments, bodyThings, unitThings, eventFields, tops, mapFields, types, eventTypes, wrong, setTold, retold}
@@ -873,7 +873,7 @@ module _ (ts : List Tok) (proper : Proper ts) where
       λ ts′ a. subst (Dead CallOnOther) (sym (Cases.need-yes ts′ LBrace (B ts′) j (same-kind a (omega (arith, h .0)) e))) (h .1 ts′ a),
     )
 
-    braces : (C : Syntax → ℕ → Type 0) (j : ℕ) (f : Tree → P) → C (Wanted LBrace (kindAt ts j)) j → (kindAt ts j ≡ LBrace → d ≡ 0 → C TooDeep j)
+    braces : (C : Syntax → ℕ → Type 0) (j : ℕ) (f : Tree → P) → C (wrong (only LBrace)) j → (kindAt ts j ≡ LBrace → d ≡ 0 → C TooDeep j)
         → ((d′ : ℕ) → d ≡ suc d′ → (why : Syntax) (r : ℕ) → kindAt ts j ≡ LBrace → Halt code (Dooms (j + 1) (λ x. B x j)) ts Stmts d′ (j + 1) why r → C why r)
         → ((l : Tree) (k : ℕ) → Parse.need ts LBrace (B ts) j ≡ ok l k → kindAt ts j ≡ LBrace → BodyUnder ts d j l k → Stuck C (f l k))
         → Stuck C (then (Parse.need ts LBrace (B ts) j) f)
@@ -882,7 +882,7 @@ module _ (ts : List Tok) (proper : Proper ts) where
         (need-all ts (λ l k. (kindAt ts j ≡ LBrace) × BodyUnder ts d j l k) LBrace (B ts) j
         (λ e. map-all (BodyUnder ts d j) (λ l k. (kindAt ts j ≡ LBrace) × BodyUnder ts d j l k) (B ts j) (body-sound ts d j (here ts j LBrace e refl)) (λ l k b. (e, b))))
         (need-stuck C LBrace (B ts) j c
-        (λ e. below Stmts d B under C j (start ts j LBrace e refl) (full e) (λ d′ z why r o. inner d′ z why r e o)))
+        (λ e. below Stmts d B under C j (start ts j LBrace e refl refl) (full e) (λ d′ z why r o. inner d′ z why r e o)))
         (λ l k q b. h l k q (b .0) (b .1))
 
     -- behind `if guard ( name )`
@@ -908,15 +908,15 @@ module _ (ts : List Tok) (proper : Proper ts) where
           let x : Run ts k (sign KeywordElse ∷ []) (k + 1) = row ts k KeywordElse (eqb-true (kindAt ts k) KeywordElse c) refl in
           let y : List Tok = sign LBrace ∷ (yield b ++ (sign RBrace ∷ [])) in
           braces (Halt code (ElseD true b k) ts Stmt d i) (k + 1) _
-          (wanted code (ElseD true b k) Stmt d i LBrace (kindAt ts (k + 1)) (k + 1)
-          (opened (guard (W ts) (thenBody b) (elseBody none)) (i-if-else (v .0) i-no-stmts) (sign LBrace ∷ sign RBrace ∷ [])
-          (ap headed (sym (append-assoc y (sign KeywordElse ∷ []) (sign LBrace ∷ sign RBrace ∷ [])))) (head ▸ v .1 ▸ x)))
+          (wanted-one code (ElseD true b k) Stmt d i LBrace (k + 1)
+          (fitting LBrace (guard (W ts) (thenBody b) (elseBody none)) (i-if-else (v .0) i-no-stmts) (sign LBrace ∷ sign RBrace ∷ [])
+          (ap headed (sym (append-assoc y (sign KeywordElse ∷ []) (sign LBrace ∷ sign RBrace ∷ [])))) (head ▸ v .1 ▸ x) refl))
           (λ f z. absurd (subst (λ (n : ℕ). BodyUnder ts n brace b k) z u))
           (λ d′ z why r f o.
-          wrap (λ l. guard (W ts) (thenBody b) (elseBody l))
+          shut (λ l. guard (W ts) (thenBody b) (elseBody l))
           (λ l s. around-it (isMisfit why) d d′ z (i-if-else (lax (isMisfit why) (then-is d′ z b k u)) s))
           (λ _ s h. at-first k (k + 1) (λ x. Parse.need x LBrace (B x) (k + 1)) (λ x e r. ok (guard (W x) (thenBody b) (elseBody e)) r) (omega arith) s (need-doom (k + 1) f s h))
-          (sign RBrace ∷ [])
+          (sign RBrace ∷ []) (λ _. refl)
           (λ l. ap headed (sym (append-assoc y (sign KeywordElse ∷ sign LBrace ∷ []) (yield l ++ (sign RBrace ∷ [])))))
           (head ▸ v .1 ▸ x ▸ row ts (k + 1) LBrace f refl) o)
           (λ l r q f s. tt)
@@ -935,12 +935,12 @@ module _ (ts : List Tok) (proper : Proper ts) where
       unfolding yield
       bodies-stuck =
           braces (Halt code BodiesD ts Stmt d i) brace (bodies ts)
-          (wanted code BodiesD Stmt d i LBrace (kindAt ts brace) brace
-          (opened (guard (W ts) (thenBody none) none) (i-if i-no-stmts) (sign LBrace ∷ sign RBrace ∷ []) refl head))
+          (wanted-one code BodiesD Stmt d i LBrace brace
+          (fitting LBrace (guard (W ts) (thenBody none) none) (i-if i-no-stmts) (sign LBrace ∷ sign RBrace ∷ []) refl head refl))
           (λ f z. too-deep code BodiesD Stmt d i brace i (brace-row ts i f)
           (opened (plain (num 0)) (i-plain nought) (value 0 ∷ sign Semicolon ∷ []) refl (run-none ts i (front .inside))))
-          (λ d′ z why r f o. wrap (λ l. guard (W ts) (thenBody l) none) (λ l s. around-it (isMisfit why) d d′ z (i-if s))
-          (λ _ s h. at-first brace brace (λ x. Parse.need x LBrace (B x) brace) bodies (omega arith) s (need-doom brace f s h)) (sign RBrace ∷ [])
+          (λ d′ z why r f o. shut (λ l. guard (W ts) (thenBody l) none) (λ l s. around-it (isMisfit why) d d′ z (i-if s))
+          (λ _ s h. at-first brace brace (λ x. Parse.need x LBrace (B x) brace) bodies (omega arith) s (need-doom brace f s h)) (sign RBrace ∷ []) (λ _. refl)
           (λ l. ap (λ (x : List Tok). headed (sign LBrace ∷ x)) (append-nil (yield l ++ (sign RBrace ∷ [])))) (head ▸ row ts brace LBrace f refl) o)
           (λ b k q e u. let z : (d′ : ℕ) × (d ≡ suc d′) = body-some d brace b k u in
           stuck-as (Halt code (ElseD (eqb (kindAt ts k) KeywordElse) b k) ts Stmt d i) (Halt code BodiesD ts Stmt d i) (bodies ts b k)
@@ -953,26 +953,43 @@ module _ (ts : List Tok) (proper : Proper ts) where
     -- an expression and `;`, behind rows that were read from row i on
     ended : (D : ℕ → Type 0) (i j : ℕ) (xs : List Tok) (F : Tree → Tree) → ((b : Bool) (x : Bool) (u : Tree) → Is b Add (over x d) u → Is b Stmt (over x d) (F u))
         → ((u : Tree) → yield (F u) ≡ xs ++ (yield u ++ (sign Semicolon ∷ []))) → Run ts i xs j → Start ts j → ((s : ℕ) → Dooms j (λ x. Parse.expr x d j) s → D s)
-        → Stuck (Halt code D ts Stmt d i) (then (Parse.expr ts d j) (λ u k. Parse.want ts Semicolon (ok (F u)) k))
+        → Stuck (Halt code D ts Stmt d i) (then (Parse.expr ts d j) (λ u k. Parse.end ts Semicolon u (ok (F u)) k))
+    unfolding Parse.end
     ended D i j xs F made spells x h doom =
         then-stuck (Halt code D ts Stmt d i) (Reads ts Add d j) (Parse.expr ts d j) _ (expr-sound ts d j)
         (stuck-as (Halt code (Dooms j (λ x. Parse.expr x d j)) ts Add d j) (Halt code D ts Stmt d i) (Parse.expr ts d j) (expr-stuck d j h)
-        (λ why r o. wrap F (made (isCheck why) (isMisfit why)) (λ _. doom) (sign Semicolon ∷ []) spells x o))
-        (λ u k e r. last-halt code D Stmt d i Semicolon (F u) k
-        (opened (F u) (made false true u (lax true (r .is))) (sign Semicolon ∷ []) (spells u ∙ sym (append-assoc xs (yield u) (sign Semicolon ∷ []))) (x ▸ run-of r)))
+        (λ why r o. wrap F (made (isCheck why) (isMisfit why)) (λ _. doom) (sign Semicolon ∷ []) refl spells x o))
+        (λ u k e r. end-halt code D Stmt d i (only Semicolon) Semicolon u (ok (F u)) k refl
+        (onward-open F (sign Semicolon ∷ []) (made false true) spells x u (run-of r) (only Semicolon) (Semicolon ∷ []) refl (h .undotted)
+        (λ n o. add-on ts proper k (lax true (r .is)) o)
+        (fitting Semicolon (F u) (made false true u (lax true (r .is))) (sign Semicolon ∷ []) (spells u ∙ sym (append-assoc xs (yield u) (sign Semicolon ∷ [])))
+        (x ▸ run-of r) refl and done)) (λ e. tt))
 
-    assign-by : (c : Bool) (i : ℕ) (e : Tree) (j : ℕ) → isAssign (kindAt ts j) ≡ c → Reads ts Add d i e j
+    -- behind the expression e that begins a statement
+    plain-open : (i : ℕ) (e : Tree) (j : ℕ) → Start ts i → Reads ts Add d i e j → (n : ℕ) → has (Parse.onward ts e j + (only Semicolon + assigns)) n ≡ true
+        → Open false true ts Stmt d i j n
+    unfolding yield
+    plain-open i e j h r =
+        let q : Is false Add (suc d) e = lax true (r .is) in
+        onward-open plain (sign Semicolon ∷ []) (λ u s. i-plain s) (λ u. refl) (run-none ts i (h .inside)) e (run-of r) (only Semicolon + assigns)
+        (Semicolon ∷ Equals ∷ PlusEquals ∷ []) refl (h .undotted) (λ n o. add-on ts proper j q o)
+        (fitting Semicolon (plain e) (i-plain q) (sign Semicolon ∷ []) refl (run-of r) refl
+        and fitting Equals (assign Equals e (num 0)) (i-assign refl q nought) (sign Equals ∷ value 0 ∷ sign Semicolon ∷ []) refl (run-of r) refl
+        and fitting PlusEquals (assign PlusEquals e (num 0)) (i-assign refl q nought) (sign PlusEquals ∷ value 0 ∷ sign Semicolon ∷ []) refl (run-of r) refl
+        and done)
+
+    assign-by : (c : Bool) (i : ℕ) (e : Tree) (j : ℕ) → isAssign (kindAt ts j) ≡ c → Start ts i → Reads ts Add d i e j
         → Stuck (Halt code (Dooms j (λ x. Parse.assignBy x d (B x) c e j)) ts Stmt d i) (Parse.assignBy ts d (B ts) c e j)
     unfolding Parse.assignBy yield
-    assign-by true i e j c r =
+    assign-by true i e j c h r =
         ended (Dooms j (λ x. Parse.assignBy x d (B x) true e j)) i (j + 1) (yield e ++ (sign (kindAt ts j) ∷ [])) (λ u. assign (kindAt ts j) e u)
         (λ b x u s. i-assign c (lax x (r .is)) s)
         (λ u. sym (append-assoc (yield e) (sign (kindAt ts j) ∷ []) (yield u ++ (sign Semicolon ∷ []))))
-        (run-of r ▸ row ts j (kindAt ts j) refl (assign-mark (kindAt ts j) c)) (start ts j (kindAt ts j) refl (assign-mark (kindAt ts j) c))
-        (at-first j (j + 1) (λ x. Parse.expr x d (j + 1)) (λ x r k. Parse.want x Semicolon (ok (assign (kindAt x j) e r)) k) (omega arith))
-    assign-by false i e j c r =
-        last-halt code (Dooms j (λ x. Parse.assignBy x d (B x) false e j)) Stmt d i Semicolon (plain e) j
-        (opened (plain e) (i-plain (lax true (r .is))) (sign Semicolon ∷ []) refl (run-of r))
+        (run-of r ▸ row ts j (kindAt ts j) refl (assign-mark (kindAt ts j) c)) (start ts j (kindAt ts j) refl (assign-mark (kindAt ts j) c) (joins-apart isAssign refl (kindAt ts j) c))
+        (at-first j (j + 1) (λ x. Parse.expr x d (j + 1)) (λ x r k. Parse.end x Semicolon r (ok (assign (kindAt x j) e r)) k) (omega arith))
+    assign-by false i e j c h r =
+        end-halt code (Dooms j (λ x. Parse.assignBy x d (B x) false e j)) Stmt d i (only Semicolon + assigns) Semicolon e (ok (plain e)) j refl (plain-open i e j h r)
+        (λ q. tt)
 
     abbrev StmtD : StmtLead → ℕ → ℕ → Type 0
     StmtD l i = Dooms i (λ x. Parse.stmtBy x d (B x) l i)
@@ -1003,28 +1020,28 @@ module _ (ts : List Tok) (proper : Proper ts) where
     stmt-by declaring i b h =
         let x : Run ts i (sign (kindAt ts i) ∷ []) (i + 1) = row ts i (kindAt ts i) refl (declaring-mark (kindAt ts i) b) in
         named-halt code (StmtD declaring i) Stmt d i _ (i + 1)
-        (opened (decl (kindAt ts i) [] (num 0)) (i-decl b nought) (name [] ∷ sign Equals ∷ value 0 ∷ sign Semicolon ∷ []) refl x) (λ f.
+        (fitting Identifier (decl (kindAt ts i) [] (num 0)) (i-decl b nought) (name [] ∷ sign Equals ∷ value 0 ∷ sign Semicolon ∷ []) refl x refl) (λ f.
         want-halt code (StmtD declaring i) Stmt d i Equals _ (i + 1 + 1)
-        (opened (decl (kindAt ts i) _ (num 0)) (i-decl b nought) (sign Equals ∷ value 0 ∷ sign Semicolon ∷ []) refl (x ▸ name-row ts (i + 1) f)) (λ s.
+        (fitting Equals (decl (kindAt ts i) _ (num 0)) (i-decl b nought) (sign Equals ∷ value 0 ∷ sign Semicolon ∷ []) refl (x ▸ name-row ts (i + 1) f) refl) (λ s.
         ended (StmtD declaring i) i (i + 1 + 1 + 1) _ (λ u. decl (kindAt ts i) (spellingOf (tokAt ts (i + 1))) u) (λ c y u o. i-decl b o) (λ u. refl)
-        (x ▸ name-row ts (i + 1) f ▸ row ts (i + 1 + 1) Equals s refl) (start ts (i + 1 + 1) Equals s refl) (decl-doom i f s)))
+        (x ▸ name-row ts (i + 1) f ▸ row ts (i + 1 + 1) Equals s refl) (start ts (i + 1 + 1) Equals s refl refl) (decl-doom i f s)))
     stmt-by returning i b h =
-        ended (StmtD returning i) i (i + 1) _ ret (λ c y u o. i-ret o) (λ u. refl) (row ts i KeywordReturn b refl) (start ts i KeywordReturn b refl)
-        (at-first i (i + 1) (λ x. Parse.expr x d (i + 1)) (λ x e k. Parse.want x Semicolon (ok (ret e)) k) (omega arith))
+        ended (StmtD returning i) i (i + 1) _ ret (λ c y u o. i-ret o) (λ u. refl) (row ts i KeywordReturn b refl) (start ts i KeywordReturn b refl refl)
+        (at-first i (i + 1) (λ x. Parse.expr x d (i + 1)) (λ x e k. Parse.end x Semicolon e (ok (ret e)) k) (omega arith))
     stmt-by branching i b h =
         let x : Run ts i (sign KeywordIf ∷ []) (i + 1) = row ts i KeywordIf b refl in
         want-halt code (StmtD branching i) Stmt d i KeywordGuard _ (i + 1)
-        (opened (guard [] (thenBody none) none) (i-if i-no-stmts) (sign KeywordGuard ∷ sign LParen ∷ name [] ∷ sign RParen ∷ sign LBrace ∷ sign RBrace ∷ []) refl x)
+        (fitting KeywordGuard (guard [] (thenBody none) none) (i-if i-no-stmts) (sign KeywordGuard ∷ sign LParen ∷ name [] ∷ sign RParen ∷ sign LBrace ∷ sign RBrace ∷ []) refl x refl)
         (λ e.
         want-halt code (StmtD branching i) Stmt d i LParen _ (i + 1 + 1)
-        (opened (guard [] (thenBody none) none) (i-if i-no-stmts) (sign LParen ∷ name [] ∷ sign RParen ∷ sign LBrace ∷ sign RBrace ∷ []) refl
-        (x ▸ row ts (i + 1) KeywordGuard e refl)) (λ f.
+        (fitting LParen (guard [] (thenBody none) none) (i-if i-no-stmts) (sign LParen ∷ name [] ∷ sign RParen ∷ sign LBrace ∷ sign RBrace ∷ []) refl
+        (x ▸ row ts (i + 1) KeywordGuard e refl) refl) (λ f.
         let y : Run ts i (sign KeywordIf ∷ sign KeywordGuard ∷ sign LParen ∷ []) (i + 1 + 1 + 1) =
         x ▸ row ts (i + 1) KeywordGuard e refl ▸ row ts (i + 1 + 1) LParen f refl in
         named-halt code (StmtD branching i) Stmt d i _ (i + 1 + 1 + 1)
-        (opened (guard [] (thenBody none) none) (i-if i-no-stmts) (name [] ∷ sign RParen ∷ sign LBrace ∷ sign RBrace ∷ []) refl y) (λ s.
+        (fitting Identifier (guard [] (thenBody none) none) (i-if i-no-stmts) (name [] ∷ sign RParen ∷ sign LBrace ∷ sign RBrace ∷ []) refl y refl) (λ s.
         want-halt code (StmtD branching i) Stmt d i RParen _ (i + 1 + 1 + 1 + 1)
-        (opened (guard _ (thenBody none) none) (i-if i-no-stmts) (sign RParen ∷ sign LBrace ∷ sign RBrace ∷ []) refl (y ▸ name-row ts (i + 1 + 1 + 1) s)) (λ c.
+        (fitting RParen (guard _ (thenBody none) none) (i-if i-no-stmts) (sign RParen ∷ sign LBrace ∷ sign RBrace ∷ []) refl (y ▸ name-row ts (i + 1 + 1 + 1) s) refl) (λ c.
         stuck-as (Halt code (BodiesD i h (y ▸ name-row ts (i + 1 + 1 + 1) s ▸ row ts (i + 1 + 1 + 1 + 1) RParen c refl)) ts Stmt d i) (Halt code (StmtD branching i) ts Stmt d i)
         (Parse.bodies ts d (B ts) (spellingOf (tokAt ts (i + 1 + 1 + 1))) (i + 1 + 1 + 1 + 1 + 1))
         (bodies-stuck i h (y ▸ name-row ts (i + 1 + 1 + 1) s ▸ row ts (i + 1 + 1 + 1 + 1) RParen c refl))
@@ -1033,9 +1050,9 @@ module _ (ts : List Tok) (proper : Proper ts) where
         let f : List Tok → Tree → P = λ x e j. Parse.assignBy x d (B x) (isAssign (kindAt x j)) e j in
         then-stuck (Halt code (StmtD expression i) ts Stmt d i) (Reads ts Add d i) (Parse.expr ts d i) (f ts) (expr-sound ts d i)
         (stuck-as (Halt code (Dooms i (λ x. Parse.expr x d i)) ts Add d i) (Halt code (StmtD expression i) ts Stmt d i) (Parse.expr ts d i) (expr-stuck d i h)
-        (λ why r o. wrap plain (λ u s. i-plain s) (λ _. at-first i i (λ x. Parse.expr x d i) f (omega arith)) (sign Semicolon ∷ []) (λ u. refl) (run-none ts i (h .inside)) o))
+        (λ why r o. wrap plain (λ u s. i-plain s) (λ _. at-first i i (λ x. Parse.expr x d i) f (omega arith)) (sign Semicolon ∷ []) refl (λ u. refl) (run-none ts i (h .inside)) o))
         (λ e j q r. stuck-as (Halt code (Dooms j (λ x. Parse.assignBy x d (B x) (isAssign (kindAt ts j)) e j)) ts Stmt d i) (Halt code (StmtD expression i) ts Stmt d i) (f ts e j)
-        (assign-by (isAssign (kindAt ts j)) i e j refl r)
+        (assign-by (isAssign (kindAt ts j)) i e j refl h r)
         (λ why k o. widen (λ s h. at-next i j (i + 1) i (λ x. Parse.expr x d i) f e q (omega (arith, r .next)) (expr-alike d i) s
         (at-kind (λ x m. Parse.assignBy x d (B x) (isAssign m) e j) j s h)) o))
 
@@ -1053,8 +1070,10 @@ module _ (ts : List Tok) (proper : Proper ts) where
       let q : List Tok → Out = λ x. Parse.listTo x RBrace bodyThings (Parse.stmt x d (Parse.body x d)) (o + 1) in
       then-any (Halt code (Dooms (o + 1) (λ x. then (q x) (λ l j. ok l (j + 1)))) ts Stmts d (o + 1)) (q ts) (λ l j. ok l (j + 1))
       (stuck-as (Halt code (Dooms (o + 1) q) ts Stmts d (o + 1)) (Halt code (Dooms (o + 1) (λ x. then (q x) (λ l j. ok l (j + 1)))) ts Stmts d (o + 1)) (q ts)
-      (list-stuck code Stmts Stmt d (λ b n. i-no-stmts) (λ b n l s a c. i-stmts a c) (omega arith) (Start ts) (λ x. Parse.stmt x d (Parse.body x d)) (stmt-sound ts d)
-      (stmt-starts ts d) (stmt-alike d) (stmt-over d (body-stuck d)) RBrace (o + 1) (h .inside) h)
+      (list-stuck code Stmts Stmt d (λ b n. i-no-stmts) (λ b n l s a c. i-stmts a c) (omega arith) (Start ts) bodyThings RBrace stmtKinds refl refl refl (stmt-begins d)
+      (λ n l s e. stmts-else s e) (λ x. Parse.stmt x d (Parse.body x d)) (stmt-sound ts d) (stmt-starts ts d) (stmt-alike d)
+      (λ i l y. stuck-as (Halt code (Dooms i (λ x. Parse.stmt x d (Parse.body x d) i)) ts Stmt d i) (Thing code Stmt d bodyThings (λ x. Parse.stmt x d (Parse.body x d)) i)
+      (Parse.stmt ts d (Parse.body ts d) i) (stmt-over d (body-stuck d) i l y) (λ why r x. inside x)) (o + 1) (h .inside) h)
       (λ why r x. widen (at-first (o + 1) (o + 1) q (λ x l j. ok l (j + 1)) (omega arith)) x))
       (λ l j. tt)
 
