@@ -11,7 +11,7 @@ use lib.Seq.{take-append-seam}
 use borrow.Author.Tests.{eqb-true, eq-eqb}
 use Rattle.rules.specs.declared.Syntax.{Syntax}
 use Rattle.rules.specs.declared.Syntax.the-variants.{Wanted, NotTopLevel, NotMapField, MapTypeUnknown, NotType, MaxNegative, OutOfRange, ShiftCount, MapLacks, NotEventType, CallOnOther, TooDeep}
-use Rattle.rules.specs.Kinds.{KeywordUnit, KeywordReturn, KeywordMap, KeywordType, KeywordKey, KeywordValue, KeywordMax, KeywordIf, KeywordElse, KeywordGuard, KeywordEvent, LBrace, RBrace, LParen, RParen, Colon, Dot, Comma, Semicolon, LBracket, RBracket, Equals, PlusEquals, Star, Shl, Identifier, StringLiteral, Number, KeywordBytes, Eof}
+use Rattle.rules.specs.Kinds.{TypeU32, TypeU64, TypeI32, TypeI64, KeywordUnit, KeywordReturn, KeywordMap, KeywordType, KeywordKey, KeywordValue, KeywordMax, KeywordIf, KeywordElse, KeywordGuard, KeywordEvent, LBrace, RBrace, LParen, RParen, Colon, Dot, Comma, Semicolon, LBracket, RBracket, Equals, PlusEquals, Star, Shr, Shl, Identifier, StringLiteral, Number, KeywordBytes, Eof}
 use Rattle.rules.specs.Tree.{Tok, sign, name, value, string, kindOf, spellingOf, bitsIn, Tree, none, num, star, group, field, call, bin, one, more, decl, ret, plain, assign, guard, thenBody, elseBody, seq, text, unit, mapType, typed, limit, first, shifted, mapDecl, plainField, bytesField, arrayField, event, program, yield, isVariable, hangs, mapTypeNumber, maxBits, typeOf, typedBy, limitOf, lacking}
 use Rattle.rules.specs.Refusals.{syntaxNumber}
 use Rattle.rules.specs.Fits.{only, has, operands, assigns, shifts, firstArguments, bodyThings, unitThings, eventFields, tops, mapFields, types, eventTypes, wrong, setTold, retold}
@@ -1087,11 +1087,11 @@ module _ (ts : List Tok) (proper : Proper ts) where
   item-by true i c h =
       let x : Run ts i (sign (kindAt ts i) ∷ []) (i + 1) = row ts i (kindAt ts i) refl (text-mark (kindAt ts i) c) in
       let D : ℕ → Type 0 = Dooms i (λ x. Parse.itemBy x true i) in
-      quoted-halt code D Item 64 i _ (i + 1) (opened (text (kindAt ts i) []) (i-text c) (string [] ∷ sign Semicolon ∷ []) refl x) (λ e.
-      last-halt code D Item 64 i Semicolon _ (i + 1 + 1) (opened (text (kindAt ts i) _) (i-text c) (sign Semicolon ∷ []) refl (x ▸ string-row ts (i + 1) e)))
+      quoted-halt code D Item 64 i _ (i + 1) (fitting StringLiteral (text (kindAt ts i) []) (i-text c) (string [] ∷ sign Semicolon ∷ []) refl x refl) (λ e.
+      last-halt code D Item 64 i Semicolon _ (i + 1 + 1) (fitting Semicolon (text (kindAt ts i) _) (i-text c) (sign Semicolon ∷ []) refl (x ▸ string-row ts (i + 1) e) refl))
   item-by false i c h =
       stuck-as (Halt code (Dooms i (λ x. Parse.stmt x 64 (Parse.body x 64) i)) ts Stmt 64 i) (Halt code (Dooms i (λ x. Parse.stmt x 64 (Parse.body x 64) i)) ts Item 64 i)
-      (Parse.stmt ts 64 (Parse.body ts 64) i) (stmt-stuck 64 i h) (λ why r o. recast (λ u. u) (λ u s. i-stmt s) (λ _ s x. x) (λ u. refl) o)
+      (Parse.stmt ts 64 (Parse.body ts 64) i) (stmt-stuck 64 i h) (λ why r o. recast (λ u. u) (λ u s. i-stmt s) (λ _ s x. x) refl (λ u. refl) o)
 
   item-stuck : (i : ℕ) → i ≤ length ts → Start ts i → Stuck (Halt code (Dooms i (λ x. Parse.item x i)) ts Item 64 i) (Parse.item ts i)
   unfolding Parse.item
@@ -1105,29 +1105,34 @@ module _ (ts : List Tok) (proper : Proper ts) where
   unit-stuck : (i : ℕ) → kindAt ts i ≡ KeywordUnit → Stuck (Halt top (Dooms i (λ x. Parse.unitAt x i)) ts Decl 64 i) (Parse.unitAt ts i)
   unfolding Parse.unitAt yield
   unit-stuck i e =
-      braced-stuck code Items Item 64 (λ b n. i-no-items) (λ b n l s a c. i-items a c) (omega arith) (Start ts) Parse.item
-      (item-sound ts) (item-starts ts) item-alike item-stuck unit KeywordUnit i (λ x w l k. ok (unit w l) k) (sign RBrace ∷ [])
-      (λ b n w l s. i-unit s) (λ w l. refl) (row ts i KeywordUnit e refl) (λ b. start ts (i + 1 + 1) LBrace b refl) (λ w l j s r. tt)
+      braced-stuck code Items Item 64 (λ b n. i-no-items) (λ b n l s a c. i-items a c) (omega arith) (Start ts) unitThings RBrace itemKinds refl refl refl (item-begins 64)
+      (λ n l s e. items-else s e) Parse.item (item-sound ts) (item-starts ts) item-alike
+      (λ i l y. stuck-as (Halt code (Dooms i (λ x. Parse.item x i)) ts Item 64 i) (Thing code Item 64 unitThings Parse.item i) (Parse.item ts i) (item-stuck i l y)
+      (λ why r x. inside x))
+      refl (λ b. unit) KeywordUnit i (λ x w l k. ok (unit w l) k) (λ b. sign RBrace ∷ []) refl
+      (λ b n w l s. i-unit s) (λ b w l. refl) (row ts i KeywordUnit e refl) (λ b. start ts (i + 1 + 1) LBrace b refl refl) (λ w l j s r. tt)
 
   -- ---- maps
 
   -- a check is told in a map or an event: it is not 31
-  checked : (D : ℕ → Type 0) (N : Nt) (i r : ℕ) (why : Syntax) (s : ℕ) → isCheck why ≡ true → isMisfit why ≡ false → eqb (syntaxNumber why) 31 ≡ false
-      → s ≡ lost ts why r → Open true false ts N 64 i s → Halt fields D ts N 64 i why r
-  checked D N i r why s b m x e o = record {
+  checked : {k : ℕ} (D : ℕ → Type 0) (N : Nt) (i r : ℕ) (why : Syntax) (s : ℕ) → isCheck why ≡ true → isMisfit why ≡ false → eqb (syntaxNumber why) 31 ≡ false
+      → s ≡ lost ts why r → Open true false ts N 64 i s k → Halt fields D ts N 64 i why r
+  checked {k} D N i r why s b m x e o = record {
     row = s;
     at = own e;
     arises = λ q. true≢false (sym (ap (λ (y : Syntax). eqb (syntaxNumber y) 31) q) ∙ x);
-    begun = subst (λ (y : Bool). Open y (isMisfit why) ts N 64 i s) (sym b) (subst (λ (y : Bool). Open true y ts N 64 i s) (sym m) o);
+    wish = 0;
+    due = λ q. absurd (true≢false (sym q ∙ m));
+    begun = λ n q. subst (λ (y : Bool). Open y (isMisfit why) ts N 64 i s n) (sym b) (subst (λ (y : Bool). Open true y ts N 64 i s n) (sym m) (any-next o));
     dooms = λ q. absurd (true≢false (sym (ap (λ (y : Syntax). eqb (syntaxNumber y) 31) q) ∙ x));
   }
 
   -- the chain c with one more shift, whose sign is at row k
-  next-shift : (b x : Bool) (i : ℕ) (c : Tree) (k : ℕ) → Reads ts Chain 64 i c k → isShift (kindAt ts k) ≡ true → Open b x ts Chain 64 i (k + 1)
+  next-shift : (b x : Bool) (i : ℕ) (c : Tree) (k : ℕ) → Reads ts Chain 64 i c k → isShift (kindAt ts k) ≡ true → Open b x ts Chain 64 i (k + 1) Number
   unfolding yield
   next-shift b x i c k r s =
-      opened (shifted (kindAt ts k) c 0) (i-shifted (lax x (r .is)) s (λ _. refl)) (value 0 ∷ [])
-      (sym (append-assoc (yield c) (sign (kindAt ts k) ∷ []) (value 0 ∷ []))) (run-of r ▸ row ts k (kindAt ts k) refl (shift-mark (kindAt ts k) s))
+      fitting Number (shifted (kindAt ts k) c 0) (i-shifted (lax x (r .is)) s (λ _. refl)) (value 0 ∷ [])
+      (sym (append-assoc (yield c) (sign (kindAt ts k) ∷ []) (value 0 ∷ []))) (run-of r ▸ row ts k (kindAt ts k) refl (shift-mark (kindAt ts k) s)) refl
 
   count-by : (D : ℕ → Type 0) (b : Bool) (i : ℕ) (c : Tree) (k v : ℕ) → Reads ts Chain 64 i c k → isShift (kindAt ts k) ≡ true
       → Stuck (Halt fields D ts Chain 64 i) (Parse.countBy ts b c k v (k + 1 + 1))
@@ -1152,7 +1157,7 @@ module _ (ts : List Tok) (proper : Proper ts) where
   chain-stuck : (D : ℕ → Type 0) (i : ℕ) → i ≤ length ts → Stuck (Halt fields D ts Chain 64 i) (Parse.chain ts i)
   unfolding Parse.chain Parse.loop yield
   chain-stuck D i h =
-      valued-halt fields D Chain 64 i _ i (opened (first 0) i-first (value 0 ∷ []) refl (run-none ts i h)) (λ e.
+      valued-halt fields D Chain 64 i _ i (fitting Number (first 0) i-first (value 0 ∷ []) refl (run-none ts i h) refl) (λ e.
       chain-loop D i (suc (length ts)) (isShift (kindAt ts (i + 1))) _ (i + 1) refl (reads i-first (value-row ts i e)))
 
   -- behind the name at row j
@@ -1162,75 +1167,119 @@ module _ (ts : List Tok) (proper : Proper ts) where
   type-by D true i w j x y b =
       checked D MapField i (j + 1) MapTypeUnknown j refl refl refl (omega arith) (opened (mapType hash) i-hash (name hash ∷ sign Semicolon ∷ []) refl x)
   type-by D false i w j x y b =
-      last-halt fields D MapField 64 i Semicolon (mapType w) (j + 1) (opened (mapType w) (i-type aside) (sign Semicolon ∷ []) refl (x ▸ y))
+      last-halt fields D MapField 64 i Semicolon (mapType w) (j + 1) (fitting Semicolon (mapType w) (i-type aside) (sign Semicolon ∷ []) refl (x ▸ y) refl)
 
   key-by : (D : ℕ → Type 0) (b : Bool) (i : ℕ) → isTyped (kindAt ts i) ≡ true → kindAt ts (i + 1) ≡ Colon → isType (kindAt ts (i + 1 + 1)) ≡ b
       → Stuck (Halt fields D ts MapField 64 i) (Parse.keyBy ts b (kindAt ts i) (i + 1 + 1))
-  unfolding Parse.keyBy yield isCheck isMisfit
+  unfolding Parse.keyBy yield isCheck isMisfit setTold
   key-by D true i e f b =
-      last-halt fields D MapField 64 i Semicolon _ (i + 1 + 1 + 1) (opened (typed (kindAt ts i) (kindAt ts (i + 1 + 1))) (i-typed e b) (sign Semicolon ∷ []) refl
+      last-halt fields D MapField 64 i Semicolon _ (i + 1 + 1 + 1) (fitting Semicolon (typed (kindAt ts i) (kindAt ts (i + 1 + 1))) (i-typed e b) (sign Semicolon ∷ []) refl
       (row ts i (kindAt ts i) refl (typed-mark (kindAt ts i) e) ▸ row ts (i + 1) Colon f refl ▸ row ts (i + 1 + 1) (kindAt ts (i + 1 + 1)) refl
-      (type-mark (kindAt ts (i + 1 + 1)) b)))
+      (type-mark (kindAt ts (i + 1 + 1)) b)) refl)
   key-by D false i e f b =
-      unchecked fields D MapField 64 i NotType (cond (eqb (kindAt ts (i + 1 + 1)) Eof) (i + 1 + 1) (i + 1 + 1 + 1)) (i + 1 + 1) refl
-      (sym (type-lost ts i e f (eqb (kindAt ts (i + 1 + 1)) Eof)))
-      (opened (typed (kindAt ts i) 21) (i-typed e refl) (sign 21 ∷ sign Semicolon ∷ []) refl
-      (row ts i (kindAt ts i) refl (typed-mark (kindAt ts i) e) ▸ row ts (i + 1) Colon f refl))
+      misfit fields D MapField 64 i NotType (cond (eqb (kindAt ts (i + 1 + 1)) Eof) (i + 1 + 1) (i + 1 + 1 + 1)) (i + 1 + 1) TypeU32 refl refl
+      (sym (type-lost ts i e f (eqb (kindAt ts (i + 1 + 1)) Eof))) (holds types TypeU32 refl)
+      (each (Open false true ts MapField 64 i (i + 1 + 1)) types (TypeU32 ∷ TypeU64 ∷ TypeI32 ∷ TypeI64 ∷ []) refl
+      (with-type TypeU32 refl refl and with-type TypeU64 refl refl and with-type TypeI32 refl refl and with-type TypeI64 refl refl and done))
+    where
+      with-type : (t : ℕ) → isType t ≡ true → heads t (sign t ∷ sign Semicolon ∷ []) ≡ true → Open false true ts MapField 64 i (i + 1 + 1) t
+      with-type t q h =
+          fitting t (typed (kindAt ts i) t) (i-typed e q) (sign t ∷ sign Semicolon ∷ []) refl
+          (row ts i (kindAt ts i) refl (typed-mark (kindAt ts i) e) ▸ row ts (i + 1) Colon f refl) h
 
   -- a chain up to row k, which goes on with shifts that empty it
-  limited : (b x : Bool) (i : ℕ) (c : Tree) (k : ℕ) → Is true Chain 64 c → Run ts i (sign KeywordMax ∷ sign Colon ∷ yield c) k → Open b x ts MapField 64 i k
+  limited : (i : ℕ) (c : Tree) (k : ℕ) → Is true Chain 64 c → Run ts i (sign KeywordMax ∷ sign Colon ∷ yield c) k → Open true false ts MapField 64 i k 0
   unfolding yield
-  limited b x i c k h r =
-      opened (limit (emptied c)) (i-emptied (lax x h)) (sign Shl ∷ value 63 ∷ sign Shl ∷ value 1 ∷ sign Semicolon ∷ [])
+  limited i c k h r =
+      opened (limit (emptied c)) (i-emptied h) (sign Shl ∷ value 63 ∷ sign Shl ∷ value 1 ∷ sign Semicolon ∷ [])
       (ap (λ (l : List Tok). sign KeywordMax ∷ sign Colon ∷ l) (simp append-assoc)) r
+
+  -- which ends, or goes on with any shift
+  limit-open : (i : ℕ) (c : Tree) (k : ℕ) → Is true Chain 64 c → Run ts i (sign KeywordMax ∷ sign Colon ∷ yield c) k → (n : ℕ)
+      → has (only Semicolon + shifts) n ≡ true → Open false true ts MapField 64 i k n
+  unfolding yield
+  limit-open i c k h r =
+      each (Open false true ts MapField 64 i k) (only Semicolon + shifts) (Semicolon ∷ Shr ∷ Shl ∷ []) refl
+      (fitting Semicolon (limit c) (i-limit (lax true h) aside) (sign Semicolon ∷ []) refl r refl and by-shift Shr refl refl and by-shift Shl refl refl and done)
+    where
+      by-shift : (n : ℕ) → isShift n ≡ true → heads n (sign n ∷ []) ≡ true → Open false true ts MapField 64 i k n
+      by-shift n b e =
+          fitting n (limit (shifted n c 0)) (i-limit (i-shifted (lax true h) b aside) aside) (sign n ∷ value 0 ∷ sign Semicolon ∷ [])
+          (ap (λ (l : List Tok). sign KeywordMax ∷ sign Colon ∷ l) (append-assoc (yield c) (sign n ∷ value 0 ∷ []) (sign Semicolon ∷ []))) r e
 
   limit-by : (D : ℕ → Type 0) (a b : Bool) (i : ℕ) (c : Tree) (k : ℕ) → Is true Chain 64 c → ChainEnd ts c k → Run ts i (sign KeywordMax ∷ sign Colon ∷ yield c) k
       → Stuck (Halt fields D ts MapField 64 i) (Parse.limitBy ts a b c k)
   unfolding Parse.limitBy isCheck isMisfit lost
-  limit-by D true b i c k h e r = checked D MapField i k MaxNegative k refl refl refl refl (limited true false i c k h r)
-  limit-by D false true i c k h e r = checked D MapField i (k - 1) OutOfRange k refl refl refl (sym e) (limited true false i c k h r)
-  limit-by D false false i c k h e r = last-halt fields D MapField 64 i Semicolon (limit c) k (limited false true i c k h r)
+  limit-by D true b i c k h e r = checked D MapField i k MaxNegative k refl refl refl refl (limited i c k h r)
+  limit-by D false true i c k h e r = checked D MapField i (k - 1) OutOfRange k refl refl refl (sym e) (limited i c k h r)
+  limit-by D false false i c k h e r = 
+      want-in-halt fields D MapField 64 i (only Semicolon + shifts) Semicolon (ok (limit c)) k (holds (only Semicolon + shifts) Semicolon refl) (limit-open i c k h r) (λ q. tt)
 
-  field-by : (D : ℕ → Type 0) (l : FieldLead) (i : ℕ) → FieldIs (kindAt ts i) l → i ≤ length ts → Stuck (Halt fields D ts MapField 64 i) (Parse.mapFieldBy ts l i)
+  field-by : (D : ℕ → Type 0) (l : FieldLead) (i : ℕ) → FieldIs (kindAt ts i) l → (l ≡ nothing → ⊥) → i ≤ length ts → Stuck (Halt fields D ts MapField 64 i) (Parse.mapFieldBy ts l i)
   unfolding Parse.mapFieldBy yield isCheck isMisfit lost
-  field-by D typing i e h =
+  field-by D typing i e n h =
       let x : Run ts i (sign KeywordType ∷ []) (i + 1) = row ts i KeywordType e refl in
-      want-halt fields D MapField 64 i Colon _ (i + 1) (opened (mapType []) (i-type aside) (sign Colon ∷ sign Dot ∷ name [] ∷ sign Semicolon ∷ []) refl x) (λ f.
+      want-halt fields D MapField 64 i Colon _ (i + 1) (fitting Colon (mapType []) (i-type aside) (sign Colon ∷ sign Dot ∷ name [] ∷ sign Semicolon ∷ []) refl x refl) (λ f.
       let y : Run ts i (sign KeywordType ∷ sign Colon ∷ []) (i + 1 + 1) = x ▸ row ts (i + 1) Colon f refl in
-      want-halt fields D MapField 64 i Dot _ (i + 1 + 1) (opened (mapType []) (i-type aside) (sign Dot ∷ name [] ∷ sign Semicolon ∷ []) refl y) (λ q.
+      want-halt fields D MapField 64 i Dot _ (i + 1 + 1) (fitting Dot (mapType []) (i-type aside) (sign Dot ∷ name [] ∷ sign Semicolon ∷ []) refl y refl) (λ q.
       let z : Run ts i (sign KeywordType ∷ sign Colon ∷ sign Dot ∷ []) (i + 1 + 1 + 1) = y ▸ row ts (i + 1 + 1) Dot q refl in
-      named-halt fields D MapField 64 i _ (i + 1 + 1 + 1) (opened (mapType []) (i-type aside) (name [] ∷ sign Semicolon ∷ []) refl z) (λ c.
+      named-halt fields D MapField 64 i _ (i + 1 + 1 + 1) (fitting Identifier (mapType []) (i-type aside) (name [] ∷ sign Semicolon ∷ []) refl z refl) (λ c.
       type-by D (eqb (mapTypeNumber (spellingOf (tokAt ts (i + 1 + 1 + 1)))) 0) i _ (i + 1 + 1 + 1) z (name-row ts (i + 1 + 1 + 1) c) refl)))
-  field-by D keying i e h =
+  field-by D keying i e n h =
       want-halt fields D MapField 64 i Colon _ (i + 1)
-      (opened (typed (kindAt ts i) 21) (i-typed e refl) (sign Colon ∷ sign 21 ∷ sign Semicolon ∷ []) refl
-      (row ts i (kindAt ts i) refl (typed-mark (kindAt ts i) e))) (λ f.
+      (fitting Colon (typed (kindAt ts i) 21) (i-typed e refl) (sign Colon ∷ sign 21 ∷ sign Semicolon ∷ []) refl
+      (row ts i (kindAt ts i) refl (typed-mark (kindAt ts i) e)) refl) (λ f.
       key-by D (isType (kindAt ts (i + 1 + 1))) i e f refl)
-  field-by D limiting i e h =
+  field-by D limiting i e n h =
       let x : Run ts i (sign KeywordMax ∷ []) (i + 1) = row ts i KeywordMax e refl in
-      want-halt fields D MapField 64 i Colon _ (i + 1) (opened (limit (first 0)) (i-limit i-first aside) (sign Colon ∷ value 0 ∷ sign Semicolon ∷ []) refl x) (λ f.
+      want-halt fields D MapField 64 i Colon _ (i + 1) (fitting Colon (limit (first 0)) (i-limit i-first aside) (sign Colon ∷ value 0 ∷ sign Semicolon ∷ []) refl x refl) (λ f.
       let y : Run ts i (sign KeywordMax ∷ sign Colon ∷ []) (i + 1 + 1) = x ▸ row ts (i + 1) Colon f refl in
       then-stuck (Halt fields D ts MapField 64 i) (λ c k. Reads ts Chain 64 (i + 1 + 1) c k × ChainEnd ts c k) (Parse.chain ts (i + 1 + 1)) _
       (all-both (Reads ts Chain 64 (i + 1 + 1)) (ChainEnd ts) (Parse.chain ts (i + 1 + 1)) (chain-sound ts (i + 1 + 1)) (chain-end ts (i + 1) f))
       (stuck-as (Halt fields D ts Chain 64 (i + 1 + 1)) (Halt fields D ts MapField 64 i) (Parse.chain ts (i + 1 + 1)) (chain-stuck D (i + 1 + 1) (y .inside))
-      (λ why r o. wrap (λ c. limit (emptied c)) (λ c q. i-emptied q) (λ _ s x. x) (sign Shl ∷ value 63 ∷ sign Shl ∷ value 1 ∷ sign Semicolon ∷ [])
+      (λ why r o. wrap (λ c. limit (emptied c)) (λ c q. i-emptied q) (λ _ s x. x) (sign Shl ∷ value 63 ∷ sign Shl ∷ value 1 ∷ sign Semicolon ∷ []) refl
       (λ c. ap (λ (l : List Tok). sign KeywordMax ∷ sign Colon ∷ l) (simp append-assoc)) y o))
       (λ c k q r. limit-by D (leb (2 ^ 63) (maxBits c)) (not (leb (maxBits c) most32)) i c k (r .0 .is) (r .1) (y ▸ run-of (r .0))))
-  field-by D nothing i e h = unchecked fields D MapField 64 i NotMapField i i refl refl (opened (mapType []) (i-type aside) _ refl (run-none ts i h))
+  field-by D nothing i e n h = absurd (n refl)
 
-  map-field-stuck : (i : ℕ) → i ≤ length ts → Unit {0} → Stuck (Halt fields (Dooms i (λ x. Parse.mapField x i)) ts MapField 64 i) (Parse.mapField ts i)
-  unfolding Parse.mapField
-  map-field-stuck i h s = field-by (Dooms i (λ x. Parse.mapField x i)) (fieldLead (kindAt ts i)) i (field-is (kindAt ts i)) h
+  -- at a row that begins no field the whole list's set is told
+  map-field-stuck : (i : ℕ) → i ≤ length ts → Unit {0} → Stuck (Thing fields MapField 64 mapFields Parse.mapField i) (Parse.mapField ts i)
+  unfolding Parse.mapField Parse.mapFieldBy isMisfit isCheck lost setTold
+  map-field-stuck i h s = go (fieldLead (kindAt ts i)) refl
+    where
+      H : Syntax → ℕ → Type 0
+      H = Thing fields MapField 64 mapFields Parse.mapField i
 
-  -- what closes a map, behind its fields
-  abbrev closing : List Tok
-  closing =
+      found : (l : FieldLead) → fieldLead (kindAt ts i) ≡ l → (l ≡ nothing → ⊥) → Stuck H (Parse.mapFieldBy ts l i)
+      found l e n =
+          stuck-as (Halt fields (Dooms i (λ x. Parse.mapField x i)) ts MapField 64 i) H (Parse.mapFieldBy ts l i)
+          (field-by (Dooms i (λ x. Parse.mapField x i)) l i (subst (FieldIs (kindAt ts i)) e (field-is (kindAt ts i))) n h) (λ why r x. inside x)
+
+      go : (l : FieldLead) → fieldLead (kindAt ts i) ≡ l → Stuck H (Parse.mapFieldBy ts l i)
+      go typing e = found typing e (λ q. let z : _≡_ {A = ℕ} 0 1 = cc in omega arith)
+      go keying e = found keying e (λ q. let z : _≡_ {A = ℕ} 0 1 = cc in omega arith)
+      go limiting e = found limiting e (λ q. let z : _≡_ {A = ℕ} 0 1 = cc in omega arith)
+      go nothing e = strange refl refl refl refl refl
+
+  -- what closes a map, behind its fields: where the checks count, the fields that it lacks too
+  abbrev closing : Bool → List Tok
+  closing true =
       sign KeywordType ∷ sign Colon ∷ sign Dot ∷ name hash ∷ sign Semicolon ∷ sign KeywordKey ∷ sign Colon ∷ sign 21 ∷ sign Semicolon
       ∷ sign KeywordValue ∷ sign Colon ∷ sign 21 ∷ sign Semicolon ∷ sign KeywordMax ∷ sign Colon ∷ value 0 ∷ sign Semicolon ∷ sign RBrace ∷ []
+  closing false = sign RBrace ∷ []
 
-  map-spells : (w : List ℕ) (l : Tree) → yield (mapDecl w (filled l)) ≡ sign KeywordMap ∷ name w ∷ sign LBrace ∷ (yield l ++ closing)
+  abbrev completed : Bool → List ℕ → Tree → Tree
+  completed true w l = mapDecl w (filled l)
+  completed false w l = mapDecl w l
+
+  map-made : (b : Bool) (n : ℕ) (w : List ℕ) (l : Tree) → Is b MapFields n l → Is b Decl n (completed b w l)
+  map-made true n w l h = i-filled h
+  map-made false n w l h = i-map h aside
+
+  map-spells : (b : Bool) (w : List ℕ) (l : Tree) → yield (completed b w l) ≡ sign KeywordMap ∷ name w ∷ sign LBrace ∷ (yield l ++ closing b)
   unfolding yield
-  map-spells w l = ap (λ (x : List Tok). sign KeywordMap ∷ name w ∷ sign LBrace ∷ x) (simp append-assoc)
+  map-spells true w l = ap (λ (x : List Tok). sign KeywordMap ∷ name w ∷ sign LBrace ∷ x) (simp append-assoc)
+  map-spells false w l = refl
 
   -- behind the brace at row j
   map-end : (D : ℕ → Type 0) (f i : ℕ) (w : List ℕ) (l : Tree) (j : ℕ) → Is true MapFields 64 l → Run ts i (sign KeywordMap ∷ name w ∷ sign LBrace ∷ yield l) j
@@ -1238,7 +1287,7 @@ module _ (ts : List Tok) (proper : Proper ts) where
   unfolding Parse.mapEnd isCheck isMisfit lost
   map-end D zero i w l j h r = tt
   map-end D (suc f) i w l j h r =
-      loosely (checked D Decl i (j + 1) (MapLacks (suc f)) j refl refl refl (omega arith) (opened (mapDecl w (filled l)) (i-filled h) closing (map-spells w l) r))
+      loosely (checked D Decl i (j + 1) (MapLacks (suc f)) j refl refl refl (omega arith) (opened (mapDecl w (filled l)) (i-filled h) (closing true) (map-spells true w l) r))
 
   -- what stands behind the brace of a map
   abbrev mapEnds : List Tok → List ℕ → Tree → P
@@ -1247,9 +1296,10 @@ module _ (ts : List Tok) (proper : Proper ts) where
   map-stuck : (i : ℕ) → kindAt ts i ≡ KeywordMap → Stuck (Halt top (Dooms i (λ x. Parse.mapAt x i)) ts Decl 64 i) (Parse.mapAt ts i)
   unfolding Parse.mapAt
   map-stuck i e =
-      braced-stuck fields MapFields MapField 64 (λ b n. i-no-fields) (λ b n l s a c. i-fields a c) (omega arith) (λ j. Unit {0}) Parse.mapField
+      braced-stuck fields MapFields MapField 64 (λ b n. i-no-fields) (λ b n l s a c. i-fields a c) (omega arith) (λ j. Unit {0}) mapFields RBrace mapFieldKinds refl refl refl
+      (map-field-begins 65) (λ n l s e. map-fields-else s e) Parse.mapField
       (map-field-sound ts) (λ j. all-any (Parse.mapField ts j)) (λ j ts′ n a. map-field-local ts ts′ n a j) map-field-stuck
-      (λ w l. mapDecl w (filled l)) KeywordMap i mapEnds closing (λ b n w l q. i-filled q) map-spells (row ts i KeywordMap e refl) (λ b. tt)
+      refl completed KeywordMap i mapEnds closing refl map-made map-spells (row ts i KeywordMap e refl) (λ b. tt)
       (λ w l j h r. map-end (Dooms i (λ x. Parse.braced x mapFields (Parse.mapField x) (mapEnds x) i)) (lacking (typeOf l) (typedBy KeywordKey l) (typedBy KeywordValue l) (limitOf l)) i w l j h r)
 
   -- ---- events
@@ -1266,16 +1316,16 @@ module _ (ts : List Tok) (proper : Proper ts) where
     length-by true e =
         let v : ℕ = bitsIn (tokAt ts k) in
         want-halt fields D EventField 64 i RBracket _ (k + 1)
-        (opened (f v) (made false 65 v aside) (sign RBracket ∷ sign Semicolon ∷ [])
-        (spells v ∙ sym (append-assoc xs (value v ∷ []) (sign RBracket ∷ sign Semicolon ∷ []))) (x ▸ value-row ts k e)) (λ b.
+        (fitting RBracket (f v) (made false 65 v aside) (sign RBracket ∷ sign Semicolon ∷ [])
+        (spells v ∙ sym (append-assoc xs (value v ∷ []) (sign RBracket ∷ sign Semicolon ∷ []))) (x ▸ value-row ts k e) refl) (λ b.
         last-halt fields D EventField 64 i Semicolon (f v) (k + 1 + 1)
-        (opened (f v) (made false 65 v aside) (sign Semicolon ∷ []) (spells v ∙ sym (append-assoc xs (value v ∷ sign RBracket ∷ []) (sign Semicolon ∷ [])))
-        (x ▸ value-row ts k e ▸ row ts (k + 1) RBracket b refl)))
+        (fitting Semicolon (f v) (made false 65 v aside) (sign Semicolon ∷ []) (spells v ∙ sym (append-assoc xs (value v ∷ sign RBracket ∷ []) (sign Semicolon ∷ [])))
+        (x ▸ value-row ts k e ▸ row ts (k + 1) RBracket b refl) refl))
     length-by false e = checked D EventField i k OutOfRange k refl refl refl (sym length-lost) (opened (f 0) (made true 64 0 (λ _. refl)) _ (spells 0) x)
 
     length-stuck : Stuck (Halt fields D ts EventField 64 i) (Parse.lengthAt ts f k)
     unfolding Parse.lengthAt
-    length-stuck = valued-halt fields D EventField 64 i _ k (opened (f 0) (made false 65 0 aside) _ (spells 0) x) (λ e. length-by (leb (bitsIn (tokAt ts k)) most32) e)
+    length-stuck = valued-halt fields D EventField 64 i _ k (fitting Number (f 0) (made false 65 0 aside) _ (spells 0) x refl) (λ e. length-by (leb (bitsIn (tokAt ts k)) most32) e)
 
   module _ (D : ℕ → Type 0) (i : ℕ) (w : List ℕ) (x : Run ts i (name w ∷ sign Colon ∷ []) (i + 1 + 1)) where
     -- the row in front of a length
@@ -1290,51 +1340,79 @@ module _ (ts : List Tok) (proper : Proper ts) where
         length-stuck D i (i + 1 + 1 + 1 + 1) _ (λ v. arrayField w (kindAt ts (i + 1 + 1)) v) (λ b n v q. i-array-field t q) (λ v. refl)
         (x ▸ row ts (i + 1 + 1) (kindAt ts (i + 1 + 1)) refl (type-mark (kindAt ts (i + 1 + 1)) t) ▸ row ts (i + 1 + 1 + 1) LBracket b refl) (bracketed b)
     array-by false t c =
-        last-halt fields D EventField 64 i Semicolon _ (i + 1 + 1 + 1) (opened (plainField w (kindAt ts (i + 1 + 1))) (i-plain-field t) (sign Semicolon ∷ []) refl
-        (x ▸ row ts (i + 1 + 1) (kindAt ts (i + 1 + 1)) refl (type-mark (kindAt ts (i + 1 + 1)) t)))
+        let k : ℕ = kindAt ts (i + 1 + 1) in
+        let y : Run ts i (name w ∷ sign Colon ∷ sign k ∷ []) (i + 1 + 1 + 1) = x ▸ row ts (i + 1 + 1) k refl (type-mark k t) in
+        let s : ℕ = only Semicolon + only LBracket in
+        want-in-halt fields D EventField 64 i s Semicolon _ (i + 1 + 1 + 1) (holds s Semicolon refl)
+        (each (Open false true ts EventField 64 i (i + 1 + 1 + 1)) s (Semicolon ∷ LBracket ∷ []) refl
+        (fitting Semicolon (plainField w k) (i-plain-field t) (sign Semicolon ∷ []) refl y refl
+        and fitting LBracket (arrayField w k 0) (i-array-field t aside) (sign LBracket ∷ value 0 ∷ sign RBracket ∷ sign Semicolon ∷ []) refl y refl and done)) (λ q. tt)
 
     event-by : (l : EventLead) → EventIs (kindAt ts (i + 1 + 1)) l → Stuck (Halt fields D ts EventField 64 i) (Parse.eventTypeBy ts l w (i + 1 + 1))
-    unfolding Parse.eventTypeBy yield isCheck isMisfit lost
+    unfolding Parse.eventTypeBy yield isCheck isMisfit lost setTold
     event-by typeLead t = array-by (eqb (kindAt ts (i + 1 + 1 + 1)) LBracket) t refl
     event-by bytesLead t =
         let y : Run ts i (name w ∷ sign Colon ∷ sign KeywordBytes ∷ []) (i + 1 + 1 + 1) = x ▸ row ts (i + 1 + 1) KeywordBytes t refl in
         want-halt fields D EventField 64 i LBracket _ (i + 1 + 1 + 1)
-        (opened (bytesField w 0) (i-bytes-field aside) (sign LBracket ∷ value 0 ∷ sign RBracket ∷ sign Semicolon ∷ []) refl y) (λ b.
+        (fitting LBracket (bytesField w 0) (i-bytes-field aside) (sign LBracket ∷ value 0 ∷ sign RBracket ∷ sign Semicolon ∷ []) refl y refl) (λ b.
         length-stuck D i (i + 1 + 1 + 1 + 1) _ (λ v. bytesField w v) (λ b n v q. i-bytes-field q) (λ v. refl) (y ▸ row ts (i + 1 + 1 + 1) LBracket b refl) (bracketed b))
     event-by noLead t =
-        unchecked fields D EventField 64 i NotEventType (i + 1 + 1) (i + 1 + 1) refl refl (opened (plainField w 21) (i-plain-field refl) (sign 21 ∷ sign Semicolon ∷ []) refl x)
+        misfit fields D EventField 64 i NotEventType (i + 1 + 1) (i + 1 + 1) TypeU32 refl refl refl (holds eventTypes TypeU32 refl)
+        (each (Open false true ts EventField 64 i (i + 1 + 1)) eventTypes (TypeU32 ∷ TypeU64 ∷ TypeI32 ∷ TypeI64 ∷ KeywordBytes ∷ []) refl
+        (of-type TypeU32 refl refl and of-type TypeU64 refl refl and of-type TypeI32 refl refl and of-type TypeI64 refl refl
+        and fitting KeywordBytes (bytesField w 0) (i-bytes-field aside) (sign KeywordBytes ∷ sign LBracket ∷ value 0 ∷ sign RBracket ∷ sign Semicolon ∷ []) refl x refl
+        and done))
+      where
+        of-type : (k : ℕ) → isType k ≡ true → heads k (sign k ∷ []) ≡ true → Open false true ts EventField 64 i (i + 1 + 1) k
+        of-type k q h = fitting k (plainField w k) (i-plain-field q) (sign k ∷ sign Semicolon ∷ []) refl x h
 
-  event-field-stuck : (i : ℕ) → i ≤ length ts → Unit {0} → Stuck (Halt fields (Dooms i (λ x. Parse.eventField x i)) ts EventField 64 i) (Parse.eventField ts i)
+  event-field-stuck : (i : ℕ) → i ≤ length ts → Stuck (Halt fields (Dooms i (λ x. Parse.eventField x i)) ts EventField 64 i) (Parse.eventField ts i)
   unfolding Parse.eventField yield
-  event-field-stuck i h s =
+  event-field-stuck i h =
       let D : ℕ → Type 0 = Dooms i (λ x. Parse.eventField x i) in
-      named-halt fields D EventField 64 i _ i (opened (plainField [] 21) (i-plain-field refl) _ refl (run-none ts i h)) (λ e.
+      named-halt fields D EventField 64 i _ i (fitting Identifier (plainField [] 21) (i-plain-field refl) _ refl (run-none ts i h) refl) (λ e.
       want-halt fields D EventField 64 i Colon _ (i + 1)
-      (opened (plainField _ 21) (i-plain-field refl) (sign Colon ∷ sign 21 ∷ sign Semicolon ∷ []) refl (name-row ts i e)) (λ f.
+      (fitting Colon (plainField _ 21) (i-plain-field refl) (sign Colon ∷ sign 21 ∷ sign Semicolon ∷ []) refl (name-row ts i e) refl) (λ f.
       event-by D i _ (name-row ts i e ▸ row ts (i + 1) Colon f refl) (eventLead (kindAt ts (i + 1 + 1))) (event-is (kindAt ts (i + 1 + 1)))))
 
   event-stuck : (i : ℕ) → kindAt ts i ≡ KeywordEvent → Stuck (Halt top (Dooms i (λ x. Parse.eventAt x i)) ts Decl 64 i) (Parse.eventAt ts i)
   unfolding Parse.eventAt yield
   event-stuck i e =
-      braced-stuck fields EventFields EventField 64 (λ b n. i-no-event-fields) (λ b n l s a c. i-event-fields a c) (omega arith) (λ j. Unit {0}) Parse.eventField
-      (event-field-sound ts) (λ j. all-any (Parse.eventField ts j)) (λ j ts′ n a. event-field-local ts ts′ n a j) event-field-stuck
-      event KeywordEvent i (λ x w l k. ok (event w l) k) (sign RBrace ∷ []) (λ b n w l q. i-event q) (λ w l. refl) (row ts i KeywordEvent e refl) (λ b. tt) (λ w l j h r. tt)
+      braced-stuck fields EventFields EventField 64 (λ b n. i-no-event-fields) (λ b n l s a c. i-event-fields a c) (omega arith) (λ j. Unit {0}) eventFields RBrace
+      (Identifier ∷ []) refl refl refl (event-field-begins 65) (λ n l s e. event-fields-else s e) Parse.eventField
+      (event-field-sound ts) (λ j. all-any (Parse.eventField ts j)) (λ j ts′ n a. event-field-local ts ts′ n a j)
+      (λ i h y. stuck-as (Halt fields (Dooms i (λ x. Parse.eventField x i)) ts EventField 64 i) (Thing fields EventField 64 eventFields Parse.eventField i)
+      (Parse.eventField ts i) (event-field-stuck i h) (λ why r x. inside x))
+      refl (λ b. event) KeywordEvent i (λ x w l k. ok (event w l) k) (λ b. sign RBrace ∷ []) refl (λ b n w l q. i-event q) (λ b w l. refl) (row ts i KeywordEvent e refl)
+      (λ b. tt) (λ w l j h r. tt)
 
   -- ---- programs
 
-  top-by : (l : TopLead) (i : ℕ) → TopIs (kindAt ts i) l → i ≤ length ts → Stuck (Halt top (Dooms i (λ x. Parse.topBy x l i)) ts Decl 64 i) (Parse.topBy ts l i)
-  unfolding Parse.topBy yield isCheck isMisfit lost
-  top-by mapLead i e h = map-stuck i e
-  top-by unitLead i e h = unit-stuck i e
-  top-by eventTop i e h = event-stuck i e
-  top-by noTop i e h =
-      unchecked top (Dooms i (λ x. Parse.topBy x noTop i)) Decl 64 i NotTopLevel i i refl refl (opened (unit [] none) (i-unit i-no-items) _ refl (run-none ts i h))
+  top-by : (l : TopLead) (i : ℕ) → TopIs (kindAt ts i) l → (l ≡ noTop → ⊥) → Stuck (Halt top (Dooms i (λ x. Parse.topBy x l i)) ts Decl 64 i) (Parse.topBy ts l i)
+  unfolding Parse.topBy
+  top-by mapLead i e n = map-stuck i e
+  top-by unitLead i e n = unit-stuck i e
+  top-by eventTop i e n = event-stuck i e
+  top-by noTop i e n = absurd (n refl)
 
-  top-stuck : (i : ℕ) → i ≤ length ts → Unit {0} → Stuck (Halt top (Dooms i (λ x. Parse.top x i)) ts Decl 64 i) (Parse.top ts i)
-  unfolding Parse.top
-  top-stuck i h s =
-      stuck-as (Halt top (Dooms i (λ x. Parse.topBy x (topLead (kindAt ts i)) i)) ts Decl 64 i) (Halt top (Dooms i (λ x. Parse.topBy x (topLead (kindAt x i)) i)) ts Decl 64 i)
-      (Parse.topBy ts (topLead (kindAt ts i)) i) (top-by (topLead (kindAt ts i)) i (top-is (kindAt ts i)) h) (λ why r o. widen (at-kind (λ x k. Parse.topBy x (topLead k) i) i) o)
+  -- at a row that begins no declaration the whole list's set is told
+  top-stuck : (i : ℕ) → i ≤ length ts → Unit {0} → Stuck (Thing top Decl 64 tops Parse.top i) (Parse.top ts i)
+  unfolding Parse.top Parse.topBy isMisfit isCheck lost setTold
+  top-stuck i h s = go (topLead (kindAt ts i)) refl
+    where
+      H : Syntax → ℕ → Type 0
+      H = Thing top Decl 64 tops Parse.top i
+
+      found : (l : TopLead) → topLead (kindAt ts i) ≡ l → (l ≡ noTop → ⊥) → Stuck H (Parse.topBy ts l i)
+      found l e n =
+          stuck-as (Halt top (Dooms i (λ x. Parse.topBy x l i)) ts Decl 64 i) H (Parse.topBy ts l i) (top-by l i (subst (TopIs (kindAt ts i)) e (top-is (kindAt ts i))) n)
+          (λ why r x. inside (widen (λ s y. at-kind (λ x k. Parse.topBy x (topLead k) i) i s (subst (λ (m : TopLead). Dooms i (λ x. Parse.topBy x m i) s) (sym e) y)) x))
+
+      go : (l : TopLead) → topLead (kindAt ts i) ≡ l → Stuck H (Parse.topBy ts l i)
+      go mapLead e = found mapLead e (λ q. let z : _≡_ {A = ℕ} 0 1 = cc in omega arith)
+      go unitLead e = found unitLead e (λ q. let z : _≡_ {A = ℕ} 0 1 = cc in omega arith)
+      go eventTop e = found eventTop e (λ q. let z : _≡_ {A = ℕ} 0 1 = cc in omega arith)
+      go noTop e = strange refl refl refl refl refl
 
   parse-stuck : Stuck (Halt top (Dooms 0 Parse.parse) ts Program 64 0) (Parse.parse ts)
   unfolding Parse.parse yield
@@ -1342,9 +1420,9 @@ module _ (ts : List Tok) (proper : Proper ts) where
       let q : List Tok → Out = λ x. Parse.listTo x Eof tops (Parse.top x) 0 in
       then-any (Halt top (Dooms 0 Parse.parse) ts Program 64 0) (q ts) _
       (stuck-as (Halt top (Dooms 0 q) ts Decls 64 0) (Halt top (Dooms 0 Parse.parse) ts Program 64 0) (q ts)
-      (list-stuck top Decls Decl 64 (λ b n. i-no-decls) (λ b n l s a c. i-decls a c) (omega arith) (λ j. Unit {0}) Parse.top (top-sound ts)
-      (λ j. all-any (Parse.top ts j)) (λ j ts′ n a. top-local ts ts′ n a j) top-stuck Eof 0 (omega arith) tt)
-      (λ why r o. wrap program (λ l s. i-program s) (λ _. at-first 0 0 q (λ x l j. ok (program l) (j + 1)) (omega arith)) (sign Eof ∷ []) (λ l. refl)
+      (list-stuck top Decls Decl 64 (λ b n. i-no-decls) (λ b n l s a c. i-decls a c) (omega arith) (λ j. Unit {0}) tops Eof declKinds refl refl refl (decl-begins 65)
+      (λ n l s e. decls-else s e) Parse.top (top-sound ts) (λ j. all-any (Parse.top ts j)) (λ j ts′ n a. top-local ts ts′ n a j) top-stuck 0 (omega arith) tt)
+      (λ why r o. shut program (λ l s. i-program s) (λ _. at-first 0 0 q (λ x l j. ok (program l) (j + 1)) (omega arith)) (sign Eof ∷ []) (λ _. refl) (λ l. refl)
       (run-none ts 0 (omega arith)) o))
       (λ l j. tt)
 
