@@ -177,12 +177,20 @@ pub fitting : {b x : Bool} {ts : List Tok} {N : Nt} {d i s : ℕ} {xs : List Tok
 fitting {xs = xs} k t h zs e r n = record { tree = t; is = h; read = xs; rest = zs; spells = e; run = r; next = λ _. n }
 
 -- whatever comes next
-pub opened : {b : Bool} {ts : List Tok} {N : Nt} {d i s k : ℕ} {xs : List Tok} (t : Tree) → Is b N d t → (zs : List Tok) → yield t ≡ xs ++ zs
-    → Run ts i xs s → Open b false ts N d i s k
+pub opened : {b : Bool} {ts : List Tok} {N : Nt} {d i s : ℕ} {xs : List Tok} (t : Tree) → Is b N d t → (zs : List Tok) → yield t ≡ xs ++ zs
+    → Run ts i xs s → Open b false ts N d i s 0
 opened {xs = xs} t h zs e r = record { tree = t; is = h; read = xs; rest = zs; spells = e; run = r; next = λ q. absurd (true≢false (sym q)) }
 
 pub any-next : {b : Bool} {ts : List Tok} {N : Nt} {d i s k n : ℕ} → Open b false ts N d i s k → Open b false ts N d i s n
-any-next o = opened (o .tree) (o .is) (o .rest) (o .spells) (o .run)
+any-next o = record {
+  tree = o .tree;
+  is = o .is;
+  read = o .read;
+  rest = o .rest;
+  spells = o .spells;
+  run = o .run;
+  next = λ q. absurd (true≢false (sym q));
+}
 
 -- what was read of a part of a tree, behind rows that were read and in front of the tokens zs, is read of the tree
 enclosed : {b x : Bool} {ts : List Tok} {M N : Nt} {d d′ i j k s : ℕ} {xs : List Tok} (F : Tree → Tree) → ((u : Tree) → Is b M (over x d′) u → Is b N (over x d) (F u))

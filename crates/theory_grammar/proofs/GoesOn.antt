@@ -6,7 +6,7 @@ use mathlib.Core.List.{List, [], _∷_, _++_, append-assoc, append-nil}
 use Prim.Native.Nat.{ℕ, zero, suc, _+_, _-_, _^_, _≤_, _<_}
 use native.Mathlib.Omega.{arith}
 use lib.Dec.{eqb, leb}
-use lib.ListN.{length, take, drop}
+use lib.ListN.{length, take, drop, length-append}
 use lib.Seq.{take-append-seam}
 use borrow.Author.Tests.{eqb-true, eq-eqb}
 use Rattle.rules.specs.declared.Syntax.{Syntax}
@@ -17,8 +17,9 @@ use Rattle.rules.specs.Refusals.{syntaxNumber}
 use Rattle.rules.specs.Fits.{only, has, operands, assigns, shifts, firstArguments, bodyThings, unitThings, eventFields, tops, mapFields, types, eventTypes, wrong, setTold, retold}
 use Rattle.rules.specs.Parse
 use Rattle.rules.specs.Parse.{Out, ok, no, P, then, pick, or, many, isAdd, isShift, isMul, isAssign, isText, isType, isTyped, most32, Lead, number, identifier, paren, other, lead, StmtLead, declaring, returning, branching, expression, stmtLead, FieldLead, typing, keying, limiting, nothing, fieldLead, EventLead, typeLead, bytesLead, noLead, eventLead, TopLead, mapLead, unitLead, eventTop, noTop, topLead, Sort, operand, whole, tokAt, kindAt}
-use Rattle.rules.specs.Grammar.{Nt, Add, Shift, Mul, Unary, Basic, Args, Stmt, Stmts, Item, Items, Chain, MapField, MapFields, EventField, EventFields, Decl, Decls, Program, Is, i-num, i-group, i-field, i-bare, i-call, i-one, i-more, i-prim, i-star, i-unary, i-mul, i-lone, i-shift, i-up, i-add, i-decl, i-ret, i-plain, i-assign, i-if, i-if-else, i-no-stmts, i-stmts, i-stmt, i-text, i-no-items, i-items, i-first, i-shifted, i-type, i-typed, i-limit, i-no-fields, i-fields, i-plain-field, i-bytes-field, i-array-field, i-no-event-fields, i-event-fields, i-unit, i-event, i-no-decls, i-decls, i-program}
+use Rattle.rules.specs.Grammar.{Nt, Add, Shift, Mul, Unary, Basic, Args, Stmt, Stmts, Item, Items, Chain, MapField, MapFields, EventField, EventFields, Decl, Decls, Program, Is, i-num, i-group, i-field, i-bare, i-call, i-one, i-more, i-prim, i-star, i-unary, i-mul, i-lone, i-shift, i-up, i-add, i-decl, i-ret, i-plain, i-assign, i-if, i-if-else, i-no-stmts, i-stmts, i-stmt, i-text, i-no-items, i-items, i-first, i-shifted, i-type, i-typed, i-limit, i-no-fields, i-fields, i-plain-field, i-bytes-field, i-array-field, i-no-event-fields, i-event-fields, i-unit, i-map, i-event, i-no-decls, i-decls, i-program}
 use Rattle.theory_grammar.specs.Tokens.{Proper}
+use Rattle.theory_grammar.specs.Fitting.{Fitting}
 use Rattle.theory_grammar.specs.Lost.{isMisfit, isCheck, lost, LostAt, own, around, GoesOn, nesting}
 use Rattle.theory_grammar.proofs.Leads.{LeadIs, lead-is, StmtIs, stmt-is, FieldIs, field-is, EventIs, event-is, TopIs, top-is, add-mark, shift-mark, mul-mark, assign-mark, declaring-mark, text-mark, typed-mark, type-mark}
 use Rattle.theory_grammar.proofs.Laws.{here, fewest}
@@ -28,7 +29,7 @@ use Rattle.theory_grammar.proofs.Cases
 use Rattle.theory_grammar.proofs.Local
 use Rattle.theory_grammar.proofs.Local.{Dead, dead-then, or-dead, or-local, call-dead, Local, then-local, ok-local, type-lost, deep-row, group-row, list-row, brace-row, ChainEnd, chain-end, Alike, kept, later, inner-local, atom-local, post-local, unary-local, mul-local, shift-local, expr-local, body-at, body-over, branch-local, item-local, map-field-local, event-field-local, top-local}
 use Rattle.theory_grammar.proofs.Members.{covers, coversOnward, Each, done, _and_, each, holds, only-has, only-one, told-wrong, retold-as, listSet, listed, each-listed, listed-stop, endsOnward}
-use Rattle.theory_grammar.proofs.Grow.{heads, heads-more, joins-apart, Grown, Behind, On, each-as, add-on, args-on, onward-each, onward-ends, Begins, operandKinds, stmtKinds, itemKinds, mapFieldKinds, declKinds, unary-begins, stmt-begins, item-begins, map-field-begins, event-field-begins, decl-begins, stmts-else, items-else, map-fields-else, event-fields-else, decls-else}
+use Rattle.theory_grammar.proofs.Grow.{heads, heads-more, heads-long, heads-behind, joins-apart, Grown, Behind, On, each-as, add-on, args-on, onward-each, onward-ends, Begins, operandKinds, stmtKinds, itemKinds, mapFieldKinds, declKinds, unary-begins, stmt-begins, item-begins, map-field-begins, event-field-begins, decl-begins, stmts-else, items-else, map-fields-else, event-fields-else, decls-else}
 use Rattle.theory_grammar.proofs.Begun.{closedBy, fitting, any-next, shut, Due, aside, over, lax, around-it, inside-it, nought, emptied, i-emptied, hash, filled, i-hash, i-filled, Open, opened, Where, code, fields, top, Arises, Halt, wrap, recast, widen, loosely, not-before, last-part, Start, start, stmt-starts, item-starts}
 
 -- ---- refusals
@@ -428,7 +429,7 @@ module _ (ts : List Tok) (proper : Proper ts) where
       HPost = Halt code (Dooms j (λ x. Parse.post x (G x) t j)) ts Basic d i
 
       -- the dot and the name alone are a field
-      as-field : {k : ℕ} → Open true false ts Basic d i (j + 1 + 1) k
+      as-field : Open true false ts Basic d i (j + 1 + 1) 0
       unfolding yield
       as-field =
           opened (field t method) (i-field (lax false (r .is))) [] (sym (append-nil (yield t ++ (sign Dot ∷ name method ∷ []))))
@@ -475,7 +476,7 @@ module _ (ts : List Tok) (proper : Proper ts) where
               arises = λ _. refl;
               wish = 0;
               due = λ e. absurd (true≢false (sym e));
-              begun = λ k q. as-field;
+              begun = λ k q. any-next as-field;
               dooms = λ _. paren-dooms v;
             }
 
@@ -512,7 +513,7 @@ module _ (ts : List Tok) (proper : Proper ts) where
               arises = λ _. x;
               wish = o .wish;
               due = o .due;
-              begun = λ k q. subst (λ (y : Syntax). Open (isCheck y) (isMisfit y) ts Basic d i (j + 1 + 1) k) (sym x) as-field;
+              begun = λ k q. subst (λ (y : Syntax). Open (isCheck y) (isMisfit y) ts Basic d i (j + 1 + 1) k) (sym x) (any-next as-field);
               dooms = λ _. paren-dooms v;
             }
 
@@ -1428,29 +1429,55 @@ module _ (ts : List Tok) (proper : Proper ts) where
 
 -- ---- the theorem
 
-open-begins : (ts : List Tok) (b x : Bool) (s : ℕ) → Proper ts → Open b x ts Program 64 0 s → GoesOn b (cond x 65 64) ts s
-open-begins ts b x s p o = record { tree = o .tree; is = deep x (o .is); begins = same }
-  where
-    deep : (x : Bool) → Is b Program (over x 64) (o .tree) → Is b Program (cond x 65 64) (o .tree)
-    deep true h = h
-    deep false h = h
+module _ (ts : List Tok) (proper : Proper ts) where
+  open-begins : (b x : Bool) (s k : ℕ) (o : Open b x ts Program 64 0 s k) → take s (yield (o .tree)) ≡ take s ts
+  open-begins b x s k o =
+      let n : s ≡ length (o .read) = o .run .next ∙ omega arith in
+      rw n (ap (take (length (o .read))) (o .spells) ∙ take-append-seam (o .read) (o .rest)
+      ∙ sym (ap (take (length (o .read))) (o .run .same proper) ∙ take-append-seam (o .read) (drop s ts)))
 
-    same : take s (yield (o .tree)) ≡ take s ts
-    same =
-        let n : s ≡ length (o .read) = o .run .next ∙ omega arith in
-        rw n (ap (take (length (o .read))) (o .spells) ∙ take-append-seam (o .read) (o .rest)
-        ∙ sym (ap (take (length (o .read))) (o .run .same p) ∙ take-append-seam (o .read) (drop s ts)))
+  -- with the checks (b), and nested deeper (x) or not
+  open-goes : (b x : Bool) (s k : ℕ) → Open b x ts Program 64 0 s k → GoesOn b (cond x 65 64) ts s
+  open-goes b x s k o = record { tree = o .tree; is = deep x (o .is); begins = open-begins b x s k o }
+    where
+      deep : (x : Bool) → Is b Program (over x 64) (o .tree) → Is b Program (cond x 65 64) (o .tree)
+      deep true h = h
+      deep false h = h
 
--- what holds of a refused table: some program goes on in front of the row that is lost, and the row dooms, where it is that of a call around
+  -- a row of the kind that comes next stands there
+  open-fits : (s k : ℕ) → Open false true ts Program 64 0 s k → Fitting ts s k
+  open-fits s k o =
+      let n : s ≡ length (o .read) = o .run .next ∙ omega arith in
+      let h : heads k (o .rest) ≡ true = subst (λ (l : List Tok). heads k l ≡ true) (append-nil (o .rest)) (o .next refl) in
+      record {
+        nested = 65;
+        tree = o .tree;
+        is = o .is;
+        begins = open-begins false true s k o;
+        there = omega (arith, n, ap length (o .spells), length-append (o .read) (o .rest), heads-long k (o .rest) h);
+        next = ap (λ (l : List Tok). kindAt l s) (o .spells) ∙ ap (λ (m : ℕ). kindAt (o .read ++ o .rest) m) n ∙ heads-behind k (o .read) (o .rest) h;
+      }
+
+-- what holds of a refused table: some program goes on in front of the row that is lost, with each kind that is told in its place; and the row
+-- dooms, where it is that of a call around
 pub record Lost (ts : List Tok) (why : Syntax) (r : ℕ) : Type 0 where
   pub row : ℕ
   pub at : LostAt ts why r row
   pub goes : GoesOn (isCheck why) (nesting why) ts row
+  pub fits : isMisfit why ≡ true → (k : ℕ) → has (setTold why) k ≡ true → Fitting ts row k
   pub dooms : why ≡ CallOnOther → (ts′ : List Tok) → Alike ts ts′ (row + 1) → Dead CallOnOther (Parse.parse ts′)
 
--- The theorem: some program goes on in front of the row that is lost.
+-- The theorem: some program goes on in front of the row that is lost, with each kind that is told.
 pub some-goes-on : (ts : List Tok) (why : Syntax) (r : ℕ) → Proper ts → Parse.parse ts ≡ no why r → Lost ts why r
 unfolding nesting
 some-goes-on ts why r p e =
     let h : Halt top (Dooms ts p 0 Parse.parse) ts Program 64 0 why r = subst (Stuck ts p (Halt top (Dooms ts p 0 Parse.parse) ts Program 64 0)) e (parse-stuck ts p) in
-    record { row = h .row; at = h .at; goes = open-begins ts (isCheck why) (isMisfit why) (h .row) p (h .begun); dooms = λ x. h .dooms x .1 }
+    record {
+      row = h .row;
+      at = h .at;
+      goes = open-goes ts p (isCheck why) (isMisfit why) (h .row) (h .wish) (h .begun (h .wish) (h .due));
+      fits = λ m k t. open-fits ts p (h .row) k
+          (subst (λ (b : Bool). Open b true ts Program 64 0 (h .row) k) (misfit-aside why m)
+          (subst (λ (x : Bool). Open (isCheck why) x ts Program 64 0 (h .row) k) m (h .begun k (λ _. t))));
+      dooms = λ x. h .dooms x .1;
+    }

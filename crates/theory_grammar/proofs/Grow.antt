@@ -7,10 +7,10 @@ use Prim.Native.Nat.{ℕ, zero, suc, _+_, _-_, _≤_, _<_}
 use native.Mathlib.Omega.{arith}
 use lib.Dec.{eqb}
 use lib.ListN.{length, drop, length-append}
-use lib.Seq.{getD-drop, drop-drop, drop-append-seam}
+use lib.Seq.{getD-append-seam, getD-drop, drop-drop, drop-append-seam}
 use borrow.Author.Tests.{eqb-true, eq-eqb}
 use Rattle.laws.proofs.Tests.{both-true, false-by}
-use Rattle.rules.specs.Kinds.{TypeU32, KeywordUnit, KeywordSection, KeywordLicense, KeywordReturn, KeywordReg, KeywordImm, KeywordMap, KeywordType, KeywordKey, KeywordValue, KeywordMax, KeywordIf, KeywordElse, KeywordGuard, KeywordHeap, KeywordEvent, LBrace, RBrace, LParen, RParen, Dot, Comma, Semicolon, Plus, Minus, Star, Slash, Percent, Shr, Shl, Identifier, StringLiteral, Number}
+use Rattle.rules.specs.Kinds.{TypeU32, KeywordUnit, KeywordSection, KeywordLicense, KeywordReturn, KeywordReg, KeywordImm, KeywordMap, KeywordType, KeywordKey, KeywordValue, KeywordMax, KeywordIf, KeywordElse, KeywordGuard, KeywordHeap, KeywordEvent, LBrace, RBrace, LParen, RParen, Dot, Comma, Semicolon, Plus, Minus, Star, Slash, Percent, Shr, Shl, Identifier, StringLiteral, Number, Eof}
 use Rattle.rules.specs.Fits.{has}
 use Rattle.rules.specs.Tree.{Tok, sign, name, value, string, kindOf, Tree, none, num, var, star, group, field, call, bin, one, more, decl, ret, plain, guard, thenBody, elseBody, seq, text, unit, mapType, typed, limit, first, mapDecl, plainField, event, yield, isSum, hangs}
 use Rattle.rules.specs.Parse
@@ -35,6 +35,22 @@ heads k (x ∷ xs) = isOf k x
 pub heads-more : (k : ℕ) (xs ys : List Tok) → heads k xs ≡ true → heads k (xs ++ ys) ≡ true
 heads-more k [] ys e = absurd (true≢false (sym e))
 heads-more k (x ∷ xs) ys e = e
+
+pub heads-long : (k : ℕ) (xs : List Tok) → heads k xs ≡ true → 0 < length xs
+heads-long k [] e = absurd (true≢false (sym e))
+heads-long k (x ∷ xs) e = omega arith
+
+heads-kind : (k : ℕ) (x : Tok) → isOf k x ≡ true → kindOf x ≡ k
+unfolding kindOf
+heads-kind k (sign c) e = eqb-true c k e
+heads-kind k (name w) e = eqb-true Identifier k e
+heads-kind k (string w) e = eqb-true StringLiteral k e
+heads-kind k (value v) e = eqb-true Number k e
+
+-- the row behind some tokens
+pub heads-behind : (k : ℕ) (xs ys : List Tok) → heads k ys ≡ true → kindAt (xs ++ ys) (length xs) ≡ k
+heads-behind k xs [] e = absurd (true≢false (sym e))
+heads-behind k xs (y ∷ ys) e = ap kindOf (getD-append-seam xs y ys (sign Eof)) ∙ heads-kind k y e
 
 -- ---- expressions that go on
 
@@ -70,7 +86,7 @@ module _ (ts : List Tok) (proper : Proper ts) where
   -- ---- rows by the tokens of a run
 
   run-first : {i s : ℕ} {x : Tok} {xs : List Tok} → Run ts i (x ∷ xs) s → tokAt ts i ≡ x
-  run-first {i} r = ap (λ (n : ℕ). tokAt ts n) (omega arith) ∙ sym (getD-drop i ts 0 (sign 52)) ∙ rw (r .same proper)
+  run-first {i} r = ap (λ (n : ℕ). tokAt ts n) (omega arith) ∙ sym (getD-drop i ts 0 (sign Eof)) ∙ rw (r .same proper)
 
   run-behind : {i s : ℕ} (xs : List Tok) {ys : List Tok} → Run ts i (xs ++ ys) s → Run ts (i + length xs) ys s
   run-behind {i} {s} xs {ys} r = record {
