@@ -14,6 +14,7 @@ pub mod Grow
 pub mod Unread
 pub mod Begun
 pub mod GoesOn
+pub mod Fitting
 pub mod Place
 pub mod Tables
 pub mod Order
