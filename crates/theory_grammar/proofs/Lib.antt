@@ -10,6 +10,7 @@ pub mod Complete
 pub mod Same
 pub mod Local
 pub mod Unread
+pub mod Held
 pub mod Begun
 pub mod GoesOn
 pub mod Place

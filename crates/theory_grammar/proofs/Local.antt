@@ -782,7 +782,7 @@ module _ (ts ts′ : List Tok) (n : ℕ) (agreed : Alike ts ts′ n) where
       (λ x e. ok-local ts n (k + 1) q (shifted x c v) (k + 1 + 1) (omega arith) h)
   count-by false c k v q h = no-local ts n (k + 1) q ShiftCount (k + 1) (omega arith)
 
-  chain-step : (c : Tree) (k : ℕ) → Local ts n k (k + 1) (Parse.chainStep ts c k) (Parse.chainStep ts′ c k)
+  pub chain-step : (c : Tree) (k : ℕ) → Local ts n k (k + 1) (Parse.chainStep ts c k) (Parse.chainStep ts′ c k)
   unfolding Parse.chainStep
   chain-step c k =
       ease ts n (omega arith) (omega arith) (valued-local _ _ (k + 1) (k + 1) (λ v. count-by (leb v 63) c k v (k + 1) (omega arith)))
