@@ -11,6 +11,7 @@ pub mod Same
 pub mod Local
 pub mod Unread
 pub mod Held
+pub mod Again
 pub mod Begun
 pub mod GoesOn
 pub mod Place
