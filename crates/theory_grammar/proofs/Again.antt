@@ -12,16 +12,22 @@ use lib.ListN.{length}
 use lib.Pow.{pow-pos}
 use borrow.Author.Tests.{eqb-true, eq-eqb}
 use Rattle.rules.specs.declared.Syntax.{Syntax}
+use Rattle.rules.specs.declared.Syntax.the-variants.{CallOnOther}
 use Rattle.rules.specs.Kinds.{Dot, LParen, RParen, Star, Slash, Percent, Shr, Shl, Plus, Minus, Comma, Semicolon, Equals, PlusEquals, Identifier, StringLiteral, Number, LBrace}
-use Rattle.rules.specs.Fits.{only, has, ons, shifts, assigns, wrong, setTold}
-use Rattle.rules.specs.Tree.{Tok, kindOf, spellingOf, bitsIn, Tree, isSum}
+use Rattle.rules.specs.Fits.{only, has, operands, ons, shifts, assigns, firstArguments, wrong, setTold, retold}
+use Rattle.rules.specs.Tree.{Tok, kindOf, spellingOf, bitsIn, Tree, none, num, var, star, group, field, call, bin, one, more, isVariable, isSum}
 use Rattle.rules.specs.Parse
-use Rattle.rules.specs.Parse.{Out, ok, no, P, then, isAdd, isShift, isMul, isAssign, tokAt, kindAt, dotName}
+use Rattle.rules.specs.Parse.{Out, ok, no, P, then, or, pick, isAdd, isShift, isMul, isAssign, Lead, number, identifier, paren, other, lead, Sort, operand, whole, tokAt, kindAt, dotName}
+use Rattle.rules.specs.Grammar.{Basic, Unary, Mul, Shift, Is, i-num, i-var, i-group, i-field, i-bare, i-call, i-prim, i-star, i-unary, i-mul, i-lone, i-shift}
 use Rattle.theory_grammar.specs.Lost.{isMisfit, lost}
 use Rattle.theory_grammar.proofs.Laws.{either-kind, three-kinds}
-use Rattle.theory_grammar.proofs.Runs.{All, all-any}
-use Rattle.theory_grammar.proofs.Local.{Alike}
-use Rattle.theory_grammar.proofs.Held.{Misfit, set-of-wrong, Off, Spared, off, off-kind, Near, Free, Again, Held, held-from, other-held, ok-held, weaker, then-known, or-held, loop-held, loop-free}
+use Rattle.theory_grammar.proofs.Runs.{All, all-any, map-all}
+use Rattle.theory_grammar.proofs.Cases.{then-no, or-here, retold-misfit, retold-lost}
+use Rattle.theory_grammar.proofs.Sound.{Reads, inner-sound, shift-sound}
+use Rattle.theory_grammar.proofs.Complete.{isBasic, isStart, start-case}
+use Rattle.theory_grammar.proofs.Local.{Alike, Local, upward, inner-local, arg-step, post-local, unary-local, mul-local, bin-step}
+use Rattle.theory_grammar.proofs.Unread.{unary-unread, mul-unread, add-unread, shift-unread, whole-unread}
+use Rattle.theory_grammar.proofs.Held.{Misfit, set-of-wrong, unmet, Off, Spared, off, off-kind, Near, Free, Again, Held, held-from, other-held, ok-held, weaker, then-known, then-held, then-near, or-near, or-held, Loop, steps-held}
 
 pub has-only : (k : ℕ) → has (only k) k ≡ true
 unfolding has
@@ -112,6 +118,63 @@ going-of a b s e =
         either-kind (λ x. has s x ≡ true) k Shl Shr c (r .0) (r .1);
       paren = λ f. sym (ap (λ (x : Bool). not x || has s LParen) f) ∙ q .1;
     }
+
+-- ---- trees that are no sum
+
+basic-no-sum : {b : Bool} {d : ℕ} {t : Tree} → Is b Basic d t → isSum t ≡ false
+unfolding isSum
+basic-no-sum i-num = refl
+basic-no-sum i-var = refl
+basic-no-sum (i-group h) = refl
+basic-no-sum (i-field h) = refl
+basic-no-sum (i-bare h q) = refl
+basic-no-sum (i-call h q a) = refl
+
+unary-no-sum : {b : Bool} {d : ℕ} {t : Tree} → Is b Unary d t → isSum t ≡ false
+unfolding isSum
+unary-no-sum (i-prim h) = basic-no-sum h
+unary-no-sum (i-star h) = refl
+
+mul-no-sum : {b : Bool} {d : ℕ} {t : Tree} → Is b Mul d t → isSum t ≡ false
+unfolding isSum
+mul-no-sum (i-unary h) = unary-no-sum h
+mul-no-sum (i-mul {k = k} l e r) = three-kinds (λ x. isAdd x ≡ false) k Star Slash Percent e refl refl refl
+
+shift-no-sum : {b : Bool} {d : ℕ} {t : Tree} → Is b Shift d t → isSum t ≡ false
+unfolding isSum
+shift-no-sum (i-lone h) = mul-no-sum h
+shift-no-sum (i-shift {k = k} l e r) = either-kind (λ x. isAdd x ≡ false) k Shl Shr e refl refl
+
+-- ---- what begins a number, a name or a group
+
+abbrev Begins : Lead → Type 0
+Begins number = Unit {0}
+Begins identifier = Unit {0}
+Begins paren = Unit {0}
+Begins other = ⊥
+
+lead-begins : (k : ℕ) → isBasic k ≡ true → Begins (lead k)
+unfolding lead
+lead-begins k b = go (eqb k Number) (eqb k LParen) (eqb k Identifier) b
+  where
+    go : (x y z : Bool) → (x || z) || y ≡ true → Begins (cond x number (cond y paren (cond z identifier other)))
+    go true y z b = tt
+    go false true z b = tt
+    go false false true b = tt
+    go false false false b = absurd (true≢false (sym b))
+
+-- what begins an expression is in these sets
+in-operands : (k : ℕ) → isStart k ≡ true → has operands k ≡ true
+unfolding has
+in-operands k b = start-case (λ x. has operands x ≡ true) k b refl refl refl refl
+
+in-arguments : (k : ℕ) → isStart k ≡ true → has firstArguments k ≡ true
+unfolding has
+in-arguments k b = start-case (λ x. has firstArguments x ≡ true) k b refl refl refl refl
+
+paren-in-arguments : has firstArguments RParen ≡ true
+unfolding has
+paren-in-arguments = refl
 
 module _ (ts ts′ : List Tok) (n : ℕ) (agreed : Alike ts ts′ n) where
   -- ---- what must not go on, at row n, with what was read: a field or a call, a product, a shift, a sum
@@ -234,3 +297,167 @@ module _ (ts ts′ : List Tok) (n : ℕ) (agreed : Alike ts ts′ n) where
         there false e q a x =
             let c : eqb (kindAt ts n) k ≡ false = ap (λ (m : ℕ). eqb (kindAt ts m) k) (sym q) ∙ e in
             c ∙ sym (off-kind ts ts′ n (only k) k (has-only k) (spared-of (only k) x) .fails c)
+
+    -- ---- the row behind an expression or arguments t
+
+    end-in-held : (s k : ℕ) (t : Tree) (f f′ : P) (i : ℕ) → Ends s k → (kindAt ts i ≡ k → Held ts ts′ n F (i + 1) (f (i + 1)) (f′ (i + 1)))
+        → Held ts ts′ n F i (Parse.endIn ts s k t f i) (Parse.endIn ts′ s k t f′ i)
+    unfolding Parse.endIn Parse.onward
+    end-in-held s k t f f′ i e h = want-in-held _ _ k f f′ i (e .ending (isSum t) (dotName ts i)) h
+
+    end-held : (k : ℕ) (t : Tree) (f f′ : P) (i : ℕ) → Ends (only k) k → (kindAt ts i ≡ k → Held ts ts′ n F (i + 1) (f (i + 1)) (f′ (i + 1)))
+        → Held ts ts′ n F i (Parse.end ts k t f i) (Parse.end ts′ k t f′ i)
+    unfolding Parse.end
+    end-held k t f f′ i e h = end-in-held (only k) k t f f′ i e h
+
+    -- refused, it spares all that goes on with t
+    want-spared : (s k : ℕ) (f : P) {o′ : Out} → (kindAt ts n ≡ k → Held ts ts′ n F (n + 1) (f (n + 1)) o′) → Near ts ts′ n (Parse.wantIn ts s k f n)
+        → Free ts ts′ n F (Parse.wantIn ts s k f n) → Spared ts ts′ n s
+    unfolding Parse.wantIn Parse.wantBy
+    want-spared s k f h a x = go (eqb (kindAt ts n) k) refl a x
+      where
+        go : (b : Bool) → eqb (kindAt ts n) k ≡ b → Near ts ts′ n (Parse.wantBy ts b s f n) → Free ts ts′ n F (Parse.wantBy ts b s f n) → Spared ts ts′ n s
+        go true e a x = absurd (omega (arith, h (eqb-true (kindAt ts n) k e) .near a))
+        go false e a x = spared-of s x
+
+    end-spared : (s k : ℕ) (t : Tree) (f : P) {o′ : Out} → (kindAt ts n ≡ k → Held ts ts′ n F (n + 1) (f (n + 1)) o′)
+        → Near ts ts′ n (Parse.endIn ts s k t f n) → Free ts ts′ n F (Parse.endIn ts s k t f n) → Spared ts ts′ n (Parse.onward ts t n + s)
+    unfolding Parse.endIn
+    end-spared s k t f h a x = want-spared (Parse.onward ts t n + s) k f h a x
+
+    end-free : (k : ℕ) (t : Tree) (f : P) {o′ : Out} → Ends (only k) k → (kindAt ts n ≡ k → Held ts ts′ n F (n + 1) (f (n + 1)) o′)
+        → Near ts ts′ n (Parse.end ts k t f n) → Free ts ts′ n F (Parse.end ts k t f n) → AddEnd t
+    unfolding Parse.end
+    end-free k t f e h a x = add-end (only k) k t e (end-spared (only k) k t f h a x)
+
+  -- ---- expressions
+
+  -- something that begins with an operand, at row i
+  operand-held : {F : Tree → Type 0} (o o′ : Out) (i : ℕ) → (isStart (kindAt ts i) ≡ true → Held ts ts′ n F (i + 1) o o′)
+      → (isStart (kindAt ts i) ≡ false → o ≡ no (wrong operands) i) → (isStart (kindAt ts′ i) ≡ false → o′ ≡ no (wrong operands) i)
+      → Held ts ts′ n F i o o′
+  unfolding isMisfit lost
+  operand-held {F} o o′ i h u u′ = go (isStart (kindAt ts i)) refl
+    where
+      unread : i ≡ n → isStart (kindAt ts i) ≡ false → Spared ts ts′ n operands → Misfit o′
+      unread q e p =
+          let c : isStart (kindAt ts′ n) ≡ false = off ts ts′ n operands isStart in-operands p .fails (ap (λ (m : ℕ). isStart (kindAt ts m)) (sym q) ∙ e) in
+          subst Misfit (sym (u′ (ap (λ (m : ℕ). isStart (kindAt ts′ m)) q ∙ c))) refl
+
+      go : (b : Bool) → isStart (kindAt ts i) ≡ b → Held ts ts′ n F i o o′
+      go true e = held-from ts ts′ n (omega arith) (h e)
+      go false e =
+          subst (λ (x : Out). Held ts ts′ n F i x o′) (sym (u e))
+          (record { near = λ a. omega (arith, a .1); again = λ a x. unread (a .1) e (spared-of operands x) })
+
+  abbrev SortEnd : Sort → Tree → Type 0
+  SortEnd operand t = PrimEnd
+  SortEnd whole t = AddEnd t
+
+  -- what is read behind an opening row, with d constructs left; and where the row behind it begins nothing
+  record Inner (d : ℕ) : Type 0 where
+    under : (s : Sort) (o : ℕ) → Held ts ts′ n (SortEnd s) (o + 1) (Parse.inner ts d s o) (Parse.inner ts′ d s o)
+    first : (o : ℕ) → o + 1 ≡ n → Near ts ts′ n (Parse.inner ts d whole o)
+      → (Parse.inner ts d whole o ≡ no (wrong operands) (o + 1)) × (isStart (kindAt ts′ n) ≡ false → Misfit (Parse.inner ts′ d whole o))
+
+  module _ (d : ℕ) (inner : Inner d) where
+    abbrev g : Sort → P
+    g = Parse.inner ts d
+
+    abbrev g′ : Sort → P
+    g′ = Parse.inner ts′ d
+
+    atom-by : (l : Lead) (i : ℕ) → Begins l → Held ts ts′ n (λ t. Unit {0}) (i + 1) (Parse.atomBy ts g l i) (Parse.atomBy ts′ g′ l i)
+    unfolding Parse.atomBy
+    atom-by number i f =
+        look i (i + 1) (omega arith) bitsIn (λ v. ok (num v) (i + 1)) (λ v. ok (num v) (i + 1)) (λ v e. ok-held ts ts′ n (i + 1) (num v) (i + 1) (omega arith))
+    atom-by identifier i f =
+        look i (i + 1) (omega arith) spellingOf (λ w. ok (var w) (i + 1)) (λ w. ok (var w) (i + 1)) (λ w e. ok-held ts ts′ n (i + 1) (var w) (i + 1) (omega arith))
+    atom-by paren i f =
+        then-held ts ts′ n AddEnd (λ t. Unit {0}) (g whole i) (g′ whole i) _ _ (inner .under whole i)
+        (λ t j. end-held RParen t (ok (group t)) (ok (group t)) j group-ends (λ e. ok-held ts ts′ n (j + 1) (group t) (j + 1) (omega arith)))
+        (λ t a x. end-free RParen t (ok (group t)) group-ends (λ e. ok-held ts ts′ n (n + 1) (group t) (n + 1) (omega arith)) a x)
+    atom-by other i f = absurd f
+
+    atom-held : (i : ℕ) → isBasic (kindAt ts i) ≡ true → Held ts ts′ n (λ t. Unit {0}) (i + 1) (Parse.atom ts g i) (Parse.atom ts′ g′ i)
+    unfolding Parse.atom
+    atom-held i b =
+        look i (i + 1) (omega arith) (λ x. lead (kindOf x)) (λ l. Parse.atomBy ts g l i) (λ l. Parse.atomBy ts′ g′ l i)
+        (λ l e. atom-by l i (subst Begins e (lead-begins (kindAt ts i) b)))
+
+    -- ---- arguments
+
+    abbrev ArgsEnd : Tree → Type 0
+    ArgsEnd a = AddEnd a × Off ts ts′ n (λ x. eqb x Comma)
+
+    arg-held : (a : Tree) (j : ℕ) → Held ts ts′ n ArgsEnd (j + 1) (Parse.argStep ts g a j) (Parse.argStep ts′ g′ a j)
+    unfolding Parse.argStep isSum
+    arg-held a j =
+        then-held ts ts′ n AddEnd ArgsEnd (g whole j) (g′ whole j) _ _ (inner .under whole j) (λ t k. ok-held ts ts′ n k (more a t) k (omega arith)) (λ t _ x. x refl .0)
+
+    args-loop : Loop ts ts′ n (λ x. eqb x Comma) (Parse.argStep ts g) (Parse.argStep ts′ g′) ArgsEnd
+    args-loop =
+        steps-held ts ts′ n agreed (λ x. eqb x Comma) (Parse.argStep ts g) (Parse.argStep ts′ g′) ArgsEnd
+        (λ a j b. upward ts n j (Parse.argStep ts g a j) (Parse.argStep ts′ g′ a j) (arg-step ts ts′ n agreed g g′ (inner-local ts ts′ n agreed d) a j b))
+        (λ a j b. arg-held a j) (λ a x. x .1)
+
+    args-held : (o : ℕ) → Held ts ts′ n ArgsEnd (o + 1) (Parse.args ts g o) (Parse.args ts′ g′ o)
+    unfolding Parse.args isSum
+    args-held o =
+        then-held ts ts′ n AddEnd ArgsEnd (or firstArguments (o + 1) (g whole o)) (or firstArguments (o + 1) (g′ whole o)) _ _
+        (or-held ts ts′ n firstArguments (o + 1) (g whole o) (g′ whole o) (inner .under whole o)
+        (λ a q e. inner .first o q a .1 (unmet firstArguments isStart in-arguments (kindAt ts′ n) e)))
+        (λ t j. args-loop .held (one t) j) (λ t a x. args-loop .free (one t) a x .0)
+
+    -- arguments whose first row is refused
+    args-unread : (o : ℕ) → o + 1 ≡ n → Near ts ts′ n (Parse.args ts g o) → Parse.args ts g o ≡ no (wrong firstArguments) (o + 1)
+    unfolding Parse.args retold
+    args-unread o q a =
+        let b : Near ts ts′ n (or firstArguments (o + 1) (g whole o)) = then-near ts ts′ n (or firstArguments (o + 1) (g whole o)) _ (λ t j. args-loop .held (one t) j .near) a in
+        let e : g whole o ≡ no (wrong operands) (o + 1) = inner .first o q (or-near ts ts′ n firstArguments (o + 1) (g whole o) b) .0 in
+        then-no (or firstArguments (o + 1) (g whole o)) _ (wrong firstArguments) (o + 1)
+        (ap (or firstArguments (o + 1)) e ∙ or-here firstArguments (o + 1) (wrong operands))
+
+    args-end : (a : Tree) → Spared ts ts′ n (Parse.onward ts a n + (only Comma + only RParen)) → ArgsEnd a
+    unfolding Parse.onward
+    args-end a p = (
+      add-end (only Comma + only RParen) RParen a args-ends p,
+      off-kind ts ts′ n (around (isSum a) (dotName ts n) (only Comma + only RParen)) Comma (args-comma (isSum a) (dotName ts n)) p,
+    )
+
+    -- ---- calls and fields
+
+    called-held : {F : Tree → Type 0} (t : Tree) (w : List ℕ) (a : Tree) (m k : ℕ) → Held ts ts′ n F k (Parse.called ts t w a m k) (Parse.called ts′ t w a m k)
+    unfolding Parse.called isMisfit
+    called-held {F} t w a m k = go (isVariable t)
+      where
+        go : (b : Bool) → Held ts ts′ n F k (pick b (ok (call t w a) k) (no CallOnOther m)) (pick b (ok (call t w a) k) (no CallOnOther m))
+        go true = ok-held ts ts′ n k (call t w a) k (omega arith)
+        go false = other-held ts ts′ n refl
+
+    module _ (t : Tree) (w : List ℕ) (m k : ℕ) where
+      call-by : (b : Bool) → Held ts ts′ n (λ t. PrimEnd) (k + 1) (Parse.callBy ts g b t w m k) (Parse.callBy ts′ g′ b t w m k)
+      unfolding Parse.callBy
+      call-by true = held-from ts ts′ n (omega arith) (called-held t w none m (k + 1 + 1))
+      call-by false =
+          then-held ts ts′ n ArgsEnd (λ t. PrimEnd) (Parse.args ts g k) (Parse.args ts′ g′ k) _ _ (args-held k)
+          (λ a r. end-in-held (only Comma + only RParen) RParen a (Parse.called ts t w a m) (Parse.called ts′ t w a m) r args-ends (λ e. called-held t w a m (r + 1)))
+          (λ a y x. args-end a (end-spared (only Comma + only RParen) RParen a (Parse.called ts t w a m) (λ e. called-held t w a m (n + 1)) y x))
+
+      -- at the row behind the parenthesis both tables close the call, or neither does
+      closes : (b : Bool) → eqb (kindAt ts n) RParen ≡ b → k + 1 ≡ n → Near ts ts′ n (Parse.callBy ts g b t w m k)
+          → Free ts ts′ n (λ t. PrimEnd) (Parse.callBy ts g b t w m k) → eqb (kindAt ts′ n) RParen ≡ b
+      unfolding Parse.callBy
+      closes true e q a x = absurd (omega (arith, called-held {F = λ t. PrimEnd} t w none m (k + 1 + 1) .near a))
+      closes false e q a x =
+          let near : Near ts ts′ n (Parse.args ts g k) = then-near ts ts′ n (Parse.args ts g k) _
+              (λ u r. end-in-held {F = λ t. PrimEnd} (only Comma + only RParen) RParen u (Parse.called ts t w u m) (Parse.called ts′ t w u m) r args-ends (λ e. called-held t w u m (r + 1)) .near) a in
+          let y : Free ts ts′ n (λ t. PrimEnd) (no (wrong firstArguments) (k + 1)) =
+              subst (Free ts ts′ n (λ t. PrimEnd)) (then-no (Parse.args ts g k) _ (wrong firstArguments) (k + 1) (args-unread k q near)) x in
+          off-kind ts ts′ n firstArguments RParen paren-in-arguments (spared-of firstArguments y) .fails e
+
+      call-held : Held ts ts′ n (λ t. PrimEnd) (k + 1) (Parse.callBy ts g (eqb (kindAt ts (k + 1)) RParen) t w m k)
+          (Parse.callBy ts′ g′ (eqb (kindAt ts′ (k + 1)) RParen) t w m k)
+      call-held =
+          look-at (k + 1) (λ x. eqb (kindOf x) RParen) (λ b. Parse.callBy ts g b t w m k) (λ b. Parse.callBy ts′ g′ b t w m k) (λ b e. call-by b)
+          (λ q a x. ap (λ (r : ℕ). eqb (kindAt ts r) RParen) (sym q) ∙ sym (closes (eqb (kindAt ts (k + 1)) RParen) (ap (λ (r : ℕ). eqb (kindAt ts r) RParen) (sym q)) q a x))

@@ -19,7 +19,7 @@ use Rattle.rules.specs.Parse
 use Rattle.rules.specs.Parse.{Out, ok, no, P, then, or, many, isAdd, isShift, isMul, tokAt, kindAt, dotName}
 use Rattle.theory_grammar.specs.Lost.{isMisfit, lost}
 use Rattle.theory_grammar.proofs.Laws.{either-kind, three-kinds}
-use Rattle.theory_grammar.proofs.Runs.{All}
+use Rattle.theory_grammar.proofs.Runs.{All, all-any}
 use Rattle.theory_grammar.proofs.Cases.{or-no, retold-misfit, retold-lost}
 use Rattle.theory_grammar.proofs.Local.{Alike}
 
@@ -43,6 +43,14 @@ pub set-of-wrong : (s : ℕ) → setTold (wrong s) ≡ s
 unfolding setTold
 set-of-wrong s = div-add-mod' s (2 ^ 32)
 
+-- a kind that is not in a set fails the tests of those that are
+pub unmet : (s : ℕ) (test : ℕ → Bool) → ((k : ℕ) → test k ≡ true → has s k ≡ true) → (k : ℕ) → has s k ≡ false → test k ≡ false
+unmet s test h k e = go (test k) refl
+  where
+    go : (b : Bool) → test k ≡ b → b ≡ false
+    go true q = absurd (true≢false (sym (h k q) ∙ e))
+    go false q = refl
+
 module _ (ts ts′ : List Tok) (n : ℕ) where
   -- ---- row n of both tables
 
@@ -56,11 +64,7 @@ module _ (ts ts′ : List Tok) (n : ℕ) where
     alike : kindAt ts′ n ≡ kindAt ts n → Spared s
 
   pub off : (s : ℕ) (test : ℕ → Bool) → ((k : ℕ) → test k ≡ true → has s k ≡ true) → Spared s → Off test
-  off s test h (out e) = record { fails = λ f. go (test (kindAt ts′ n)) refl }
-    where
-      go : (b : Bool) → test (kindAt ts′ n) ≡ b → b ≡ false
-      go true q = absurd (true≢false (sym (h (kindAt ts′ n) q) ∙ e))
-      go false q = refl
+  off s test h (out e) = record { fails = λ f. unmet s test h (kindAt ts′ n) e }
   off s test h (alike e) = record { fails = λ f. ap test e ∙ f }
 
   pub off-kind : (s k : ℕ) → has s k ≡ true → Spared s → Off (λ x. eqb x k)
@@ -115,6 +119,25 @@ module _ (ts ts′ : List Tok) (n : ℕ) where
   }
   then-known F G C (no why r) o′ f f′ c h k cover = record { near = h .near; again = λ a x. misfit-then o′ f′ (h .again a x) }
 
+  pub then-held : {i : ℕ} (F G : Tree → Type 0) (o o′ : Out) (f f′ : Tree → P) → Held F i o o′ → ((t : Tree) (j : ℕ) → Held G j (f t j) (f′ t j))
+      → ((t : Tree) → Near (f t n) → Free G (f t n) → F t) → Held G i (then o f) (then o′ f′)
+  then-held F G o o′ f f′ h k cover = then-known F G (λ t. Unit {0}) o o′ f f′ (all-any o) h (λ t j c. k t j) (λ t c. cover t)
+
+  -- what is near by its end is near by its beginning
+  pub then-near : (o : Out) (f : Tree → P) → ((t : Tree) (j : ℕ) → Near (f t j) → j ≤ n) → Near (then o f) → Near o
+  unfolding then
+  then-near (ok t j) f h a = h t j a
+  then-near (no why r) f h a = a
+
+  pub or-near : (s q : ℕ) (o : Out) → Near (or s q o) → Near o
+  unfolding or
+  or-near s q (ok t j) a = a
+  or-near s q (no why r) a = go (eqb r q) a
+    where
+      go : (c : Bool) → Near (no (cond c (retold s why) why) r) → Near (no why r)
+      go true a = (sym (retold-misfit s why) ∙ a .0, sym (retold-lost ts s why r) ∙ a .1)
+      go false a = a
+
   -- 21 with the set s in place of its own, and any other refusal
   retold-held : {F : Tree → Type 0} {i r : ℕ} (s : ℕ) (why : Syntax) (o o′ : Out) → (Misfit o → Misfit o′) → Held F i (no why r) o
       → (Near (no why r) → r ≡ n → has s (kindAt ts′ n) ≡ false → Misfit o) → Held F i (no (retold s why) r) o′
@@ -165,16 +188,11 @@ module _ (ts ts′ : List Tok) (n : ℕ) where
     abbrev Rest : ℕ → Tree → P
     Rest f u k = many At step f (At k) u k
 
-    step-near : (f : ℕ) (o : Out) → ((u : Tree) (k : ℕ) → Near (Rest f u k) → k ≤ n) → Near (then o (Rest f)) → Near o
-    unfolding then
-    step-near f (ok u k) r a = r u k a
-    step-near f (no why p) r a = a
-
     many-near : (f : ℕ) (b : Bool) (t : Tree) (j : ℕ) → At j ≡ b → Near (many At step f b t j) → j ≤ n
     unfolding many
     many-near zero b t j e a = a
     many-near (suc f) false t j e a = a
-    many-near (suc f) true t j e a = next t j e .near (step-near f (step t j) (λ u k x. many-near f (At k) u k refl x) a)
+    many-near (suc f) true t j e a = next t j e .near (then-near (step t j) (Rest f) (λ u k x. many-near f (At k) u k refl x) a)
 
     -- a step from row n on ends behind it, or is refused there
     step-free : (f : ℕ) (o : Out) → All (λ u k. n < k) o → Near (then o (Rest f)) → Free E (then o (Rest f)) → Free S o
@@ -188,7 +206,7 @@ module _ (ts ts′ : List Tok) (n : ℕ) where
     there zero b t e l a x = absurd (omega arith)
     there (suc f) false t e l a x = stays t e (x refl)
     there (suc f) true t e l a x =
-        goes t e (step-near f (step t n) (λ u k y. many-near f (At k) u k refl y) a) (step-free f (step t n) (up t n e) a x)
+        goes t e (then-near (step t n) (Rest f) (λ u k y. many-near f (At k) u k refl y) a) (step-free f (step t n) (up t n e) a x)
 
     at-n : (f : ℕ) (b : Bool) (t : Tree) (j : ℕ) → At j ≡ b → n < f + j → j ≡ n → Near (many At step f b t j) → Free E (many At step f b t j)
         → S t × (At′ j ≡ b)
@@ -239,3 +257,22 @@ module _ (ts ts′ : List Tok) (n : ℕ) where
     pub loop-free : (t : Tree) → Near (Parse.loop ts At step t n) → Free E (Parse.loop ts At step t n) → S t
     unfolding Parse.loop
     loop-free t a x = at-n (suc (length ts)) (At n) t n refl (omega (arith, agreed .fit)) refl a x .0
+
+  -- a loop whose steps take the row that is tested, with trees that go on by that test
+  pub record Loop (test : ℕ → Bool) (step step′ : Tree → P) (E : Tree → Type 0) : Type 0 where
+    pub held : (t : Tree) (j : ℕ) → Held E j (Parse.loop ts (λ r. test (kindAt ts r)) step t j) (Parse.loop ts′ (λ r. test (kindAt ts′ r)) step′ t j)
+    pub free : (t : Tree) → Near (Parse.loop ts (λ r. test (kindAt ts r)) step t n) → Free E (Parse.loop ts (λ r. test (kindAt ts r)) step t n) → E t
+
+  pub steps-held : (agreed : Alike ts ts′ n) (test : ℕ → Bool) (step step′ : Tree → P) (E : Tree → Type 0)
+      → ((t : Tree) (j : ℕ) → test (kindAt ts j) ≡ true → All (λ u k. j < k) (step t j))
+      → ((t : Tree) (j : ℕ) → test (kindAt ts j) ≡ true → Held E (j + 1) (step t j) (step′ t j)) → ((t : Tree) → E t → Off test) → Loop test step step′ E
+  steps-held agreed test step step′ E up next ends = record {
+    held = λ t j. loop-held agreed test step step′ E E up (λ u k b. held-from (omega arith) (next u k b)) stays goes t j;
+    free = λ t a x. loop-free agreed test step step′ E E up (λ u k b. held-from (omega arith) (next u k b)) stays goes t a x;
+  }
+    where
+      stays : (t : Tree) → test (kindAt ts n) ≡ false → E t → E t × (test (kindAt ts′ n) ≡ false)
+      stays t b x = (x, ends t x .fails b)
+
+      goes : (t : Tree) → test (kindAt ts n) ≡ true → Near (step t n) → Free E (step t n) → E t × (test (kindAt ts′ n) ≡ true)
+      goes t b a x = absurd (omega (arith, next t n b .near a))

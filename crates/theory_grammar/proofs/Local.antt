@@ -916,6 +916,10 @@ module _ (ts : List Tok) (n i m : ℕ) (o o′ : Out) (t : Tree) (j : ℕ) (e : 
   later (both l d) = absurd (subst (Told ts n (λ why r. (isMisfit why ≡ false) × Dead why o′)) e d)
   later (late x) = absurd (subst (Told ts n (λ why r. ⊥)) e x)
 
+pub upward : (ts : List Tok) (n i : ℕ) (o o′ : Out) → Local ts n i (i + 1) o o′ → All (λ t j. i < j) o
+upward ts n i (ok t j) o′ h = let l : i + 1 ≤ j = later ts n i (i + 1) (ok t j) o′ t j refl h in omega arith
+upward ts n i (no why r) o′ h = tt
+
 -- ---- the same first rows
 
 -- either both tables have n rows, or they are the same
