@@ -28,7 +28,7 @@ abbrev pub Misfit : Out → Type 0
 Misfit (ok t j) = ⊥
 Misfit (no why r) = isMisfit why ≡ true
 
-misfit-then : (o : Out) (f : Tree → P) → Misfit o → Misfit (then o f)
+pub misfit-then : (o : Out) (f : Tree → P) → Misfit o → Misfit (then o f)
 unfolding then
 misfit-then (ok t j) f m = absurd m
 misfit-then (no why r) f m = m

@@ -11,7 +11,8 @@ pub mod Same
 pub mod Local
 pub mod Unread
 pub mod Held
-pub mod Again
+pub mod AgainExpr
+pub mod AgainProgram
 pub mod Begun
 pub mod GoesOn
 pub mod Place

@@ -1,5 +1,5 @@
--- The parser in two tables that have the first n rows alike: for each of its functions, that an answer which rests on row n by a set alone is
--- given again where row n of the other table is spared.
+-- Wanted rows and expressions in two tables that have the first n rows alike: for each function of the parser, that an answer which rests on row n
+-- by a set alone is given again where row n of the other table is spared.
 use mathlib.Core.Path.{_≡_, refl, sym, ap, _∙_, subst}
 use mathlib.Core.Bool.{Bool, true, false, not, cond, _&&_, _||_, and-eq-true-iff, true≢false}
 use mathlib.Core.List.{List}
@@ -87,7 +87,7 @@ first-ends = record {
   going = each (λ a b. goesOn a b (around a b (only Semicolon + assigns)) ≡ true) refl refl refl refl;
 }
 
-first-assigns : (a b : Bool) → (has (around a b (only Semicolon + assigns)) Equals ≡ true) × (has (around a b (only Semicolon + assigns)) PlusEquals ≡ true)
+pub first-assigns : (a b : Bool) → (has (around a b (only Semicolon + assigns)) Equals ≡ true) × (has (around a b (only Semicolon + assigns)) PlusEquals ≡ true)
 unfolding has
 first-assigns =
     each (λ a b. (has (around a b (only Semicolon + assigns)) Equals ≡ true) × (has (around a b (only Semicolon + assigns)) PlusEquals ≡ true))
@@ -164,7 +164,7 @@ lead-begins k b = go (eqb k Number) (eqb k LParen) (eqb k Identifier) b
     go false false false b = absurd (true≢false (sym b))
 
 -- what begins an expression is in these sets
-in-operands : (k : ℕ) → isStart k ≡ true → has operands k ≡ true
+pub in-operands : (k : ℕ) → isStart k ≡ true → has operands k ≡ true
 unfolding has
 in-operands k b = start-case (λ x. has operands x ≡ true) k b refl refl refl refl
 
@@ -179,20 +179,20 @@ paren-in-arguments = refl
 module _ (ts ts′ : List Tok) (n : ℕ) (agreed : Alike ts ts′ n) where
   -- ---- what must not go on, at row n, with what was read: a field or a call, a product, a shift, a sum
 
-  abbrev PrimEnd : Type 0
+  abbrev pub PrimEnd : Type 0
   PrimEnd = Off ts ts′ n (λ x. eqb x Dot) × (dotName ts n ≡ true → Off ts ts′ n (λ x. eqb x LParen))
 
-  abbrev MulEnd : Type 0
+  abbrev pub MulEnd : Type 0
   MulEnd = PrimEnd × Off ts ts′ n isMul
 
   abbrev ShiftEnd : Type 0
   ShiftEnd = MulEnd × Off ts ts′ n isShift
 
   -- no shift stands behind a sum
-  abbrev AddEnd : Tree → Type 0
+  abbrev pub AddEnd : Tree → Type 0
   AddEnd t = MulEnd × (isSum t ≡ false → Off ts ts′ n isShift) × Off ts ts′ n isAdd
 
-  add-end : (s k : ℕ) (t : Tree) → Ends s k → Spared ts ts′ n (Parse.onward ts t n + s) → AddEnd t
+  pub add-end : (s k : ℕ) (t : Tree) → Ends s k → Spared ts ts′ n (Parse.onward ts t n + s) → AddEnd t
   unfolding Parse.onward
   add-end s k t e p =
       let x : Going (isSum t) (dotName ts n) (around (isSum t) (dotName ts n) s) = going-of (isSum t) (dotName ts n) _ (e .going (isSum t) (dotName ts n)) in
@@ -203,7 +203,7 @@ module _ (ts ts′ : List Tok) (n : ℕ) (agreed : Alike ts ts′ n) where
   -- ---- a row that is looked at
 
   -- row i in front of row q, which is near
-  look : {B : Type 0} {F : Tree → Type 0} (i q : ℕ) → i < q → (φ : Tok → B) (G G′ : B → Out)
+  pub look : {B : Type 0} {F : Tree → Type 0} (i q : ℕ) → i < q → (φ : Tok → B) (G G′ : B → Out)
       → ((b : B) → φ (tokAt ts i) ≡ b → Held ts ts′ n F q (G b) (G′ b)) → Held ts ts′ n F q (G (φ (tokAt ts i))) (G′ (φ (tokAt ts′ i)))
   look i q l φ G G′ h =
       let x : Held ts ts′ n _ q (G (φ (tokAt ts i))) (G′ (φ (tokAt ts i))) = h (φ (tokAt ts i)) refl in
@@ -214,7 +214,7 @@ module _ (ts ts′ : List Tok) (n : ℕ) (agreed : Alike ts ts′ n) where
       }
 
   -- row i itself, where row n of the other table is found the same
-  look-at : {B : Type 0} {F : Tree → Type 0} (i : ℕ) (φ : Tok → B) (G G′ : B → Out)
+  pub look-at : {B : Type 0} {F : Tree → Type 0} (i : ℕ) (φ : Tok → B) (G G′ : B → Out)
       → ((b : B) → φ (tokAt ts i) ≡ b → Held ts ts′ n F i (G b) (G′ b))
       → (i ≡ n → Near ts ts′ n (G (φ (tokAt ts i))) → Free ts ts′ n F (G (φ (tokAt ts i))) → φ (tokAt ts n) ≡ φ (tokAt ts′ n))
       → Held ts ts′ n F i (G (φ (tokAt ts i))) (G′ (φ (tokAt ts′ i)))
@@ -232,11 +232,11 @@ module _ (ts ts′ : List Tok) (n : ℕ) (agreed : Alike ts ts′ n) where
   -- ---- a wanted row
 
   -- 21 at row i, where the kind k of its set is wanted
-  spared-of : (s : ℕ) → Spared ts ts′ n (setTold (wrong s)) → Spared ts ts′ n s
+  pub spared-of : (s : ℕ) → Spared ts ts′ n (setTold (wrong s)) → Spared ts ts′ n s
   spared-of s p = subst (Spared ts ts′ n) (set-of-wrong s) p
 
   module _ {F : Tree → Type 0} where
-    want-in-held : (s s′ k : ℕ) (f f′ : P) (i : ℕ) → has s k ≡ true → (kindAt ts i ≡ k → Held ts ts′ n F (i + 1) (f (i + 1)) (f′ (i + 1)))
+    pub want-in-held : (s s′ k : ℕ) (f f′ : P) (i : ℕ) → has s k ≡ true → (kindAt ts i ≡ k → Held ts ts′ n F (i + 1) (f (i + 1)) (f′ (i + 1)))
         → Held ts ts′ n F i (Parse.wantIn ts s k f i) (Parse.wantIn ts′ s′ k f′ i)
     unfolding Parse.wantIn Parse.wantBy lost isMisfit
     want-in-held s s′ k f f′ i m h =
@@ -254,33 +254,33 @@ module _ (ts ts′ : List Tok) (n : ℕ) (agreed : Alike ts ts′ n) where
             let c : eqb (kindAt ts n) k ≡ false = ap (λ (m : ℕ). eqb (kindAt ts m) k) (sym q) ∙ e in
             c ∙ sym (off-kind ts ts′ n s k m (spared-of s x) .fails c)
 
-    want-held : (k : ℕ) (f f′ : P) (i : ℕ) → (kindAt ts i ≡ k → Held ts ts′ n F (i + 1) (f (i + 1)) (f′ (i + 1)))
+    pub want-held : (k : ℕ) (f f′ : P) (i : ℕ) → (kindAt ts i ≡ k → Held ts ts′ n F (i + 1) (f (i + 1)) (f′ (i + 1)))
         → Held ts ts′ n F i (Parse.want ts k f i) (Parse.want ts′ k f′ i)
     unfolding Parse.want
     want-held k f f′ i h = want-in-held (only k) (only k) k f f′ i (has-only k) h
 
-    named-held : (f f′ : List ℕ → P) (i : ℕ) → ((w : List ℕ) → kindAt ts i ≡ Identifier → Held ts ts′ n F (i + 1) (f w (i + 1)) (f′ w (i + 1)))
+    pub named-held : (f f′ : List ℕ → P) (i : ℕ) → ((w : List ℕ) → kindAt ts i ≡ Identifier → Held ts ts′ n F (i + 1) (f w (i + 1)) (f′ w (i + 1)))
         → Held ts ts′ n F i (Parse.named ts f i) (Parse.named ts′ f′ i)
     unfolding Parse.named
     named-held f f′ i h =
         want-held Identifier (f (spellingOf (tokAt ts i))) (f′ (spellingOf (tokAt ts′ i))) i
         (λ e. look i (i + 1) (omega arith) spellingOf (λ w. f w (i + 1)) (λ w. f′ w (i + 1)) (λ w q. h w e))
 
-    quoted-held : (f f′ : List ℕ → P) (i : ℕ) → ((w : List ℕ) → Held ts ts′ n F (i + 1) (f w (i + 1)) (f′ w (i + 1)))
+    pub quoted-held : (f f′ : List ℕ → P) (i : ℕ) → ((w : List ℕ) → Held ts ts′ n F (i + 1) (f w (i + 1)) (f′ w (i + 1)))
         → Held ts ts′ n F i (Parse.quoted ts f i) (Parse.quoted ts′ f′ i)
     unfolding Parse.quoted
     quoted-held f f′ i h =
         want-held StringLiteral (f (spellingOf (tokAt ts i))) (f′ (spellingOf (tokAt ts′ i))) i
         (λ e. look i (i + 1) (omega arith) spellingOf (λ w. f w (i + 1)) (λ w. f′ w (i + 1)) (λ w q. h w))
 
-    valued-held : (f f′ : ℕ → P) (i : ℕ) → ((v : ℕ) → Held ts ts′ n F (i + 1) (f v (i + 1)) (f′ v (i + 1)))
+    pub valued-held : (f f′ : ℕ → P) (i : ℕ) → ((v : ℕ) → Held ts ts′ n F (i + 1) (f v (i + 1)) (f′ v (i + 1)))
         → Held ts ts′ n F i (Parse.valued ts f i) (Parse.valued ts′ f′ i)
     unfolding Parse.valued
     valued-held f f′ i h =
         want-held Number (f (bitsIn (tokAt ts i))) (f′ (bitsIn (tokAt ts′ i))) i
         (λ e. look i (i + 1) (omega arith) bitsIn (λ v. f v (i + 1)) (λ v. f′ v (i + 1)) (λ v q. h v))
 
-    need-held : (k : ℕ) (f f′ : P) (i : ℕ) → (kindAt ts i ≡ k → Held ts ts′ n F (i + 1) (f i) (f′ i))
+    pub need-held : (k : ℕ) (f f′ : P) (i : ℕ) → (kindAt ts i ≡ k → Held ts ts′ n F (i + 1) (f i) (f′ i))
         → Held ts ts′ n F i (Parse.need ts k f i) (Parse.need ts′ k f′ i)
     unfolding Parse.need Parse.needBy lost isMisfit
     need-held k f f′ i h =
@@ -300,18 +300,18 @@ module _ (ts ts′ : List Tok) (n : ℕ) (agreed : Alike ts ts′ n) where
 
     -- ---- the row behind an expression or arguments t
 
-    end-in-held : (s k : ℕ) (t : Tree) (f f′ : P) (i : ℕ) → Ends s k → (kindAt ts i ≡ k → Held ts ts′ n F (i + 1) (f (i + 1)) (f′ (i + 1)))
+    pub end-in-held : (s k : ℕ) (t : Tree) (f f′ : P) (i : ℕ) → Ends s k → (kindAt ts i ≡ k → Held ts ts′ n F (i + 1) (f (i + 1)) (f′ (i + 1)))
         → Held ts ts′ n F i (Parse.endIn ts s k t f i) (Parse.endIn ts′ s k t f′ i)
     unfolding Parse.endIn Parse.onward
     end-in-held s k t f f′ i e h = want-in-held _ _ k f f′ i (e .ending (isSum t) (dotName ts i)) h
 
-    end-held : (k : ℕ) (t : Tree) (f f′ : P) (i : ℕ) → Ends (only k) k → (kindAt ts i ≡ k → Held ts ts′ n F (i + 1) (f (i + 1)) (f′ (i + 1)))
+    pub end-held : (k : ℕ) (t : Tree) (f f′ : P) (i : ℕ) → Ends (only k) k → (kindAt ts i ≡ k → Held ts ts′ n F (i + 1) (f (i + 1)) (f′ (i + 1)))
         → Held ts ts′ n F i (Parse.end ts k t f i) (Parse.end ts′ k t f′ i)
     unfolding Parse.end
     end-held k t f f′ i e h = end-in-held (only k) k t f f′ i e h
 
     -- refused, it spares all that goes on with t
-    want-spared : (s k : ℕ) (f : P) {o′ : Out} → (kindAt ts n ≡ k → Held ts ts′ n F (n + 1) (f (n + 1)) o′) → Near ts ts′ n (Parse.wantIn ts s k f n)
+    pub want-spared : (s k : ℕ) (f : P) {o′ : Out} → (kindAt ts n ≡ k → Held ts ts′ n F (n + 1) (f (n + 1)) o′) → Near ts ts′ n (Parse.wantIn ts s k f n)
         → Free ts ts′ n F (Parse.wantIn ts s k f n) → Spared ts ts′ n s
     unfolding Parse.wantIn Parse.wantBy
     want-spared s k f h a x = go (eqb (kindAt ts n) k) refl a x
@@ -320,12 +320,12 @@ module _ (ts ts′ : List Tok) (n : ℕ) (agreed : Alike ts ts′ n) where
         go true e a x = absurd (omega (arith, h (eqb-true (kindAt ts n) k e) .near a))
         go false e a x = spared-of s x
 
-    end-spared : (s k : ℕ) (t : Tree) (f : P) {o′ : Out} → (kindAt ts n ≡ k → Held ts ts′ n F (n + 1) (f (n + 1)) o′)
+    pub end-spared : (s k : ℕ) (t : Tree) (f : P) {o′ : Out} → (kindAt ts n ≡ k → Held ts ts′ n F (n + 1) (f (n + 1)) o′)
         → Near ts ts′ n (Parse.endIn ts s k t f n) → Free ts ts′ n F (Parse.endIn ts s k t f n) → Spared ts ts′ n (Parse.onward ts t n + s)
     unfolding Parse.endIn
     end-spared s k t f h a x = want-spared (Parse.onward ts t n + s) k f h a x
 
-    end-free : (k : ℕ) (t : Tree) (f : P) {o′ : Out} → Ends (only k) k → (kindAt ts n ≡ k → Held ts ts′ n F (n + 1) (f (n + 1)) o′)
+    pub end-free : (k : ℕ) (t : Tree) (f : P) {o′ : Out} → Ends (only k) k → (kindAt ts n ≡ k → Held ts ts′ n F (n + 1) (f (n + 1)) o′)
         → Near ts ts′ n (Parse.end ts k t f n) → Free ts ts′ n F (Parse.end ts k t f n) → AddEnd t
     unfolding Parse.end
     end-free k t f e h a x = add-end (only k) k t e (end-spared (only k) k t f h a x)
@@ -333,7 +333,7 @@ module _ (ts ts′ : List Tok) (n : ℕ) (agreed : Alike ts ts′ n) where
   -- ---- expressions
 
   -- something that begins with an operand, at row i
-  operand-held : {F : Tree → Type 0} (o o′ : Out) (i : ℕ) → (isStart (kindAt ts i) ≡ true → Held ts ts′ n F (i + 1) o o′)
+  pub operand-held : {F : Tree → Type 0} (o o′ : Out) (i : ℕ) → (isStart (kindAt ts i) ≡ true → Held ts ts′ n F (i + 1) o o′)
       → (isStart (kindAt ts i) ≡ false → o ≡ no (wrong operands) i) → (isStart (kindAt ts′ i) ≡ false → o′ ≡ no (wrong operands) i)
       → Held ts ts′ n F i o o′
   unfolding isMisfit lost
@@ -461,3 +461,157 @@ module _ (ts ts′ : List Tok) (n : ℕ) (agreed : Alike ts ts′ n) where
       call-held =
           look-at (k + 1) (λ x. eqb (kindOf x) RParen) (λ b. Parse.callBy ts g b t w m k) (λ b. Parse.callBy ts′ g′ b t w m k) (λ b e. call-by b)
           (λ q a x. ap (λ (r : ℕ). eqb (kindAt ts r) RParen) (sym q) ∙ sym (closes (eqb (kindAt ts (k + 1)) RParen) (ap (λ (r : ℕ). eqb (kindAt ts r) RParen) (sym q)) q a x))
+
+    -- a field or a call, whose dot is at row j and whose name behind it
+    module _ (t : Tree) (w : List ℕ) (j : ℕ) (dotted : kindAt ts j ≡ Dot) (named : kindAt ts (j + 1) ≡ Identifier) where
+      dot-name : j + 1 + 1 ≡ n → dotName ts n ≡ true
+      dot-name q =
+          let a : n - 1 ≡ j + 1 = omega arith in
+          let b : n - 2 ≡ j = omega arith in
+          rw (a, b, named, dotted)
+
+      open-by : (b : Bool) → eqb (kindAt ts (j + 1 + 1)) LParen ≡ b
+          → Held ts ts′ n (λ t. PrimEnd) (j + 1 + 1) (Parse.openBy ts g b t w (j + 1) (j + 1 + 1)) (Parse.openBy ts′ g′ b t w (j + 1) (j + 1 + 1))
+      unfolding Parse.openBy
+      open-by true e = held-from ts ts′ n (omega arith) (call-held t w (j + 1) (j + 1 + 1))
+      open-by false e = ok-held ts ts′ n (j + 1 + 1) (field t w) (j + 1 + 1) (omega arith)
+
+      -- at the row behind the name both tables open a call, or neither does
+      opens : (b : Bool) → eqb (kindAt ts n) LParen ≡ b → j + 1 + 1 ≡ n → Near ts ts′ n (Parse.openBy ts g b t w (j + 1) (j + 1 + 1))
+          → Free ts ts′ n (λ t. PrimEnd) (Parse.openBy ts g b t w (j + 1) (j + 1 + 1)) → eqb (kindAt ts′ n) LParen ≡ b
+      unfolding Parse.openBy
+      opens true e q a x = absurd (omega (arith, call-held t w (j + 1) (j + 1 + 1) .near a))
+      opens false e q a x = x q .1 (dot-name q) .fails e
+
+      open-held : Held ts ts′ n (λ t. PrimEnd) (j + 1 + 1) (Parse.openBy ts g (eqb (kindAt ts (j + 1 + 1)) LParen) t w (j + 1) (j + 1 + 1))
+          (Parse.openBy ts′ g′ (eqb (kindAt ts′ (j + 1 + 1)) LParen) t w (j + 1) (j + 1 + 1))
+      open-held =
+          look-at (j + 1 + 1) (λ x. eqb (kindOf x) LParen) (λ b. Parse.openBy ts g b t w (j + 1) (j + 1 + 1)) (λ b. Parse.openBy ts′ g′ b t w (j + 1) (j + 1 + 1)) open-by
+          (λ q a x. ap (λ (r : ℕ). eqb (kindAt ts r) LParen) (sym q)
+          ∙ sym (opens (eqb (kindAt ts (j + 1 + 1)) LParen) (ap (λ (r : ℕ). eqb (kindAt ts r) LParen) (sym q)) q a x))
+
+    post-held : (t : Tree) (j : ℕ) → eqb (kindAt ts j) Dot ≡ true → Held ts ts′ n (λ t. PrimEnd) (j + 1) (Parse.post ts g t j) (Parse.post ts′ g′ t j)
+    unfolding Parse.post
+    post-held t j b = named-held _ _ (j + 1) (λ w e. open-held t w j (eqb-true (kindAt ts j) Dot b) e)
+
+    posts : Loop ts ts′ n (λ x. eqb x Dot) (Parse.post ts g) (Parse.post ts′ g′) (λ t. PrimEnd)
+    posts =
+        steps-held ts ts′ n agreed (λ x. eqb x Dot) (Parse.post ts g) (Parse.post ts′ g′) (λ t. PrimEnd)
+        (λ t j b. upward ts n j (Parse.post ts g t j) (Parse.post ts′ g′ t j) (post-local ts ts′ n agreed g g′ (inner-local ts ts′ n agreed d) t j))
+        post-held (λ t x. x .0)
+
+    -- ---- operands and what joins them
+
+    prim-held : (i : ℕ) → isBasic (kindAt ts i) ≡ true → Held ts ts′ n (λ t. PrimEnd) (i + 1) (Parse.prim ts g i) (Parse.prim ts′ g′ i)
+    unfolding Parse.prim
+    prim-held i b =
+        then-held ts ts′ n (λ t. Unit {0}) (λ t. PrimEnd) (Parse.atom ts g i) (Parse.atom ts′ g′ i) _ _ (atom-held i b) (posts .held) (λ t a x. tt)
+
+    unary-by : (c : Bool) (i : ℕ) → isBasic (kindAt ts i) || c ≡ true → Held ts ts′ n (λ t. PrimEnd) (i + 1) (Parse.unaryBy ts g c i) (Parse.unaryBy ts′ g′ c i)
+    unfolding Parse.unaryBy
+    unary-by true i b =
+        then-held ts ts′ n (λ t. PrimEnd) (λ t. PrimEnd) (g operand i) (g′ operand i) _ _ (inner .under operand i)
+        (λ t j. ok-held ts ts′ n j (star t) j (omega arith)) (λ t a x. x refl)
+    unary-by false i b = prim-held i (basic (isBasic (kindAt ts i)) b)
+      where
+        basic : (x : Bool) → x || false ≡ true → x ≡ true
+        basic true e = refl
+        basic false e = e
+
+    unary-on : (i : ℕ) → isStart (kindAt ts i) ≡ true → Held ts ts′ n (λ t. PrimEnd) (i + 1) (Parse.unary ts g i) (Parse.unary ts′ g′ i)
+    unfolding Parse.unary
+    unary-on i b =
+        look i (i + 1) (omega arith) (λ x. eqb (kindOf x) Star) (λ c. Parse.unaryBy ts g c i) (λ c. Parse.unaryBy ts′ g′ c i)
+        (λ c e. unary-by c i (sym (ap (λ (x : Bool). isBasic (kindAt ts i) || x) e) ∙ b))
+
+    unary-held : (i : ℕ) → Held ts ts′ n (λ t. PrimEnd) i (Parse.unary ts g i) (Parse.unary ts′ g′ i)
+    unary-held i = operand-held (Parse.unary ts g i) (Parse.unary ts′ g′ i) i (unary-on i) (unary-unread ts g i) (unary-unread ts′ g′ i)
+
+    -- operands p, joined by operators `isOp` to trees that go on as E tells
+    module _ (isOp : ℕ → Bool) (p p′ : P) (F : Type 0) (E : Tree → Type 0) (p-held : (i : ℕ) → Held ts ts′ n (λ t. F) i (p i) (p′ i))
+        (p-local : (i : ℕ) → Local ts n i (i + 1) (p i) (p′ i)) (part : (t : Tree) → E t → F) (ends : (t : Tree) → E t → Off ts ts′ n isOp) where
+      joined : (t : Tree) (j : ℕ) → Held ts ts′ n E (j + 1) (Parse.binStep ts g p t j) (Parse.binStep ts′ g′ p′ t j)
+      unfolding Parse.binStep
+      joined t j =
+          look j (j + 1) (omega arith) kindOf (λ x. then (p (j + 1)) (λ u k. ok (bin x t u) k)) (λ x. then (p′ (j + 1)) (λ u k. ok (bin x t u) k))
+          (λ x e. then-held ts ts′ n (λ t. F) E (p (j + 1)) (p′ (j + 1)) _ _ (p-held (j + 1)) (λ u k. ok-held ts ts′ n k (bin x t u) k (omega arith))
+          (λ u a y. part (bin x t u) (y refl)))
+
+      ladder : Loop ts ts′ n isOp (Parse.binStep ts g p) (Parse.binStep ts′ g′ p′) E
+      ladder =
+          steps-held ts ts′ n agreed isOp (Parse.binStep ts g p) (Parse.binStep ts′ g′ p′) E
+          (λ t j b. upward ts n j (Parse.binStep ts g p t j) (Parse.binStep ts′ g′ p′ t j)
+          (bin-step ts ts′ n agreed g g′ (inner-local ts ts′ n agreed d) isOp p p′ p-local t j))
+          (λ t j b. joined t j) ends
+
+    muls : Loop ts ts′ n isMul (Parse.binStep ts g (Parse.unary ts g)) (Parse.binStep ts′ g′ (Parse.unary ts′ g′)) (λ t. MulEnd)
+    muls =
+        ladder isMul (Parse.unary ts g) (Parse.unary ts′ g′) PrimEnd (λ t. MulEnd) unary-held (unary-local ts ts′ n agreed g g′ (inner-local ts ts′ n agreed d))
+        (λ t x. x .0) (λ t x. x .1)
+
+    mul-on : (i : ℕ) → isStart (kindAt ts i) ≡ true → Held ts ts′ n (λ t. MulEnd) (i + 1) (Parse.mul ts g i) (Parse.mul ts′ g′ i)
+    unfolding Parse.mul
+    mul-on i b =
+        then-held ts ts′ n (λ t. PrimEnd) (λ t. MulEnd) (Parse.unary ts g i) (Parse.unary ts′ g′ i) _ _ (unary-on i b) (muls .held) (λ t a x. muls .free t a x .0)
+
+    mul-held : (i : ℕ) → Held ts ts′ n (λ t. MulEnd) i (Parse.mul ts g i) (Parse.mul ts′ g′ i)
+    mul-held i = operand-held (Parse.mul ts g i) (Parse.mul ts′ g′ i) i (mul-on i) (mul-unread ts g i) (mul-unread ts′ g′ i)
+
+    shifts-loop : Loop ts ts′ n isShift (Parse.binStep ts g (Parse.mul ts g)) (Parse.binStep ts′ g′ (Parse.mul ts′ g′)) (λ t. ShiftEnd)
+    shifts-loop =
+        ladder isShift (Parse.mul ts g) (Parse.mul ts′ g′) MulEnd (λ t. ShiftEnd) mul-held (mul-local ts ts′ n agreed g g′ (inner-local ts ts′ n agreed d))
+        (λ t x. x .0) (λ t x. x .1)
+
+    shift-on : (i : ℕ) → isStart (kindAt ts i) ≡ true → Held ts ts′ n (λ t. ShiftEnd) (i + 1) (Parse.shift ts g i) (Parse.shift ts′ g′ i)
+    unfolding Parse.shift
+    shift-on i b =
+        then-held ts ts′ n (λ t. MulEnd) (λ t. ShiftEnd) (Parse.mul ts g i) (Parse.mul ts′ g′ i) _ _ (mul-on i b) (shifts-loop .held) (λ t a x. shifts-loop .free t a x .0)
+
+    adds : Loop ts ts′ n isAdd (Parse.binStep ts g (Parse.mul ts g)) (Parse.binStep ts′ g′ (Parse.mul ts′ g′)) AddEnd
+    adds =
+        ladder isAdd (Parse.mul ts g) (Parse.mul ts′ g′) MulEnd AddEnd mul-held (mul-local ts ts′ n agreed g g′ (inner-local ts ts′ n agreed d))
+        (λ t x. x .0) (λ t x. x .2)
+
+    add-on : (i : ℕ) → isStart (kindAt ts i) ≡ true → Held ts ts′ n AddEnd (i + 1) (Parse.add ts g i) (Parse.add ts′ g′ i)
+    unfolding Parse.add
+    add-on i b =
+        then-known ts ts′ n (λ t. ShiftEnd) AddEnd (λ t. isSum t ≡ false) (Parse.shift ts g i) (Parse.shift ts′ g′ i) _ _
+        (map-all (Reads ts Shift d i) (λ t j. isSum t ≡ false) (Parse.shift ts g i) (shift-sound ts d g (inner-sound ts d) i) (λ t j r. shift-no-sum (r .is)))
+        (shift-on i b) (λ t j c. adds .held t j) (λ t c a x. let y : AddEnd t = adds .free t a x in (y .0, y .1 c))
+
+    add-held : (i : ℕ) → Held ts ts′ n AddEnd i (Parse.add ts g i) (Parse.add ts′ g′ i)
+    add-held i = operand-held (Parse.add ts g i) (Parse.add ts′ g′ i) i (add-on i) (add-unread ts g i) (add-unread ts′ g′ i)
+
+  inner-next : (d : ℕ) → Inner d → Inner (suc d)
+  unfolding Parse.inner isMisfit
+  inner-next d inner = record { under = under; first = first }
+    where
+      under : (s : Sort) (o : ℕ) → Held ts ts′ n (SortEnd s) (o + 1) (Parse.inner ts (suc d) s o) (Parse.inner ts′ (suc d) s o)
+      under operand o = unary-held d inner (o + 1)
+      under whole o = add-held d inner (o + 1)
+
+      begun : (o : ℕ) → o + 1 ≡ n → Near ts ts′ n (Parse.inner ts (suc d) whole o) → (b : Bool) → isStart (kindAt ts (o + 1)) ≡ b
+          → Parse.inner ts (suc d) whole o ≡ no (wrong operands) (o + 1)
+      begun o q a true e = absurd (omega (arith, add-on d inner (o + 1) e .near a))
+      begun o q a false e = whole-unread ts d o e
+
+      first : (o : ℕ) → o + 1 ≡ n → Near ts ts′ n (Parse.inner ts (suc d) whole o)
+          → (Parse.inner ts (suc d) whole o ≡ no (wrong operands) (o + 1)) × (isStart (kindAt ts′ n) ≡ false → Misfit (Parse.inner ts′ (suc d) whole o))
+      first o q a = (
+        begun o q a (isStart (kindAt ts (o + 1))) refl,
+        λ e. subst Misfit (sym (whole-unread ts′ d o (ap (λ (r : ℕ). isStart (kindAt ts′ r)) q ∙ e))) refl,
+      )
+
+  inner-held : (d : ℕ) → Inner d
+  unfolding Parse.inner isMisfit
+  inner-held zero = record { under = λ s o. other-held ts ts′ n refl; first = λ o q a. absurd (true≢false (sym (a .0))) }
+  inner-held (suc d) = inner-next d (inner-held d)
+
+  -- an expression, where something begins one, and at any row
+  pub expr-on : (d i : ℕ) → isStart (kindAt ts i) ≡ true → Held ts ts′ n AddEnd (i + 1) (Parse.expr ts d i) (Parse.expr ts′ d i)
+  unfolding Parse.expr
+  expr-on d i b = add-on d (inner-held d) i b
+
+  pub expr-held : (d i : ℕ) → Held ts ts′ n AddEnd i (Parse.expr ts d i) (Parse.expr ts′ d i)
+  unfolding Parse.expr
+  expr-held d i = add-held d (inner-held d) i
