@@ -9,17 +9,20 @@ use native.Mathlib.Omega.{arith}
 use lib.Dec.{eqb, leb}
 use borrow.Author.Tests.{eqb-true, not-true, not-false}
 use Rattle.rules.specs.declared.Syntax.{Syntax}
-use Rattle.rules.specs.Kinds.{KeywordElse, RBrace, Eof}
-use Rattle.rules.specs.Fits.{only, has, setTold, retold, wrong}
-use Rattle.rules.specs.Tree.{Tok, kindOf, Tree, none, seq, hangs}
+use Rattle.rules.specs.Kinds.{TypeU32, TypeU64, TypeI32, TypeI64, KeywordUnit, KeywordSection, KeywordLicense, KeywordReturn, KeywordReg, KeywordImm, KeywordMap, KeywordType, KeywordKey, KeywordValue, KeywordMax, KeywordIf, KeywordElse, KeywordGuard, KeywordHeap, KeywordEvent, LBrace, RBrace, LParen, RParen, Colon, Dot, Semicolon, LBracket, RBracket, Equals, PlusEquals, Shr, Shl, Identifier, KeywordBytes, Eof}
+use Rattle.rules.specs.Fits.{only, has, operands, shifts, assigns, bodyThings, unitThings, eventFields, mapFields, tops, types, eventTypes, setTold, retold, wrong}
+use Rattle.rules.specs.Tree.{Tok, kindOf, Tree, none, decl, ret, plain, assign, guard, thenBody, elseBody, seq, text, unit, typed, limit, first, shifted, plainField, arrayField, bytesField, event, program, isSum, hangs, mapType, mapTypeNumber, maxBits, typeOf, typedBy, limitOf, lacking, yield}
 use Rattle.rules.specs.Parse
-use Rattle.rules.specs.Parse.{Out, ok, no, P, then, or, tokAt, kindAt}
+use Rattle.rules.specs.Parse.{Out, ok, no, P, then, or, isShift, isAssign, isDeclaring, isText, isType, isTyped, most32, StmtLead, declaring, returning, branching, expression, stmtLead, FieldLead, typing, keying, limiting, nothing, fieldLead, EventLead, typeLead, bytesLead, noLead, eventLead, TopLead, mapLead, unitLead, eventTop, noTop, topLead, tokAt, kindAt, dotName}
 use Rattle.theory_grammar.specs.Lost.{isMisfit, lost}
 use Rattle.theory_grammar.proofs.Runs.{All, then-all, or-all}
 use Rattle.theory_grammar.proofs.Cases.{then-no, or-here, retold-misfit, retold-lost}
 use Rattle.theory_grammar.proofs.Local.{Alike, Local, upward}
 use Rattle.theory_grammar.proofs.Held.{Misfit, misfit-then, Off, Spared, out, Near, Free, Again, Held, held-from, other-held, ok-held, then-held, or-held, loop-held, loop-free}
-use Rattle.theory_grammar.proofs.AgainExpr.{look, look-at, spared-of, want-held, named-held}
+use Rattle.theory_grammar.proofs.AgainExpr.{has-only, around, line-ends, first-ends, first-assigns, AddEnd, add-end, look, look-at, spared-of, want-in-held, want-held, named-held, quoted-held, valued-held, need-held, want-spared, end-in-held, end-held, end-spared, end-free, expr-on, expr-held}
+use Rattle.theory_grammar.proofs.Laws.{either-kind, three-kinds}
+use Rattle.theory_grammar.proofs.Complete.{isBasic, isStart, start-case}
+use Rattle.theory_grammar.proofs.Unread.{isStmt, isItem, isField, isTop, stmt-unread, item-unread, event-field-unread, map-field-unread, top-unread}
 
 module _ (ts ts′ : List Tok) (n : ℕ) (agreed : Alike ts ts′ n) where
   -- ---- lists
@@ -109,3 +112,65 @@ module _ (ts ts′ : List Tok) (n : ℕ) (agreed : Alike ts ts′ n) where
     closed-held {G} f f′ h j =
         then-held ts ts′ n (λ l. ⊥) G (Parse.listTo ts stop also p j) (Parse.listTo ts′ stop also p′ j) _ _ (list-held j)
         (λ l k. held-from ts ts′ n (omega arith) (h l k)) (λ l a x. absurd (omega (arith, h l n .near a)))
+
+    -- the same in braces behind a name, which stands behind row i
+    braced-held : {G : Tree → Type 0} (f f′ : List ℕ → Tree → P) → stop ≡ RBrace
+        → ((v : List ℕ) (l : Tree) (k : ℕ) → Held ts ts′ n G (k + 1) (f v l (k + 1)) (f′ v l (k + 1))) → (i : ℕ)
+        → Held ts ts′ n G (i + 1) (Parse.braced ts also p f i) (Parse.braced ts′ also p′ f′ i)
+    unfolding Parse.braced
+    braced-held {G} f f′ q h i =
+        named-held ts ts′ n agreed _ _ (i + 1) (λ v e. want-held ts ts′ n agreed LBrace _ _ (i + 1 + 1) (λ b.
+        subst (λ (c : ℕ). Held ts ts′ n G (i + 1 + 1 + 1) (then (Parse.listTo ts c also p (i + 1 + 1 + 1)) (λ l k. f v l (k + 1)))
+        (then (Parse.listTo ts′ c also p′ (i + 1 + 1 + 1)) (λ l k. f′ v l (k + 1)))) q (closed-held (f v) (f′ v) (h v) (i + 1 + 1 + 1))))
+
+  -- ---- statements, over what is read behind a brace
+
+  -- `else` must not follow an `if` without one
+  abbrev StmtEnd : Tree → Type 0
+  StmtEnd t = hangs t ≡ true → Off ts ts′ n (λ x. eqb x KeywordElse)
+
+  module _ (d : ℕ) (p p′ : P) (under : (o : ℕ) → Held ts ts′ n (λ t. Unit {0}) (o + 1) (p o) (p′ o)) where
+    else-body : (w : List ℕ) (b : Tree) (k : ℕ)
+        → Held ts ts′ n StmtEnd (k + 1) (Parse.elseBy ts d p true w b k) (Parse.elseBy ts′ d p′ true w b k)
+    unfolding Parse.elseBy
+    else-body w b k =
+        then-held ts ts′ n (λ t. Unit {0}) StmtEnd (Parse.need ts LBrace p (k + 1)) (Parse.need ts′ LBrace p′ (k + 1)) _ _
+        (need-held ts ts′ n agreed LBrace p p′ (k + 1) (λ e. under (k + 1))) (λ e r. ok-held ts ts′ n r (guard w b (elseBody e)) r (omega arith)) (λ t a x. tt)
+
+    else-by : (c : Bool) (w : List ℕ) (b : Tree) (k : ℕ) → Held ts ts′ n StmtEnd k (Parse.elseBy ts d p c w b k) (Parse.elseBy ts′ d p′ c w b k)
+    unfolding Parse.elseBy
+    else-by true w b k = held-from ts ts′ n (omega arith) (else-body w b k)
+    else-by false w b k = ok-held ts ts′ n k (guard w b none) k (omega arith)
+
+    -- at the row behind a body both tables have an `else`, or neither has
+    elses : (c : Bool) (w : List ℕ) (b : Tree) (k : ℕ) → eqb (kindAt ts n) KeywordElse ≡ c → k ≡ n → Near ts ts′ n (Parse.elseBy ts d p c w b k)
+        → Free ts ts′ n StmtEnd (Parse.elseBy ts d p c w b k) → eqb (kindAt ts′ n) KeywordElse ≡ c
+    unfolding Parse.elseBy hangs yield
+    elses true w b k e q a x = absurd (omega (arith, else-body w b k .near a))
+    elses false w b k e q a x = x q refl .fails e
+
+    bodies-held : (w : List ℕ) (j : ℕ) → Held ts ts′ n StmtEnd j (Parse.bodies ts d p w j) (Parse.bodies ts′ d p′ w j)
+    unfolding Parse.bodies
+    bodies-held w j =
+        then-held ts ts′ n (λ t. Unit {0}) StmtEnd (Parse.need ts LBrace p j) (Parse.need ts′ LBrace p′ j) _ _
+        (need-held ts ts′ n agreed LBrace p p′ j (λ e. under j))
+        (λ b k. look-at ts ts′ n agreed k (λ x. eqb (kindOf x) KeywordElse) (λ c. Parse.elseBy ts d p c w (thenBody b) k) (λ c. Parse.elseBy ts′ d p′ c w (thenBody b) k)
+        (λ c e. else-by c w (thenBody b) k)
+        (λ q a x. ap (λ (r : ℕ). eqb (kindAt ts r) KeywordElse) (sym q)
+        ∙ sym (elses (eqb (kindAt ts k) KeywordElse) w (thenBody b) k (ap (λ (r : ℕ). eqb (kindAt ts r) KeywordElse) (sym q)) q a x)))
+        (λ t a x. tt)
+
+    -- behind an expression and then a semicolon
+    line-held : (e t : Tree) (k : ℕ) → Held ts ts′ n StmtEnd k (Parse.end ts Semicolon e (ok t) k) (Parse.end ts′ Semicolon e (ok t) k)
+    line-held e t k = end-held ts ts′ n agreed Semicolon e (ok t) (ok t) k line-ends (λ q. ok-held ts ts′ n (k + 1) t (k + 1) (omega arith))
+
+    line-free : (e t : Tree) → Near ts ts′ n (Parse.end ts Semicolon e (ok t) n) → Free ts ts′ n StmtEnd (Parse.end ts Semicolon e (ok t) n)
+        → AddEnd ts ts′ n agreed e
+    line-free e t a x = end-free ts ts′ n agreed Semicolon e (ok t) line-ends (λ q. ok-held ts ts′ n (n + 1) t (n + 1) (omega arith)) a x
+
+    -- an expression from row i on, and a semicolon
+    expr-line : (f : Tree → Tree) (i : ℕ) → Held ts ts′ n StmtEnd i (then (Parse.expr ts d i) (λ e k. Parse.end ts Semicolon e (ok (f e)) k))
+        (then (Parse.expr ts′ d i) (λ e k. Parse.end ts′ Semicolon e (ok (f e)) k))
+    expr-line f i =
+        then-held ts ts′ n (AddEnd ts ts′ n agreed) StmtEnd (Parse.expr ts d i) (Parse.expr ts′ d i) _ _ (expr-held ts ts′ n agreed d i)
+        (λ e k. line-held e (f e) k) (λ e a x. line-free e (f e) a x)
