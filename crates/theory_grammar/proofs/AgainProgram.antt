@@ -17,12 +17,87 @@ use Rattle.rules.specs.Parse.{Out, ok, no, P, then, or, isShift, isAssign, isDe
 use Rattle.theory_grammar.specs.Lost.{isMisfit, lost}
 use Rattle.theory_grammar.proofs.Runs.{All, then-all, or-all}
 use Rattle.theory_grammar.proofs.Cases.{then-no, or-here, retold-misfit, retold-lost}
-use Rattle.theory_grammar.proofs.Local.{Alike, Local, upward}
-use Rattle.theory_grammar.proofs.Held.{Misfit, misfit-then, Off, Spared, out, Near, Free, Again, Held, held-from, other-held, ok-held, then-held, or-held, loop-held, loop-free}
+use Rattle.theory_grammar.proofs.Local.{Alike, Local, upward, stmt-over, branch-local}
+use Rattle.theory_grammar.proofs.Held.{Misfit, misfit-then, Off, Spared, out, off, off-kind, Near, Free, Again, Held, held-from, other-held, ok-held, then-held, or-held, loop-held, loop-free}
 use Rattle.theory_grammar.proofs.AgainExpr.{has-only, around, line-ends, first-ends, first-assigns, AddEnd, add-end, look, look-at, spared-of, want-in-held, want-held, named-held, quoted-held, valued-held, need-held, want-spared, end-in-held, end-held, end-spared, end-free, expr-on, expr-held}
 use Rattle.theory_grammar.proofs.Laws.{either-kind, three-kinds}
 use Rattle.theory_grammar.proofs.Complete.{isBasic, isStart, start-case}
 use Rattle.theory_grammar.proofs.Unread.{isStmt, isItem, isField, isTop, stmt-unread, item-unread, event-field-unread, map-field-unread, top-unread}
+
+-- ---- what begins a thing is in the set of its list
+
+-- what holds of each kind that begins a statement
+stmt-case : (C : ℕ → Type 0) (k : ℕ) → isStmt k ≡ true → C KeywordReg → C KeywordImm → C KeywordHeap → C KeywordReturn → C KeywordIf → ((k : ℕ) → isStart k ≡ true → C k) → C k
+stmt-case C k b p q r s t u = go ((isDeclaring k || eqb k KeywordReturn) || eqb k KeywordIf) refl b
+  where
+    led : (x : Bool) → isDeclaring k || eqb k KeywordReturn ≡ x → x || eqb k KeywordIf ≡ true → C k
+    led true e f = declares (isDeclaring k) refl e
+      where
+        declares : (y : Bool) → isDeclaring k ≡ y → y || eqb k KeywordReturn ≡ true → C k
+        declares true e f = three-kinds C k KeywordReg KeywordImm KeywordHeap e p q r
+        declares false e f = subst C (sym (eqb-true k KeywordReturn f)) s
+    led false e f = subst C (sym (eqb-true k KeywordIf f)) t
+
+    go : (x : Bool) → (isDeclaring k || eqb k KeywordReturn) || eqb k KeywordIf ≡ x → x || isStart k ≡ true → C k
+    go true e f = led (isDeclaring k || eqb k KeywordReturn) refl e
+    go false e f = u k f
+
+-- the set of a list, with `else` or not
+abbrev with-else : ℕ → Bool → ℕ
+with-else s a = s + cond a (only KeywordElse) 0
+
+in-body : (a : Bool) (k : ℕ) → isStmt k ≡ true → has (with-else bodyThings a) k ≡ true
+unfolding has
+in-body true k b =
+    stmt-case (λ x. has (with-else bodyThings true) x ≡ true) k b refl refl refl refl refl (λ x c. start-case (λ y. has (with-else bodyThings true) y ≡ true) x c refl refl refl refl)
+in-body false k b =
+    stmt-case (λ x. has (with-else bodyThings false) x ≡ true) k b refl refl refl refl refl (λ x c. start-case (λ y. has (with-else bodyThings false) y ≡ true) x c refl refl refl refl)
+
+in-unit : (a : Bool) (k : ℕ) → isItem k ≡ true → has (with-else unitThings a) k ≡ true
+unfolding has
+in-unit a k b = go (isText k) refl b
+  where
+    texts : (a : Bool) → isText k ≡ true → has (with-else unitThings a) k ≡ true
+    texts true e = either-kind (λ x. has (with-else unitThings true) x ≡ true) k KeywordSection KeywordLicense e refl refl
+    texts false e = either-kind (λ x. has (with-else unitThings false) x ≡ true) k KeywordSection KeywordLicense e refl refl
+
+    stmts : (a : Bool) → isStmt k ≡ true → has (with-else unitThings a) k ≡ true
+    stmts true e =
+        stmt-case (λ x. has (with-else unitThings true) x ≡ true) k e refl refl refl refl refl (λ x c. start-case (λ y. has (with-else unitThings true) y ≡ true) x c refl refl refl refl)
+    stmts false e =
+        stmt-case (λ x. has (with-else unitThings false) x ≡ true) k e refl refl refl refl refl (λ x c. start-case (λ y. has (with-else unitThings false) y ≡ true) x c refl refl refl refl)
+
+    go : (x : Bool) → isText k ≡ x → x || isStmt k ≡ true → has (with-else unitThings a) k ≡ true
+    go true e f = texts a e
+    go false e f = stmts a f
+
+-- the brace that ends a list, and `else` where it may follow
+body-rest : (a : Bool) → (has (with-else bodyThings a) RBrace ≡ true) × (a ≡ true → has (with-else bodyThings a) KeywordElse ≡ true)
+unfolding has
+body-rest true = (refl, λ e. refl)
+body-rest false = (refl, λ e. absurd (true≢false (sym e)))
+
+unit-rest : (a : Bool) → (has (with-else unitThings a) RBrace ≡ true) × (a ≡ true → has (with-else unitThings a) KeywordElse ≡ true)
+unfolding has
+unit-rest true = (refl, λ e. refl)
+unit-rest false = (refl, λ e. absurd (true≢false (sym e)))
+
+-- what a statement's lead says of what begins an expression
+abbrev Begun : ℕ → StmtLead → Type 0
+Begun k declaring = Unit {0}
+Begun k returning = Unit {0}
+Begun k branching = Unit {0}
+Begun k expression = isStart k ≡ true
+
+stmt-begun : (k : ℕ) → isStmt k ≡ true → Begun k (stmtLead k)
+unfolding stmtLead
+stmt-begun k b = go (isDeclaring k) (eqb k KeywordReturn) (eqb k KeywordIf) b
+  where
+    go : (x y z : Bool) → ((x || y) || z) || isStart k ≡ true → Begun k (cond x declaring (cond y returning (cond z branching expression)))
+    go true y z b = tt
+    go false true z b = tt
+    go false false true b = tt
+    go false false false b = b
 
 module _ (ts ts′ : List Tok) (n : ℕ) (agreed : Alike ts ts′ n) where
   -- ---- lists
@@ -174,3 +249,83 @@ module _ (ts ts′ : List Tok) (n : ℕ) (agreed : Alike ts ts′ n) where
     expr-line f i =
         then-held ts ts′ n (AddEnd ts ts′ n agreed) StmtEnd (Parse.expr ts d i) (Parse.expr ts′ d i) _ _ (expr-held ts ts′ n agreed d i)
         (λ e k. line-held e (f e) k) (λ e a x. line-free e (f e) a x)
+
+    assign-by : (c : Bool) (e : Tree) (j : ℕ) → Held ts ts′ n StmtEnd (j + cond c 1 0) (Parse.assignBy ts d p c e j) (Parse.assignBy ts′ d p′ c e j)
+    unfolding Parse.assignBy
+    assign-by true e j =
+        look ts ts′ n agreed j (j + 1) (omega arith) kindOf (λ x. then (Parse.expr ts d (j + 1)) (λ r k. Parse.end ts Semicolon r (ok (assign x e r)) k))
+        (λ x. then (Parse.expr ts′ d (j + 1)) (λ r k. Parse.end ts′ Semicolon r (ok (assign x e r)) k)) (λ x q. expr-line (λ r. assign x e r) (j + 1))
+    assign-by false e j =
+        held-from ts ts′ n (omega arith) (end-in-held ts ts′ n agreed (only Semicolon + assigns) Semicolon e (ok (plain e)) (ok (plain e)) j first-ends
+        (λ q. ok-held ts ts′ n (j + 1) (plain e) (j + 1) (omega arith)))
+
+    -- at the row behind the first expression both tables assign, or neither does; and nothing goes on with the expression
+    assigns-end : (c : Bool) (e : Tree) → isAssign (kindAt ts n) ≡ c → Near ts ts′ n (Parse.assignBy ts d p c e n) → Free ts ts′ n StmtEnd (Parse.assignBy ts d p c e n)
+        → AddEnd ts ts′ n agreed e × (isAssign (kindAt ts′ n) ≡ c)
+    unfolding Parse.assignBy Parse.onward
+    assigns-end true e q a x = absurd (omega (arith, assign-by true e n .near a))
+    assigns-end false e q a x =
+        let s : ℕ = around (isSum e) (dotName ts n) (only Semicolon + assigns) in
+        let y : Spared ts ts′ n (Parse.onward ts e n + (only Semicolon + assigns)) =
+            end-spared ts ts′ n agreed (only Semicolon + assigns) Semicolon e (ok (plain e)) (λ q. ok-held ts ts′ n (n + 1) (plain e) (n + 1) (omega arith)) a x in
+        let h : (has s Equals ≡ true) × (has s PlusEquals ≡ true) = first-assigns (isSum e) (dotName ts n) in
+        (add-end ts ts′ n agreed (only Semicolon + assigns) Semicolon e first-ends y,
+        off ts ts′ n s isAssign (λ k b. either-kind (λ x. has s x ≡ true) k Equals PlusEquals b (h .0) (h .1)) y .fails q)
+
+    assign-held : (e : Tree) (j : ℕ) → Held ts ts′ n StmtEnd j (Parse.assignBy ts d p (isAssign (kindAt ts j)) e j) (Parse.assignBy ts′ d p′ (isAssign (kindAt ts′ j)) e j)
+    assign-held e j =
+        look-at ts ts′ n agreed j (λ x. isAssign (kindOf x)) (λ c. Parse.assignBy ts d p c e j) (λ c. Parse.assignBy ts′ d p′ c e j)
+        (λ c q. held-from ts ts′ n (omega arith) (assign-by c e j))
+        (λ q a x. sym (assigns-end (isAssign (kindAt ts n)) e refl
+        (subst (λ (r : ℕ). Near ts ts′ n (Parse.assignBy ts d p (isAssign (kindAt ts r)) e r)) q a)
+        (subst (λ (r : ℕ). Free ts ts′ n StmtEnd (Parse.assignBy ts d p (isAssign (kindAt ts r)) e r)) q x) .1))
+
+    stmt-by : (l : StmtLead) (i : ℕ) → Begun (kindAt ts i) l → Held ts ts′ n StmtEnd (i + 1) (Parse.stmtBy ts d p l i) (Parse.stmtBy ts′ d p′ l i)
+    unfolding Parse.stmtBy
+    stmt-by declaring i b =
+        look ts ts′ n agreed i (i + 1) (omega arith) kindOf
+        (λ x. Parse.named ts (λ w. Parse.want ts Equals (λ j. then (Parse.expr ts d j) (λ e k. Parse.end ts Semicolon e (ok (decl x w e)) k))) (i + 1))
+        (λ x. Parse.named ts′ (λ w. Parse.want ts′ Equals (λ j. then (Parse.expr ts′ d j) (λ e k. Parse.end ts′ Semicolon e (ok (decl x w e)) k))) (i + 1))
+        (λ x q. named-held ts ts′ n agreed _ _ (i + 1) (λ w e. want-held ts ts′ n agreed Equals _ _ (i + 1 + 1) (λ f. expr-line (λ e. decl x w e) (i + 1 + 1 + 1))))
+    stmt-by returning i b = expr-line ret (i + 1)
+    stmt-by branching i b =
+        want-held ts ts′ n agreed KeywordGuard _ _ (i + 1) (λ e. want-held ts ts′ n agreed LParen _ _ (i + 1 + 1) (λ f.
+        named-held ts ts′ n agreed _ _ (i + 1 + 1 + 1) (λ w h. want-held ts ts′ n agreed RParen _ _ (i + 1 + 1 + 1 + 1) (λ c. bodies-held w (i + 1 + 1 + 1 + 1 + 1)))))
+    stmt-by expression i b =
+        then-held ts ts′ n (AddEnd ts ts′ n agreed) StmtEnd (Parse.expr ts d i) (Parse.expr ts′ d i) _ _ (expr-on ts ts′ n agreed d i b) assign-held
+        (λ e a x. assigns-end (isAssign (kindAt ts n)) e refl a x .0)
+
+    stmt-on : (i : ℕ) → isStmt (kindAt ts i) ≡ true → Held ts ts′ n StmtEnd (i + 1) (Parse.stmt ts d p i) (Parse.stmt ts′ d p′ i)
+    unfolding Parse.stmt
+    stmt-on i b =
+        look ts ts′ n agreed i (i + 1) (omega arith) (λ x. stmtLead (kindOf x)) (λ l. Parse.stmtBy ts d p l i) (λ l. Parse.stmtBy ts′ d p′ l i)
+        (λ l e. stmt-by l i (subst (Begun (kindAt ts i)) e (stmt-begun (kindAt ts i) b)))
+
+  stmt-tells : (l : Tree) → Spared ts ts′ n (setTold (retold (bodyThings + Parse.elseBehind ts l) (wrong operands)))
+      → StmtEnd l × Off ts ts′ n isStmt × Off ts ts′ n (λ x. eqb x RBrace)
+  unfolding retold Parse.elseBehind
+  stmt-tells l x =
+      let s : ℕ = with-else bodyThings (hangs l) in
+      let y : Spared ts ts′ n s = spared-of ts ts′ n agreed s x in
+      (λ h. off-kind ts ts′ n s KeywordElse (body-rest (hangs l) .1 h) y, off ts ts′ n s isStmt (in-body (hangs l)) y, off-kind ts ts′ n s RBrace (body-rest (hangs l) .0) y)
+
+  stmts : (d : ℕ) → ((o : ℕ) → Held ts ts′ n (λ t. Unit {0}) (o + 1) (Parse.body ts d o) (Parse.body ts′ d o))
+      → Things RBrace bodyThings (Parse.stmt ts d (Parse.body ts d)) (Parse.stmt ts′ d (Parse.body ts′ d)) isStmt (wrong operands) StmtEnd
+  unfolding isMisfit lost hangs
+  stmts d under = record {
+    on = stmt-on d (Parse.body ts d) (Parse.body ts′ d) under;
+    off = stmt-unread ts d (Parse.body ts d);
+    off′ = stmt-unread ts′ d (Parse.body ts′ d);
+    longer = stmt-over ts ts′ n agreed d (Parse.body ts d) (Parse.body ts′ d) (branch-local ts ts′ n agreed d);
+    misfit = refl;
+    place = λ i. refl;
+    tells = stmt-tells;
+    last = λ l t x. x;
+  }
+
+  body-held : (d o : ℕ) → Held ts ts′ n (λ t. Unit {0}) (o + 1) (Parse.body ts d o) (Parse.body ts′ d o)
+  unfolding Parse.body isMisfit
+  body-held zero o = other-held ts ts′ n refl
+  body-held (suc d) o =
+      closed-held RBrace bodyThings (Parse.stmt ts d (Parse.body ts d)) (Parse.stmt ts′ d (Parse.body ts′ d)) isStmt (wrong operands) StmtEnd (stmts d (body-held d))
+      (λ l k. ok l k) (λ l k. ok l k) (λ l k. ok-held ts ts′ n (k + 1) l (k + 1) (omega arith)) (o + 1)
