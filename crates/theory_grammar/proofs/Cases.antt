@@ -85,6 +85,11 @@ or-no C s i why r a b = go (eqb r i)
     go true = a
     go false = b
 
+-- where row i itself is refused
+pub or-here : (s i : ℕ) (why : Syntax) → or s i (no why i) ≡ no (retold s why) i
+unfolding or
+or-here s i why = rw (eq-eqb i i refl)
+
 module _ (test : ℕ → Bool) (step : Tree → P) (f : ℕ) (t : Tree) (j : ℕ) where
   pub many-stop : test j ≡ false → many test step f (test j) t j ≡ ok t j
   unfolding many

@@ -12,6 +12,9 @@ pub mod Local
 pub mod Members
 pub mod Grow
 pub mod Unread
+pub mod Held
+pub mod AgainExpr
+pub mod AgainProgram
 pub mod Begun
 pub mod GoesOn
 pub mod Fitting

@@ -782,7 +782,7 @@ module _ (ts ts′ : List Tok) (n : ℕ) (agreed : Alike ts ts′ n) where
       (λ x e. ok-local ts n (k + 1) q (shifted x c v) (k + 1 + 1) (omega arith) h)
   count-by false c k v q h = no-local ts n (k + 1) q ShiftCount (k + 1) (omega arith)
 
-  chain-step : (c : Tree) (k : ℕ) → Local ts n k (k + 1) (Parse.chainStep ts c k) (Parse.chainStep ts′ c k)
+  pub chain-step : (c : Tree) (k : ℕ) → Local ts n k (k + 1) (Parse.chainStep ts c k) (Parse.chainStep ts′ c k)
   unfolding Parse.chainStep
   chain-step c k =
       ease ts n (omega arith) (omega arith) (valued-local _ _ (k + 1) (k + 1) (λ v. count-by (leb v 63) c k v (k + 1) (omega arith)))
@@ -915,6 +915,10 @@ module _ (ts : List Tok) (n i m : ℕ) (o o′ : Out) (t : Tree) (j : ℕ) (e : 
   later (behind b u) = subst (Up ts n m) e u
   later (both l d) = absurd (subst (Told ts n (λ why r. (isMisfit why ≡ false) × Dead why o′)) e d)
   later (late x) = absurd (subst (Told ts n (λ why r. ⊥)) e x)
+
+pub upward : (ts : List Tok) (n i : ℕ) (o o′ : Out) → Local ts n i (i + 1) o o′ → All (λ t j. i < j) o
+upward ts n i (ok t j) o′ h = let l : i + 1 ≤ j = later ts n i (i + 1) (ok t j) o′ t j refl h in omega arith
+upward ts n i (no why r) o′ h = tt
 
 -- ---- the same first rows
 

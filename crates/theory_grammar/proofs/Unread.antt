@@ -61,7 +61,7 @@ module _ (ts : List Tok) where
     unfolding Parse.mul
     mul-unread b = Cases.then-no (Parse.unary ts g i) _ (wrong operands) i (unary-unread b)
 
-    shift-unread : isStart (kindAt ts i) ≡ false → Parse.shift ts g i ≡ no (wrong operands) i
+    pub shift-unread : isStart (kindAt ts i) ≡ false → Parse.shift ts g i ≡ no (wrong operands) i
     unfolding Parse.shift
     shift-unread b = Cases.then-no (Parse.mul ts g i) _ (wrong operands) i (mul-unread b)
 

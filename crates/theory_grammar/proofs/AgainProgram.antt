@@ -1,0 +1,331 @@
+-- The rest of the parser in two tables that have the first n rows alike: lists, statements, units, maps, events and programs. And what comes of
+-- it: no program has at the lost row a kind that is not in the set.
+use mathlib.Core.Path.{_≡_, refl, sym, ap, _∙_, subst}
+use mathlib.Core.Bool.{Bool, true, false, not, cond, _||_, true≢false}
+use mathlib.Core.List.{List, [], append-nil}
+use mathlib.Core.Logic.{_⊎_, inl, inr}
+use Prim.Native.Nat.{ℕ, zero, suc, _+_, _-_, _^_, _≤_, _<_}
+use native.Mathlib.Omega.{arith}
+use lib.Dec.{eqb, leb}
+use borrow.Author.Tests.{eqb-true, not-true, not-false}
+use Rattle.rules.specs.declared.Syntax.{Syntax}
+use Rattle.rules.specs.Kinds.{TypeU32, TypeU64, TypeI32, TypeI64, KeywordUnit, KeywordSection, KeywordLicense, KeywordReturn, KeywordReg, KeywordImm, KeywordMap, KeywordType, KeywordKey, KeywordValue, KeywordMax, KeywordIf, KeywordElse, KeywordGuard, KeywordHeap, KeywordEvent, LBrace, RBrace, LParen, RParen, Colon, Dot, Semicolon, LBracket, RBracket, Equals, PlusEquals, Shr, Shl, Identifier, KeywordBytes, Eof}
+use Rattle.rules.specs.Fits.{only, has, operands, shifts, assigns, bodyThings, unitThings, eventFields, mapFields, tops, types, eventTypes, setTold, retold, wrong}
+use Rattle.rules.specs.Tree.{Tok, kindOf, Tree, none, decl, ret, plain, assign, guard, thenBody, elseBody, seq, text, unit, typed, limit, first, shifted, plainField, arrayField, bytesField, event, program, isSum, hangs, mapType, mapTypeNumber, maxBits, typeOf, typedBy, limitOf, lacking, yield}
+use Rattle.rules.specs.Parse
+use Rattle.rules.specs.Parse.{Out, ok, no, P, then, or, isShift, isAssign, isDeclaring, isText, isType, isTyped, most32, StmtLead, declaring, returning, branching, expression, stmtLead, FieldLead, typing, keying, limiting, nothing, fieldLead, EventLead, typeLead, bytesLead, noLead, eventLead, TopLead, mapLead, unitLead, eventTop, noTop, topLead, tokAt, kindAt, dotName}
+use Rattle.theory_grammar.specs.Lost.{isMisfit, lost}
+use Rattle.theory_grammar.proofs.Runs.{All, then-all, or-all}
+use Rattle.theory_grammar.proofs.Cases.{then-no, or-here, retold-misfit, retold-lost}
+use Rattle.theory_grammar.proofs.Local.{Alike, Local, upward, stmt-over, branch-local}
+use Rattle.theory_grammar.proofs.Held.{Misfit, misfit-then, Off, Spared, out, off, off-kind, Near, Free, Again, Held, held-from, other-held, ok-held, then-held, or-held, loop-held, loop-free}
+use Rattle.theory_grammar.proofs.AgainExpr.{has-only, around, line-ends, first-ends, first-assigns, AddEnd, add-end, look, look-at, spared-of, want-in-held, want-held, named-held, quoted-held, valued-held, need-held, want-spared, end-in-held, end-held, end-spared, end-free, expr-on, expr-held}
+use Rattle.theory_grammar.proofs.Laws.{either-kind, three-kinds}
+use Rattle.theory_grammar.proofs.Complete.{isBasic, isStart, start-case}
+use Rattle.theory_grammar.proofs.Unread.{isStmt, isItem, isField, isTop, stmt-unread, item-unread, event-field-unread, map-field-unread, top-unread}
+
+-- ---- what begins a thing is in the set of its list
+
+-- what holds of each kind that begins a statement
+stmt-case : (C : ℕ → Type 0) (k : ℕ) → isStmt k ≡ true → C KeywordReg → C KeywordImm → C KeywordHeap → C KeywordReturn → C KeywordIf → ((k : ℕ) → isStart k ≡ true → C k) → C k
+stmt-case C k b p q r s t u = go ((isDeclaring k || eqb k KeywordReturn) || eqb k KeywordIf) refl b
+  where
+    led : (x : Bool) → isDeclaring k || eqb k KeywordReturn ≡ x → x || eqb k KeywordIf ≡ true → C k
+    led true e f = declares (isDeclaring k) refl e
+      where
+        declares : (y : Bool) → isDeclaring k ≡ y → y || eqb k KeywordReturn ≡ true → C k
+        declares true e f = three-kinds C k KeywordReg KeywordImm KeywordHeap e p q r
+        declares false e f = subst C (sym (eqb-true k KeywordReturn f)) s
+    led false e f = subst C (sym (eqb-true k KeywordIf f)) t
+
+    go : (x : Bool) → (isDeclaring k || eqb k KeywordReturn) || eqb k KeywordIf ≡ x → x || isStart k ≡ true → C k
+    go true e f = led (isDeclaring k || eqb k KeywordReturn) refl e
+    go false e f = u k f
+
+-- the set of a list, with `else` or not
+abbrev with-else : ℕ → Bool → ℕ
+with-else s a = s + cond a (only KeywordElse) 0
+
+in-body : (a : Bool) (k : ℕ) → isStmt k ≡ true → has (with-else bodyThings a) k ≡ true
+unfolding has
+in-body true k b =
+    stmt-case (λ x. has (with-else bodyThings true) x ≡ true) k b refl refl refl refl refl (λ x c. start-case (λ y. has (with-else bodyThings true) y ≡ true) x c refl refl refl refl)
+in-body false k b =
+    stmt-case (λ x. has (with-else bodyThings false) x ≡ true) k b refl refl refl refl refl (λ x c. start-case (λ y. has (with-else bodyThings false) y ≡ true) x c refl refl refl refl)
+
+in-unit : (a : Bool) (k : ℕ) → isItem k ≡ true → has (with-else unitThings a) k ≡ true
+unfolding has
+in-unit a k b = go (isText k) refl b
+  where
+    texts : (a : Bool) → isText k ≡ true → has (with-else unitThings a) k ≡ true
+    texts true e = either-kind (λ x. has (with-else unitThings true) x ≡ true) k KeywordSection KeywordLicense e refl refl
+    texts false e = either-kind (λ x. has (with-else unitThings false) x ≡ true) k KeywordSection KeywordLicense e refl refl
+
+    stmts : (a : Bool) → isStmt k ≡ true → has (with-else unitThings a) k ≡ true
+    stmts true e =
+        stmt-case (λ x. has (with-else unitThings true) x ≡ true) k e refl refl refl refl refl (λ x c. start-case (λ y. has (with-else unitThings true) y ≡ true) x c refl refl refl refl)
+    stmts false e =
+        stmt-case (λ x. has (with-else unitThings false) x ≡ true) k e refl refl refl refl refl (λ x c. start-case (λ y. has (with-else unitThings false) y ≡ true) x c refl refl refl refl)
+
+    go : (x : Bool) → isText k ≡ x → x || isStmt k ≡ true → has (with-else unitThings a) k ≡ true
+    go true e f = texts a e
+    go false e f = stmts a f
+
+-- the brace that ends a list, and `else` where it may follow
+body-rest : (a : Bool) → (has (with-else bodyThings a) RBrace ≡ true) × (a ≡ true → has (with-else bodyThings a) KeywordElse ≡ true)
+unfolding has
+body-rest true = (refl, λ e. refl)
+body-rest false = (refl, λ e. absurd (true≢false (sym e)))
+
+unit-rest : (a : Bool) → (has (with-else unitThings a) RBrace ≡ true) × (a ≡ true → has (with-else unitThings a) KeywordElse ≡ true)
+unfolding has
+unit-rest true = (refl, λ e. refl)
+unit-rest false = (refl, λ e. absurd (true≢false (sym e)))
+
+-- what a statement's lead says of what begins an expression
+abbrev Begun : ℕ → StmtLead → Type 0
+Begun k declaring = Unit {0}
+Begun k returning = Unit {0}
+Begun k branching = Unit {0}
+Begun k expression = isStart k ≡ true
+
+stmt-begun : (k : ℕ) → isStmt k ≡ true → Begun k (stmtLead k)
+unfolding stmtLead
+stmt-begun k b = go (isDeclaring k) (eqb k KeywordReturn) (eqb k KeywordIf) b
+  where
+    go : (x y z : Bool) → ((x || y) || z) || isStart k ≡ true → Begun k (cond x declaring (cond y returning (cond z branching expression)))
+    go true y z b = tt
+    go false true z b = tt
+    go false false true b = tt
+    go false false false b = b
+
+module _ (ts ts′ : List Tok) (n : ℕ) (agreed : Alike ts ts′ n) where
+  -- ---- lists
+
+  -- Things p up to a row of kind `stop`, of which `begins` says what begins one. Where nothing begins, w is told, with the set `also` and what
+  -- follows the list so far (F).
+  record Things (stop also : ℕ) (p p′ : P) (begins : ℕ → Bool) (w : Syntax) (F : Tree → Type 0) : Type 0 where
+    on : (i : ℕ) → begins (kindAt ts i) ≡ true → Held ts ts′ n F (i + 1) (p i) (p′ i)
+    off : (i : ℕ) → begins (kindAt ts i) ≡ false → p i ≡ no w i
+    off′ : (i : ℕ) → begins (kindAt ts′ i) ≡ false → p′ i ≡ no w i
+    longer : (i : ℕ) → Local ts n i (i + 1) (p i) (p′ i)
+    misfit : isMisfit w ≡ true
+    place : (i : ℕ) → lost ts w i ≡ i
+    tells : (l : Tree) → Spared ts ts′ n (setTold (retold (also + Parse.elseBehind ts l) w))
+      → F l × Off ts ts′ n begins × Off ts ts′ n (λ x. eqb x stop)
+    last : (l t : Tree) → F (seq l t) → F t
+
+  module _ (stop also : ℕ) (p p′ : P) (begins : ℕ → Bool) (w : Syntax) (F : Tree → Type 0) (things : Things stop also p p′ begins w F) where
+    abbrev Step : Tree → P
+    Step l j = Parse.listStep ts also p l j
+
+    abbrev Step′ : Tree → P
+    Step′ l j = Parse.listStep ts′ also p′ l j
+
+    step-on : (l : Tree) (j : ℕ) → begins (kindAt ts j) ≡ true → Held ts ts′ n F (j + 1) (Step l j) (Step′ l j)
+    unfolding Parse.listStep Parse.elseBehind
+    step-on l j b =
+        then-held ts ts′ n F F (or (also + Parse.elseBehind ts l) j (p j)) (or (also + Parse.elseBehind ts′ l) j (p′ j)) _ _
+        (or-held ts ts′ n (also + Parse.elseBehind ts l) j (p j) (p′ j) (things .on j b) (λ a q e. absurd (omega (arith, things .on j b .near a))))
+        (λ t k. ok-held ts ts′ n k (seq l t) k (omega arith)) (λ t a x. things .last l t (x refl))
+
+    -- a row that begins nothing is refused
+    step-off : (l : Tree) (j : ℕ) → begins (kindAt ts j) ≡ false → Step l j ≡ no (retold (also + Parse.elseBehind ts l) w) j
+    unfolding Parse.listStep
+    step-off l j b =
+        then-no (or (also + Parse.elseBehind ts l) j (p j)) _ (retold (also + Parse.elseBehind ts l) w) j
+        (ap (or (also + Parse.elseBehind ts l) j) (things .off j b) ∙ or-here (also + Parse.elseBehind ts l) j w)
+
+    step-off′ : (l : Tree) (j : ℕ) → begins (kindAt ts′ j) ≡ false → Misfit (Step′ l j)
+    unfolding Parse.listStep
+    step-off′ l j b =
+        misfit-then (or (also + Parse.elseBehind ts′ l) j (p′ j)) _
+        (subst Misfit (sym (ap (or (also + Parse.elseBehind ts′ l) j) (things .off′ j b) ∙ or-here (also + Parse.elseBehind ts′ l) j w))
+        (retold-misfit (also + Parse.elseBehind ts′ l) w ∙ things .misfit))
+
+    step-held : (l : Tree) (j : ℕ) → Held ts ts′ n F j (Step l j) (Step′ l j)
+    step-held l j = go (begins (kindAt ts j)) refl
+      where
+        unread : j ≡ n → begins (kindAt ts j) ≡ false → Spared ts ts′ n (setTold (retold (also + Parse.elseBehind ts l) w)) → Misfit (Step′ l j)
+        unread q b x =
+            step-off′ l j (ap (λ (r : ℕ). begins (kindAt ts′ r)) q ∙ things .tells l x .1 .fails (ap (λ (r : ℕ). begins (kindAt ts r)) (sym q) ∙ b))
+
+        go : (b : Bool) → begins (kindAt ts j) ≡ b → Held ts ts′ n F j (Step l j) (Step′ l j)
+        go true b = held-from ts ts′ n (omega arith) (step-on l j b)
+        go false b =
+            let here : lost ts (retold (also + Parse.elseBehind ts l) w) j ≡ j = retold-lost ts (also + Parse.elseBehind ts l) w j ∙ things .place j in
+            subst (λ (o : Out). Held ts ts′ n F j o (Step′ l j)) (sym (step-off l j b))
+            (record { near = λ a. omega (arith, a .1, here); again = λ a x. unread (sym here ∙ a .1) b x })
+
+    step-up : (l : Tree) (j : ℕ) → All (λ u k. j < k) (Step l j)
+    unfolding Parse.listStep
+    step-up l j =
+        then-all (λ u k. j < k) (λ u k. j < k) (or (also + Parse.elseBehind ts l) j (p j)) _
+        (or-all (λ u k. j < k) (also + Parse.elseBehind ts l) j (p j) (upward ts n j (p j) (p′ j) (things .longer j))) (λ t k h. h)
+
+    -- where a step is refused at row n, both lists go on there
+    steps-go : (l : Tree) → not (eqb (kindAt ts n) stop) ≡ true → Near ts ts′ n (Step l n) → Free ts ts′ n F (Step l n)
+        → F l × (not (eqb (kindAt ts′ n) stop) ≡ true)
+    steps-go l b a x = go (begins (kindAt ts n)) refl
+      where
+        go : (c : Bool) → begins (kindAt ts n) ≡ c → F l × (not (eqb (kindAt ts′ n) stop) ≡ true)
+        go true c = absurd (omega (arith, step-on l n c .near a))
+        go false c =
+            let y : F l × Off ts ts′ n begins × Off ts ts′ n (λ x. eqb x stop) = things .tells l (subst (Free ts ts′ n F) (step-off l n c) x) in
+            (y .0, ap not (y .2 .fails (not-true (eqb (kindAt ts n) stop) b)))
+
+    -- such a list is not held at its own end, which is looked at next
+    list-held : (j : ℕ) → Held ts ts′ n (λ l. ⊥) j (Parse.listTo ts stop also p j) (Parse.listTo ts′ stop also p′ j)
+    unfolding Parse.listTo
+    list-held j =
+        loop-held ts ts′ n agreed (λ x. not (eqb x stop)) Step Step′ F (λ l. ⊥) (λ l k b. step-up l k) (λ l k b. step-held l k)
+        (λ l b x. absurd x) steps-go none j
+
+    -- a list and its last row, and what is read behind
+    closed-held : {G : Tree → Type 0} (f f′ : Tree → P) → ((l : Tree) (k : ℕ) → Held ts ts′ n G (k + 1) (f l (k + 1)) (f′ l (k + 1))) → (j : ℕ)
+        → Held ts ts′ n G j (then (Parse.listTo ts stop also p j) (λ l k. f l (k + 1))) (then (Parse.listTo ts′ stop also p′ j) (λ l k. f′ l (k + 1)))
+    closed-held {G} f f′ h j =
+        then-held ts ts′ n (λ l. ⊥) G (Parse.listTo ts stop also p j) (Parse.listTo ts′ stop also p′ j) _ _ (list-held j)
+        (λ l k. held-from ts ts′ n (omega arith) (h l k)) (λ l a x. absurd (omega (arith, h l n .near a)))
+
+    -- the same in braces behind a name, which stands behind row i
+    braced-held : {G : Tree → Type 0} (f f′ : List ℕ → Tree → P) → stop ≡ RBrace
+        → ((v : List ℕ) (l : Tree) (k : ℕ) → Held ts ts′ n G (k + 1) (f v l (k + 1)) (f′ v l (k + 1))) → (i : ℕ)
+        → Held ts ts′ n G (i + 1) (Parse.braced ts also p f i) (Parse.braced ts′ also p′ f′ i)
+    unfolding Parse.braced
+    braced-held {G} f f′ q h i =
+        named-held ts ts′ n agreed _ _ (i + 1) (λ v e. want-held ts ts′ n agreed LBrace _ _ (i + 1 + 1) (λ b.
+        subst (λ (c : ℕ). Held ts ts′ n G (i + 1 + 1 + 1) (then (Parse.listTo ts c also p (i + 1 + 1 + 1)) (λ l k. f v l (k + 1)))
+        (then (Parse.listTo ts′ c also p′ (i + 1 + 1 + 1)) (λ l k. f′ v l (k + 1)))) q (closed-held (f v) (f′ v) (h v) (i + 1 + 1 + 1))))
+
+  -- ---- statements, over what is read behind a brace
+
+  -- `else` must not follow an `if` without one
+  abbrev StmtEnd : Tree → Type 0
+  StmtEnd t = hangs t ≡ true → Off ts ts′ n (λ x. eqb x KeywordElse)
+
+  module _ (d : ℕ) (p p′ : P) (under : (o : ℕ) → Held ts ts′ n (λ t. Unit {0}) (o + 1) (p o) (p′ o)) where
+    else-body : (w : List ℕ) (b : Tree) (k : ℕ)
+        → Held ts ts′ n StmtEnd (k + 1) (Parse.elseBy ts d p true w b k) (Parse.elseBy ts′ d p′ true w b k)
+    unfolding Parse.elseBy
+    else-body w b k =
+        then-held ts ts′ n (λ t. Unit {0}) StmtEnd (Parse.need ts LBrace p (k + 1)) (Parse.need ts′ LBrace p′ (k + 1)) _ _
+        (need-held ts ts′ n agreed LBrace p p′ (k + 1) (λ e. under (k + 1))) (λ e r. ok-held ts ts′ n r (guard w b (elseBody e)) r (omega arith)) (λ t a x. tt)
+
+    else-by : (c : Bool) (w : List ℕ) (b : Tree) (k : ℕ) → Held ts ts′ n StmtEnd k (Parse.elseBy ts d p c w b k) (Parse.elseBy ts′ d p′ c w b k)
+    unfolding Parse.elseBy
+    else-by true w b k = held-from ts ts′ n (omega arith) (else-body w b k)
+    else-by false w b k = ok-held ts ts′ n k (guard w b none) k (omega arith)
+
+    -- at the row behind a body both tables have an `else`, or neither has
+    elses : (c : Bool) (w : List ℕ) (b : Tree) (k : ℕ) → eqb (kindAt ts n) KeywordElse ≡ c → k ≡ n → Near ts ts′ n (Parse.elseBy ts d p c w b k)
+        → Free ts ts′ n StmtEnd (Parse.elseBy ts d p c w b k) → eqb (kindAt ts′ n) KeywordElse ≡ c
+    unfolding Parse.elseBy hangs yield
+    elses true w b k e q a x = absurd (omega (arith, else-body w b k .near a))
+    elses false w b k e q a x = x q refl .fails e
+
+    bodies-held : (w : List ℕ) (j : ℕ) → Held ts ts′ n StmtEnd j (Parse.bodies ts d p w j) (Parse.bodies ts′ d p′ w j)
+    unfolding Parse.bodies
+    bodies-held w j =
+        then-held ts ts′ n (λ t. Unit {0}) StmtEnd (Parse.need ts LBrace p j) (Parse.need ts′ LBrace p′ j) _ _
+        (need-held ts ts′ n agreed LBrace p p′ j (λ e. under j))
+        (λ b k. look-at ts ts′ n agreed k (λ x. eqb (kindOf x) KeywordElse) (λ c. Parse.elseBy ts d p c w (thenBody b) k) (λ c. Parse.elseBy ts′ d p′ c w (thenBody b) k)
+        (λ c e. else-by c w (thenBody b) k)
+        (λ q a x. ap (λ (r : ℕ). eqb (kindAt ts r) KeywordElse) (sym q)
+        ∙ sym (elses (eqb (kindAt ts k) KeywordElse) w (thenBody b) k (ap (λ (r : ℕ). eqb (kindAt ts r) KeywordElse) (sym q)) q a x)))
+        (λ t a x. tt)
+
+    -- behind an expression and then a semicolon
+    line-held : (e t : Tree) (k : ℕ) → Held ts ts′ n StmtEnd k (Parse.end ts Semicolon e (ok t) k) (Parse.end ts′ Semicolon e (ok t) k)
+    line-held e t k = end-held ts ts′ n agreed Semicolon e (ok t) (ok t) k line-ends (λ q. ok-held ts ts′ n (k + 1) t (k + 1) (omega arith))
+
+    line-free : (e t : Tree) → Near ts ts′ n (Parse.end ts Semicolon e (ok t) n) → Free ts ts′ n StmtEnd (Parse.end ts Semicolon e (ok t) n)
+        → AddEnd ts ts′ n agreed e
+    line-free e t a x = end-free ts ts′ n agreed Semicolon e (ok t) line-ends (λ q. ok-held ts ts′ n (n + 1) t (n + 1) (omega arith)) a x
+
+    -- an expression from row i on, and a semicolon
+    expr-line : (f : Tree → Tree) (i : ℕ) → Held ts ts′ n StmtEnd i (then (Parse.expr ts d i) (λ e k. Parse.end ts Semicolon e (ok (f e)) k))
+        (then (Parse.expr ts′ d i) (λ e k. Parse.end ts′ Semicolon e (ok (f e)) k))
+    expr-line f i =
+        then-held ts ts′ n (AddEnd ts ts′ n agreed) StmtEnd (Parse.expr ts d i) (Parse.expr ts′ d i) _ _ (expr-held ts ts′ n agreed d i)
+        (λ e k. line-held e (f e) k) (λ e a x. line-free e (f e) a x)
+
+    assign-by : (c : Bool) (e : Tree) (j : ℕ) → Held ts ts′ n StmtEnd (j + cond c 1 0) (Parse.assignBy ts d p c e j) (Parse.assignBy ts′ d p′ c e j)
+    unfolding Parse.assignBy
+    assign-by true e j =
+        look ts ts′ n agreed j (j + 1) (omega arith) kindOf (λ x. then (Parse.expr ts d (j + 1)) (λ r k. Parse.end ts Semicolon r (ok (assign x e r)) k))
+        (λ x. then (Parse.expr ts′ d (j + 1)) (λ r k. Parse.end ts′ Semicolon r (ok (assign x e r)) k)) (λ x q. expr-line (λ r. assign x e r) (j + 1))
+    assign-by false e j =
+        held-from ts ts′ n (omega arith) (end-in-held ts ts′ n agreed (only Semicolon + assigns) Semicolon e (ok (plain e)) (ok (plain e)) j first-ends
+        (λ q. ok-held ts ts′ n (j + 1) (plain e) (j + 1) (omega arith)))
+
+    -- at the row behind the first expression both tables assign, or neither does; and nothing goes on with the expression
+    assigns-end : (c : Bool) (e : Tree) → isAssign (kindAt ts n) ≡ c → Near ts ts′ n (Parse.assignBy ts d p c e n) → Free ts ts′ n StmtEnd (Parse.assignBy ts d p c e n)
+        → AddEnd ts ts′ n agreed e × (isAssign (kindAt ts′ n) ≡ c)
+    unfolding Parse.assignBy Parse.onward
+    assigns-end true e q a x = absurd (omega (arith, assign-by true e n .near a))
+    assigns-end false e q a x =
+        let s : ℕ = around (isSum e) (dotName ts n) (only Semicolon + assigns) in
+        let y : Spared ts ts′ n (Parse.onward ts e n + (only Semicolon + assigns)) =
+            end-spared ts ts′ n agreed (only Semicolon + assigns) Semicolon e (ok (plain e)) (λ q. ok-held ts ts′ n (n + 1) (plain e) (n + 1) (omega arith)) a x in
+        let h : (has s Equals ≡ true) × (has s PlusEquals ≡ true) = first-assigns (isSum e) (dotName ts n) in
+        (add-end ts ts′ n agreed (only Semicolon + assigns) Semicolon e first-ends y,
+        off ts ts′ n s isAssign (λ k b. either-kind (λ x. has s x ≡ true) k Equals PlusEquals b (h .0) (h .1)) y .fails q)
+
+    assign-held : (e : Tree) (j : ℕ) → Held ts ts′ n StmtEnd j (Parse.assignBy ts d p (isAssign (kindAt ts j)) e j) (Parse.assignBy ts′ d p′ (isAssign (kindAt ts′ j)) e j)
+    assign-held e j =
+        look-at ts ts′ n agreed j (λ x. isAssign (kindOf x)) (λ c. Parse.assignBy ts d p c e j) (λ c. Parse.assignBy ts′ d p′ c e j)
+        (λ c q. held-from ts ts′ n (omega arith) (assign-by c e j))
+        (λ q a x. sym (assigns-end (isAssign (kindAt ts n)) e refl
+        (subst (λ (r : ℕ). Near ts ts′ n (Parse.assignBy ts d p (isAssign (kindAt ts r)) e r)) q a)
+        (subst (λ (r : ℕ). Free ts ts′ n StmtEnd (Parse.assignBy ts d p (isAssign (kindAt ts r)) e r)) q x) .1))
+
+    stmt-by : (l : StmtLead) (i : ℕ) → Begun (kindAt ts i) l → Held ts ts′ n StmtEnd (i + 1) (Parse.stmtBy ts d p l i) (Parse.stmtBy ts′ d p′ l i)
+    unfolding Parse.stmtBy
+    stmt-by declaring i b =
+        look ts ts′ n agreed i (i + 1) (omega arith) kindOf
+        (λ x. Parse.named ts (λ w. Parse.want ts Equals (λ j. then (Parse.expr ts d j) (λ e k. Parse.end ts Semicolon e (ok (decl x w e)) k))) (i + 1))
+        (λ x. Parse.named ts′ (λ w. Parse.want ts′ Equals (λ j. then (Parse.expr ts′ d j) (λ e k. Parse.end ts′ Semicolon e (ok (decl x w e)) k))) (i + 1))
+        (λ x q. named-held ts ts′ n agreed _ _ (i + 1) (λ w e. want-held ts ts′ n agreed Equals _ _ (i + 1 + 1) (λ f. expr-line (λ e. decl x w e) (i + 1 + 1 + 1))))
+    stmt-by returning i b = expr-line ret (i + 1)
+    stmt-by branching i b =
+        want-held ts ts′ n agreed KeywordGuard _ _ (i + 1) (λ e. want-held ts ts′ n agreed LParen _ _ (i + 1 + 1) (λ f.
+        named-held ts ts′ n agreed _ _ (i + 1 + 1 + 1) (λ w h. want-held ts ts′ n agreed RParen _ _ (i + 1 + 1 + 1 + 1) (λ c. bodies-held w (i + 1 + 1 + 1 + 1 + 1)))))
+    stmt-by expression i b =
+        then-held ts ts′ n (AddEnd ts ts′ n agreed) StmtEnd (Parse.expr ts d i) (Parse.expr ts′ d i) _ _ (expr-on ts ts′ n agreed d i b) assign-held
+        (λ e a x. assigns-end (isAssign (kindAt ts n)) e refl a x .0)
+
+    stmt-on : (i : ℕ) → isStmt (kindAt ts i) ≡ true → Held ts ts′ n StmtEnd (i + 1) (Parse.stmt ts d p i) (Parse.stmt ts′ d p′ i)
+    unfolding Parse.stmt
+    stmt-on i b =
+        look ts ts′ n agreed i (i + 1) (omega arith) (λ x. stmtLead (kindOf x)) (λ l. Parse.stmtBy ts d p l i) (λ l. Parse.stmtBy ts′ d p′ l i)
+        (λ l e. stmt-by l i (subst (Begun (kindAt ts i)) e (stmt-begun (kindAt ts i) b)))
+
+  stmt-tells : (l : Tree) → Spared ts ts′ n (setTold (retold (bodyThings + Parse.elseBehind ts l) (wrong operands)))
+      → StmtEnd l × Off ts ts′ n isStmt × Off ts ts′ n (λ x. eqb x RBrace)
+  unfolding retold Parse.elseBehind
+  stmt-tells l x =
+      let s : ℕ = with-else bodyThings (hangs l) in
+      let y : Spared ts ts′ n s = spared-of ts ts′ n agreed s x in
+      (λ h. off-kind ts ts′ n s KeywordElse (body-rest (hangs l) .1 h) y, off ts ts′ n s isStmt (in-body (hangs l)) y, off-kind ts ts′ n s RBrace (body-rest (hangs l) .0) y)
+
+  stmts : (d : ℕ) → ((o : ℕ) → Held ts ts′ n (λ t. Unit {0}) (o + 1) (Parse.body ts d o) (Parse.body ts′ d o))
+      → Things RBrace bodyThings (Parse.stmt ts d (Parse.body ts d)) (Parse.stmt ts′ d (Parse.body ts′ d)) isStmt (wrong operands) StmtEnd
+  unfolding isMisfit lost hangs
+  stmts d under = record {
+    on = stmt-on d (Parse.body ts d) (Parse.body ts′ d) under;
+    off = stmt-unread ts d (Parse.body ts d);
+    off′ = stmt-unread ts′ d (Parse.body ts′ d);
+    longer = stmt-over ts ts′ n agreed d (Parse.body ts d) (Parse.body ts′ d) (branch-local ts ts′ n agreed d);
+    misfit = refl;
+    place = λ i. refl;
+    tells = stmt-tells;
+    last = λ l t x. x;
+  }
+
+  body-held : (d o : ℕ) → Held ts ts′ n (λ t. Unit {0}) (o + 1) (Parse.body ts d o) (Parse.body ts′ d o)
+  unfolding Parse.body isMisfit
+  body-held zero o = other-held ts ts′ n refl
+  body-held (suc d) o =
+      closed-held RBrace bodyThings (Parse.stmt ts d (Parse.body ts d)) (Parse.stmt ts′ d (Parse.body ts′ d)) isStmt (wrong operands) StmtEnd (stmts d (body-held d))
+      (λ l k. ok l k) (λ l k. ok l k) (λ l k. ok-held ts ts′ n (k + 1) l (k + 1) (omega arith)) (o + 1)
