@@ -134,6 +134,14 @@ module _ (ts : List Tok) (proper : Proper ts) where
         (sym (Cases.then-ok (q ts′) (f ts′) t j (kept ts (s + 1) k m (q ts) (q ts′) t j e (alike ts′ (s + 1) a) (omega (arith, h .0))))) (h .1 ts′ a),
   )
 
+  -- what is known of a refusal by the part q of the parser, at row j, where a tree of the nonterminal is read from row i on
+  abbrev Refusal : Where → Nt → (d i j : ℕ) → (List Tok → Out) → Syntax → ℕ → Type 0
+  Refusal c N d i j q = Halt c (Dooms j q) ts N d i
+
+  -- and that it is known, if q refuses
+  abbrev Refused : Where → Nt → (d i j : ℕ) → (List Tok → Out) → Type 0
+  Refused c N d i j q = Stuck (Refusal c N d i j q) (q ts)
+
   -- ---- a row of a kind, where a tree of the nonterminal is read from row i on and begins with the rows up to it
 
   module _ (c : Where) (D : ℕ → Type 0) (N : Nt) (d i : ℕ) where
@@ -226,7 +234,7 @@ module _ (ts : List Tok) (proper : Proper ts) where
   module _ (c : Where) (N : Nt) (d i : ℕ) (T : ℕ → Bool) (step : List Tok → Tree → P) (S : Tree → ℕ → Type 0)
       (keeps : (t : Tree) (j : ℕ) → S t j → T (kindAt ts j) ≡ true → All S (step ts t j))
       (alike : (t : Tree) (j : ℕ) → T (kindAt ts j) ≡ true → (ts′ : List Tok) (n : ℕ) → Alike ts ts′ n → Local ts n j (j + 1) (step ts t j) (step ts′ t j))
-      (stuck : (t : Tree) (j : ℕ) → S t j → T (kindAt ts j) ≡ true → Stuck (Halt c (Dooms j (λ x. step x t j)) ts N d i) (step ts t j)) where
+      (stuck : (t : Tree) (j : ℕ) → S t j → T (kindAt ts j) ≡ true → Refused c N d i j (λ x. step x t j)) where
     -- the loop from a tree and a row on, whatever bound is left that reaches row s
     abbrev Turns : Tree → ℕ → ℕ → Type 0
     Turns t j s =
@@ -262,15 +270,15 @@ module _ (ts : List Tok) (proper : Proper ts) where
     many-stuck (suc f) false t j e h = tt
     many-stuck (suc f) true t j e h =
         then-stuck (Halt c (Turns t j) ts N d i) S (step ts t j) (λ u k. many (λ r. T (kindAt ts r)) (step ts) f (T (kindAt ts k)) u k) (keeps t j h e)
-        (stuck-as (Halt c (Dooms j (λ x. step x t j)) ts N d i) (Halt c (Turns t j) ts N d i) (step ts t j) (stuck t j h e) (λ why r o. widen (this-turn t j e) o))
+        (stuck-as (Refusal c N d i j (λ x. step x t j)) (Halt c (Turns t j) ts N d i) (step ts t j) (stuck t j h e) (λ why r o. widen (this-turn t j e) o))
         (λ u k q h′. stuck-as (Halt c (Turns u k) ts N d i) (Halt c (Turns t j) ts N d i) (many (λ r. T (kindAt ts r)) (step ts) f (T (kindAt ts k)) u k)
         (many-stuck f (T (kindAt ts k)) u k refl h′) (λ why r o. widen (next-turn t j e u k q) o))
 
     loop-stuck : (t : Tree) (j : ℕ) → S t j
-        → Stuck (Halt c (Dooms j (λ x. Parse.loop x (λ r. T (kindAt x r)) (step x) t j)) ts N d i) (Parse.loop ts (λ r. T (kindAt ts r)) (step ts) t j)
+        → Refused c N d i j (λ x. Parse.loop x (λ r. T (kindAt x r)) (step x) t j)
     unfolding Parse.loop
     loop-stuck t j h =
-        stuck-as (Halt c (Turns t j) ts N d i) (Halt c (Dooms j (λ x. many (λ r. T (kindAt x r)) (step x) (suc (length x)) (T (kindAt x j)) t j)) ts N d i)
+        stuck-as (Halt c (Turns t j) ts N d i) (Refusal c N d i j (λ x. many (λ r. T (kindAt x r)) (step x) (suc (length x)) (T (kindAt x j)) t j))
         (many (λ r. T (kindAt ts r)) (step ts) (suc (length ts)) (T (kindAt ts j)) t j) (many-stuck (suc (length ts)) (T (kindAt ts j)) t j refl h)
         (λ why r o. widen (λ s x. (x .0, λ ts′ a. x .1 ts′ a (suc (length ts′)) (omega (arith, a .fit′)))) o)
 
@@ -278,13 +286,13 @@ module _ (ts : List Tok) (proper : Proper ts) where
 
   abbrev Below : Nt → ℕ → (List Tok → P) → Type 0
   Below M zero Q = (o : ℕ) → Q ts o ≡ no TooDeep o
-  Below M (suc d) Q = (o : ℕ) → Start ts (o + 1) → Stuck (Halt code (Dooms (o + 1) (λ x. Q x o)) ts M d (o + 1)) (Q ts o)
+  Below M (suc d) Q = (o : ℕ) → Start ts (o + 1) → Refused code M d (o + 1) (o + 1) (λ x. Q x o)
 
   -- none is left, or the refusal stands one construct deeper
   below : (M : Nt) (d : ℕ) (Q : List Tok → P) → Below M d Q → (C : Syntax → ℕ → Type 0) (o : ℕ) → Start ts (o + 1) → (d ≡ 0 → C TooDeep o)
-      → ((d′ : ℕ) → d ≡ suc d′ → (why : Syntax) (r : ℕ) → Halt code (Dooms (o + 1) (λ x. Q x o)) ts M d′ (o + 1) why r → C why r) → Stuck C (Q ts o)
+      → ((d′ : ℕ) → d ≡ suc d′ → (why : Syntax) (r : ℕ) → Refusal code M d′ (o + 1) (o + 1) (λ x. Q x o) why r → C why r) → Stuck C (Q ts o)
   below M zero Q h C o l full inner = subst (Stuck C) (sym (h o)) (full refl)
-  below M (suc d) Q h C o l full inner = stuck-as (Halt code (Dooms (o + 1) (λ x. Q x o)) ts M d (o + 1)) C (Q ts o) (h o l) (inner d refl)
+  below M (suc d) Q h C o l full inner = stuck-as (Refusal code M d (o + 1) (o + 1) (λ x. Q x o)) C (Q ts o) (h o l) (inner d refl)
 
   under-read : (N : Nt) (d o : ℕ) (t : Tree) (j : ℕ) → Under ts N d o t j → Is false N d t × Run ts (o + 1) (yield t) j
   under-read N zero o t j u = absurd u
@@ -325,7 +333,7 @@ module _ (ts : List Tok) (proper : Proper ts) where
 
     -- a row that begins nothing is left to `unary`, which a star may begin
     atom-by : (l : Lead) (i : ℕ) → LeadIs (kindAt ts i) l → (l ≡ other → ⊥) → Start ts i
-        → Stuck (Halt code (Dooms i (λ x. Parse.atomBy x (G x) l i)) ts Basic d i) (Parse.atomBy ts (G ts) l i)
+        → Refused code Basic d i i (λ x. Parse.atomBy x (G x) l i)
     unfolding Parse.atomBy Parse.end yield
     atom-by number i f n h = tt
     atom-by identifier i f n h = tt
@@ -345,22 +353,22 @@ module _ (ts : List Tok) (proper : Proper ts) where
         (fitting RParen (group t) (i-group (v .0)) (sign RParen ∷ []) refl (x ▸ v .1) refl and done)) (λ e. tt))
     atom-by other i f n h = absurd (n refl)
 
-    atom-stuck : (i : ℕ) → (lead (kindAt ts i) ≡ other → ⊥) → Start ts i → Stuck (Halt code (Dooms i (λ x. Parse.atom x (G x) i)) ts Basic d i) (Parse.atom ts (G ts) i)
+    atom-stuck : (i : ℕ) → (lead (kindAt ts i) ≡ other → ⊥) → Start ts i → Refused code Basic d i i (λ x. Parse.atom x (G x) i)
     unfolding Parse.atom
     atom-stuck i n h =
-        stuck-as (Halt code (Dooms i (λ x. Parse.atomBy x (G x) (lead (kindAt ts i)) i)) ts Basic d i) (Halt code (Dooms i (λ x. Parse.atomBy x (G x) (lead (kindAt x i)) i)) ts Basic d i)
+        stuck-as (Refusal code Basic d i i (λ x. Parse.atomBy x (G x) (lead (kindAt ts i)) i)) (Refusal code Basic d i i (λ x. Parse.atomBy x (G x) (lead (kindAt x i)) i))
         (Parse.atomBy ts (G ts) (lead (kindAt ts i)) i) (atom-by (lead (kindAt ts i)) i (lead-is (kindAt ts i)) n h)
         (λ why r o. widen (at-kind (λ x k. Parse.atomBy x (G x) (lead k) i) i) o)
 
     -- a refusal of the first argument behind the parenthesis at row o: no construct is left, or it stands one deeper
     data Within (o : ℕ) (why : Syntax) (r : ℕ) : Type 0 where
       too-many : d ≡ 0 → why ≡ TooDeep → r ≡ o → Within o why r
-      within : (d′ : ℕ) → d ≡ suc d′ → Halt code (Dooms (o + 1) (λ x. G x whole o)) ts Add d′ (o + 1) why r → Within o why r
+      within : (d′ : ℕ) → d ≡ suc d′ → Refusal code Add d′ (o + 1) (o + 1) (λ x. G x whole o) why r → Within o why r
 
     -- arguments behind the parenthesis at row o, where d′ constructs are left in them
     module _ (o d′ : ℕ) (z : d ≡ suc d′) where
       abbrev HArgs : (List Tok → Out) → ℕ → Syntax → ℕ → Type 0
-      HArgs q j = Halt code (Dooms j q) ts Args d′ (o + 1)
+      HArgs q j = Refusal code Args d′ (o + 1) j q
 
       arg-stuck : (a : Tree) (j : ℕ) → Under ts Args d o a j → eqb (kindAt ts j) Comma ≡ true
           → Stuck (HArgs (λ x. Parse.argStep x (G x) a j) j) (Parse.argStep ts (G ts) a j)
@@ -371,7 +379,7 @@ module _ (ts : List Tok) (proper : Proper ts) where
           let v : Reads ts Args d′ (o + 1) a j = subst (λ (n : ℕ). Under ts Args n o a j) z u in
           let m : Below Add (suc d′) (λ x. G x whole) = subst (λ (n : ℕ). Below Add n (λ x. G x whole)) z (under whole) in
           then-any (HArgs (λ x. Parse.argStep x (G x) a j) j) (G ts whole j) _
-          (stuck-as (Halt code (Dooms (j + 1) (λ x. G x whole j)) ts Add d′ (j + 1)) (HArgs (λ x. Parse.argStep x (G x) a j) j) (G ts whole j) (m j (start ts j Comma e refl refl))
+          (stuck-as (Refusal code Add d′ (j + 1) (j + 1) (λ x. G x whole j)) (HArgs (λ x. Parse.argStep x (G x) a j) j) (G ts whole j) (m j (start ts j Comma e refl refl))
           (λ why r h. wrap (λ u. more a u) (λ u q. i-more (lax (isMisfit why) (v .is)) q) (λ _. at-first j (j + 1) (λ x. G x whole j) (λ x t k. ok (more a t) k) (omega arith)) [] refl
           (λ u. last-part (yield a) (sign Comma) (yield u)) (run-of v ▸ row ts j Comma e refl) h))
           (λ t k. tt)
@@ -396,7 +404,7 @@ module _ (ts : List Tok) (proper : Proper ts) where
     -- the same, whether a construct is left or not; a row that begins no argument tells `)` too
     args-stuck : (C : Syntax → ℕ → Type 0) (o : ℕ) → Start ts (o + 1) → eqb (kindAt ts o) LBrace ≡ false → (d ≡ 0 → C TooDeep o)
         → ((d′ : ℕ) → d ≡ suc d′ → C (wrong firstArguments) (o + 1))
-        → ((d′ : ℕ) → d ≡ suc d′ → (why : Syntax) (r : ℕ) → Halt code (Dooms (o + 1) (λ x. Parse.args x (G x) o)) ts Args d′ (o + 1) why r → C why r)
+        → ((d′ : ℕ) → d ≡ suc d′ → (why : Syntax) (r : ℕ) → Refusal code Args d′ (o + 1) (o + 1) (λ x. Parse.args x (G x) o) why r → C why r)
         → Stuck C (Parse.args ts (G ts) o)
     unfolding Parse.args yield
     args-stuck C o l b full bare inner =
@@ -426,7 +434,7 @@ module _ (ts : List Tok) (proper : Proper ts) where
       method = spellingOf (tokAt ts (j + 1))
 
       abbrev HPost : Syntax → ℕ → Type 0
-      HPost = Halt code (Dooms j (λ x. Parse.post x (G x) t j)) ts Basic d i
+      HPost = Refusal code Basic d i j (λ x. Parse.post x (G x) t j)
 
       -- the dot and the name alone are a field
       as-field : Open true false ts Basic d i (j + 1 + 1) 0
@@ -482,7 +490,7 @@ module _ (ts : List Tok) (proper : Proper ts) where
 
         -- a refusal among the arguments: of a call on no variable the parenthesis is lost
         in-call : (b c : Bool) → isVariable t ≡ b → eqb (kindAt ts (j + 1 + 1 + 1)) RParen ≡ false → (d′ : ℕ) → d ≡ suc d′ → (why : Syntax) (q : ℕ) → isCheck why ≡ c
-            → Halt code (Dooms (j + 1 + 1 + 1) (λ x. Parse.args x (G x) (j + 1 + 1))) ts Args d′ (j + 1 + 1 + 1) why q → HPost why q
+            → Refusal code Args d′ (j + 1 + 1 + 1) (j + 1 + 1 + 1) (λ x. Parse.args x (G x) (j + 1 + 1)) why q → HPost why q
         unfolding yield isCheck isMisfit
         in-call true c v y d′ z why q w o =
             wrap (λ a. call t method a) (λ a s. around-it (isMisfit why) d d′ z (i-call (inside-it (isMisfit why) d d′ z (lax (isMisfit why) (r .is))) (λ _. v) s))
@@ -575,7 +583,7 @@ module _ (ts : List Tok) (proper : Proper ts) where
       open-by false b = tt
 
     post-stuck : (i : ℕ) (t : Tree) (j : ℕ) → Reads ts Basic d i t j → kindAt ts j ≡ Dot
-        → Stuck (Halt code (Dooms j (λ x. Parse.post x (G x) t j)) ts Basic d i) (Parse.post ts (G ts) t j)
+        → Refused code Basic d i j (λ x. Parse.post x (G x) t j)
     unfolding Parse.post yield
     post-stuck i t j r e =
         named-halt code (Dooms j (λ x. Parse.post x (G x) t j)) Basic d i _ (j + 1)
@@ -583,14 +591,14 @@ module _ (ts : List Tok) (proper : Proper ts) where
         (run-of r ▸ row ts j Dot e refl) refl)
         (λ f. open-by i t j r e f (eqb (kindAt ts (j + 1 + 1)) LParen) refl)
 
-    prim-stuck : (i : ℕ) → (lead (kindAt ts i) ≡ other → ⊥) → Start ts i → Stuck (Halt code (Dooms i (λ x. Parse.prim x (G x) i)) ts Basic d i) (Parse.prim ts (G ts) i)
+    prim-stuck : (i : ℕ) → (lead (kindAt ts i) ≡ other → ⊥) → Start ts i → Refused code Basic d i i (λ x. Parse.prim x (G x) i)
     unfolding Parse.prim
     prim-stuck i m h =
         let posts : List Tok → Tree → P = λ x t j. Parse.loop x (λ r. eqb (kindAt x r) Dot) (Parse.post x (G x)) t j in
-        then-stuck (Halt code (Dooms i (λ x. Parse.prim x (G x) i)) ts Basic d i) (Reads ts Basic d i) (Parse.atom ts (G ts) i) (posts ts) (atom-sound ts d (G ts) (inner-sound ts d) i)
-        (stuck-as (Halt code (Dooms i (λ x. Parse.atom x (G x) i)) ts Basic d i) (Halt code (Dooms i (λ x. Parse.prim x (G x) i)) ts Basic d i) (Parse.atom ts (G ts) i) (atom-stuck i m h)
+        then-stuck (Refusal code Basic d i i (λ x. Parse.prim x (G x) i)) (Reads ts Basic d i) (Parse.atom ts (G ts) i) (posts ts) (atom-sound ts d (G ts) (inner-sound ts d) i)
+        (stuck-as (Refusal code Basic d i i (λ x. Parse.atom x (G x) i)) (Refusal code Basic d i i (λ x. Parse.prim x (G x) i)) (Parse.atom ts (G ts) i) (atom-stuck i m h)
         (λ why r o. widen (at-first i i (λ x. Parse.atom x (G x) i) posts (omega arith)) o))
-        (λ t j e r. stuck-as (Halt code (Dooms j (λ x. posts x t j)) ts Basic d i) (Halt code (Dooms i (λ x. Parse.prim x (G x) i)) ts Basic d i) (posts ts t j)
+        (λ t j e r. stuck-as (Refusal code Basic d i j (λ x. posts x t j)) (Refusal code Basic d i i (λ x. Parse.prim x (G x) i)) (posts ts t j)
         (loop-stuck code Basic d i (λ x. eqb x Dot) (λ x. Parse.post x (G x)) (Reads ts Basic d i) (post-sound ts d (G ts) (inner-sound ts d) i)
         (λ u k b ts′ n a. post-local ts ts′ n a (G ts) (G ts′) (inner-local ts ts′ n a d) u k)
         (λ u k r b. post-stuck i u k r (eqb-true (kindAt ts k) Dot b)) t j r)
@@ -606,13 +614,13 @@ module _ (ts : List Tok) (proper : Proper ts) where
         wanted code D Unary d i operands Number i (holds operands Number refl) (each (Open false true ts Unary d i i) operands operandKinds refl
         (each-as (λ k b. fitting k (b .tree) (b .is) (yield (b .tree)) refl (run-none ts i (h .inside)) (heads-more k (yield (b .tree)) [] (b .next))) (unary-begins d)))
 
-    unary-by : (b : Bool) (i : ℕ) → eqb (kindAt ts i) Star ≡ b → Start ts i → Stuck (Halt code (Dooms i (λ x. Parse.unaryBy x (G x) b i)) ts Unary d i) (Parse.unaryBy ts (G ts) b i)
+    unary-by : (b : Bool) (i : ℕ) → eqb (kindAt ts i) Star ≡ b → Start ts i → Refused code Unary d i i (λ x. Parse.unaryBy x (G x) b i)
     unfolding Parse.unaryBy yield
     unary-by true i b h =
         let e : kindAt ts i ≡ Star = eqb-true (kindAt ts i) Star b in
         let l : i < length ts = here ts i Star e refl in
-        then-any (Halt code (Dooms i (λ x. Parse.unaryBy x (G x) true i)) ts Unary d i) (G ts operand i) _
-        (below Unary d (λ x. G x operand) (under operand) (Halt code (Dooms i (λ x. Parse.unaryBy x (G x) true i)) ts Unary d i) i (start ts i Star e refl refl)
+        then-any (Refusal code Unary d i i (λ x. Parse.unaryBy x (G x) true i)) (G ts operand i) _
+        (below Unary d (λ x. G x operand) (under operand) (Refusal code Unary d i i (λ x. Parse.unaryBy x (G x) true i)) i (start ts i Star e refl refl)
         (λ z. too-deep code (Dooms i (λ x. Parse.unaryBy x (G x) true i)) Unary d i i i (group-row ts i (ap (λ (x : ℕ). eqb x LBrace) e) (h .fresh))
         (opened (num 0) (i-prim i-num) (value 0 ∷ []) refl (run-none ts i (h .inside))))
         (λ d′ z why r o. wrap star (λ u q. around-it (isMisfit why) d d′ z (i-star q)) (λ _. at-first i (i + 1) (λ x. G x operand i) (λ x t j. ok (star t) j) (omega arith)) [] refl
@@ -621,11 +629,11 @@ module _ (ts : List Tok) (proper : Proper ts) where
     unary-by false i b h = go (lead (kindAt ts i)) refl
       where
         H : Syntax → ℕ → Type 0
-        H = Halt code (Dooms i (λ x. Parse.prim x (G x) i)) ts Unary d i
+        H = Refusal code Unary d i i (λ x. Parse.prim x (G x) i)
 
         prims : (lead (kindAt ts i) ≡ other → ⊥) → Stuck H (Parse.prim ts (G ts) i)
         prims n =
-            stuck-as (Halt code (Dooms i (λ x. Parse.prim x (G x) i)) ts Basic d i) H (Parse.prim ts (G ts) i) (prim-stuck i n h)
+            stuck-as (Refusal code Basic d i i (λ x. Parse.prim x (G x) i)) H (Parse.prim ts (G ts) i) (prim-stuck i n h)
             (λ why r o. recast (λ u. u) (λ u q. i-prim q) (λ _ s x. x) refl (λ u. refl) o)
 
         go : (l : Lead) → lead (kindAt ts i) ≡ l → Stuck H (Parse.prim ts (G ts) i)
@@ -634,26 +642,26 @@ module _ (ts : List Tok) (proper : Proper ts) where
         go identifier e = prims (λ q. let z : _≡_ {A = ℕ} 0 1 = cc in omega arith)
         go paren e = prims (λ q. let z : _≡_ {A = ℕ} 0 1 = cc in omega arith)
 
-    unary-stuck : (i : ℕ) → Start ts i → Stuck (Halt code (Dooms i (λ x. Parse.unary x (G x) i)) ts Unary d i) (Parse.unary ts (G ts) i)
+    unary-stuck : (i : ℕ) → Start ts i → Refused code Unary d i i (λ x. Parse.unary x (G x) i)
     unfolding Parse.unary
     unary-stuck i h =
-        stuck-as (Halt code (Dooms i (λ x. Parse.unaryBy x (G x) (eqb (kindAt ts i) Star) i)) ts Unary d i)
-        (Halt code (Dooms i (λ x. Parse.unaryBy x (G x) (eqb (kindAt x i) Star) i)) ts Unary d i)
+        stuck-as (Refusal code Unary d i i (λ x. Parse.unaryBy x (G x) (eqb (kindAt ts i) Star) i))
+        (Refusal code Unary d i i (λ x. Parse.unaryBy x (G x) (eqb (kindAt x i) Star) i))
         (Parse.unaryBy ts (G ts) (eqb (kindAt ts i) Star) i) (unary-by (eqb (kindAt ts i) Star) i refl h)
         (λ why r o. widen (at-kind (λ x k. Parse.unaryBy x (G x) (eqb k Star) i) i) o)
 
     -- a ladder: operands q of the nonterminal M, the first of them by `one`, whose rows of operators `isOp` join them to the nonterminal N
     module _ (N M : Nt) (plain : closedBy M ≡ []) (isOp : ℕ → Bool) (mark : (k : ℕ) → isOp k ≡ true → isMark k ≡ true) (apart : isOp Dot ≡ false) (q : List Tok → P) (q-sound : (i : ℕ) → All (Reads ts M d i) (q ts i))
         (q-alike : (i : ℕ) (ts′ : List Tok) (n : ℕ) → Alike ts ts′ n → Local ts n i (i + 1) (q ts i) (q ts′ i))
-        (q-stuck : (i : ℕ) → Start ts i → Stuck (Halt code (Dooms i (λ x. q x i)) ts M d i) (q ts i))
+        (q-stuck : (i : ℕ) → Start ts i → Refused code M d i i (λ x. q x i))
         (joins : (b : Bool) (n k : ℕ) (l r : Tree) → Is b N n l → isOp k ≡ true → Is b M n r → Is b N n (bin k l r)) where
       bin-stuck : (i : ℕ) (t : Tree) (j : ℕ) → Reads ts N d i t j → isOp (kindAt ts j) ≡ true
-          → Stuck (Halt code (Dooms j (λ x. Parse.binStep x (G x) (q x) t j)) ts N d i) (Parse.binStep ts (G ts) (q ts) t j)
+          → Refused code N d i j (λ x. Parse.binStep x (G x) (q x) t j)
       unfolding Parse.binStep yield
       bin-stuck i t j r b =
           let x : Run ts j (sign (kindAt ts j) ∷ []) (j + 1) = row ts j (kindAt ts j) refl (mark (kindAt ts j) b) in
-          then-any (Halt code (Dooms j (λ x. Parse.binStep x (G x) (q x) t j)) ts N d i) (q ts (j + 1)) _
-          (stuck-as (Halt code (Dooms (j + 1) (λ x. q x (j + 1))) ts M d (j + 1)) (Halt code (Dooms j (λ x. Parse.binStep x (G x) (q x) t j)) ts N d i) (q ts (j + 1))
+          then-any (Refusal code N d i j (λ x. Parse.binStep x (G x) (q x) t j)) (q ts (j + 1)) _
+          (stuck-as (Refusal code M d (j + 1) (j + 1) (λ x. q x (j + 1))) (Refusal code N d i j (λ x. Parse.binStep x (G x) (q x) t j)) (q ts (j + 1))
           (q-stuck (j + 1) (start ts j (kindAt ts j) refl (mark (kindAt ts j) b) (joins-apart isOp apart (kindAt ts j) b)))
           (λ why s o. wrap (λ u. bin (kindAt ts j) t u) (λ u w. joins (isCheck why) (over (isMisfit why) d) (kindAt ts j) t u (lax (isMisfit why) (r .is)) b w)
           (λ _. at-first j (j + 1) (λ x. q x (j + 1)) (λ x u k. ok (bin (kindAt x j) t u) k) (omega arith)) [] plain
@@ -661,8 +669,7 @@ module _ (ts : List Tok) (proper : Proper ts) where
           (λ u k. tt)
 
       ladder : (i : ℕ) (t : Tree) (j : ℕ) → Reads ts N d i t j
-          → Stuck (Halt code (Dooms j (λ x. Parse.loop x (λ r. isOp (kindAt x r)) (Parse.binStep x (G x) (q x)) t j)) ts N d i)
-          (Parse.loop ts (λ r. isOp (kindAt ts r)) (Parse.binStep ts (G ts) (q ts)) t j)
+          → Refused code N d i j (λ x. Parse.loop x (λ r. isOp (kindAt x r)) (Parse.binStep x (G x) (q x)) t j)
       ladder i t j r =
           loop-stuck code N d i isOp (λ x. Parse.binStep x (G x) (q x)) (Reads ts N d i) (bin-step ts d (G ts) (inner-sound ts d) N M isOp mark (q ts) q-sound (joins true d) i)
           (λ u k b ts′ n a. Local.bin-step ts ts′ n a (G ts) (G ts′) (inner-local ts ts′ n a d) isOp (q ts) (q ts′)
@@ -672,16 +679,15 @@ module _ (ts : List Tok) (proper : Proper ts) where
       -- behind the first operand p
       climb : (M′ : Nt) (p : List Tok → P) → ((i : ℕ) → All (Reads ts M′ d i) (p ts i))
           → ((i : ℕ) (ts′ : List Tok) (n : ℕ) → Alike ts ts′ n → Local ts n i (i + 1) (p ts i) (p ts′ i))
-          → ((i : ℕ) → Start ts i → Stuck (Halt code (Dooms i (λ x. p x i)) ts M′ d i) (p ts i))
+          → ((i : ℕ) → Start ts i → Refused code M′ d i i (λ x. p x i))
           → ((b : Bool) (n : ℕ) (u : Tree) → Is b M′ n u → Is b N n u) → closedBy M′ ≡ closedBy N → (i : ℕ) → Start ts i
-          → Stuck (Halt code (Dooms i (λ x. then (p x i) (λ t j. Parse.loop x (λ r. isOp (kindAt x r)) (Parse.binStep x (G x) (q x)) t j))) ts N d i)
-          (then (p ts i) (λ t j. Parse.loop ts (λ r. isOp (kindAt ts r)) (Parse.binStep ts (G ts) (q ts)) t j))
+          → Refused code N d i i (λ x. then (p x i) (λ t j. Parse.loop x (λ r. isOp (kindAt x r)) (Parse.binStep x (G x) (q x)) t j))
       climb M′ p p-sound p-alike p-stuck up alone i h =
           let f : List Tok → Tree → P = λ x t j. Parse.loop x (λ r. isOp (kindAt x r)) (Parse.binStep x (G x) (q x)) t j in
-          then-stuck (Halt code (Dooms i (λ x. then (p x i) (f x))) ts N d i) (Reads ts M′ d i) (p ts i) (f ts) (p-sound i)
-          (stuck-as (Halt code (Dooms i (λ x. p x i)) ts M′ d i) (Halt code (Dooms i (λ x. then (p x i) (f x))) ts N d i) (p ts i) (p-stuck i h)
+          then-stuck (Refusal code N d i i (λ x. then (p x i) (f x))) (Reads ts M′ d i) (p ts i) (f ts) (p-sound i)
+          (stuck-as (Refusal code M′ d i i (λ x. p x i)) (Refusal code N d i i (λ x. then (p x i) (f x))) (p ts i) (p-stuck i h)
           (λ why r o. recast (λ u. u) (λ u w. up (isCheck why) (over (isMisfit why) d) u w) (λ _. at-first i i (λ x. p x i) f (omega arith)) alone (λ u. refl) o))
-          (λ t j e r. stuck-as (Halt code (Dooms j (λ x. f x t j)) ts N d i) (Halt code (Dooms i (λ x. then (p x i) (f x))) ts N d i) (f ts t j)
+          (λ t j e r. stuck-as (Refusal code N d i j (λ x. f x t j)) (Refusal code N d i i (λ x. then (p x i) (f x))) (f ts t j)
           (ladder i t j (taken-as (λ w. up true d t w) r))
           (λ why s o. widen (at-next i j (i + 1) i (λ x. p x i) f t e (omega (arith, r .next)) (p-alike i)) o))
 
@@ -694,19 +700,19 @@ module _ (ts : List Tok) (proper : Proper ts) where
     shift-alike : (i : ℕ) (ts′ : List Tok) (n : ℕ) → Alike ts ts′ n → Local ts n i (i + 1) (Parse.shift ts (G ts) i) (Parse.shift ts′ (G ts′) i)
     shift-alike i ts′ n a = shift-local ts ts′ n a (G ts) (G ts′) (inner-local ts ts′ n a d) i
 
-    mul-stuck : (i : ℕ) → Start ts i → Stuck (Halt code (Dooms i (λ x. Parse.mul x (G x) i)) ts Mul d i) (Parse.mul ts (G ts) i)
+    mul-stuck : (i : ℕ) → Start ts i → Refused code Mul d i i (λ x. Parse.mul x (G x) i)
     unfolding Parse.mul
     mul-stuck i h =
         climb Mul Unary refl isMul mul-mark refl (λ x. Parse.unary x (G x)) (unary-sound ts d (G ts) (inner-sound ts d)) unary-alike unary-stuck (λ b n k l r a e c. i-mul a e c)
         Unary (λ x. Parse.unary x (G x)) (unary-sound ts d (G ts) (inner-sound ts d)) unary-alike unary-stuck (λ b n u w. i-unary w) refl i h
 
-    shift-stuck : (i : ℕ) → Start ts i → Stuck (Halt code (Dooms i (λ x. Parse.shift x (G x) i)) ts Shift d i) (Parse.shift ts (G ts) i)
+    shift-stuck : (i : ℕ) → Start ts i → Refused code Shift d i i (λ x. Parse.shift x (G x) i)
     unfolding Parse.shift
     shift-stuck i h =
         climb Shift Mul refl isShift shift-mark refl (λ x. Parse.mul x (G x)) (mul-sound ts d (G ts) (inner-sound ts d)) mul-alike mul-stuck (λ b n k l r a e c. i-shift a e c)
         Mul (λ x. Parse.mul x (G x)) (mul-sound ts d (G ts) (inner-sound ts d)) mul-alike mul-stuck (λ b n u w. i-lone w) refl i h
 
-    add-stuck : (i : ℕ) → Start ts i → Stuck (Halt code (Dooms i (λ x. Parse.add x (G x) i)) ts Add d i) (Parse.add ts (G ts) i)
+    add-stuck : (i : ℕ) → Start ts i → Refused code Add d i i (λ x. Parse.add x (G x) i)
     unfolding Parse.add
     add-stuck i h =
         climb Add Mul refl isAdd add-mark refl (λ x. Parse.mul x (G x)) (mul-sound ts d (G ts) (inner-sound ts d)) mul-alike mul-stuck (λ b n k l r a e c. i-add a e c)
@@ -718,7 +724,7 @@ module _ (ts : List Tok) (proper : Proper ts) where
   inner-stuck (suc d) operand = λ o h. unary-stuck d (inner-stuck d) (o + 1) h
   inner-stuck (suc d) whole = λ o h. add-stuck d (inner-stuck d) (o + 1) h
 
-  expr-stuck : (d i : ℕ) → Start ts i → Stuck (Halt code (Dooms i (λ x. Parse.expr x d i)) ts Add d i) (Parse.expr ts d i)
+  expr-stuck : (d i : ℕ) → Start ts i → Refused code Add d i i (λ x. Parse.expr x d i)
   unfolding Parse.expr
   expr-stuck d i h = add-stuck d (inner-stuck d) i h
 
@@ -733,7 +739,7 @@ module _ (ts : List Tok) (proper : Proper ts) where
 
   -- a refusal of a thing at row i: inside it, or of its first row, telling the set `also` of the list
   data Thing (c : Where) (M : Nt) (d also : ℕ) (Q : List Tok → P) (i : ℕ) (why : Syntax) (r : ℕ) : Type 0 where
-    inside : Halt c (Dooms i (λ x. Q x i)) ts M d i why r → Thing c M d also Q i why r
+    inside : Refusal c M d i i (λ x. Q x i) why r → Thing c M d also Q i why r
     strange : r ≡ i → isMisfit why ≡ true → isCheck why ≡ false → lost ts why r ≡ r → setTold why ≡ listSet also false → Thing c M d also Q i why r
 
   module _ (c : Where) (Ns M : Nt) (d : ℕ) (nil : (b : Bool) (n : ℕ) → Is b Ns n none)
@@ -795,7 +801,7 @@ module _ (ts : List Tok) (proper : Proper ts) where
         then-local ts n (or (listSet also (hangs l)) j (Q ts j)) (or (listSet also (hangs l)) j (Q ts′ j)) _ _
         (or-local ts n (listSet also (hangs l)) j (Q ts j) (Q ts′ j) (q-alike j ts′ n a)) (λ t r m. ok-local ts n r (j + 1) _ r (omega arith) m)
 
-    list-stuck : (i : ℕ) → i ≤ length ts → S i → Stuck (Halt c (Dooms i (λ x. Parse.listTo x stop also (Q x) i)) ts Ns d i) (Parse.listTo ts stop also (Q ts) i)
+    list-stuck : (i : ℕ) → i ≤ length ts → S i → Refused c Ns d i i (λ x. Parse.listTo x stop also (Q x) i)
     unfolding Parse.listTo yield
     list-stuck i h s =
         loop-stuck c Ns d i (λ k. not (eqb k stop)) (λ x. Parse.listStep x also (Q x)) (λ l j. Reads ts Ns d i l j × S j)
@@ -806,10 +812,10 @@ module _ (ts : List Tok) (proper : Proper ts) where
       abbrev contents : List Tok → Out
       contents x = Parse.listTo x RBrace also (Q x) (i + 1 + 1 + 1)
 
-      contents-stuck : i + 1 + 1 + 1 ≤ length ts → S (i + 1 + 1 + 1) → Stuck (Halt c (Dooms (i + 1 + 1 + 1) contents) ts Ns d (i + 1 + 1 + 1)) (contents ts)
+      contents-stuck : i + 1 + 1 + 1 ≤ length ts → S (i + 1 + 1 + 1) → Refused c Ns d (i + 1 + 1 + 1) (i + 1 + 1 + 1) contents
       contents-stuck h s =
           let at : ℕ = i + 1 + 1 + 1 in
-          subst (λ (n : ℕ). Stuck (Halt c (Dooms at (λ x. Parse.listTo x n also (Q x) at)) ts Ns d at) (Parse.listTo ts n also (Q ts) at)) brace (list-stuck at h s)
+          subst (λ (n : ℕ). Refused c Ns d at at (λ x. Parse.listTo x n also (Q x) at)) brace (list-stuck at h s)
 
       braced-doom : kindAt ts (i + 1) ≡ Identifier → kindAt ts (i + 1 + 1) ≡ LBrace → (s : ℕ) → Dooms (i + 1 + 1 + 1) contents s
           → Dooms i (λ x. Parse.braced x also (Q x) (f x) i) s
@@ -825,8 +831,8 @@ module _ (ts : List Tok) (proper : Proper ts) where
           → ((b : Bool) (w : List ℕ) (l : Tree) → yield (F b w l) ≡ sign k ∷ name w ∷ sign LBrace ∷ (yield l ++ zs b))
           → Run ts i (sign k ∷ []) (i + 1) → (kindAt ts (i + 1 + 1) ≡ LBrace → S (i + 1 + 1 + 1))
           → ((w : List ℕ) (l : Tree) (j : ℕ) → Is true Ns d l → Run ts i (sign k ∷ name w ∷ sign LBrace ∷ yield l) j
-          → Stuck (Halt top (Dooms i (λ x. Parse.braced x also (Q x) (f x) i)) ts Decl d i) (f ts w l (j + 1)))
-          → Stuck (Halt top (Dooms i (λ x. Parse.braced x also (Q x) (f x) i)) ts Decl d i) (Parse.braced ts also (Q ts) (f ts) i)
+          → Stuck (Refusal top Decl d i i (λ x. Parse.braced x also (Q x) (f x) i)) (f ts w l (j + 1)))
+          → Refused top Decl d i i (λ x. Parse.braced x also (Q x) (f x) i)
       unfolding Parse.braced yield
       braced-stuck shuts made spells r at ends =
           let D : ℕ → Type 0 = Dooms i (λ x. Parse.braced x also (Q x) (f x) i) in
@@ -839,7 +845,7 @@ module _ (ts : List Tok) (proper : Proper ts) where
           r ▸ name-row ts (i + 1) a ▸ row ts (i + 1 + 1) LBrace b refl in
           then-stuck (Halt top D ts Decl d i) (λ l j. Reads ts Ns d (i + 1 + 1 + 1) l j × (kindAt ts j ≡ RBrace)) (contents ts) _
           (list-sound ts Ns M d (nil true d) (join true d) wide RBrace also (Q ts) q-sound (i + 1 + 1 + 1) (x .inside))
-          (stuck-as (Halt c (Dooms (i + 1 + 1 + 1) contents) ts Ns d (i + 1 + 1 + 1)) (Halt top D ts Decl d i) (contents ts) (contents-stuck (x .inside) (at b))
+          (stuck-as (Refusal c Ns d (i + 1 + 1 + 1) (i + 1 + 1 + 1) contents) (Halt top D ts Decl d i) (contents ts) (contents-stuck (x .inside) (at b))
           (λ why s o. shut (F (isCheck why) (spellingOf (tokAt ts (i + 1)))) (λ l w. made (isCheck why) (over (isMisfit why) d) _ l w) (λ _. braced-doom a b) (zs (isCheck why))
           (λ m. closed ∙ ap (λ (n : ℕ). sign n ∷ []) brace ∙ sym (ap zs (misfit-aside why m) ∙ shuts)) (spells (isCheck why) _) x (loosely o)))
           (λ l j e u. ends _ l j (u .0 .is) (x ▸ run-of (u .0)))))
@@ -875,7 +881,7 @@ module _ (ts : List Tok) (proper : Proper ts) where
     )
 
     braces : (C : Syntax → ℕ → Type 0) (j : ℕ) (f : Tree → P) → C (wrong (only LBrace)) j → (kindAt ts j ≡ LBrace → d ≡ 0 → C TooDeep j)
-        → ((d′ : ℕ) → d ≡ suc d′ → (why : Syntax) (r : ℕ) → kindAt ts j ≡ LBrace → Halt code (Dooms (j + 1) (λ x. B x j)) ts Stmts d′ (j + 1) why r → C why r)
+        → ((d′ : ℕ) → d ≡ suc d′ → (why : Syntax) (r : ℕ) → kindAt ts j ≡ LBrace → Refusal code Stmts d′ (j + 1) (j + 1) (λ x. B x j) why r → C why r)
         → ((l : Tree) (k : ℕ) → Parse.need ts LBrace (B ts) j ≡ ok l k → kindAt ts j ≡ LBrace → BodyUnder ts d j l k → Stuck C (f l k))
         → Stuck C (then (Parse.need ts LBrace (B ts) j) f)
     braces C j f c full inner h =
@@ -958,7 +964,7 @@ module _ (ts : List Tok) (proper : Proper ts) where
     unfolding Parse.end
     ended D i j xs F made spells x h doom =
         then-stuck (Halt code D ts Stmt d i) (Reads ts Add d j) (Parse.expr ts d j) _ (expr-sound ts d j)
-        (stuck-as (Halt code (Dooms j (λ x. Parse.expr x d j)) ts Add d j) (Halt code D ts Stmt d i) (Parse.expr ts d j) (expr-stuck d j h)
+        (stuck-as (Refusal code Add d j j (λ x. Parse.expr x d j)) (Halt code D ts Stmt d i) (Parse.expr ts d j) (expr-stuck d j h)
         (λ why r o. wrap F (made (isCheck why) (isMisfit why)) (λ _. doom) (sign Semicolon ∷ []) refl spells x o))
         (λ u k e r. end-halt code D Stmt d i (only Semicolon) Semicolon u (ok (F u)) k refl
         (onward-open F (sign Semicolon ∷ []) (made false true) spells x u (run-of r) (only Semicolon) (Semicolon ∷ []) refl (h .undotted)
@@ -980,7 +986,7 @@ module _ (ts : List Tok) (proper : Proper ts) where
         and done)
 
     assign-by : (c : Bool) (i : ℕ) (e : Tree) (j : ℕ) → isAssign (kindAt ts j) ≡ c → Start ts i → Reads ts Add d i e j
-        → Stuck (Halt code (Dooms j (λ x. Parse.assignBy x d (B x) c e j)) ts Stmt d i) (Parse.assignBy ts d (B ts) c e j)
+        → Refused code Stmt d i j (λ x. Parse.assignBy x d (B x) c e j)
     unfolding Parse.assignBy yield
     assign-by true i e j c h r =
         ended (Dooms j (λ x. Parse.assignBy x d (B x) true e j)) i (j + 1) (yield e ++ (sign (kindAt ts j) ∷ [])) (λ u. assign (kindAt ts j) e u)
@@ -1050,17 +1056,17 @@ module _ (ts : List Tok) (proper : Proper ts) where
     stmt-by expression i b h =
         let f : List Tok → Tree → P = λ x e j. Parse.assignBy x d (B x) (isAssign (kindAt x j)) e j in
         then-stuck (Halt code (StmtD expression i) ts Stmt d i) (Reads ts Add d i) (Parse.expr ts d i) (f ts) (expr-sound ts d i)
-        (stuck-as (Halt code (Dooms i (λ x. Parse.expr x d i)) ts Add d i) (Halt code (StmtD expression i) ts Stmt d i) (Parse.expr ts d i) (expr-stuck d i h)
+        (stuck-as (Refusal code Add d i i (λ x. Parse.expr x d i)) (Halt code (StmtD expression i) ts Stmt d i) (Parse.expr ts d i) (expr-stuck d i h)
         (λ why r o. wrap plain (λ u s. i-plain s) (λ _. at-first i i (λ x. Parse.expr x d i) f (omega arith)) (sign Semicolon ∷ []) refl (λ u. refl) (run-none ts i (h .inside)) o))
-        (λ e j q r. stuck-as (Halt code (Dooms j (λ x. Parse.assignBy x d (B x) (isAssign (kindAt ts j)) e j)) ts Stmt d i) (Halt code (StmtD expression i) ts Stmt d i) (f ts e j)
+        (λ e j q r. stuck-as (Refusal code Stmt d i j (λ x. Parse.assignBy x d (B x) (isAssign (kindAt ts j)) e j)) (Halt code (StmtD expression i) ts Stmt d i) (f ts e j)
         (assign-by (isAssign (kindAt ts j)) i e j refl h r)
         (λ why k o. widen (λ s h. at-next i j (i + 1) i (λ x. Parse.expr x d i) f e q (omega (arith, r .next)) (expr-alike d i) s
         (at-kind (λ x m. Parse.assignBy x d (B x) (isAssign m) e j) j s h)) o))
 
-    stmt-over : (i : ℕ) → i ≤ length ts → Start ts i → Stuck (Halt code (Dooms i (λ x. Parse.stmt x d (B x) i)) ts Stmt d i) (Parse.stmt ts d (B ts) i)
+    stmt-over : (i : ℕ) → i ≤ length ts → Start ts i → Refused code Stmt d i i (λ x. Parse.stmt x d (B x) i)
     unfolding Parse.stmt
     stmt-over i l h =
-        stuck-as (Halt code (StmtD (stmtLead (kindAt ts i)) i) ts Stmt d i) (Halt code (Dooms i (λ x. Parse.stmtBy x d (B x) (stmtLead (kindAt x i)) i)) ts Stmt d i)
+        stuck-as (Halt code (StmtD (stmtLead (kindAt ts i)) i) ts Stmt d i) (Refusal code Stmt d i i (λ x. Parse.stmtBy x d (B x) (stmtLead (kindAt x i)) i))
         (Parse.stmtBy ts d (B ts) (stmtLead (kindAt ts i)) i) (stmt-by (stmtLead (kindAt ts i)) i (stmt-is (kindAt ts i)) h)
         (λ why r o. widen (at-kind (λ x k. Parse.stmtBy x d (B x) (stmtLead k) i) i) o)
 
@@ -1069,21 +1075,21 @@ module _ (ts : List Tok) (proper : Proper ts) where
   body-stuck zero = λ o. refl
   body-stuck (suc d) = λ o h.
       let q : List Tok → Out = λ x. Parse.listTo x RBrace bodyThings (Parse.stmt x d (Parse.body x d)) (o + 1) in
-      then-any (Halt code (Dooms (o + 1) (λ x. then (q x) (λ l j. ok l (j + 1)))) ts Stmts d (o + 1)) (q ts) (λ l j. ok l (j + 1))
-      (stuck-as (Halt code (Dooms (o + 1) q) ts Stmts d (o + 1)) (Halt code (Dooms (o + 1) (λ x. then (q x) (λ l j. ok l (j + 1)))) ts Stmts d (o + 1)) (q ts)
+      then-any (Refusal code Stmts d (o + 1) (o + 1) (λ x. then (q x) (λ l j. ok l (j + 1)))) (q ts) (λ l j. ok l (j + 1))
+      (stuck-as (Refusal code Stmts d (o + 1) (o + 1) q) (Refusal code Stmts d (o + 1) (o + 1) (λ x. then (q x) (λ l j. ok l (j + 1)))) (q ts)
       (list-stuck code Stmts Stmt d (λ b n. i-no-stmts) (λ b n l s a c. i-stmts a c) (omega arith) (Start ts) bodyThings RBrace stmtKinds refl refl refl (stmt-begins d)
       (λ n l s e. stmts-else s e) (λ x. Parse.stmt x d (Parse.body x d)) (stmt-sound ts d) (stmt-starts ts d) (stmt-alike d)
-      (λ i l y. stuck-as (Halt code (Dooms i (λ x. Parse.stmt x d (Parse.body x d) i)) ts Stmt d i) (Thing code Stmt d bodyThings (λ x. Parse.stmt x d (Parse.body x d)) i)
+      (λ i l y. stuck-as (Refusal code Stmt d i i (λ x. Parse.stmt x d (Parse.body x d) i)) (Thing code Stmt d bodyThings (λ x. Parse.stmt x d (Parse.body x d)) i)
       (Parse.stmt ts d (Parse.body ts d) i) (stmt-over d (body-stuck d) i l y) (λ why r x. inside x)) (o + 1) (h .inside) h)
       (λ why r x. widen (at-first (o + 1) (o + 1) q (λ x l j. ok l (j + 1)) (omega arith)) x))
       (λ l j. tt)
 
-  stmt-stuck : (d i : ℕ) → Start ts i → Stuck (Halt code (Dooms i (λ x. Parse.stmt x d (Parse.body x d) i)) ts Stmt d i) (Parse.stmt ts d (Parse.body ts d) i)
+  stmt-stuck : (d i : ℕ) → Start ts i → Refused code Stmt d i i (λ x. Parse.stmt x d (Parse.body x d) i)
   stmt-stuck d i h = stmt-over d (body-stuck d) i (h .inside) h
 
   -- ---- units
 
-  item-by : (c : Bool) (i : ℕ) → isText (kindAt ts i) ≡ c → Start ts i → Stuck (Halt code (Dooms i (λ x. Parse.itemBy x c i)) ts Item 64 i) (Parse.itemBy ts c i)
+  item-by : (c : Bool) (i : ℕ) → isText (kindAt ts i) ≡ c → Start ts i → Refused code Item 64 i i (λ x. Parse.itemBy x c i)
   unfolding Parse.itemBy yield
   item-by true i c h =
       let x : Run ts i (sign (kindAt ts i) ∷ []) (i + 1) = row ts i (kindAt ts i) refl (text-mark (kindAt ts i) c) in
@@ -1091,24 +1097,24 @@ module _ (ts : List Tok) (proper : Proper ts) where
       quoted-halt code D Item 64 i _ (i + 1) (fitting StringLiteral (text (kindAt ts i) []) (i-text c) (string [] ∷ sign Semicolon ∷ []) refl x refl) (λ e.
       last-halt code D Item 64 i Semicolon _ (i + 1 + 1) (fitting Semicolon (text (kindAt ts i) _) (i-text c) (sign Semicolon ∷ []) refl (x ▸ string-row ts (i + 1) e) refl))
   item-by false i c h =
-      stuck-as (Halt code (Dooms i (λ x. Parse.stmt x 64 (Parse.body x 64) i)) ts Stmt 64 i) (Halt code (Dooms i (λ x. Parse.stmt x 64 (Parse.body x 64) i)) ts Item 64 i)
+      stuck-as (Refusal code Stmt 64 i i (λ x. Parse.stmt x 64 (Parse.body x 64) i)) (Refusal code Item 64 i i (λ x. Parse.stmt x 64 (Parse.body x 64) i))
       (Parse.stmt ts 64 (Parse.body ts 64) i) (stmt-stuck 64 i h) (λ why r o. recast (λ u. u) (λ u s. i-stmt s) (λ _ s x. x) refl (λ u. refl) o)
 
-  item-stuck : (i : ℕ) → i ≤ length ts → Start ts i → Stuck (Halt code (Dooms i (λ x. Parse.item x i)) ts Item 64 i) (Parse.item ts i)
+  item-stuck : (i : ℕ) → i ≤ length ts → Start ts i → Refused code Item 64 i i (λ x. Parse.item x i)
   unfolding Parse.item
   item-stuck i l h =
-      stuck-as (Halt code (Dooms i (λ x. Parse.itemBy x (isText (kindAt ts i)) i)) ts Item 64 i) (Halt code (Dooms i (λ x. Parse.itemBy x (isText (kindAt x i)) i)) ts Item 64 i)
+      stuck-as (Refusal code Item 64 i i (λ x. Parse.itemBy x (isText (kindAt ts i)) i)) (Refusal code Item 64 i i (λ x. Parse.itemBy x (isText (kindAt x i)) i))
       (Parse.itemBy ts (isText (kindAt ts i)) i) (item-by (isText (kindAt ts i)) i refl h) (λ why r o. widen (at-kind (λ x k. Parse.itemBy x (isText k) i) i) o)
 
   item-alike : (i : ℕ) (ts′ : List Tok) (n : ℕ) → Alike ts ts′ n → Local ts n i (i + 1) (Parse.item ts i) (Parse.item ts′ i)
   item-alike i ts′ n a = item-local ts ts′ n a i
 
-  unit-stuck : (i : ℕ) → kindAt ts i ≡ KeywordUnit → Stuck (Halt top (Dooms i (λ x. Parse.unitAt x i)) ts Decl 64 i) (Parse.unitAt ts i)
+  unit-stuck : (i : ℕ) → kindAt ts i ≡ KeywordUnit → Refused top Decl 64 i i (λ x. Parse.unitAt x i)
   unfolding Parse.unitAt yield
   unit-stuck i e =
       braced-stuck code Items Item 64 (λ b n. i-no-items) (λ b n l s a c. i-items a c) (omega arith) (Start ts) unitThings RBrace itemKinds refl refl refl (item-begins 64)
       (λ n l s e. items-else s e) Parse.item (item-sound ts) (item-starts ts) item-alike
-      (λ i l y. stuck-as (Halt code (Dooms i (λ x. Parse.item x i)) ts Item 64 i) (Thing code Item 64 unitThings Parse.item i) (Parse.item ts i) (item-stuck i l y)
+      (λ i l y. stuck-as (Refusal code Item 64 i i (λ x. Parse.item x i)) (Thing code Item 64 unitThings Parse.item i) (Parse.item ts i) (item-stuck i l y)
       (λ why r x. inside x))
       refl (λ b. unit) KeywordUnit i (λ x w l k. ok (unit w l) k) (λ b. sign RBrace ∷ []) refl
       (λ b n w l s. i-unit s) (λ b w l. refl) (row ts i KeywordUnit e refl) (λ b. start ts (i + 1 + 1) LBrace b refl refl) (λ w l j s r. tt)
@@ -1213,7 +1219,7 @@ module _ (ts : List Tok) (proper : Proper ts) where
   unfolding Parse.limitBy isCheck isMisfit lost
   limit-by D true b i c k h e r = checked D MapField i k MaxNegative k refl refl refl refl (limited i c k h r)
   limit-by D false true i c k h e r = checked D MapField i (k - 1) OutOfRange k refl refl refl (sym e) (limited i c k h r)
-  limit-by D false false i c k h e r = 
+  limit-by D false false i c k h e r =
       want-in-halt fields D MapField 64 i (only Semicolon + shifts) Semicolon (ok (limit c)) k (holds (only Semicolon + shifts) Semicolon refl) (limit-open i c k h r) (λ q. tt)
 
   field-by : (D : ℕ → Type 0) (l : FieldLead) (i : ℕ) → FieldIs (kindAt ts i) l → (l ≡ nothing → ⊥) → i ≤ length ts → Stuck (Halt fields D ts MapField 64 i) (Parse.mapFieldBy ts l i)
@@ -1253,7 +1259,7 @@ module _ (ts : List Tok) (proper : Proper ts) where
 
       found : (l : FieldLead) → fieldLead (kindAt ts i) ≡ l → (l ≡ nothing → ⊥) → Stuck H (Parse.mapFieldBy ts l i)
       found l e n =
-          stuck-as (Halt fields (Dooms i (λ x. Parse.mapField x i)) ts MapField 64 i) H (Parse.mapFieldBy ts l i)
+          stuck-as (Refusal fields MapField 64 i i (λ x. Parse.mapField x i)) H (Parse.mapFieldBy ts l i)
           (field-by (Dooms i (λ x. Parse.mapField x i)) l i (subst (FieldIs (kindAt ts i)) e (field-is (kindAt ts i))) n h) (λ why r x. inside x)
 
       go : (l : FieldLead) → fieldLead (kindAt ts i) ≡ l → Stuck H (Parse.mapFieldBy ts l i)
@@ -1294,7 +1300,7 @@ module _ (ts : List Tok) (proper : Proper ts) where
   abbrev mapEnds : List Tok → List ℕ → Tree → P
   mapEnds x w l k = Parse.mapEnd x (lacking (typeOf l) (typedBy KeywordKey l) (typedBy KeywordValue l) (limitOf l)) w l k
 
-  map-stuck : (i : ℕ) → kindAt ts i ≡ KeywordMap → Stuck (Halt top (Dooms i (λ x. Parse.mapAt x i)) ts Decl 64 i) (Parse.mapAt ts i)
+  map-stuck : (i : ℕ) → kindAt ts i ≡ KeywordMap → Refused top Decl 64 i i (λ x. Parse.mapAt x i)
   unfolding Parse.mapAt
   map-stuck i e =
       braced-stuck fields MapFields MapField 64 (λ b n. i-no-fields) (λ b n l s a c. i-fields a c) (omega arith) (λ j. Unit {0}) mapFields RBrace mapFieldKinds refl refl refl
@@ -1367,7 +1373,7 @@ module _ (ts : List Tok) (proper : Proper ts) where
         of-type : (k : ℕ) → isType k ≡ true → heads k (sign k ∷ []) ≡ true → Open false true ts EventField 64 i (i + 1 + 1) k
         of-type k q h = fitting k (plainField w k) (i-plain-field q) (sign k ∷ sign Semicolon ∷ []) refl x h
 
-  event-field-stuck : (i : ℕ) → i ≤ length ts → Stuck (Halt fields (Dooms i (λ x. Parse.eventField x i)) ts EventField 64 i) (Parse.eventField ts i)
+  event-field-stuck : (i : ℕ) → i ≤ length ts → Refused fields EventField 64 i i (λ x. Parse.eventField x i)
   unfolding Parse.eventField yield
   event-field-stuck i h =
       let D : ℕ → Type 0 = Dooms i (λ x. Parse.eventField x i) in
@@ -1376,20 +1382,20 @@ module _ (ts : List Tok) (proper : Proper ts) where
       (fitting Colon (plainField _ 21) (i-plain-field refl) (sign Colon ∷ sign 21 ∷ sign Semicolon ∷ []) refl (name-row ts i e) refl) (λ f.
       event-by D i _ (name-row ts i e ▸ row ts (i + 1) Colon f refl) (eventLead (kindAt ts (i + 1 + 1))) (event-is (kindAt ts (i + 1 + 1)))))
 
-  event-stuck : (i : ℕ) → kindAt ts i ≡ KeywordEvent → Stuck (Halt top (Dooms i (λ x. Parse.eventAt x i)) ts Decl 64 i) (Parse.eventAt ts i)
+  event-stuck : (i : ℕ) → kindAt ts i ≡ KeywordEvent → Refused top Decl 64 i i (λ x. Parse.eventAt x i)
   unfolding Parse.eventAt yield
   event-stuck i e =
       braced-stuck fields EventFields EventField 64 (λ b n. i-no-event-fields) (λ b n l s a c. i-event-fields a c) (omega arith) (λ j. Unit {0}) eventFields RBrace
       (Identifier ∷ []) refl refl refl (event-field-begins 65) (λ n l s e. event-fields-else s e) Parse.eventField
       (event-field-sound ts) (λ j. all-any (Parse.eventField ts j)) (λ j ts′ n a. event-field-local ts ts′ n a j)
-      (λ i h y. stuck-as (Halt fields (Dooms i (λ x. Parse.eventField x i)) ts EventField 64 i) (Thing fields EventField 64 eventFields Parse.eventField i)
+      (λ i h y. stuck-as (Refusal fields EventField 64 i i (λ x. Parse.eventField x i)) (Thing fields EventField 64 eventFields Parse.eventField i)
       (Parse.eventField ts i) (event-field-stuck i h) (λ why r x. inside x))
       refl (λ b. event) KeywordEvent i (λ x w l k. ok (event w l) k) (λ b. sign RBrace ∷ []) refl (λ b n w l q. i-event q) (λ b w l. refl) (row ts i KeywordEvent e refl)
       (λ b. tt) (λ w l j h r. tt)
 
   -- ---- programs
 
-  top-by : (l : TopLead) (i : ℕ) → TopIs (kindAt ts i) l → (l ≡ noTop → ⊥) → Stuck (Halt top (Dooms i (λ x. Parse.topBy x l i)) ts Decl 64 i) (Parse.topBy ts l i)
+  top-by : (l : TopLead) (i : ℕ) → TopIs (kindAt ts i) l → (l ≡ noTop → ⊥) → Refused top Decl 64 i i (λ x. Parse.topBy x l i)
   unfolding Parse.topBy
   top-by mapLead i e n = map-stuck i e
   top-by unitLead i e n = unit-stuck i e
@@ -1406,7 +1412,7 @@ module _ (ts : List Tok) (proper : Proper ts) where
 
       found : (l : TopLead) → topLead (kindAt ts i) ≡ l → (l ≡ noTop → ⊥) → Stuck H (Parse.topBy ts l i)
       found l e n =
-          stuck-as (Halt top (Dooms i (λ x. Parse.topBy x l i)) ts Decl 64 i) H (Parse.topBy ts l i) (top-by l i (subst (TopIs (kindAt ts i)) e (top-is (kindAt ts i))) n)
+          stuck-as (Refusal top Decl 64 i i (λ x. Parse.topBy x l i)) H (Parse.topBy ts l i) (top-by l i (subst (TopIs (kindAt ts i)) e (top-is (kindAt ts i))) n)
           (λ why r x. inside (widen (λ s y. at-kind (λ x k. Parse.topBy x (topLead k) i) i s (subst (λ (m : TopLead). Dooms i (λ x. Parse.topBy x m i) s) (sym e) y)) x))
 
       go : (l : TopLead) → topLead (kindAt ts i) ≡ l → Stuck H (Parse.topBy ts l i)
@@ -1415,12 +1421,12 @@ module _ (ts : List Tok) (proper : Proper ts) where
       go eventTop e = found eventTop e (λ q. let z : _≡_ {A = ℕ} 0 1 = cc in omega arith)
       go noTop e = strange refl refl refl refl refl
 
-  parse-stuck : Stuck (Halt top (Dooms 0 Parse.parse) ts Program 64 0) (Parse.parse ts)
+  parse-stuck : Refused top Program 64 0 0 Parse.parse
   unfolding Parse.parse yield
   parse-stuck =
       let q : List Tok → Out = λ x. Parse.listTo x Eof tops (Parse.top x) 0 in
-      then-any (Halt top (Dooms 0 Parse.parse) ts Program 64 0) (q ts) _
-      (stuck-as (Halt top (Dooms 0 q) ts Decls 64 0) (Halt top (Dooms 0 Parse.parse) ts Program 64 0) (q ts)
+      then-any (Refusal top Program 64 0 0 Parse.parse) (q ts) _
+      (stuck-as (Refusal top Decls 64 0 0 q) (Refusal top Program 64 0 0 Parse.parse) (q ts)
       (list-stuck top Decls Decl 64 (λ b n. i-no-decls) (λ b n l s a c. i-decls a c) (omega arith) (λ j. Unit {0}) tops Eof declKinds refl refl refl (decl-begins 65)
       (λ n l s e. decls-else s e) Parse.top (top-sound ts) (λ j. all-any (Parse.top ts j)) (λ j ts′ n a. top-local ts ts′ n a j) top-stuck 0 (omega arith) tt)
       (λ why r o. shut program (λ l s. i-program s) (λ _. at-first 0 0 q (λ x l j. ok (program l) (j + 1)) (omega arith)) (sign Eof ∷ []) (λ _. refl) (λ l. refl)
