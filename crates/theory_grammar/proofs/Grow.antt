@@ -238,9 +238,10 @@ module _ (ts : List Tok) (proper : Proper ts) where
           and f Percent (multiplied (times refl)) and f Plus (added refl) and f Minus (added refl) and done)
           (isSum t) (dotName ts s) (λ n. f Shr (shifting refl n) and f Shl (shifting refl n) and done) (λ d. f LParen (multiplied (at-last (calling d b)))) ends
 
-      pub onward-ends : (k : ℕ) → endsOnward S k ≡ true → has (Parse.onward ts t s + S) k ≡ true
-      unfolding Parse.onward
-      onward-ends k e = ends-onward S k e (isSum t) (dotName ts s)
+-- and it has each kind that may stand behind every expression
+pub onward-ends : (ts : List Tok) (s : ℕ) (t : Tree) (S k : ℕ) → endsOnward S k ≡ true → has (Parse.onward ts t s + S) k ≡ true
+unfolding Parse.onward
+onward-ends ts s t S k e = ends-onward S k e (isSum t) (dotName ts s)
 
 -- ---- what begins a thing
 
