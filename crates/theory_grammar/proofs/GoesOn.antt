@@ -1,28 +1,27 @@
--- In front of the lost row some program goes on, with each kind that is told in its place: what was read up to it, completed. And where that
--- row is the parenthesis of a call on no variable around the one that 31 tells, it dooms.
+-- In front of the lost row some program goes on, with each kind that is told in its place: what was read up to it, completed. And where
+-- that row is the parenthesis of a call on no variable around the one that 31 tells, it dooms.
 use mathlib.Core.Path.{_≡_, refl, sym, ap, _∙_, subst}
-use mathlib.Core.Bool.{Bool, true, false, not, cond}
+use mathlib.Core.Bool.{Bool, true, false, cond}
 use mathlib.Core.List.{List, [], _∷_, _++_, append-nil}
-use Prim.Native.Nat.{ℕ, _+_, _-_, _≤_}
+use Prim.Native.Nat.{ℕ, _+_, _≤_}
 use native.Mathlib.Omega.{arith}
 use lib.ListN.{length, take, drop, length-append}
 use lib.Seq.{take-append-seam}
 use Rattle.rules.specs.declared.Syntax.{Syntax}
 use Rattle.rules.specs.declared.Syntax.the-variants.{CallOnOther}
 use Rattle.rules.specs.Kinds.{Eof}
-use Rattle.rules.specs.Tree.{Tok, sign, call, program, yield}
+use Rattle.rules.specs.Tree.{Tok, sign, program, yield}
 use Rattle.rules.specs.Fits.{has, tops, setTold}
 use Rattle.rules.specs.Parse
-use Rattle.rules.specs.Parse.{Out, ok, no, or, TopLead, mapLead, unitLead, eventTop, noTop, topLead, whole, kindAt}
+use Rattle.rules.specs.Parse.{Out, ok, no, TopLead, mapLead, unitLead, eventTop, noTop, topLead, kindAt}
 use Rattle.rules.specs.Grammar.{Decl, Decls, Program, Is, i-no-decls, i-decls, i-program}
 use Rattle.theory_grammar.specs.Tokens.{Proper}
 use Rattle.theory_grammar.specs.Fitting.{Fitting}
-use Rattle.theory_grammar.specs.Lost.{isMisfit, isCheck, lost, LostAt, around, GoesOn, nesting}
+use Rattle.theory_grammar.specs.Lost.{isMisfit, isCheck, lost, LostAt, GoesOn, nesting}
 use Rattle.theory_grammar.proofs.Leads.{TopIs, top-is}
 use Rattle.theory_grammar.proofs.Runs.{run-none, row, all-any}
 use Rattle.theory_grammar.proofs.Sound.{top-sound}
 use Rattle.theory_grammar.proofs.Local.{Dead, Alike, top-local}
-use Rattle.theory_grammar.proofs.Members.{_and_, each, holds}
 use Rattle.theory_grammar.proofs.Grow.{heads, heads-long, heads-behind, declKinds, decl-begins, decls-else}
 use Rattle.theory_grammar.proofs.Begun.{shut, over, Open, top, Halt, widen}
 use Rattle.theory_grammar.proofs.Halts.{misfit-aside, Stuck, stuck-as, then-any, Dooms, at-kind, at-first, Refusal, Refused}
@@ -50,8 +49,10 @@ module _ (ts : List Tok) (proper : Proper ts) where
 
       found : (l : TopLead) → topLead (kindAt ts i) ≡ l → (l ≡ noTop → ⊥) → Stuck H (Parse.topBy ts l i)
       found l e n =
-          stuck-as (Refusal ts top Decl 64 i i (λ x. Parse.topBy x l i)) H (Parse.topBy ts l i) (top-by l i (subst (TopIs (kindAt ts i)) e (top-is (kindAt ts i))) n)
-          (λ why r x. inside (widen (λ s y. at-kind ts (λ x k. Parse.topBy x (topLead k) i) i s (subst (λ (m : TopLead). Dooms ts i (λ x. Parse.topBy x m i) s) (sym e) y)) x))
+          stuck-as (Refusal ts top Decl 64 i i (λ x. Parse.topBy x l i)) H (Parse.topBy ts l i)
+          (top-by l i (subst (TopIs (kindAt ts i)) e (top-is (kindAt ts i))) n)
+          (λ why r x. inside (widen (λ s y. at-kind ts (λ x k. Parse.topBy x (topLead k) i) i s
+          (subst (λ (m : TopLead). Dooms ts i (λ x. Parse.topBy x m i) s) (sym e) y)) x))
 
       go : (l : TopLead) → topLead (kindAt ts i) ≡ l → Stuck H (Parse.topBy ts l i)
       go mapLead e = found mapLead e (λ q. let z : _≡_ {A = ℕ} 0 1 = cc in omega arith)
@@ -65,9 +66,12 @@ module _ (ts : List Tok) (proper : Proper ts) where
       let q : List Tok → Out = λ x. Parse.listTo x Eof tops (Parse.top x) 0 in
       then-any (Refusal ts top Program 64 0 0 Parse.parse) (q ts) _
       (stuck-as (Refusal ts top Decls 64 0 0 q) (Refusal ts top Program 64 0 0 Parse.parse) (q ts)
-      (list-stuck ts top Decls Decl 64 (λ b n. i-no-decls) (λ b n l s a c. i-decls a c) (omega arith) (λ j. Unit {0}) tops Eof declKinds refl refl refl (decl-begins 65)
-      (λ n l s e. decls-else s e) Parse.top (top-sound ts) (λ j. all-any (Parse.top ts j)) (λ j ts′ n a. top-local ts ts′ n a j) top-stuck 0 (omega arith) tt)
-      (λ why r o. shut program (λ l s. i-program s) (λ _. at-first ts 0 0 q (λ x l j. ok (program l) (j + 1)) (omega arith)) (sign Eof ∷ []) (λ _. refl) (λ l. refl)
+      (list-stuck ts top Decls Decl 64 (λ b n. i-no-decls) (λ b n l s a c. i-decls a c) (omega arith) (λ j. Unit {0}) tops Eof declKinds
+      refl refl refl (decl-begins 65)
+      (λ n l s e. decls-else s e) Parse.top (top-sound ts) (λ j. all-any (Parse.top ts j)) (λ j ts′ n a. top-local ts ts′ n a j) top-stuck
+      0 (omega arith) tt)
+      (λ why r o. shut program (λ l s. i-program s) (λ _. at-first ts 0 0 q (λ x l j. ok (program l) (j + 1)) (omega arith))
+      (sign Eof ∷ []) (λ _. refl) (λ l. refl)
       (run-none ts 0 (omega arith)) o))
       (λ l j. tt)
 
@@ -99,11 +103,12 @@ module _ (ts : List Tok) (proper : Proper ts) where
         is = o .is;
         begins = open-begins false true s k o;
         there = omega (arith, n, ap length (o .spells), length-append (o .read) (o .rest), heads-long k (o .rest) h);
-        next = ap (λ (l : List Tok). kindAt l s) (o .spells) ∙ ap (λ (m : ℕ). kindAt (o .read ++ o .rest) m) n ∙ heads-behind k (o .read) (o .rest) h;
+        next = ap (λ (l : List Tok). kindAt l s) (o .spells) ∙ ap (λ (m : ℕ). kindAt (o .read ++ o .rest) m) n ∙ heads-behind k (o .read)
+            (o .rest) h;
       }
 
--- what holds of a refused table: some program goes on in front of the row that is lost, with each kind that is told in its place; and the row
--- dooms, where it is that of a call around
+-- what holds of a refused table: some program goes on in front of the row that is lost, with each kind that is told in its place; and the
+-- row dooms, where it is that of a call around
 pub record Lost (ts : List Tok) (why : Syntax) (r : ℕ) : Type 0 where
   pub row : ℕ
   pub at : LostAt ts why r row
@@ -115,7 +120,8 @@ pub record Lost (ts : List Tok) (why : Syntax) (r : ℕ) : Type 0 where
 pub some-goes-on : (ts : List Tok) (why : Syntax) (r : ℕ) → Proper ts → Parse.parse ts ≡ no why r → Lost ts why r
 unfolding nesting
 some-goes-on ts why r p e =
-    let h : Halt top (Dooms ts 0 Parse.parse) ts Program 64 0 why r = subst (Stuck (Halt top (Dooms ts 0 Parse.parse) ts Program 64 0)) e (parse-stuck ts p) in
+    let h : Halt top (Dooms ts 0 Parse.parse) ts Program 64 0 why r =
+    subst (Stuck (Halt top (Dooms ts 0 Parse.parse) ts Program 64 0)) e (parse-stuck ts p) in
     record {
       row = h .row;
       at = h .at;

@@ -1,8 +1,8 @@
 -- Refused expressions: what was read up to the lost row goes on with each kind that is told.
 use mathlib.Core.Path.{_≡_, refl, sym, ap, _∙_, subst}
-use mathlib.Core.Bool.{Bool, true, false, not, true≢false}
+use mathlib.Core.Bool.{Bool, true, false, true≢false}
 use mathlib.Core.List.{List, [], _∷_, _++_, append-assoc, append-nil}
-use Prim.Native.Nat.{ℕ, zero, suc, _+_, _-_, _<_}
+use Prim.Native.Nat.{ℕ, zero, suc, _+_, _<_}
 use native.Mathlib.Omega.{arith}
 use lib.Dec.{eqb}
 use lib.ListN.{length}
@@ -10,10 +10,10 @@ use borrow.Author.Tests.{eqb-true}
 use Rattle.rules.specs.declared.Syntax.{Syntax}
 use Rattle.rules.specs.declared.Syntax.the-variants.{Wanted, CallOnOther, TooDeep}
 use Rattle.rules.specs.Kinds.{LBrace, LParen, RParen, Dot, Comma, Star, Identifier, Number}
-use Rattle.rules.specs.Tree.{Tok, sign, name, value, spellingOf, Tree, none, num, star, group, field, call, bin, one, more, plain, first, yield, isVariable}
+use Rattle.rules.specs.Tree.{Tok, sign, name, value, spellingOf, Tree, none, num, star, group, field, call, bin, one, more, plain, yield, isVariable}
 use Rattle.rules.specs.Fits.{only, has, operands, firstArguments, wrong}
 use Rattle.rules.specs.Parse
-use Rattle.rules.specs.Parse.{Out, ok, no, P, then, pick, or, isAdd, isShift, isMul, Lead, number, identifier, paren, other, lead, nothing, Sort, operand, whole, tokAt, kindAt}
+use Rattle.rules.specs.Parse.{Out, ok, no, P, then, pick, or, isAdd, isShift, isMul, Lead, number, identifier, paren, other, lead, Sort, operand, whole, tokAt, kindAt}
 use Rattle.rules.specs.Grammar.{Nt, Add, Shift, Mul, Unary, Basic, Args, Is, i-num, i-group, i-field, i-bare, i-call, i-one, i-more, i-prim, i-star, i-unary, i-mul, i-lone, i-shift, i-up, i-add}
 use Rattle.theory_grammar.specs.Tokens.{Proper}
 use Rattle.theory_grammar.specs.Lost.{isMisfit, isCheck, lost, own, around}
@@ -36,10 +36,12 @@ module _ (ts : List Tok) (proper : Proper ts) where
     abbrev G : List Tok → Sort → P
     G x = Parse.inner x d
 
-    inner-alike : (s : Sort) (o : ℕ) → eqb (kindAt ts o) LBrace ≡ false → (ts′ : List Tok) (n : ℕ) → Alike ts ts′ n → Local ts n o (o + 1) (G ts s o) (G ts′ s o)
+    inner-alike : (s : Sort) (o : ℕ) → eqb (kindAt ts o) LBrace ≡ false → (ts′ : List Tok) (n : ℕ) → Alike ts ts′ n
+        → Local ts n o (o + 1) (G ts s o) (G ts′ s o)
     inner-alike s o b ts′ n a = inner-local ts ts′ n a d s o o (deep-row ts o b) (omega arith)
 
-    atom-alike : (i : ℕ) (ts′ : List Tok) (n : ℕ) → Alike ts ts′ n → Local ts n i (i + 1) (Parse.atom ts (G ts) i) (Parse.atom ts′ (G ts′) i)
+    atom-alike : (i : ℕ) (ts′ : List Tok) (n : ℕ) → Alike ts ts′ n
+        → Local ts n i (i + 1) (Parse.atom ts (G ts) i) (Parse.atom ts′ (G ts′) i)
     atom-alike i ts′ n a = atom-local ts ts′ n a (G ts) (G ts′) (inner-local ts ts′ n a d) i
 
     -- a row that begins nothing is left to `unary`, which a star may begin
@@ -56,18 +58,21 @@ module _ (ts : List Tok) (proper : Proper ts) where
         (below ts Add d (λ x. G x whole) (under whole) (Halt code D ts Basic d i) i y
         (λ e. too-deep ts code D Basic d i i i (group-row ts i (ap (λ (x : ℕ). eqb x LBrace) f) (h .fresh))
         (opened (num 0) i-num (value 0 ∷ []) refl (run-none ts i (h .inside))))
-        (λ d′ e why r o. wrap group (λ u q. around-it (isMisfit why) d d′ e (i-group q)) (λ _. at-first ts i (i + 1) (λ x. G x whole i) (λ x t j. Parse.end x RParen t (ok (group t)) j) (omega arith))
+        (λ d′ e why r o. wrap group (λ u q. around-it (isMisfit why) d d′ e (i-group q))
+        (λ _. at-first ts i (i + 1) (λ x. G x whole i) (λ x t j. Parse.end x RParen t (ok (group t)) j) (omega arith))
         (sign RParen ∷ []) refl (λ u. refl) x o))
         (λ t j e u. let v : Is false Add d t × Run ts (i + 1) (yield t) j = under-read ts Add d i t j u in
         end-halt ts code D Basic d i (only RParen) RParen t (ok (group t)) j refl
-        (onward-open ts proper group (sign RParen ∷ []) (λ u q. i-group q) (λ u. refl) x t (v .1) (only RParen) (RParen ∷ []) refl (y .undotted) (λ k o. add-on ts proper j (v .0) o)
+        (onward-open ts proper group (sign RParen ∷ []) (λ u q. i-group q) (λ u. refl) x t (v .1) (only RParen) (RParen ∷ []) refl
+        (y .undotted) (λ k o. add-on ts proper j (v .0) o)
         (fitting RParen (group t) (i-group (v .0)) (sign RParen ∷ []) refl (x ▸ v .1) refl and done)) (λ e. tt))
     atom-by other i f n h = absurd (n refl)
 
     atom-stuck : (i : ℕ) → (lead (kindAt ts i) ≡ other → ⊥) → Start ts i → Refused ts code Basic d i i (λ x. Parse.atom x (G x) i)
     unfolding Parse.atom
     atom-stuck i n h =
-        stuck-as (Refusal ts code Basic d i i (λ x. Parse.atomBy x (G x) (lead (kindAt ts i)) i)) (Refusal ts code Basic d i i (λ x. Parse.atomBy x (G x) (lead (kindAt x i)) i))
+        stuck-as (Refusal ts code Basic d i i (λ x. Parse.atomBy x (G x) (lead (kindAt ts i)) i))
+        (Refusal ts code Basic d i i (λ x. Parse.atomBy x (G x) (lead (kindAt x i)) i))
         (Parse.atomBy ts (G ts) (lead (kindAt ts i)) i) (atom-by (lead (kindAt ts i)) i (lead-is (kindAt ts i)) n h)
         (λ why r o. widen (at-kind ts (λ x k. Parse.atomBy x (G x) (lead k) i) i) o)
 
@@ -90,15 +95,19 @@ module _ (ts : List Tok) (proper : Proper ts) where
           let v : Reads ts Args d′ (o + 1) a j = subst (λ (n : ℕ). Under ts Args n o a j) z u in
           let m : Below ts Add (suc d′) (λ x. G x whole) = subst (λ (n : ℕ). Below ts Add n (λ x. G x whole)) z (under whole) in
           then-any (HArgs (λ x. Parse.argStep x (G x) a j) j) (G ts whole j) _
-          (stuck-as (Refusal ts code Add d′ (j + 1) (j + 1) (λ x. G x whole j)) (HArgs (λ x. Parse.argStep x (G x) a j) j) (G ts whole j) (m j (start ts j Comma e refl refl))
-          (λ why r h. wrap (λ u. more a u) (λ u q. i-more (lax (isMisfit why) (v .is)) q) (λ _. at-first ts j (j + 1) (λ x. G x whole j) (λ x t k. ok (more a t) k) (omega arith)) [] refl
+          (stuck-as (Refusal ts code Add d′ (j + 1) (j + 1) (λ x. G x whole j)) (HArgs (λ x. Parse.argStep x (G x) a j) j) (G ts whole j)
+          (m j (start ts j Comma e refl refl))
+          (λ why r h. wrap (λ u. more a u) (λ u q. i-more (lax (isMisfit why) (v .is)) q)
+          (λ _. at-first ts j (j + 1) (λ x. G x whole j) (λ x t k. ok (more a t) k) (omega arith)) [] refl
           (λ u. last-part (yield a) (sign Comma) (yield u)) (run-of v ▸ row ts j Comma e refl) h))
           (λ t k. tt)
 
       rest-stuck : (t : Tree) (k : ℕ) → Under ts Add d o t k
-          → Stuck (HArgs (λ x. Parse.loop x (λ r. eqb (kindAt x r) Comma) (Parse.argStep x (G x)) (one t) k) k) (Parse.loop ts (λ r. eqb (kindAt ts r) Comma) (Parse.argStep ts (G ts)) (one t) k)
+          → Stuck (HArgs (λ x. Parse.loop x (λ r. eqb (kindAt x r) Comma) (Parse.argStep x (G x)) (one t) k) k)
+          (Parse.loop ts (λ r. eqb (kindAt ts r) Comma) (Parse.argStep ts (G ts)) (one t) k)
       rest-stuck t k u =
-          loop-stuck ts code Args d′ (o + 1) (λ x. eqb x Comma) (λ x. Parse.argStep x (G x)) (Under ts Args d o) (arg-step ts d (G ts) (inner-sound ts d) o)
+          loop-stuck ts code Args d′ (o + 1) (λ x. eqb x Comma) (λ x. Parse.argStep x (G x)) (Under ts Args d o)
+          (arg-step ts d (G ts) (inner-sound ts d) o)
           (λ a j b ts′ n x. Local.arg-step ts ts′ n x (G ts) (G ts′) (inner-local ts ts′ n x d) a j b)
           arg-stuck (one t) k (ones ts d o t k u)
 
@@ -109,20 +118,23 @@ module _ (ts : List Tok) (proper : Proper ts) where
     abbrev further-args : List Tok → Tree → P
     further-args x t k = Parse.loop x (λ r. eqb (kindAt x r) Comma) (Parse.argStep x (G x)) (one t) k
 
-    first-alike : (o : ℕ) → eqb (kindAt ts o) LBrace ≡ false → (ts′ : List Tok) (n : ℕ) → Alike ts ts′ n → Local ts n o (o + 1) (first-arg o ts) (first-arg o ts′)
+    first-alike : (o : ℕ) → eqb (kindAt ts o) LBrace ≡ false → (ts′ : List Tok) (n : ℕ) → Alike ts ts′ n
+        → Local ts n o (o + 1) (first-arg o ts) (first-arg o ts′)
     first-alike o b ts′ n a = or-local ts n firstArguments (o + 1) (G ts whole o) (G ts′ whole o) (inner-alike whole o b ts′ n a)
 
     -- the same, whether a construct is left or not; a row that begins no argument tells `)` too
     args-stuck : (C : Syntax → ℕ → Type 0) (o : ℕ) → Start ts (o + 1) → eqb (kindAt ts o) LBrace ≡ false → (d ≡ 0 → C TooDeep o)
         → ((d′ : ℕ) → d ≡ suc d′ → C (wrong firstArguments) (o + 1))
-        → ((d′ : ℕ) → d ≡ suc d′ → (why : Syntax) (r : ℕ) → Refusal ts code Args d′ (o + 1) (o + 1) (λ x. Parse.args x (G x) o) why r → C why r)
+        → ((d′ : ℕ) → d ≡ suc d′ → (why : Syntax) (r : ℕ) → Refusal ts code Args d′ (o + 1) (o + 1) (λ x. Parse.args x (G x) o) why r
+        → C why r)
         → Stuck C (Parse.args ts (G ts) o)
     unfolding Parse.args yield
     args-stuck C o l b full bare inner =
         then-stuck C (Under ts Add d o) (first-arg o ts) (further-args ts)
         (or-all (Under ts Add d o) firstArguments (o + 1) (G ts whole o) (inner-sound ts d whole o (omega (arith, l .inside))))
         (or-stuck C (Within o) firstArguments (o + 1) (G ts whole o)
-        (below ts Add d (λ x. G x whole) (under whole) (Within o) o l (λ e. too-many e refl refl) (λ d′ z why r h. within d′ z h)) (λ why r h. onto why r h)
+        (below ts Add d (λ x. G x whole) (under whole) (Within o) o l (λ e. too-many e refl refl) (λ d′ z why r h. within d′ z h))
+        (λ why r h. onto why r h)
         (λ low high h. begins-none low high h))
         (λ t k e u. let z : (d′ : ℕ) × (d ≡ suc d′) = under-some ts Add d o t k u in
         stuck-as (HArgs o (z .0) (z .1) (λ x. further-args x t k) k) C (further-args ts t k) (rest-stuck o (z .0) (z .1) t k u)
@@ -133,7 +145,8 @@ module _ (ts : List Tok) (proper : Proper ts) where
         onto why r (too-many e p q) = subst (λ (x : Syntax). C x r) (sym p) (subst (C TooDeep) (sym q) (full e))
         onto why r (within d′ z h) =
             inner d′ z why r (recast one (λ u q. i-one q)
-            (λ _ s x. at-first ts (o + 1) (o + 1) (first-arg o) further-args (omega arith) s (at-or ts (o + 1) (o + 1) (λ x. G x whole o) (λ x. firstArguments) s x)) refl (λ u. refl) h)
+            (λ _ s x. at-first ts (o + 1) (o + 1) (first-arg o) further-args (omega arith) s
+            (at-or ts (o + 1) (o + 1) (λ x. G x whole o) (λ x. firstArguments) s x)) refl (λ u. refl) h)
 
         begins-none : (low high : ℕ) → Within o (Wanted low high) (o + 1) → C (wrong firstArguments) (o + 1)
         begins-none low high (too-many e p q) = absurd (omega arith)
@@ -174,13 +187,15 @@ module _ (ts : List Tok) (proper : Proper ts) where
         )
 
         -- and so does a row in its arguments that does
-        args-doom : eqb (kindAt ts (j + 1 + 1 + 1)) RParen ≡ false → (s : ℕ) → Dooms ts (j + 1 + 1 + 1) (λ x. Parse.args x (G x) (j + 1 + 1)) s
+        args-doom : eqb (kindAt ts (j + 1 + 1 + 1)) RParen ≡ false → (s : ℕ)
+            → Dooms ts (j + 1 + 1 + 1) (λ x. Parse.args x (G x) (j + 1 + 1)) s
             → Dooms ts j (λ x. Parse.post x (G x) t j) s
         unfolding Parse.callBy
         args-doom b s x = (
           omega (arith, x .0),
           λ ts′ a. post-dead ts′ (same-kind ts a (omega (arith, x .0)) f) (same-kind ts a (omega (arith, x .0)) h)
-              (λ w. rw (ap (λ (k : ℕ). eqb k RParen) (same-kind ts a (omega (arith, x .0)) refl) ∙ b) (dead-then CallOnOther (Parse.args ts′ (G ts′) (j + 1 + 1)) _ (x .1 ts′ a))),
+              (λ w. rw (ap (λ (k : ℕ). eqb k RParen) (same-kind ts a (omega (arith, x .0)) refl) ∙ b)
+              (dead-then CallOnOther (Parse.args ts′ (G ts′) (j + 1 + 1)) _ (x .1 ts′ a))),
         )
 
         called-stuck : (a : Tree) (k : ℕ) → Stuck HPost (Parse.called ts t method a (j + 1) k)
@@ -200,17 +215,20 @@ module _ (ts : List Tok) (proper : Proper ts) where
             }
 
         -- a refusal among the arguments: of a call on no variable the parenthesis is lost
-        in-call : (b c : Bool) → isVariable t ≡ b → eqb (kindAt ts (j + 1 + 1 + 1)) RParen ≡ false → (d′ : ℕ) → d ≡ suc d′ → (why : Syntax) (q : ℕ) → isCheck why ≡ c
+        in-call : (b c : Bool) → isVariable t ≡ b → eqb (kindAt ts (j + 1 + 1 + 1)) RParen ≡ false → (d′ : ℕ) → d ≡ suc d′
+            → (why : Syntax) (q : ℕ) → isCheck why ≡ c
             → Refusal ts code Args d′ (j + 1 + 1 + 1) (j + 1 + 1 + 1) (λ x. Parse.args x (G x) (j + 1 + 1)) why q → HPost why q
         unfolding yield isCheck isMisfit
         in-call true c v y d′ z why q w o =
-            wrap (λ a. call t method a) (λ a s. around-it (isMisfit why) d d′ z (i-call (inside-it (isMisfit why) d d′ z (lax (isMisfit why) (r .is))) (λ _. v) s))
+            wrap (λ a. call t method a) (λ a s. around-it (isMisfit why) d d′ z
+            (i-call (inside-it (isMisfit why) d d′ z (lax (isMisfit why) (r .is))) (λ _. v) s))
             (λ _. args-doom y) (sign RParen ∷ []) refl
             (λ a. sym (append-assoc (yield t) (sign Dot ∷ name method ∷ sign LParen ∷ []) (yield a ++ (sign RParen ∷ [])))) head o
         in-call false false v y d′ z why q w o =
             wrap (λ a. call t method a)
             (λ a s. around-it (isMisfit why) d d′ z
-            (i-call (inside-it (isMisfit why) d d′ z (lax (isMisfit why) (r .is))) (λ y. absurd (true≢false (sym y ∙ w))) s)) (λ _. args-doom y) (sign RParen ∷ []) refl
+            (i-call (inside-it (isMisfit why) d d′ z (lax (isMisfit why) (r .is))) (λ y. absurd (true≢false (sym y ∙ w))) s))
+            (λ _. args-doom y) (sign RParen ∷ []) refl
             (λ a. sym (append-assoc (yield t) (sign Dot ∷ name method ∷ sign LParen ∷ []) (yield a ++ (sign RParen ∷ [])))) head o
         in-call false true v y d′ z why q w o =
             let x : why ≡ CallOnOther = o .arises w in
@@ -237,7 +255,8 @@ module _ (ts : List Tok) (proper : Proper ts) where
             }
 
         -- the tokens of a call, taken apart behind its parenthesis
-        call-spells : (l : List Tok) → yield t ++ (sign Dot ∷ name method ∷ sign LParen ∷ l) ≡ (yield t ++ (sign Dot ∷ name method ∷ sign LParen ∷ [])) ++ l
+        call-spells : (l : List Tok)
+            → yield t ++ (sign Dot ∷ name method ∷ sign LParen ∷ l) ≡ (yield t ++ (sign Dot ∷ name method ∷ sign LParen ∷ [])) ++ l
         call-spells l = sym (append-assoc (yield t) (sign Dot ∷ name method ∷ sign LParen ∷ []) l)
 
         -- a call with no argument, or with one that begins with an operand's first row
@@ -245,13 +264,15 @@ module _ (ts : List Tok) (proper : Proper ts) where
         unfolding yield
         first-open d′ z =
             each (Open false true ts Basic d i (j + 1 + 1 + 1)) firstArguments (RParen ∷ operandKinds) refl
-            (fitting RParen (call t method none) (i-bare (lax true (r .is)) aside) (sign RParen ∷ []) (call-spells (sign RParen ∷ [])) head refl
+            (fitting RParen (call t method none) (i-bare (lax true (r .is)) aside) (sign RParen ∷ []) (call-spells (sign RParen ∷ [])) head
+            refl
             and each-as (λ k b. as-argument k b) (unary-begins d′))
           where
             as-argument : (k : ℕ) → Begins Unary (suc d′) k → Open false true ts Basic d i (j + 1 + 1 + 1) k
             as-argument k b =
                 fitting k (call t method (one (b .tree)))
-                (i-call (lax true (r .is)) aside (i-one (i-up (i-lone (i-unary (subst (λ (n : ℕ). Is false Unary n (b .tree)) (sym z) (b .is)))))))
+                (i-call (lax true (r .is)) aside (i-one (i-up (i-lone
+                (i-unary (subst (λ (n : ℕ). Is false Unary n (b .tree)) (sym z) (b .is)))))))
                 (yield (b .tree) ++ (sign RParen ∷ [])) (call-spells (yield (b .tree) ++ (sign RParen ∷ []))) head
                 (heads-more k (yield (b .tree) ++ (sign RParen ∷ [])) [] (heads-more k (yield (b .tree)) (sign RParen ∷ []) (b .next)))
 
@@ -260,19 +281,25 @@ module _ (ts : List Tok) (proper : Proper ts) where
             → has (Parse.onward ts a k + (only Comma + only RParen)) n ≡ true → Open false true ts Basic d i k n
         unfolding yield
         args-open a k g x =
-            onward-open ts proper (λ u. call t method u) (sign RParen ∷ []) (λ u q. i-call (lax true (r .is)) aside q) (λ u. call-spells (yield u ++ (sign RParen ∷ []))) head a x
-            (only Comma + only RParen) (Comma ∷ RParen ∷ []) refl (start ts (j + 1 + 1) LParen h refl refl .undotted) (λ n o. args-on ts proper k g o)
-            (fitting Comma (call t method (more a (num 0))) (i-call (lax true (r .is)) aside (i-more g nought)) (sign Comma ∷ value 0 ∷ sign RParen ∷ [])
-            (ap (λ (l : List Tok). yield t ++ (sign Dot ∷ name method ∷ sign LParen ∷ l)) (append-assoc (yield a) (sign Comma ∷ value 0 ∷ []) (sign RParen ∷ []))
+            onward-open ts proper (λ u. call t method u) (sign RParen ∷ []) (λ u q. i-call (lax true (r .is)) aside q)
+            (λ u. call-spells (yield u ++ (sign RParen ∷ []))) head a x
+            (only Comma + only RParen) (Comma ∷ RParen ∷ []) refl (start ts (j + 1 + 1) LParen h refl refl .undotted)
+            (λ n o. args-on ts proper k g o)
+            (fitting Comma (call t method (more a (num 0))) (i-call (lax true (r .is)) aside (i-more g nought))
+            (sign Comma ∷ value 0 ∷ sign RParen ∷ [])
+            (ap (λ (l : List Tok). yield t ++ (sign Dot ∷ name method ∷ sign LParen ∷ l))
+            (append-assoc (yield a) (sign Comma ∷ value 0 ∷ []) (sign RParen ∷ []))
             ∙ call-spells (yield a ++ (sign Comma ∷ value 0 ∷ sign RParen ∷ []))
-            ∙ sym (append-assoc (yield t ++ (sign Dot ∷ name method ∷ sign LParen ∷ [])) (yield a) (sign Comma ∷ value 0 ∷ sign RParen ∷ []))) (head ▸ x) refl
+            ∙ sym (append-assoc (yield t ++ (sign Dot ∷ name method ∷ sign LParen ∷ [])) (yield a)
+            (sign Comma ∷ value 0 ∷ sign RParen ∷ []))) (head ▸ x) refl
             and fitting RParen (call t method a) (i-call (lax true (r .is)) aside g) (sign RParen ∷ [])
             (call-spells (yield a ++ (sign RParen ∷ []))
             ∙ sym (append-assoc (yield t ++ (sign Dot ∷ name method ∷ sign LParen ∷ [])) (yield a) (sign RParen ∷ []))) (head ▸ x) refl
             and done)
 
         -- behind the parenthesis
-        call-by : (b : Bool) → eqb (kindAt ts (j + 1 + 1 + 1)) RParen ≡ b → Stuck HPost (Parse.callBy ts (G ts) b t method (j + 1) (j + 1 + 1))
+        call-by : (b : Bool) → eqb (kindAt ts (j + 1 + 1 + 1)) RParen ≡ b
+            → Stuck HPost (Parse.callBy ts (G ts) b t method (j + 1) (j + 1 + 1))
         unfolding Parse.callBy yield
         call-by true y = called-stuck none (j + 1 + 1 + 1 + 1)
         call-by false y =
@@ -285,7 +312,8 @@ module _ (ts : List Tok) (proper : Proper ts) where
             (λ d′ z. wanted ts code D Basic d i firstArguments RParen (j + 1 + 1 + 1) (holds firstArguments RParen refl) (first-open d′ z))
             (λ d′ z why q o. in-call (isVariable t) (isCheck why) refl y d′ z why q refl o))
             (λ a k q u. let v : Is false Args d a × Run ts (j + 1 + 1 + 1) (yield a) k = under-read ts Args d (j + 1 + 1) a k u in
-            end-halt ts code D Basic d i (only Comma + only RParen) RParen a (Parse.called ts t method a (j + 1)) k refl (args-open a k (v .0) (v .1))
+            end-halt ts code D Basic d i (only Comma + only RParen) RParen a (Parse.called ts t method a (j + 1)) k refl
+            (args-open a k (v .0) (v .1))
             (λ c. called-stuck a (k + 1)))
 
       open-by : (b : Bool) → eqb (kindAt ts (j + 1 + 1)) LParen ≡ b → Stuck HPost (Parse.openBy ts (G ts) b t method (j + 1) (j + 1 + 1))
@@ -298,7 +326,8 @@ module _ (ts : List Tok) (proper : Proper ts) where
     unfolding Parse.post yield
     post-stuck i t j r e =
         named-halt ts code (Dooms ts j (λ x. Parse.post x (G x) t j)) Basic d i _ (j + 1)
-        (fitting Identifier (field t []) (i-field (lax true (r .is))) (name [] ∷ []) (sym (append-assoc (yield t) (sign Dot ∷ []) (name [] ∷ [])))
+        (fitting Identifier (field t []) (i-field (lax true (r .is))) (name [] ∷ [])
+        (sym (append-assoc (yield t) (sign Dot ∷ []) (name [] ∷ [])))
         (run-of r ▸ row ts j Dot e refl) refl)
         (λ f. open-by i t j r e f (eqb (kindAt ts (j + 1 + 1)) LParen) refl)
 
@@ -306,11 +335,15 @@ module _ (ts : List Tok) (proper : Proper ts) where
     unfolding Parse.prim
     prim-stuck i m h =
         let posts : List Tok → Tree → P = λ x t j. Parse.loop x (λ r. eqb (kindAt x r) Dot) (Parse.post x (G x)) t j in
-        then-stuck (Refusal ts code Basic d i i (λ x. Parse.prim x (G x) i)) (Reads ts Basic d i) (Parse.atom ts (G ts) i) (posts ts) (atom-sound ts d (G ts) (inner-sound ts d) i)
-        (stuck-as (Refusal ts code Basic d i i (λ x. Parse.atom x (G x) i)) (Refusal ts code Basic d i i (λ x. Parse.prim x (G x) i)) (Parse.atom ts (G ts) i) (atom-stuck i m h)
+        then-stuck (Refusal ts code Basic d i i (λ x. Parse.prim x (G x) i)) (Reads ts Basic d i) (Parse.atom ts (G ts) i) (posts ts)
+        (atom-sound ts d (G ts) (inner-sound ts d) i)
+        (stuck-as (Refusal ts code Basic d i i (λ x. Parse.atom x (G x) i)) (Refusal ts code Basic d i i (λ x. Parse.prim x (G x) i))
+        (Parse.atom ts (G ts) i) (atom-stuck i m h)
         (λ why r o. widen (at-first ts i i (λ x. Parse.atom x (G x) i) posts (omega arith)) o))
-        (λ t j e r. stuck-as (Refusal ts code Basic d i j (λ x. posts x t j)) (Refusal ts code Basic d i i (λ x. Parse.prim x (G x) i)) (posts ts t j)
-        (loop-stuck ts code Basic d i (λ x. eqb x Dot) (λ x. Parse.post x (G x)) (Reads ts Basic d i) (post-sound ts d (G ts) (inner-sound ts d) i)
+        (λ t j e r. stuck-as (Refusal ts code Basic d i j (λ x. posts x t j)) (Refusal ts code Basic d i i (λ x. Parse.prim x (G x) i))
+        (posts ts t j)
+        (loop-stuck ts code Basic d i (λ x. eqb x Dot) (λ x. Parse.post x (G x)) (Reads ts Basic d i)
+        (post-sound ts d (G ts) (inner-sound ts d) i)
         (λ u k b ts′ n a. post-local ts ts′ n a (G ts) (G ts′) (inner-local ts ts′ n a d) u k)
         (λ u k r b. post-stuck i u k r (eqb-true (kindAt ts k) Dot b)) t j r)
         (λ why q o. widen (at-next ts i j (i + 1) i (λ x. Parse.atom x (G x) i) posts t e (omega (arith, r .next)) (atom-alike i)) o))
@@ -322,8 +355,10 @@ module _ (ts : List Tok) (proper : Proper ts) where
 
     none-begun : (D : ℕ → Type 0) (i : ℕ) → Start ts i → Halt code D ts Unary d i (wrong operands) i
     none-begun D i h =
-        wanted ts code D Unary d i operands Number i (holds operands Number refl) (each (Open false true ts Unary d i i) operands operandKinds refl
-        (each-as (λ k b. fitting k (b .tree) (b .is) (yield (b .tree)) refl (run-none ts i (h .inside)) (heads-more k (yield (b .tree)) [] (b .next))) (unary-begins d)))
+        wanted ts code D Unary d i operands Number i (holds operands Number refl)
+        (each (Open false true ts Unary d i i) operands operandKinds refl
+        (each-as (λ k b. fitting k (b .tree) (b .is) (yield (b .tree)) refl (run-none ts i (h .inside))
+        (heads-more k (yield (b .tree)) [] (b .next))) (unary-begins d)))
 
     unary-by : (b : Bool) (i : ℕ) → eqb (kindAt ts i) Star ≡ b → Start ts i → Refused ts code Unary d i i (λ x. Parse.unaryBy x (G x) b i)
     unfolding Parse.unaryBy yield
@@ -331,10 +366,13 @@ module _ (ts : List Tok) (proper : Proper ts) where
         let e : kindAt ts i ≡ Star = eqb-true (kindAt ts i) Star b in
         let l : i < length ts = here ts i Star e refl in
         then-any (Refusal ts code Unary d i i (λ x. Parse.unaryBy x (G x) true i)) (G ts operand i) _
-        (below ts Unary d (λ x. G x operand) (under operand) (Refusal ts code Unary d i i (λ x. Parse.unaryBy x (G x) true i)) i (start ts i Star e refl refl)
-        (λ z. too-deep ts code (Dooms ts i (λ x. Parse.unaryBy x (G x) true i)) Unary d i i i (group-row ts i (ap (λ (x : ℕ). eqb x LBrace) e) (h .fresh))
+        (below ts Unary d (λ x. G x operand) (under operand) (Refusal ts code Unary d i i (λ x. Parse.unaryBy x (G x) true i)) i
+        (start ts i Star e refl refl)
+        (λ z. too-deep ts code (Dooms ts i (λ x. Parse.unaryBy x (G x) true i)) Unary d i i i
+        (group-row ts i (ap (λ (x : ℕ). eqb x LBrace) e) (h .fresh))
         (opened (num 0) (i-prim i-num) (value 0 ∷ []) refl (run-none ts i (h .inside))))
-        (λ d′ z why r o. wrap star (λ u q. around-it (isMisfit why) d d′ z (i-star q)) (λ _. at-first ts i (i + 1) (λ x. G x operand i) (λ x t j. ok (star t) j) (omega arith)) [] refl
+        (λ d′ z why r o. wrap star (λ u q. around-it (isMisfit why) d d′ z (i-star q))
+        (λ _. at-first ts i (i + 1) (λ x. G x operand i) (λ x t j. ok (star t) j) (omega arith)) [] refl
         (λ u. ap (λ (x : List Tok). sign Star ∷ x) (sym (append-nil (yield u)))) (row ts i Star e refl) o))
         (λ t j. tt)
     unary-by false i b h = go (lead (kindAt ts i)) refl
@@ -362,7 +400,8 @@ module _ (ts : List Tok) (proper : Proper ts) where
         (λ why r o. widen (at-kind ts (λ x k. Parse.unaryBy x (G x) (eqb k Star) i) i) o)
 
     -- a ladder: operands q of the nonterminal M, the first of them by `one`, whose rows of operators `isOp` join them to the nonterminal N
-    module _ (N M : Nt) (plain : closedBy M ≡ []) (isOp : ℕ → Bool) (mark : (k : ℕ) → isOp k ≡ true → isMark k ≡ true) (apart : isOp Dot ≡ false) (q : List Tok → P) (q-sound : (i : ℕ) → All (Reads ts M d i) (q ts i))
+    module _ (N M : Nt) (plain : closedBy M ≡ []) (isOp : ℕ → Bool) (mark : (k : ℕ) → isOp k ≡ true → isMark k ≡ true)
+        (apart : isOp Dot ≡ false) (q : List Tok → P) (q-sound : (i : ℕ) → All (Reads ts M d i) (q ts i))
         (q-alike : (i : ℕ) (ts′ : List Tok) (n : ℕ) → Alike ts ts′ n → Local ts n i (i + 1) (q ts i) (q ts′ i))
         (q-stuck : (i : ℕ) → Start ts i → Refused ts code M d i i (λ x. q x i))
         (joins : (b : Bool) (n k : ℕ) (l r : Tree) → Is b N n l → isOp k ≡ true → Is b M n r → Is b N n (bin k l r)) where
@@ -372,9 +411,11 @@ module _ (ts : List Tok) (proper : Proper ts) where
       bin-stuck i t j r b =
           let x : Run ts j (sign (kindAt ts j) ∷ []) (j + 1) = row ts j (kindAt ts j) refl (mark (kindAt ts j) b) in
           then-any (Refusal ts code N d i j (λ x. Parse.binStep x (G x) (q x) t j)) (q ts (j + 1)) _
-          (stuck-as (Refusal ts code M d (j + 1) (j + 1) (λ x. q x (j + 1))) (Refusal ts code N d i j (λ x. Parse.binStep x (G x) (q x) t j)) (q ts (j + 1))
+          (stuck-as (Refusal ts code M d (j + 1) (j + 1) (λ x. q x (j + 1)))
+          (Refusal ts code N d i j (λ x. Parse.binStep x (G x) (q x) t j)) (q ts (j + 1))
           (q-stuck (j + 1) (start ts j (kindAt ts j) refl (mark (kindAt ts j) b) (joins-apart isOp apart (kindAt ts j) b)))
-          (λ why s o. wrap (λ u. bin (kindAt ts j) t u) (λ u w. joins (isCheck why) (over (isMisfit why) d) (kindAt ts j) t u (lax (isMisfit why) (r .is)) b w)
+          (λ why s o. wrap (λ u. bin (kindAt ts j) t u) (λ u w. joins (isCheck why) (over (isMisfit why) d) (kindAt ts j) t u
+          (lax (isMisfit why) (r .is)) b w)
           (λ _. at-first ts j (j + 1) (λ x. q x (j + 1)) (λ x u k. ok (bin (kindAt x j) t u) k) (omega arith)) [] plain
           (λ u. last-part (yield t) (sign (kindAt ts j)) (yield u)) (run-of r ▸ x) o))
           (λ u k. tt)
@@ -382,7 +423,8 @@ module _ (ts : List Tok) (proper : Proper ts) where
       ladder : (i : ℕ) (t : Tree) (j : ℕ) → Reads ts N d i t j
           → Refused ts code N d i j (λ x. Parse.loop x (λ r. isOp (kindAt x r)) (Parse.binStep x (G x) (q x)) t j)
       ladder i t j r =
-          loop-stuck ts code N d i isOp (λ x. Parse.binStep x (G x) (q x)) (Reads ts N d i) (bin-step ts d (G ts) (inner-sound ts d) N M isOp mark (q ts) q-sound (joins true d) i)
+          loop-stuck ts code N d i isOp (λ x. Parse.binStep x (G x) (q x)) (Reads ts N d i)
+          (bin-step ts d (G ts) (inner-sound ts d) N M isOp mark (q ts) q-sound (joins true d) i)
           (λ u k b ts′ n a. Local.bin-step ts ts′ n a (G ts) (G ts′) (inner-local ts ts′ n a d) isOp (q ts) (q ts′)
           (λ i. q-alike i ts′ n a) u k)
           (bin-stuck i) t j r
@@ -397,36 +439,43 @@ module _ (ts : List Tok) (proper : Proper ts) where
           let f : List Tok → Tree → P = λ x t j. Parse.loop x (λ r. isOp (kindAt x r)) (Parse.binStep x (G x) (q x)) t j in
           then-stuck (Refusal ts code N d i i (λ x. then (p x i) (f x))) (Reads ts M′ d i) (p ts i) (f ts) (p-sound i)
           (stuck-as (Refusal ts code M′ d i i (λ x. p x i)) (Refusal ts code N d i i (λ x. then (p x i) (f x))) (p ts i) (p-stuck i h)
-          (λ why r o. recast (λ u. u) (λ u w. up (isCheck why) (over (isMisfit why) d) u w) (λ _. at-first ts i i (λ x. p x i) f (omega arith)) alone (λ u. refl) o))
+          (λ why r o. recast (λ u. u) (λ u w. up (isCheck why) (over (isMisfit why) d) u w)
+          (λ _. at-first ts i i (λ x. p x i) f (omega arith)) alone (λ u. refl) o))
           (λ t j e r. stuck-as (Refusal ts code N d i j (λ x. f x t j)) (Refusal ts code N d i i (λ x. then (p x i) (f x))) (f ts t j)
           (ladder i t j (taken-as (λ w. up true d t w) r))
           (λ why s o. widen (at-next ts i j (i + 1) i (λ x. p x i) f t e (omega (arith, r .next)) (p-alike i)) o))
 
-    unary-alike : (i : ℕ) (ts′ : List Tok) (n : ℕ) → Alike ts ts′ n → Local ts n i (i + 1) (Parse.unary ts (G ts) i) (Parse.unary ts′ (G ts′) i)
+    unary-alike : (i : ℕ) (ts′ : List Tok) (n : ℕ) → Alike ts ts′ n
+        → Local ts n i (i + 1) (Parse.unary ts (G ts) i) (Parse.unary ts′ (G ts′) i)
     unary-alike i ts′ n a = unary-local ts ts′ n a (G ts) (G ts′) (inner-local ts ts′ n a d) i
 
     mul-alike : (i : ℕ) (ts′ : List Tok) (n : ℕ) → Alike ts ts′ n → Local ts n i (i + 1) (Parse.mul ts (G ts) i) (Parse.mul ts′ (G ts′) i)
     mul-alike i ts′ n a = mul-local ts ts′ n a (G ts) (G ts′) (inner-local ts ts′ n a d) i
 
-    shift-alike : (i : ℕ) (ts′ : List Tok) (n : ℕ) → Alike ts ts′ n → Local ts n i (i + 1) (Parse.shift ts (G ts) i) (Parse.shift ts′ (G ts′) i)
+    shift-alike : (i : ℕ) (ts′ : List Tok) (n : ℕ) → Alike ts ts′ n
+        → Local ts n i (i + 1) (Parse.shift ts (G ts) i) (Parse.shift ts′ (G ts′) i)
     shift-alike i ts′ n a = shift-local ts ts′ n a (G ts) (G ts′) (inner-local ts ts′ n a d) i
 
     mul-stuck : (i : ℕ) → Start ts i → Refused ts code Mul d i i (λ x. Parse.mul x (G x) i)
     unfolding Parse.mul
     mul-stuck i h =
-        climb Mul Unary refl isMul mul-mark refl (λ x. Parse.unary x (G x)) (unary-sound ts d (G ts) (inner-sound ts d)) unary-alike unary-stuck (λ b n k l r a e c. i-mul a e c)
-        Unary (λ x. Parse.unary x (G x)) (unary-sound ts d (G ts) (inner-sound ts d)) unary-alike unary-stuck (λ b n u w. i-unary w) refl i h
+        climb Mul Unary refl isMul mul-mark refl (λ x. Parse.unary x (G x)) (unary-sound ts d (G ts) (inner-sound ts d)) unary-alike
+        unary-stuck (λ b n k l r a e c. i-mul a e c)
+        Unary (λ x. Parse.unary x (G x)) (unary-sound ts d (G ts) (inner-sound ts d)) unary-alike unary-stuck (λ b n u w. i-unary w) refl i
+        h
 
     shift-stuck : (i : ℕ) → Start ts i → Refused ts code Shift d i i (λ x. Parse.shift x (G x) i)
     unfolding Parse.shift
     shift-stuck i h =
-        climb Shift Mul refl isShift shift-mark refl (λ x. Parse.mul x (G x)) (mul-sound ts d (G ts) (inner-sound ts d)) mul-alike mul-stuck (λ b n k l r a e c. i-shift a e c)
+        climb Shift Mul refl isShift shift-mark refl (λ x. Parse.mul x (G x)) (mul-sound ts d (G ts) (inner-sound ts d)) mul-alike
+        mul-stuck (λ b n k l r a e c. i-shift a e c)
         Mul (λ x. Parse.mul x (G x)) (mul-sound ts d (G ts) (inner-sound ts d)) mul-alike mul-stuck (λ b n u w. i-lone w) refl i h
 
     add-stuck : (i : ℕ) → Start ts i → Refused ts code Add d i i (λ x. Parse.add x (G x) i)
     unfolding Parse.add
     add-stuck i h =
-        climb Add Mul refl isAdd add-mark refl (λ x. Parse.mul x (G x)) (mul-sound ts d (G ts) (inner-sound ts d)) mul-alike mul-stuck (λ b n k l r a e c. i-add a e c)
+        climb Add Mul refl isAdd add-mark refl (λ x. Parse.mul x (G x)) (mul-sound ts d (G ts) (inner-sound ts d)) mul-alike mul-stuck
+        (λ b n k l r a e c. i-add a e c)
         Shift (λ x. Parse.shift x (G x)) (shift-sound ts d (G ts) (inner-sound ts d)) shift-alike shift-stuck (λ b n u w. i-up w) refl i h
 
   inner-stuck : (d : ℕ) (s : Sort) → Below ts (ntOf s) d (λ x. Parse.inner x d s)
