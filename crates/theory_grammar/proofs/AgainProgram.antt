@@ -1,13 +1,13 @@
 -- The rest of the parser in two tables that have the first n rows alike: lists, statements, units, maps, events and programs. And what comes of
 -- it: no program has at the lost row a kind that is not in the set.
 use mathlib.Core.Path.{_≡_, refl, sym, ap, _∙_, subst}
-use mathlib.Core.Bool.{Bool, true, false, not, cond, _||_, true≢false}
+use mathlib.Core.Bool.{Bool, true, false, not, cond, _||_, and-eq-true-iff, true≢false}
 use mathlib.Core.List.{List, [], append-nil}
 use mathlib.Core.Logic.{_⊎_, inl, inr}
 use Prim.Native.Nat.{ℕ, zero, suc, _+_, _-_, _^_, _≤_, _<_}
 use native.Mathlib.Omega.{arith}
 use lib.Dec.{eqb, leb}
-use borrow.Author.Tests.{eqb-true, not-true, not-false}
+use borrow.Author.Tests.{eqb-true, eqb-false, leb-true, not-true, not-false}
 use Rattle.rules.specs.declared.Syntax.{Syntax}
 use Rattle.rules.specs.Kinds.{TypeU32, TypeU64, TypeI32, TypeI64, KeywordUnit, KeywordSection, KeywordLicense, KeywordReturn, KeywordReg, KeywordImm, KeywordMap, KeywordType, KeywordKey, KeywordValue, KeywordMax, KeywordIf, KeywordElse, KeywordGuard, KeywordHeap, KeywordEvent, LBrace, RBrace, LParen, RParen, Colon, Dot, Semicolon, LBracket, RBracket, Equals, PlusEquals, Shr, Shl, Identifier, KeywordBytes, Eof}
 use Rattle.rules.specs.Fits.{only, has, operands, shifts, assigns, bodyThings, unitThings, eventFields, mapFields, tops, types, eventTypes, setTold, retold, wrong}
@@ -98,6 +98,48 @@ stmt-begun k b = go (isDeclaring k) (eqb k KeywordReturn) (eqb k KeywordIf) b
     go false true z b = tt
     go false false true b = tt
     go false false false b = b
+
+-- fields and declarations
+in-map : (k : ℕ) → isField k ≡ true → has mapFields k ≡ true
+unfolding has
+in-map k b = go (eqb k KeywordType || isTyped k) refl b
+  where
+    led : (x : Bool) → eqb k KeywordType ≡ x → x || isTyped k ≡ true → has mapFields k ≡ true
+    led true e f = ap (has mapFields) (eqb-true k KeywordType e)
+    led false e f = either-kind (λ x. has mapFields x ≡ true) k KeywordKey KeywordValue f refl refl
+
+    go : (x : Bool) → eqb k KeywordType || isTyped k ≡ x → x || eqb k KeywordMax ≡ true → has mapFields k ≡ true
+    go true e f = led (eqb k KeywordType) refl e
+    go false e f = ap (has mapFields) (eqb-true k KeywordMax f)
+
+in-tops : (k : ℕ) → isTop k ≡ true → has tops k ≡ true
+unfolding has
+in-tops k b = three-kinds (λ x. has tops x ≡ true) k KeywordMap KeywordUnit KeywordEvent b refl refl refl
+
+-- the four types
+type-case : (C : ℕ → Type 0) (k : ℕ) → isType k ≡ true → C TypeU32 → C TypeU64 → C TypeI32 → C TypeI64 → C k
+type-case C k b p q r s = go (eqb k TypeU32) (eqb k TypeU64) (eqb k TypeI32) refl refl refl
+  where
+    bounds : (leb TypeU32 k ≡ true) × (leb k TypeI64 ≡ true)
+    bounds = and-eq-true-iff (leb TypeU32 k) (leb k TypeI64) .0 b
+
+    go : (x y z : Bool) → eqb k TypeU32 ≡ x → eqb k TypeU64 ≡ y → eqb k TypeI32 ≡ z → C k
+    go true y z e f g = subst C (sym (eqb-true k TypeU32 e)) p
+    go false true z e f g = subst C (sym (eqb-true k TypeU64 f)) q
+    go false false true e f g = subst C (sym (eqb-true k TypeI32 g)) r
+    go false false false e f g =
+        let l : TypeU32 ≤ k = leb-true TypeU32 k (bounds .0) in
+        let u : k ≤ TypeI64 = leb-true k TypeI64 (bounds .1) in
+        let last : k ≡ TypeI64 = omega (arith, eqb-false k TypeU32 e, eqb-false k TypeU64 f, eqb-false k TypeI32 g) in
+        subst C (sym last) s
+
+in-types : (k : ℕ) → isType k ≡ true → has types k ≡ true
+unfolding has
+in-types k b = type-case (λ x. has types x ≡ true) k b refl refl refl refl
+
+in-event-types : (k : ℕ) → isType k ≡ true → has eventTypes k ≡ true
+unfolding has
+in-event-types k b = type-case (λ x. has eventTypes x ≡ true) k b refl refl refl refl
 
 module _ (ts ts′ : List Tok) (n : ℕ) (agreed : Alike ts ts′ n) where
   -- ---- lists
