@@ -21,7 +21,7 @@ use Rattle.theory_grammar.proofs.Cases.{then-no, or-here, retold-misfit
 use Rattle.theory_grammar.proofs.Local.{Alike, Local, upward, type-lost, chain-step, stmt-over, branch-local, item-local, map-field-local, event-field-local, top-local, alike}
 use Rattle.theory_grammar.proofs.Leads.{FieldIs, field-is}
 use Rattle.theory_grammar.proofs.Held.{Misfit, misfit-then, Off, Spared, out, off, off-kind, Near, Free, Again, Held, held-from, other-held, ok-held, then-held, or-held, loop-held, Loop, steps-held}
-use Rattle.theory_grammar.proofs.AgainExpr.{has-only, around, line-ends, first-ends, first-assigns, AddEnd, add-end, look, look-at, spared-of, want-in-held, want-held, named-held, quoted-held, valued-held, need-held, want-spared, end-in-held, end-held, end-spared, end-free, expr-on, expr-held}
+use Rattle.theory_grammar.proofs.AgainExpr.{has-only, around, line-ends, first-ends, first-assigns, AddEnd, add-end, look, look-at, spared-of, want-in-held, want-held, named-held, name-on, quoted-held, valued-held, need-held, want-spared, end-in-held, end-held, end-spared, end-free, expr-on, expr-held}
 use Rattle.theory_grammar.proofs.Laws.{either-kind, three-kinds}
 use Rattle.theory_grammar.proofs.Complete.{isBasic, isStart, start-case}
 use Rattle.theory_grammar.proofs.Unread.{isStmt, isItem, isField, isTop, stmt-unread, item-unread, event-field-unread, map-field-unread, top-unread}
@@ -142,6 +142,11 @@ in-types k b = type-case (λ x. has types x ≡ true) k b refl refl refl refl
 in-event-types : (k : ℕ) → isType k ≡ true → has eventTypes k ≡ true
 unfolding has
 in-event-types k b = type-case (λ x. has eventTypes x ≡ true) k b refl refl refl refl
+
+event-rest : (a : Bool) → (has (with-else eventFields a) Identifier ≡ true) × (has (with-else eventFields a) RBrace ≡ true)
+unfolding has
+event-rest true = (refl, refl)
+event-rest false = (refl, refl)
 
 -- leads that begin something
 abbrev FieldBegun : FieldLead → Type 0
@@ -567,3 +572,151 @@ module _ (ts ts′ : List Tok) (n : ℕ) (agreed : Alike ts ts′ n) where
   map-held i =
       braced-held RBrace mapFields (Parse.mapField ts) (Parse.mapField ts′) isField NotMapField (λ t. Unit {0}) map-fields _ _ refl
       (λ w l k. map-end (lacking (typeOf l) (typedBy KeywordKey l) (typedBy KeywordValue l) (limitOf l)) w l (k + 1)) i
+
+  -- ---- events
+
+  length-by : (b : Bool) (f : ℕ → Tree) (v k : ℕ) → Held ts ts′ n (λ t. Unit {0}) (k + 1) (Parse.lengthBy ts b f v k (k + 1)) (Parse.lengthBy ts′ b f v k (k + 1))
+  unfolding Parse.lengthBy isMisfit
+  length-by true f v k =
+      want-held ts ts′ n agreed RBracket _ _ (k + 1) (λ a. want-held ts ts′ n agreed Semicolon _ _ (k + 1 + 1) (λ b.
+      ok-held ts ts′ n (k + 1 + 1 + 1) (f v) (k + 1 + 1 + 1) (omega arith)))
+  length-by false f v k = other-held ts ts′ n refl
+
+  length-held : (f : ℕ → Tree) (k : ℕ) → Held ts ts′ n (λ t. Unit {0}) k (Parse.lengthAt ts f k) (Parse.lengthAt ts′ f k)
+  unfolding Parse.lengthAt
+  length-held f k = valued-held ts ts′ n agreed _ _ k (λ v. length-by (leb v most32) f v k)
+
+  -- behind a plain type at row j
+  module _ (w : List ℕ) (j : ℕ) where
+    array-by : (c : Bool) → Held ts ts′ n (λ t. Unit {0}) (j + 1 + cond c 1 0) (Parse.arrayBy ts c w j) (Parse.arrayBy ts′ c w j)
+    unfolding Parse.arrayBy has
+    array-by true =
+        look ts ts′ n agreed j (j + 1 + 1) (omega arith) kindOf (λ x. Parse.lengthAt ts (λ v. arrayField w x v) (j + 1 + 1))
+        (λ x. Parse.lengthAt ts′ (λ v. arrayField w x v) (j + 1 + 1)) (λ x e. length-held (λ v. arrayField w x v) (j + 1 + 1))
+    array-by false =
+        look ts ts′ n agreed j (j + 1 + 0) (omega arith) kindOf (λ x. Parse.wantIn ts (only Semicolon + only LBracket) Semicolon (ok (plainField w x)) (j + 1))
+        (λ x. Parse.wantIn ts′ (only Semicolon + only LBracket) Semicolon (ok (plainField w x)) (j + 1))
+        (λ x e. held-from ts ts′ n (omega arith) (want-in-held ts ts′ n agreed (only Semicolon + only LBracket) (only Semicolon + only LBracket) Semicolon
+        (ok (plainField w x)) (ok (plainField w x)) (j + 1) refl (λ e. ok-held ts ts′ n (j + 1 + 1) (plainField w x) (j + 1 + 1) (omega arith))))
+
+    array-opens : (c : Bool) → eqb (kindAt ts n) LBracket ≡ c → j + 1 ≡ n → Near ts ts′ n (Parse.arrayBy ts c w j) → Free ts ts′ n (λ t. Unit {0}) (Parse.arrayBy ts c w j)
+        → eqb (kindAt ts′ n) LBracket ≡ c
+    unfolding Parse.arrayBy has
+    array-opens true e q a x = absurd (omega (arith, array-by true .near a))
+    array-opens false e q a x =
+        off-kind ts ts′ n (only Semicolon + only LBracket) LBracket refl
+        (want-spared ts ts′ n agreed (only Semicolon + only LBracket) Semicolon (ok (plainField w (kindAt ts j))) (λ e. ok-held ts ts′ n (n + 1) (plainField w (kindAt ts j)) (n + 1) (omega arith))
+        (subst (λ (r : ℕ). Near ts ts′ n (Parse.wantIn ts (only Semicolon + only LBracket) Semicolon (ok (plainField w (kindAt ts j))) r)) q a)
+        (subst (λ (r : ℕ). Free ts ts′ n (λ t. Unit {0}) (Parse.wantIn ts (only Semicolon + only LBracket) Semicolon (ok (plainField w (kindAt ts j))) r)) q x)) .fails e
+
+    array-held : Held ts ts′ n (λ t. Unit {0}) (j + 1) (Parse.arrayBy ts (eqb (kindAt ts (j + 1)) LBracket) w j)
+        (Parse.arrayBy ts′ (eqb (kindAt ts′ (j + 1)) LBracket) w j)
+    array-held =
+        look-at ts ts′ n agreed (j + 1) (λ x. eqb (kindOf x) LBracket) (λ c. Parse.arrayBy ts c w j) (λ c. Parse.arrayBy ts′ c w j)
+        (λ c e. held-from ts ts′ n (omega arith) (array-by c))
+        (λ q a x. ap (λ (r : ℕ). eqb (kindAt ts r) LBracket) (sym q)
+        ∙ sym (array-opens (eqb (kindAt ts (j + 1)) LBracket) (ap (λ (r : ℕ). eqb (kindAt ts r) LBracket) (sym q)) q a x))
+
+    bytes-held : Held ts ts′ n (λ t. Unit {0}) (j + 1) (Parse.eventTypeBy ts bytesLead w j) (Parse.eventTypeBy ts′ bytesLead w j)
+    unfolding Parse.eventTypeBy
+    bytes-held = want-held ts ts′ n agreed LBracket _ _ (j + 1) (λ e. length-held (λ v. bytesField w v) (j + 1 + 1))
+
+    -- the type itself
+    event-by : (l : EventLead) → Held ts ts′ n (λ t. Unit {0}) j (Parse.eventTypeBy ts l w j) (Parse.eventTypeBy ts′ l w j)
+    unfolding Parse.eventTypeBy isMisfit lost
+    event-by typeLead = held-from ts ts′ n (omega arith) array-held
+    event-by bytesLead = held-from ts ts′ n (omega arith) bytes-held
+    event-by noLead = record { near = λ a. omega (arith, a .1); again = λ a x. refl }
+
+    event-types : (l : EventLead) → eventLead (kindAt ts n) ≡ l → j ≡ n → Near ts ts′ n (Parse.eventTypeBy ts l w j)
+        → Free ts ts′ n (λ t. Unit {0}) (Parse.eventTypeBy ts l w j) → eventLead (kindAt ts′ n) ≡ l
+    unfolding Parse.eventTypeBy setTold eventLead has
+    event-types typeLead e q a x = absurd (omega (arith, array-held .near a))
+    event-types bytesLead e q a x = absurd (omega (arith, bytes-held .near a))
+    event-types noLead e q a x =
+        let y : (isType (kindAt ts n) ≡ false) × (eqb (kindAt ts n) KeywordBytes ≡ false) = no-lead (isType (kindAt ts n)) (eqb (kindAt ts n) KeywordBytes) e in
+        rw (off ts ts′ n eventTypes isType in-event-types x .fails (y .0), off-kind ts ts′ n eventTypes KeywordBytes refl x .fails (y .1))
+      where
+        no-lead : (b c : Bool) → cond b typeLead (cond c bytesLead noLead) ≡ noLead → (b ≡ false) × (c ≡ false)
+        no-lead true c e = let z : _≡_ {A = ℕ} 0 1 = cc in absurd (omega arith)
+        no-lead false true e = let z : _≡_ {A = ℕ} 0 1 = cc in absurd (omega arith)
+        no-lead false false e = (refl, refl)
+
+    event-type-held : Held ts ts′ n (λ t. Unit {0}) j (Parse.eventTypeBy ts (eventLead (kindAt ts j)) w j) (Parse.eventTypeBy ts′ (eventLead (kindAt ts′ j)) w j)
+    event-type-held =
+        look-at ts ts′ n agreed j (λ x. eventLead (kindOf x)) (λ l. Parse.eventTypeBy ts l w j) (λ l. Parse.eventTypeBy ts′ l w j) (λ l e. event-by l)
+        (λ q a x. ap (λ (r : ℕ). eventLead (kindAt ts r)) (sym q) ∙ sym (event-types (eventLead (kindAt ts j)) (ap (λ (r : ℕ). eventLead (kindAt ts r)) (sym q)) q a x))
+
+  event-field-on : (i : ℕ) → eqb (kindAt ts i) Identifier ≡ true → Held ts ts′ n (λ t. Unit {0}) (i + 1) (Parse.eventField ts i) (Parse.eventField ts′ i)
+  unfolding Parse.eventField
+  event-field-on i b =
+      name-on ts ts′ n agreed _ _ i (eqb-true (kindAt ts i) Identifier b)
+      (λ w. want-held ts ts′ n agreed Colon _ _ (i + 1) (λ c. event-type-held w (i + 1 + 1)))
+
+  event-told : (l : Tree) → Spared ts ts′ n (setTold (retold (eventFields + Parse.elseBehind ts l) (wrong (only Identifier))))
+      → Spared ts ts′ n (with-else eventFields (hangs l))
+  unfolding retold Parse.elseBehind
+  event-told l x = spared-of ts ts′ n agreed (with-else eventFields (hangs l)) x
+
+  event-fields : Things RBrace eventFields (Parse.eventField ts) (Parse.eventField ts′) (λ x. eqb x Identifier) (wrong (only Identifier)) (λ t. Unit {0})
+  unfolding isMisfit lost
+  event-fields = record {
+    on = event-field-on;
+    off = event-field-unread ts;
+    off′ = event-field-unread ts′;
+    longer = event-field-local ts ts′ n agreed;
+    misfit = refl;
+    place = λ i. refl;
+    tells = λ l x. tells (hangs l) (event-told l x);
+    last = λ l t x. tt;
+  }
+    where
+      tells : (a : Bool) → Spared ts ts′ n (with-else eventFields a) → Unit {0} × Off ts ts′ n (λ x. eqb x Identifier) × Off ts ts′ n (λ x. eqb x RBrace)
+      tells a x = (tt, off-kind ts ts′ n (with-else eventFields a) Identifier (event-rest a .0) x, off-kind ts ts′ n (with-else eventFields a) RBrace (event-rest a .1) x)
+
+  event-held : (i : ℕ) → Held ts ts′ n (λ t. Unit {0}) (i + 1) (Parse.eventAt ts i) (Parse.eventAt ts′ i)
+  unfolding Parse.eventAt
+  event-held i =
+      braced-held RBrace eventFields (Parse.eventField ts) (Parse.eventField ts′) (λ x. eqb x Identifier) (wrong (only Identifier)) (λ t. Unit {0}) event-fields
+      (λ w l k. ok (event w l) k) (λ w l k. ok (event w l) k) refl (λ w l k. ok-held ts ts′ n (k + 1) (event w l) (k + 1) (omega arith)) i
+
+  -- ---- programs
+
+  top-by : (l : TopLead) (i : ℕ) → TopBegun l → Held ts ts′ n (λ t. Unit {0}) (i + 1) (Parse.topBy ts l i) (Parse.topBy ts′ l i)
+  unfolding Parse.topBy
+  top-by mapLead i f = map-held i
+  top-by unitLead i f = unit-held i
+  top-by eventTop i f = event-held i
+  top-by noTop i f = absurd f
+
+  top-on : (i : ℕ) → isTop (kindAt ts i) ≡ true → Held ts ts′ n (λ t. Unit {0}) (i + 1) (Parse.top ts i) (Parse.top ts′ i)
+  unfolding Parse.top
+  top-on i b =
+      look ts ts′ n agreed i (i + 1) (omega arith) (λ x. topLead (kindOf x)) (λ l. Parse.topBy ts l i) (λ l. Parse.topBy ts′ l i)
+      (λ l e. top-by l i (subst TopBegun e (top-begun (kindAt ts i) b)))
+
+  decls : Things Eof tops (Parse.top ts) (Parse.top ts′) isTop NotTopLevel (λ t. Unit {0})
+  unfolding isMisfit lost retold setTold has
+  decls = record {
+    on = top-on;
+    off = top-unread ts;
+    off′ = top-unread ts′;
+    longer = top-local ts ts′ n agreed;
+    misfit = refl;
+    place = λ i. refl;
+    tells = λ l x. (tt, off ts ts′ n tops isTop in-tops x, off-kind ts ts′ n tops Eof refl x);
+    last = λ l t x. tt;
+  }
+
+  parse-held : Held ts ts′ n (λ t. Unit {0}) 0 (Parse.parse ts) (Parse.parse ts′)
+  unfolding Parse.parse
+  parse-held =
+      closed-held Eof tops (Parse.top ts) (Parse.top ts′) isTop NotTopLevel (λ t. Unit {0}) decls (λ l k. ok (program l) k) (λ l k. ok (program l) k)
+      (λ l k. ok-held ts ts′ n (k + 1) (program l) (k + 1) (omega arith)) 0
+
+  -- A misfit that is lost at row n stands in the other table too, where row n is spared.
+  pub misfit-again : (why : Syntax) (r : ℕ) → Parse.parse ts ≡ no why r → isMisfit why ≡ true → lost ts why r ≡ n → Spared ts ts′ n (setTold why)
+      → Misfit (Parse.parse ts′)
+  misfit-again why r e m q x =
+      subst (λ (o : Out). Again ts ts′ n o (Parse.parse ts′)) e
+      (parse-held .again (subst (Near ts ts′ n) (sym e) (m, q)) (subst (Free ts ts′ n (λ t. Unit {0})) (sym e) x))
