@@ -15,6 +15,7 @@ pub mod AgainExpr
 pub mod AgainProgram
 pub mod Begun
 pub mod GoesOn
+pub mod FitsTold
 pub mod Place
 pub mod Tables
 pub mod Order
