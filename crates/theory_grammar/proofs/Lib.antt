@@ -9,6 +9,8 @@ pub mod Refused
 pub mod Complete
 pub mod Same
 pub mod Local
+pub mod Members
+pub mod Grow
 pub mod Unread
 pub mod Held
 pub mod AgainExpr
@@ -16,6 +18,7 @@ pub mod AgainProgram
 pub mod Begun
 pub mod GoesOn
 pub mod FitsTold
+pub mod Fitting
 pub mod Place
 pub mod Tables
 pub mod Order

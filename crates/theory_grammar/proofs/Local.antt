@@ -59,7 +59,7 @@ end-in-dead : (why : Syntax) (ts : List Tok) (s k : ℕ) (t : Tree) (f : P) (i :
 unfolding Parse.endIn
 end-in-dead why ts s k t f i h = want-in-dead why ts (Parse.onward ts t i + s) k f i h
 
-or-dead : (why : Syntax) (s i : ℕ) (o : Out) → Dead why o → Dead why (or s i o)
+pub or-dead : (why : Syntax) (s i : ℕ) (o : Out) → Dead why o → Dead why (or s i o)
 unfolding or
 or-dead why s i (ok t j) d = d
 or-dead why s i (no why′ r) d = or-no (λ x n. isCheck why ≡ false → isCheck x ≡ false) s i why′ r (λ e. retold-check s why′ ∙ d e) d
@@ -213,7 +213,7 @@ module _ (ts : List Tok) (n : ℕ) where
   then-local o o′ f f′ h k = then-known (λ t j. Unit {0}) o o′ f f′ (all-any o) h (λ t j a l. k t j l)
 
   -- the set that is told where row q itself is refused
-  or-local : {i m : ℕ} (s q : ℕ) (o o′ : Out) → Local i m o o′ → Local i m (or s q o) (or s q o′)
+  pub or-local : {i m : ℕ} (s q : ℕ) (o o′ : Out) → Local i m o o′ → Local i m (or s q o) (or s q o′)
   unfolding or
   or-local s q (ok t j) o′ (same l e u) = same l (ap (or s q) e) u
   or-local s q (ok t j) o′ (behind b u) = behind b u
