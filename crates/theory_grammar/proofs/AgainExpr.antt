@@ -266,6 +266,16 @@ module _ (ts ts′ : List Tok) (n : ℕ) (agreed : Alike ts ts′ n) where
         want-held Identifier (f (spellingOf (tokAt ts i))) (f′ (spellingOf (tokAt ts′ i))) i
         (λ e. look i (i + 1) (omega arith) spellingOf (λ w. f w (i + 1)) (λ w. f′ w (i + 1)) (λ w q. h w e))
 
+    -- where a name stands
+    pub name-on : (f f′ : List ℕ → P) (i : ℕ) → kindAt ts i ≡ Identifier → ((w : List ℕ) → Held ts ts′ n F (i + 1) (f w (i + 1)) (f′ w (i + 1)))
+        → Held ts ts′ n F (i + 1) (Parse.named ts f i) (Parse.named ts′ f′ i)
+    unfolding Parse.named Parse.want Parse.wantIn Parse.wantBy
+    name-on f f′ i e h =
+        look i (i + 1) (omega arith) (λ x. x) (λ x. Parse.wantBy ts (eqb (kindOf x) Identifier) (only Identifier) (f (spellingOf x)) i)
+        (λ x. Parse.wantBy ts′ (eqb (kindOf x) Identifier) (only Identifier) (f′ (spellingOf x)) i)
+        (λ x q. subst (λ (b : Bool). Held ts ts′ n F (i + 1) (Parse.wantBy ts b (only Identifier) (f (spellingOf x)) i) (Parse.wantBy ts′ b (only Identifier) (f′ (spellingOf x)) i))
+        (sym (eq-eqb (kindOf x) Identifier (ap kindOf (sym q) ∙ e))) (h (spellingOf x)))
+
     pub quoted-held : (f f′ : List ℕ → P) (i : ℕ) → ((w : List ℕ) → Held ts ts′ n F (i + 1) (f w (i + 1)) (f′ w (i + 1)))
         → Held ts ts′ n F i (Parse.quoted ts f i) (Parse.quoted ts′ f′ i)
     unfolding Parse.quoted

@@ -1,25 +1,27 @@
 -- The rest of the parser in two tables that have the first n rows alike: lists, statements, units, maps, events and programs. And what comes of
 -- it: no program has at the lost row a kind that is not in the set.
 use mathlib.Core.Path.{_≡_, refl, sym, ap, _∙_, subst}
-use mathlib.Core.Bool.{Bool, true, false, not, cond, _||_, true≢false}
+use mathlib.Core.Bool.{Bool, true, false, not, cond, _||_, and-eq-true-iff, true≢false}
 use mathlib.Core.List.{List, [], append-nil}
 use mathlib.Core.Logic.{_⊎_, inl, inr}
 use Prim.Native.Nat.{ℕ, zero, suc, _+_, _-_, _^_, _≤_, _<_}
 use native.Mathlib.Omega.{arith}
 use lib.Dec.{eqb, leb}
-use borrow.Author.Tests.{eqb-true, not-true, not-false}
+use borrow.Author.Tests.{eqb-true, eqb-false, leb-true, not-true, not-false}
 use Rattle.rules.specs.declared.Syntax.{Syntax}
+use Rattle.rules.specs.declared.Syntax.the-variants.{Wanted, NotTopLevel, NotMapField, MapTypeUnknown, NotType, MaxNegative, OutOfRange, ShiftCount, MapLacks, NotEventType, CallOnOther, TooDeep}
 use Rattle.rules.specs.Kinds.{TypeU32, TypeU64, TypeI32, TypeI64, KeywordUnit, KeywordSection, KeywordLicense, KeywordReturn, KeywordReg, KeywordImm, KeywordMap, KeywordType, KeywordKey, KeywordValue, KeywordMax, KeywordIf, KeywordElse, KeywordGuard, KeywordHeap, KeywordEvent, LBrace, RBrace, LParen, RParen, Colon, Dot, Semicolon, LBracket, RBracket, Equals, PlusEquals, Shr, Shl, Identifier, KeywordBytes, Eof}
 use Rattle.rules.specs.Fits.{only, has, operands, shifts, assigns, bodyThings, unitThings, eventFields, mapFields, tops, types, eventTypes, setTold, retold, wrong}
-use Rattle.rules.specs.Tree.{Tok, kindOf, Tree, none, decl, ret, plain, assign, guard, thenBody, elseBody, seq, text, unit, typed, limit, first, shifted, plainField, arrayField, bytesField, event, program, isSum, hangs, mapType, mapTypeNumber, maxBits, typeOf, typedBy, limitOf, lacking, yield}
+use Rattle.rules.specs.Tree.{Tok, kindOf, Tree, none, decl, ret, plain, assign, guard, thenBody, elseBody, seq, text, unit, typed, limit, first, shifted, mapDecl, plainField, arrayField, bytesField, event, program, isSum, hangs, mapType, mapTypeNumber, maxBits, typeOf, typedBy, limitOf, lacking, yield}
 use Rattle.rules.specs.Parse
 use Rattle.rules.specs.Parse.{Out, ok, no, P, then, or, isShift, isAssign, isDeclaring, isText, isType, isTyped, most32, StmtLead, declaring, returning, branching, expression, stmtLead, FieldLead, typing, keying, limiting, nothing, fieldLead, EventLead, typeLead, bytesLead, noLead, eventLead, TopLead, mapLead, unitLead, eventTop, noTop, topLead, tokAt, kindAt, dotName}
 use Rattle.theory_grammar.specs.Lost.{isMisfit, lost}
 use Rattle.theory_grammar.proofs.Runs.{All, then-all, or-all}
 use Rattle.theory_grammar.proofs.Cases.{then-no, or-here, retold-misfit, retold-lost}
-use Rattle.theory_grammar.proofs.Local.{Alike, Local, upward, stmt-over, branch-local}
-use Rattle.theory_grammar.proofs.Held.{Misfit, misfit-then, Off, Spared, out, off, off-kind, Near, Free, Again, Held, held-from, other-held, ok-held, then-held, or-held, loop-held, loop-free}
-use Rattle.theory_grammar.proofs.AgainExpr.{has-only, around, line-ends, first-ends, first-assigns, AddEnd, add-end, look, look-at, spared-of, want-in-held, want-held, named-held, quoted-held, valued-held, need-held, want-spared, end-in-held, end-held, end-spared, end-free, expr-on, expr-held}
+use Rattle.theory_grammar.proofs.Local.{Alike, Local, upward, type-lost, chain-step, stmt-over, branch-local, item-local, map-field-local, event-field-local, top-local, alike}
+use Rattle.theory_grammar.proofs.Leads.{FieldIs, field-is}
+use Rattle.theory_grammar.proofs.Held.{Misfit, misfit-then, Off, Spared, out, off, off-kind, Near, Free, Again, Held, held-from, other-held, ok-held, then-held, or-held, loop-held, Loop, steps-held}
+use Rattle.theory_grammar.proofs.AgainExpr.{has-only, around, line-ends, first-ends, first-assigns, AddEnd, add-end, look, look-at, spared-of, want-in-held, want-held, named-held, name-on, quoted-held, valued-held, need-held, want-spared, end-in-held, end-held, end-spared, end-free, expr-on, expr-held}
 use Rattle.theory_grammar.proofs.Laws.{either-kind, three-kinds}
 use Rattle.theory_grammar.proofs.Complete.{isBasic, isStart, start-case}
 use Rattle.theory_grammar.proofs.Unread.{isStmt, isItem, isField, isTop, stmt-unread, item-unread, event-field-unread, map-field-unread, top-unread}
@@ -98,6 +100,86 @@ stmt-begun k b = go (isDeclaring k) (eqb k KeywordReturn) (eqb k KeywordIf) b
     go false true z b = tt
     go false false true b = tt
     go false false false b = b
+
+-- fields and declarations
+in-map : (k : ℕ) → isField k ≡ true → has mapFields k ≡ true
+unfolding has
+in-map k b = go (eqb k KeywordType || isTyped k) refl b
+  where
+    led : (x : Bool) → eqb k KeywordType ≡ x → x || isTyped k ≡ true → has mapFields k ≡ true
+    led true e f = ap (has mapFields) (eqb-true k KeywordType e)
+    led false e f = either-kind (λ x. has mapFields x ≡ true) k KeywordKey KeywordValue f refl refl
+
+    go : (x : Bool) → eqb k KeywordType || isTyped k ≡ x → x || eqb k KeywordMax ≡ true → has mapFields k ≡ true
+    go true e f = led (eqb k KeywordType) refl e
+    go false e f = ap (has mapFields) (eqb-true k KeywordMax f)
+
+in-tops : (k : ℕ) → isTop k ≡ true → has tops k ≡ true
+unfolding has
+in-tops k b = three-kinds (λ x. has tops x ≡ true) k KeywordMap KeywordUnit KeywordEvent b refl refl refl
+
+-- the four types
+type-case : (C : ℕ → Type 0) (k : ℕ) → isType k ≡ true → C TypeU32 → C TypeU64 → C TypeI32 → C TypeI64 → C k
+type-case C k b p q r s = go (eqb k TypeU32) (eqb k TypeU64) (eqb k TypeI32) refl refl refl
+  where
+    bounds : (leb TypeU32 k ≡ true) × (leb k TypeI64 ≡ true)
+    bounds = and-eq-true-iff (leb TypeU32 k) (leb k TypeI64) .0 b
+
+    go : (x y z : Bool) → eqb k TypeU32 ≡ x → eqb k TypeU64 ≡ y → eqb k TypeI32 ≡ z → C k
+    go true y z e f g = subst C (sym (eqb-true k TypeU32 e)) p
+    go false true z e f g = subst C (sym (eqb-true k TypeU64 f)) q
+    go false false true e f g = subst C (sym (eqb-true k TypeI32 g)) r
+    go false false false e f g =
+        let l : TypeU32 ≤ k = leb-true TypeU32 k (bounds .0) in
+        let u : k ≤ TypeI64 = leb-true k TypeI64 (bounds .1) in
+        let last : k ≡ TypeI64 = omega (arith, eqb-false k TypeU32 e, eqb-false k TypeU64 f, eqb-false k TypeI32 g) in
+        subst C (sym last) s
+
+in-types : (k : ℕ) → isType k ≡ true → has types k ≡ true
+unfolding has
+in-types k b = type-case (λ x. has types x ≡ true) k b refl refl refl refl
+
+in-event-types : (k : ℕ) → isType k ≡ true → has eventTypes k ≡ true
+unfolding has
+in-event-types k b = type-case (λ x. has eventTypes x ≡ true) k b refl refl refl refl
+
+event-rest : (a : Bool) → (has (with-else eventFields a) Identifier ≡ true) × (has (with-else eventFields a) RBrace ≡ true)
+unfolding has
+event-rest true = (refl, refl)
+event-rest false = (refl, refl)
+
+-- leads that begin something
+abbrev FieldBegun : FieldLead → Type 0
+FieldBegun typing = Unit {0}
+FieldBegun keying = Unit {0}
+FieldBegun limiting = Unit {0}
+FieldBegun nothing = ⊥
+
+field-begun : (k : ℕ) → isField k ≡ true → FieldBegun (fieldLead k)
+unfolding fieldLead
+field-begun k b = go (eqb k KeywordType) (isTyped k) (eqb k KeywordMax) b
+  where
+    go : (x y z : Bool) → (x || y) || z ≡ true → FieldBegun (cond x typing (cond y keying (cond z limiting nothing)))
+    go true y z b = tt
+    go false true z b = tt
+    go false false true b = tt
+    go false false false b = absurd (true≢false (sym b))
+
+abbrev TopBegun : TopLead → Type 0
+TopBegun mapLead = Unit {0}
+TopBegun unitLead = Unit {0}
+TopBegun eventTop = Unit {0}
+TopBegun noTop = ⊥
+
+top-begun : (k : ℕ) → isTop k ≡ true → TopBegun (topLead k)
+unfolding topLead
+top-begun k b = go (eqb k KeywordMap) (eqb k KeywordUnit) (eqb k KeywordEvent) b
+  where
+    go : (x y z : Bool) → (x || y) || z ≡ true → TopBegun (cond x mapLead (cond y unitLead (cond z eventTop noTop)))
+    go true y z b = tt
+    go false true z b = tt
+    go false false true b = tt
+    go false false false b = absurd (true≢false (sym b))
 
 module _ (ts ts′ : List Tok) (n : ℕ) (agreed : Alike ts ts′ n) where
   -- ---- lists
@@ -329,3 +411,312 @@ module _ (ts ts′ : List Tok) (n : ℕ) (agreed : Alike ts ts′ n) where
   body-held (suc d) o =
       closed-held RBrace bodyThings (Parse.stmt ts d (Parse.body ts d)) (Parse.stmt ts′ d (Parse.body ts′ d)) isStmt (wrong operands) StmtEnd (stmts d (body-held d))
       (λ l k. ok l k) (λ l k. ok l k) (λ l k. ok-held ts ts′ n (k + 1) l (k + 1) (omega arith)) (o + 1)
+
+  -- ---- units
+
+  item-by : (c : Bool) (i : ℕ) → c || isStmt (kindAt ts i) ≡ true → Held ts ts′ n StmtEnd (i + 1) (Parse.itemBy ts c i) (Parse.itemBy ts′ c i)
+  unfolding Parse.itemBy
+  item-by true i b =
+      look ts ts′ n agreed i (i + 1) (omega arith) kindOf (λ x. Parse.quoted ts (λ w. Parse.want ts Semicolon (ok (text x w))) (i + 1))
+      (λ x. Parse.quoted ts′ (λ w. Parse.want ts′ Semicolon (ok (text x w))) (i + 1))
+      (λ x e. quoted-held ts ts′ n agreed _ _ (i + 1) (λ w. want-held ts ts′ n agreed Semicolon _ _ (i + 1 + 1) (λ f. ok-held ts ts′ n (i + 1 + 1 + 1) (text x w) (i + 1 + 1 + 1) (omega arith))))
+  item-by false i b = stmt-on 64 (Parse.body ts 64) (Parse.body ts′ 64) (body-held 64) i b
+
+  item-on : (i : ℕ) → isItem (kindAt ts i) ≡ true → Held ts ts′ n StmtEnd (i + 1) (Parse.item ts i) (Parse.item ts′ i)
+  unfolding Parse.item
+  item-on i b =
+      look ts ts′ n agreed i (i + 1) (omega arith) (λ x. isText (kindOf x)) (λ c. Parse.itemBy ts c i) (λ c. Parse.itemBy ts′ c i)
+      (λ c e. item-by c i (sym (ap (λ (x : Bool). x || isStmt (kindAt ts i)) e) ∙ b))
+
+  item-tells : (l : Tree) → Spared ts ts′ n (setTold (retold (unitThings + Parse.elseBehind ts l) (wrong operands)))
+      → StmtEnd l × Off ts ts′ n isItem × Off ts ts′ n (λ x. eqb x RBrace)
+  unfolding retold Parse.elseBehind
+  item-tells l x =
+      let s : ℕ = with-else unitThings (hangs l) in
+      let y : Spared ts ts′ n s = spared-of ts ts′ n agreed s x in
+      (λ h. off-kind ts ts′ n s KeywordElse (unit-rest (hangs l) .1 h) y, off ts ts′ n s isItem (in-unit (hangs l)) y, off-kind ts ts′ n s RBrace (unit-rest (hangs l) .0) y)
+
+  items : Things RBrace unitThings (Parse.item ts) (Parse.item ts′) isItem (wrong operands) StmtEnd
+  unfolding isMisfit lost hangs
+  items = record {
+    on = item-on;
+    off = item-unread ts;
+    off′ = item-unread ts′;
+    longer = item-local ts ts′ n agreed;
+    misfit = refl;
+    place = λ i. refl;
+    tells = item-tells;
+    last = λ l t x. x;
+  }
+
+  unit-held : (i : ℕ) → Held ts ts′ n (λ t. Unit {0}) (i + 1) (Parse.unitAt ts i) (Parse.unitAt ts′ i)
+  unfolding Parse.unitAt
+  unit-held i =
+      braced-held RBrace unitThings (Parse.item ts) (Parse.item ts′) isItem (wrong operands) StmtEnd items (λ w l k. ok (unit w l) k) (λ w l k. ok (unit w l) k) refl
+      (λ w l k. ok-held ts ts′ n (k + 1) (unit w l) (k + 1) (omega arith)) i
+
+  -- ---- maps
+
+  -- with a map's number a shift goes on
+  abbrev MaxEnd : Type 0
+  MaxEnd = Off ts ts′ n isShift
+
+  count-by : (b : Bool) (c : Tree) (k v : ℕ) → Held ts ts′ n (λ t. MaxEnd) (k + 1 + 1) (Parse.countBy ts b c k v (k + 1 + 1)) (Parse.countBy ts′ b c k v (k + 1 + 1))
+  unfolding Parse.countBy isMisfit
+  count-by true c k v =
+      look ts ts′ n agreed k (k + 1 + 1) (omega arith) kindOf (λ x. ok (shifted x c v) (k + 1 + 1)) (λ x. ok (shifted x c v) (k + 1 + 1))
+      (λ x e. ok-held ts ts′ n (k + 1 + 1) (shifted x c v) (k + 1 + 1) (omega arith))
+  count-by false c k v = other-held ts ts′ n refl
+
+  shifted-held : (c : Tree) (k : ℕ) → Held ts ts′ n (λ t. MaxEnd) (k + 1) (Parse.chainStep ts c k) (Parse.chainStep ts′ c k)
+  unfolding Parse.chainStep
+  shifted-held c k = valued-held ts ts′ n agreed _ _ (k + 1) (λ v. count-by (leb v 63) c k v)
+
+  chain-loop : Loop ts ts′ n isShift (Parse.chainStep ts) (Parse.chainStep ts′) (λ t. MaxEnd)
+  chain-loop =
+      steps-held ts ts′ n agreed isShift (Parse.chainStep ts) (Parse.chainStep ts′) (λ t. MaxEnd)
+      (λ c k b. upward ts n k (Parse.chainStep ts c k) (Parse.chainStep ts′ c k) (chain-step ts ts′ n agreed c k)) (λ c k b. shifted-held c k) (λ c x. x)
+
+  chain-held : (j : ℕ) → Held ts ts′ n (λ t. MaxEnd) j (Parse.chain ts j) (Parse.chain ts′ j)
+  unfolding Parse.chain
+  chain-held j = valued-held ts ts′ n agreed _ _ j (λ v. chain-loop .held (first v) (j + 1))
+
+  limit-set : (k : ℕ) → isShift k ≡ true → has (only Semicolon + shifts) k ≡ true
+  unfolding has
+  limit-set k b = either-kind (λ x. has (only Semicolon + shifts) x ≡ true) k Shl Shr b refl refl
+
+  limit-by : (a b : Bool) (c : Tree) (k : ℕ) → Held ts ts′ n (λ t. Unit {0}) k (Parse.limitBy ts a b c k) (Parse.limitBy ts′ a b c k)
+  unfolding Parse.limitBy isMisfit has
+  limit-by true b c k = other-held ts ts′ n refl
+  limit-by false true c k = other-held ts ts′ n refl
+  limit-by false false c k =
+      want-in-held ts ts′ n agreed (only Semicolon + shifts) (only Semicolon + shifts) Semicolon (ok (limit c)) (ok (limit c)) k refl
+      (λ e. ok-held ts ts′ n (k + 1) (limit c) (k + 1) (omega arith))
+
+  limit-free : (a b : Bool) (c : Tree) → Near ts ts′ n (Parse.limitBy ts a b c n) → Free ts ts′ n (λ t. Unit {0}) (Parse.limitBy ts a b c n) → MaxEnd
+  unfolding Parse.limitBy isMisfit
+  limit-free true b c y x = absurd (true≢false (sym (y .0)))
+  limit-free false true c y x = absurd (true≢false (sym (y .0)))
+  limit-free false false c y x =
+      off ts ts′ n (only Semicolon + shifts) isShift limit-set
+      (want-spared ts ts′ n agreed (only Semicolon + shifts) Semicolon (ok (limit c)) (λ e. ok-held ts ts′ n (n + 1) (limit c) (n + 1) (omega arith)) y x)
+
+  type-by : (b : Bool) (w : List ℕ) (j : ℕ) → Held ts ts′ n (λ t. Unit {0}) j (Parse.typeBy ts b w j) (Parse.typeBy ts′ b w j)
+  unfolding Parse.typeBy isMisfit
+  type-by true w j = other-held ts ts′ n refl
+  type-by false w j = want-held ts ts′ n agreed Semicolon _ _ j (λ e. ok-held ts ts′ n (j + 1) (mapType w) (j + 1) (omega arith))
+
+  -- the type at row j, where 25 is lost
+  module _ (k j : ℕ) (at : lost ts NotType (cond (eqb (kindAt ts j) Eof) j (j + 1)) ≡ j) where
+    key-by : (b : Bool) → Held ts ts′ n (λ t. Unit {0}) (j + cond b 1 0) (Parse.keyBy ts b k j) (Parse.keyBy ts′ b k j)
+    unfolding Parse.keyBy isMisfit
+    key-by true =
+        look ts ts′ n agreed j (j + 1) (omega arith) kindOf (λ x. Parse.want ts Semicolon (ok (typed k x)) (j + 1)) (λ x. Parse.want ts′ Semicolon (ok (typed k x)) (j + 1))
+        (λ x e. want-held ts ts′ n agreed Semicolon _ _ (j + 1) (λ f. ok-held ts ts′ n (j + 1 + 1) (typed k x) (j + 1 + 1) (omega arith)))
+    key-by false = record { near = λ a. omega (arith, a .1, at); again = λ a x. refl }
+
+    key-types : (b : Bool) → isType (kindAt ts n) ≡ b → j ≡ n → Near ts ts′ n (Parse.keyBy ts b k j) → Free ts ts′ n (λ t. Unit {0}) (Parse.keyBy ts b k j)
+        → isType (kindAt ts′ n) ≡ b
+    unfolding Parse.keyBy setTold
+    key-types true e q a x = absurd (omega (arith, key-by true .near a))
+    key-types false e q a x = off ts ts′ n types isType in-types x .fails e
+
+    key-held : Held ts ts′ n (λ t. Unit {0}) j (Parse.keyBy ts (isType (kindAt ts j)) k j) (Parse.keyBy ts′ (isType (kindAt ts′ j)) k j)
+    key-held =
+        look-at ts ts′ n agreed j (λ x. isType (kindOf x)) (λ b. Parse.keyBy ts b k j) (λ b. Parse.keyBy ts′ b k j)
+        (λ b e. held-from ts ts′ n (omega arith) (key-by b))
+        (λ q a x. ap (λ (r : ℕ). isType (kindAt ts r)) (sym q) ∙ sym (key-types (isType (kindAt ts j)) (ap (λ (r : ℕ). isType (kindAt ts r)) (sym q)) q a x))
+
+  field-by : (l : FieldLead) (i : ℕ) → FieldBegun l → FieldIs (kindAt ts i) l → Held ts ts′ n (λ t. Unit {0}) (i + 1) (Parse.mapFieldBy ts l i) (Parse.mapFieldBy ts′ l i)
+  unfolding Parse.mapFieldBy
+  field-by typing i f g =
+      want-held ts ts′ n agreed Colon _ _ (i + 1) (λ a. want-held ts ts′ n agreed Dot _ _ (i + 1 + 1) (λ b.
+      named-held ts ts′ n agreed _ _ (i + 1 + 1 + 1) (λ w e. type-by (eqb (mapTypeNumber w) 0) w (i + 1 + 1 + 1 + 1))))
+  field-by keying i f g =
+      look ts ts′ n agreed i (i + 1) (omega arith) kindOf (λ k. Parse.want ts Colon (λ j. Parse.keyBy ts (isType (kindAt ts j)) k j) (i + 1))
+      (λ k. Parse.want ts′ Colon (λ j. Parse.keyBy ts′ (isType (kindAt ts′ j)) k j) (i + 1))
+      (λ k e. want-held ts ts′ n agreed Colon _ _ (i + 1) (λ c. key-held k (i + 1 + 1) (type-lost ts i g c (eqb (kindAt ts (i + 1 + 1)) Eof))))
+  field-by limiting i f g =
+      want-held ts ts′ n agreed Colon _ _ (i + 1) (λ a.
+      then-held ts ts′ n (λ t. MaxEnd) (λ t. Unit {0}) (Parse.chain ts (i + 1 + 1)) (Parse.chain ts′ (i + 1 + 1)) _ _ (chain-held (i + 1 + 1))
+      (λ c k. limit-by (leb (2 ^ 63) (maxBits c)) (not (leb (maxBits c) most32)) c k)
+      (λ c y x. limit-free (leb (2 ^ 63) (maxBits c)) (not (leb (maxBits c) most32)) c y x))
+  field-by nothing i f g = absurd f
+
+  map-field-on : (i : ℕ) → isField (kindAt ts i) ≡ true → Held ts ts′ n (λ t. Unit {0}) (i + 1) (Parse.mapField ts i) (Parse.mapField ts′ i)
+  unfolding Parse.mapField
+  map-field-on i b =
+      look ts ts′ n agreed i (i + 1) (omega arith) (λ x. fieldLead (kindOf x)) (λ l. Parse.mapFieldBy ts l i) (λ l. Parse.mapFieldBy ts′ l i)
+      (λ l e. field-by l i (subst FieldBegun e (field-begun (kindAt ts i) b)) (subst (FieldIs (kindAt ts i)) e (field-is (kindAt ts i))))
+
+  map-fields : Things RBrace mapFields (Parse.mapField ts) (Parse.mapField ts′) isField NotMapField (λ t. Unit {0})
+  unfolding isMisfit lost retold setTold has
+  map-fields = record {
+    on = map-field-on;
+    off = map-field-unread ts;
+    off′ = map-field-unread ts′;
+    longer = map-field-local ts ts′ n agreed;
+    misfit = refl;
+    place = λ i. refl;
+    tells = λ l x. (tt, off ts ts′ n mapFields isField in-map x, off-kind ts ts′ n mapFields RBrace refl x);
+    last = λ l t x. tt;
+  }
+
+  map-end : (f : ℕ) (w : List ℕ) (l : Tree) (k : ℕ) → Held ts ts′ n (λ t. Unit {0}) k (Parse.mapEnd ts f w l k) (Parse.mapEnd ts′ f w l k)
+  unfolding Parse.mapEnd isMisfit
+  map-end zero w l k = ok-held ts ts′ n k (mapDecl w l) k (omega arith)
+  map-end (suc f) w l k = other-held ts ts′ n refl
+
+  map-held : (i : ℕ) → Held ts ts′ n (λ t. Unit {0}) (i + 1) (Parse.mapAt ts i) (Parse.mapAt ts′ i)
+  unfolding Parse.mapAt
+  map-held i =
+      braced-held RBrace mapFields (Parse.mapField ts) (Parse.mapField ts′) isField NotMapField (λ t. Unit {0}) map-fields _ _ refl
+      (λ w l k. map-end (lacking (typeOf l) (typedBy KeywordKey l) (typedBy KeywordValue l) (limitOf l)) w l (k + 1)) i
+
+  -- ---- events
+
+  length-by : (b : Bool) (f : ℕ → Tree) (v k : ℕ) → Held ts ts′ n (λ t. Unit {0}) (k + 1) (Parse.lengthBy ts b f v k (k + 1)) (Parse.lengthBy ts′ b f v k (k + 1))
+  unfolding Parse.lengthBy isMisfit
+  length-by true f v k =
+      want-held ts ts′ n agreed RBracket _ _ (k + 1) (λ a. want-held ts ts′ n agreed Semicolon _ _ (k + 1 + 1) (λ b.
+      ok-held ts ts′ n (k + 1 + 1 + 1) (f v) (k + 1 + 1 + 1) (omega arith)))
+  length-by false f v k = other-held ts ts′ n refl
+
+  length-held : (f : ℕ → Tree) (k : ℕ) → Held ts ts′ n (λ t. Unit {0}) k (Parse.lengthAt ts f k) (Parse.lengthAt ts′ f k)
+  unfolding Parse.lengthAt
+  length-held f k = valued-held ts ts′ n agreed _ _ k (λ v. length-by (leb v most32) f v k)
+
+  -- behind a plain type at row j
+  module _ (w : List ℕ) (j : ℕ) where
+    array-by : (c : Bool) → Held ts ts′ n (λ t. Unit {0}) (j + 1 + cond c 1 0) (Parse.arrayBy ts c w j) (Parse.arrayBy ts′ c w j)
+    unfolding Parse.arrayBy has
+    array-by true =
+        look ts ts′ n agreed j (j + 1 + 1) (omega arith) kindOf (λ x. Parse.lengthAt ts (λ v. arrayField w x v) (j + 1 + 1))
+        (λ x. Parse.lengthAt ts′ (λ v. arrayField w x v) (j + 1 + 1)) (λ x e. length-held (λ v. arrayField w x v) (j + 1 + 1))
+    array-by false =
+        look ts ts′ n agreed j (j + 1 + 0) (omega arith) kindOf (λ x. Parse.wantIn ts (only Semicolon + only LBracket) Semicolon (ok (plainField w x)) (j + 1))
+        (λ x. Parse.wantIn ts′ (only Semicolon + only LBracket) Semicolon (ok (plainField w x)) (j + 1))
+        (λ x e. held-from ts ts′ n (omega arith) (want-in-held ts ts′ n agreed (only Semicolon + only LBracket) (only Semicolon + only LBracket) Semicolon
+        (ok (plainField w x)) (ok (plainField w x)) (j + 1) refl (λ e. ok-held ts ts′ n (j + 1 + 1) (plainField w x) (j + 1 + 1) (omega arith))))
+
+    array-opens : (c : Bool) → eqb (kindAt ts n) LBracket ≡ c → j + 1 ≡ n → Near ts ts′ n (Parse.arrayBy ts c w j) → Free ts ts′ n (λ t. Unit {0}) (Parse.arrayBy ts c w j)
+        → eqb (kindAt ts′ n) LBracket ≡ c
+    unfolding Parse.arrayBy has
+    array-opens true e q a x = absurd (omega (arith, array-by true .near a))
+    array-opens false e q a x =
+        off-kind ts ts′ n (only Semicolon + only LBracket) LBracket refl
+        (want-spared ts ts′ n agreed (only Semicolon + only LBracket) Semicolon (ok (plainField w (kindAt ts j))) (λ e. ok-held ts ts′ n (n + 1) (plainField w (kindAt ts j)) (n + 1) (omega arith))
+        (subst (λ (r : ℕ). Near ts ts′ n (Parse.wantIn ts (only Semicolon + only LBracket) Semicolon (ok (plainField w (kindAt ts j))) r)) q a)
+        (subst (λ (r : ℕ). Free ts ts′ n (λ t. Unit {0}) (Parse.wantIn ts (only Semicolon + only LBracket) Semicolon (ok (plainField w (kindAt ts j))) r)) q x)) .fails e
+
+    array-held : Held ts ts′ n (λ t. Unit {0}) (j + 1) (Parse.arrayBy ts (eqb (kindAt ts (j + 1)) LBracket) w j)
+        (Parse.arrayBy ts′ (eqb (kindAt ts′ (j + 1)) LBracket) w j)
+    array-held =
+        look-at ts ts′ n agreed (j + 1) (λ x. eqb (kindOf x) LBracket) (λ c. Parse.arrayBy ts c w j) (λ c. Parse.arrayBy ts′ c w j)
+        (λ c e. held-from ts ts′ n (omega arith) (array-by c))
+        (λ q a x. ap (λ (r : ℕ). eqb (kindAt ts r) LBracket) (sym q)
+        ∙ sym (array-opens (eqb (kindAt ts (j + 1)) LBracket) (ap (λ (r : ℕ). eqb (kindAt ts r) LBracket) (sym q)) q a x))
+
+    bytes-held : Held ts ts′ n (λ t. Unit {0}) (j + 1) (Parse.eventTypeBy ts bytesLead w j) (Parse.eventTypeBy ts′ bytesLead w j)
+    unfolding Parse.eventTypeBy
+    bytes-held = want-held ts ts′ n agreed LBracket _ _ (j + 1) (λ e. length-held (λ v. bytesField w v) (j + 1 + 1))
+
+    -- the type itself
+    event-by : (l : EventLead) → Held ts ts′ n (λ t. Unit {0}) j (Parse.eventTypeBy ts l w j) (Parse.eventTypeBy ts′ l w j)
+    unfolding Parse.eventTypeBy isMisfit lost
+    event-by typeLead = held-from ts ts′ n (omega arith) array-held
+    event-by bytesLead = held-from ts ts′ n (omega arith) bytes-held
+    event-by noLead = record { near = λ a. omega (arith, a .1); again = λ a x. refl }
+
+    event-types : (l : EventLead) → eventLead (kindAt ts n) ≡ l → j ≡ n → Near ts ts′ n (Parse.eventTypeBy ts l w j)
+        → Free ts ts′ n (λ t. Unit {0}) (Parse.eventTypeBy ts l w j) → eventLead (kindAt ts′ n) ≡ l
+    unfolding Parse.eventTypeBy setTold eventLead has
+    event-types typeLead e q a x = absurd (omega (arith, array-held .near a))
+    event-types bytesLead e q a x = absurd (omega (arith, bytes-held .near a))
+    event-types noLead e q a x =
+        let y : (isType (kindAt ts n) ≡ false) × (eqb (kindAt ts n) KeywordBytes ≡ false) = no-lead (isType (kindAt ts n)) (eqb (kindAt ts n) KeywordBytes) e in
+        rw (off ts ts′ n eventTypes isType in-event-types x .fails (y .0), off-kind ts ts′ n eventTypes KeywordBytes refl x .fails (y .1))
+      where
+        no-lead : (b c : Bool) → cond b typeLead (cond c bytesLead noLead) ≡ noLead → (b ≡ false) × (c ≡ false)
+        no-lead true c e = let z : _≡_ {A = ℕ} 0 1 = cc in absurd (omega arith)
+        no-lead false true e = let z : _≡_ {A = ℕ} 0 1 = cc in absurd (omega arith)
+        no-lead false false e = (refl, refl)
+
+    event-type-held : Held ts ts′ n (λ t. Unit {0}) j (Parse.eventTypeBy ts (eventLead (kindAt ts j)) w j) (Parse.eventTypeBy ts′ (eventLead (kindAt ts′ j)) w j)
+    event-type-held =
+        look-at ts ts′ n agreed j (λ x. eventLead (kindOf x)) (λ l. Parse.eventTypeBy ts l w j) (λ l. Parse.eventTypeBy ts′ l w j) (λ l e. event-by l)
+        (λ q a x. ap (λ (r : ℕ). eventLead (kindAt ts r)) (sym q) ∙ sym (event-types (eventLead (kindAt ts j)) (ap (λ (r : ℕ). eventLead (kindAt ts r)) (sym q)) q a x))
+
+  event-field-on : (i : ℕ) → eqb (kindAt ts i) Identifier ≡ true → Held ts ts′ n (λ t. Unit {0}) (i + 1) (Parse.eventField ts i) (Parse.eventField ts′ i)
+  unfolding Parse.eventField
+  event-field-on i b =
+      name-on ts ts′ n agreed _ _ i (eqb-true (kindAt ts i) Identifier b)
+      (λ w. want-held ts ts′ n agreed Colon _ _ (i + 1) (λ c. event-type-held w (i + 1 + 1)))
+
+  event-told : (l : Tree) → Spared ts ts′ n (setTold (retold (eventFields + Parse.elseBehind ts l) (wrong (only Identifier))))
+      → Spared ts ts′ n (with-else eventFields (hangs l))
+  unfolding retold Parse.elseBehind
+  event-told l x = spared-of ts ts′ n agreed (with-else eventFields (hangs l)) x
+
+  event-fields : Things RBrace eventFields (Parse.eventField ts) (Parse.eventField ts′) (λ x. eqb x Identifier) (wrong (only Identifier)) (λ t. Unit {0})
+  unfolding isMisfit lost
+  event-fields = record {
+    on = event-field-on;
+    off = event-field-unread ts;
+    off′ = event-field-unread ts′;
+    longer = event-field-local ts ts′ n agreed;
+    misfit = refl;
+    place = λ i. refl;
+    tells = λ l x. tells (hangs l) (event-told l x);
+    last = λ l t x. tt;
+  }
+    where
+      tells : (a : Bool) → Spared ts ts′ n (with-else eventFields a) → Unit {0} × Off ts ts′ n (λ x. eqb x Identifier) × Off ts ts′ n (λ x. eqb x RBrace)
+      tells a x = (tt, off-kind ts ts′ n (with-else eventFields a) Identifier (event-rest a .0) x, off-kind ts ts′ n (with-else eventFields a) RBrace (event-rest a .1) x)
+
+  event-held : (i : ℕ) → Held ts ts′ n (λ t. Unit {0}) (i + 1) (Parse.eventAt ts i) (Parse.eventAt ts′ i)
+  unfolding Parse.eventAt
+  event-held i =
+      braced-held RBrace eventFields (Parse.eventField ts) (Parse.eventField ts′) (λ x. eqb x Identifier) (wrong (only Identifier)) (λ t. Unit {0}) event-fields
+      (λ w l k. ok (event w l) k) (λ w l k. ok (event w l) k) refl (λ w l k. ok-held ts ts′ n (k + 1) (event w l) (k + 1) (omega arith)) i
+
+  -- ---- programs
+
+  top-by : (l : TopLead) (i : ℕ) → TopBegun l → Held ts ts′ n (λ t. Unit {0}) (i + 1) (Parse.topBy ts l i) (Parse.topBy ts′ l i)
+  unfolding Parse.topBy
+  top-by mapLead i f = map-held i
+  top-by unitLead i f = unit-held i
+  top-by eventTop i f = event-held i
+  top-by noTop i f = absurd f
+
+  top-on : (i : ℕ) → isTop (kindAt ts i) ≡ true → Held ts ts′ n (λ t. Unit {0}) (i + 1) (Parse.top ts i) (Parse.top ts′ i)
+  unfolding Parse.top
+  top-on i b =
+      look ts ts′ n agreed i (i + 1) (omega arith) (λ x. topLead (kindOf x)) (λ l. Parse.topBy ts l i) (λ l. Parse.topBy ts′ l i)
+      (λ l e. top-by l i (subst TopBegun e (top-begun (kindAt ts i) b)))
+
+  decls : Things Eof tops (Parse.top ts) (Parse.top ts′) isTop NotTopLevel (λ t. Unit {0})
+  unfolding isMisfit lost retold setTold has
+  decls = record {
+    on = top-on;
+    off = top-unread ts;
+    off′ = top-unread ts′;
+    longer = top-local ts ts′ n agreed;
+    misfit = refl;
+    place = λ i. refl;
+    tells = λ l x. (tt, off ts ts′ n tops isTop in-tops x, off-kind ts ts′ n tops Eof refl x);
+    last = λ l t x. tt;
+  }
+
+  parse-held : Held ts ts′ n (λ t. Unit {0}) 0 (Parse.parse ts) (Parse.parse ts′)
+  unfolding Parse.parse
+  parse-held =
+      closed-held Eof tops (Parse.top ts) (Parse.top ts′) isTop NotTopLevel (λ t. Unit {0}) decls (λ l k. ok (program l) k) (λ l k. ok (program l) k)
+      (λ l k. ok-held ts ts′ n (k + 1) (program l) (k + 1) (omega arith)) 0
+
+  -- A misfit that is lost at row n stands in the other table too, where row n is spared.
+  pub misfit-again : (why : Syntax) (r : ℕ) → Parse.parse ts ≡ no why r → isMisfit why ≡ true → lost ts why r ≡ n → Spared ts ts′ n (setTold why)
+      → Misfit (Parse.parse ts′)
+  misfit-again why r e m q x =
+      subst (λ (o : Out). Again ts ts′ n o (Parse.parse ts′)) e
+      (parse-held .again (subst (Near ts ts′ n) (sym e) (m, q)) (subst (Free ts ts′ n (λ t. Unit {0})) (sym e) x))

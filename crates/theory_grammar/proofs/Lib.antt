@@ -22,6 +22,7 @@ pub mod GoesOnList
 pub mod GoesOnStmt
 pub mod GoesOnFields
 pub mod GoesOn
+pub mod FitsTold
 pub mod Fitting
 pub mod Place
 pub mod Tables
