@@ -54,7 +54,7 @@ module _ (ts : List Tok) (why : Syntax) (r : ℕ) (refused : Parse.parse ts ≡ 
   none-spared k f x = program-fits (f .nested) (f .tree) (f .is) (go (alike ts (yield (f .tree)) (lost ts why r) (f .begins)))
     where
       go : Alike ts (yield (f .tree)) (lost ts why r) ⊎ (yield (f .tree) ≡ ts) → Misfit (Parse.parse (yield (f .tree)))
-      go (inl a) = misfit-again ts (yield (f .tree)) (lost ts why r) a why r refused misfit refl x
+      go (inl a) = misfit-again a why r refused misfit refl x
       go (inr e) = subst Misfit (sym (ap Parse.parse e ∙ refused)) misfit
 
   -- what would have fitted is told
