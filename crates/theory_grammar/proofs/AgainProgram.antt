@@ -1,5 +1,4 @@
--- The rest of the parser in two tables that have the first n rows alike: lists, statements, units, maps, events and programs. And what comes of
--- it: no program has at the lost row a kind that is not in the set.
+-- The rest of the parser in two tables that have the first n rows alike: lists, statements, units, maps, events and programs.
 use mathlib.Core.Path.{_≡_, refl, sym, ap, _∙_, subst}
 use mathlib.Core.Bool.{Bool, true, false, not, cond, _||_, and-eq-true-iff, true≢false}
 use mathlib.Core.List.{List, [], append-nil}
@@ -29,7 +28,8 @@ use Rattle.theory_grammar.proofs.Unread.{isStmt, isItem, isField, isTop
 -- ---- what begins a thing is in the set of its list
 
 -- what holds of each kind that begins a statement
-stmt-case : (C : ℕ → Type 0) (k : ℕ) → isStmt k ≡ true → C KeywordReg → C KeywordImm → C KeywordHeap → C KeywordReturn → C KeywordIf → ((k : ℕ) → isStart k ≡ true → C k) → C k
+stmt-case : (C : ℕ → Type 0) (k : ℕ) → isStmt k ≡ true → C KeywordReg → C KeywordImm → C KeywordHeap → C KeywordReturn → C KeywordIf
+    → ((k : ℕ) → isStart k ≡ true → C k) → C k
 stmt-case C k b p q r s t u = go ((isDeclaring k || eqb k KeywordReturn) || eqb k KeywordIf) refl b
   where
     led : (x : Bool) → isDeclaring k || eqb k KeywordReturn ≡ x → x || eqb k KeywordIf ≡ true → C k
@@ -51,9 +51,11 @@ with-else s a = s + cond a (only KeywordElse) 0
 in-body : (a : Bool) (k : ℕ) → isStmt k ≡ true → has (with-else bodyThings a) k ≡ true
 unfolding has
 in-body true k b =
-    stmt-case (λ x. has (with-else bodyThings true) x ≡ true) k b refl refl refl refl refl (λ x c. start-case (λ y. has (with-else bodyThings true) y ≡ true) x c refl refl refl refl)
+    stmt-case (λ x. has (with-else bodyThings true) x ≡ true) k b refl refl refl refl refl
+    (λ x c. start-case (λ y. has (with-else bodyThings true) y ≡ true) x c refl refl refl refl)
 in-body false k b =
-    stmt-case (λ x. has (with-else bodyThings false) x ≡ true) k b refl refl refl refl refl (λ x c. start-case (λ y. has (with-else bodyThings false) y ≡ true) x c refl refl refl refl)
+    stmt-case (λ x. has (with-else bodyThings false) x ≡ true) k b refl refl refl refl refl
+    (λ x c. start-case (λ y. has (with-else bodyThings false) y ≡ true) x c refl refl refl refl)
 
 in-unit : (a : Bool) (k : ℕ) → isItem k ≡ true → has (with-else unitThings a) k ≡ true
 unfolding has
@@ -65,9 +67,11 @@ in-unit a k b = go (isText k) refl b
 
     stmts : (a : Bool) → isStmt k ≡ true → has (with-else unitThings a) k ≡ true
     stmts true e =
-        stmt-case (λ x. has (with-else unitThings true) x ≡ true) k e refl refl refl refl refl (λ x c. start-case (λ y. has (with-else unitThings true) y ≡ true) x c refl refl refl refl)
+        stmt-case (λ x. has (with-else unitThings true) x ≡ true) k e refl refl refl refl refl
+        (λ x c. start-case (λ y. has (with-else unitThings true) y ≡ true) x c refl refl refl refl)
     stmts false e =
-        stmt-case (λ x. has (with-else unitThings false) x ≡ true) k e refl refl refl refl refl (λ x c. start-case (λ y. has (with-else unitThings false) y ≡ true) x c refl refl refl refl)
+        stmt-case (λ x. has (with-else unitThings false) x ≡ true) k e refl refl refl refl refl
+        (λ x c. start-case (λ y. has (with-else unitThings false) y ≡ true) x c refl refl refl refl)
 
     go : (x : Bool) → isText k ≡ x → x || isStmt k ≡ true → has (with-else unitThings a) k ≡ true
     go true e f = texts a e
@@ -184,8 +188,8 @@ top-begun k b = go (eqb k KeywordMap) (eqb k KeywordUnit) (eqb k KeywordEvent) b
 module _ {ts ts′ : List Tok} {n : ℕ} (agreed : Alike ts ts′ n) where
   -- ---- lists
 
-  -- Things p up to a row of kind `stop`, of which `begins` says what begins one. Where nothing begins, w is told, with the set `also` and what
-  -- follows the list so far (F).
+  -- Things p up to a row of kind `stop`, of which `begins` says what begins one. Where nothing begins, w is told, with the set `also`, and
+  -- what must not follow the list so far (F) does not.
   record Things (stop also : ℕ) (p p′ : P) (begins : ℕ → Bool) (w : Syntax) (F : Tree → Type 0) : Type 0 where
     on : (i : ℕ) → begins (kindAt ts i) ≡ true → Held ts ts′ n F (i + 1) (p i) (p′ i)
     off : (i : ℕ) → begins (kindAt ts i) ≡ false → p i ≡ no w i
@@ -228,14 +232,17 @@ module _ {ts ts′ : List Tok} {n : ℕ} (agreed : Alike ts ts′ n) where
     step-held : (l : Tree) (j : ℕ) → Held ts ts′ n F j (Step l j) (Step′ l j)
     step-held l j = go (begins (kindAt ts j)) refl
       where
-        unread : j ≡ n → begins (kindAt ts j) ≡ false → Spared ts ts′ n (setTold (retold (also + Parse.elseBehind ts l) w)) → Misfit (Step′ l j)
+        unread : j ≡ n → begins (kindAt ts j) ≡ false → Spared ts ts′ n (setTold (retold (also + Parse.elseBehind ts l) w))
+            → Misfit (Step′ l j)
         unread q b x =
-            step-off′ l j (ap (λ (r : ℕ). begins (kindAt ts′ r)) q ∙ things .tells l x .1 .fails (ap (λ (r : ℕ). begins (kindAt ts r)) (sym q) ∙ b))
+            step-off′ l j (ap (λ (r : ℕ). begins (kindAt ts′ r)) q ∙ things .tells l x .1 .fails
+            (ap (λ (r : ℕ). begins (kindAt ts r)) (sym q) ∙ b))
 
         go : (b : Bool) → begins (kindAt ts j) ≡ b → Held ts ts′ n F j (Step l j) (Step′ l j)
         go true b = held-from (omega arith) (step-on l j b)
         go false b =
-            let here : lost ts (retold (also + Parse.elseBehind ts l) w) j ≡ j = retold-lost ts (also + Parse.elseBehind ts l) w j ∙ things .place j in
+            let here : lost ts (retold (also + Parse.elseBehind ts l) w) j ≡ j =
+            retold-lost ts (also + Parse.elseBehind ts l) w j ∙ things .place j in
             subst (λ (o : Out). Held ts ts′ n F j o (Step′ l j)) (sym (step-off l j b))
             (record { near = λ a. omega (arith, a .1, here); again = λ a x. unread (sym here ∙ a .1) b x })
 
@@ -253,7 +260,8 @@ module _ {ts ts′ : List Tok} {n : ℕ} (agreed : Alike ts ts′ n) where
         go : (c : Bool) → begins (kindAt ts n) ≡ c → F l × (not (eqb (kindAt ts′ n) stop) ≡ true)
         go true c = absurd (omega (arith, step-on l n c .near a))
         go false c =
-            let y : F l × Off ts ts′ n begins × Off ts ts′ n (λ x. eqb x stop) = things .tells l (subst (Free ts ts′ n F) (step-off l n c) x) in
+            let y : F l × Off ts ts′ n begins × Off ts ts′ n (λ x. eqb x stop) =
+            things .tells l (subst (Free ts ts′ n F) (step-off l n c) x) in
             (y .0, ap not (y .2 .fails (not-true (eqb (kindAt ts n) stop) b)))
 
     -- such a list is not held at its own end, which is looked at next
@@ -264,8 +272,10 @@ module _ {ts ts′ : List Tok} {n : ℕ} (agreed : Alike ts ts′ n) where
         (λ l b x. absurd x) steps-go none j
 
     -- a list and its last row, and what is read behind
-    closed-held : {G : Tree → Type 0} (f f′ : Tree → P) → ((l : Tree) (k : ℕ) → Held ts ts′ n G (k + 1) (f l (k + 1)) (f′ l (k + 1))) → (j : ℕ)
-        → Held ts ts′ n G j (then (Parse.listTo ts stop also p j) (λ l k. f l (k + 1))) (then (Parse.listTo ts′ stop also p′ j) (λ l k. f′ l (k + 1)))
+    closed-held : {G : Tree → Type 0} (f f′ : Tree → P) → ((l : Tree) (k : ℕ) → Held ts ts′ n G (k + 1) (f l (k + 1)) (f′ l (k + 1)))
+        → (j : ℕ)
+        → Held ts ts′ n G j (then (Parse.listTo ts stop also p j) (λ l k. f l (k + 1)))
+        (then (Parse.listTo ts′ stop also p′ j) (λ l k. f′ l (k + 1)))
     closed-held {G} f f′ h j =
         then-held (λ l. ⊥) G (Parse.listTo ts stop also p j) (Parse.listTo ts′ stop also p′ j) _ _ (list-held j)
         (λ l k. held-from (omega arith) (h l k)) (λ l a x. absurd (omega (arith, h l n .near a)))
@@ -292,9 +302,11 @@ module _ {ts ts′ : List Tok} {n : ℕ} (agreed : Alike ts ts′ n) where
     unfolding Parse.elseBy
     else-body w b k =
         then-held (λ t. Unit {0}) StmtEnd (Parse.need ts LBrace p (k + 1)) (Parse.need ts′ LBrace p′ (k + 1)) _ _
-        (need-held agreed LBrace p p′ (k + 1) (λ e. under (k + 1))) (λ e r. ok-held r (guard w b (elseBody e)) r (omega arith)) (λ t a x. tt)
+        (need-held agreed LBrace p p′ (k + 1) (λ e. under (k + 1))) (λ e r. ok-held r (guard w b (elseBody e)) r (omega arith))
+        (λ t a x. tt)
 
-    else-by : (c : Bool) (w : List ℕ) (b : Tree) (k : ℕ) → Held ts ts′ n StmtEnd k (Parse.elseBy ts d p c w b k) (Parse.elseBy ts′ d p′ c w b k)
+    else-by : (c : Bool) (w : List ℕ) (b : Tree) (k : ℕ)
+        → Held ts ts′ n StmtEnd k (Parse.elseBy ts d p c w b k) (Parse.elseBy ts′ d p′ c w b k)
     unfolding Parse.elseBy
     else-by true w b k = held-from (omega arith) (else-body w b k)
     else-by false w b k = ok-held k (guard w b none) k (omega arith)
@@ -311,7 +323,8 @@ module _ {ts ts′ : List Tok} {n : ℕ} (agreed : Alike ts ts′ n) where
     bodies-held w j =
         then-held (λ t. Unit {0}) StmtEnd (Parse.need ts LBrace p j) (Parse.need ts′ LBrace p′ j) _ _
         (need-held agreed LBrace p p′ j (λ e. under j))
-        (λ b k. look-at agreed k (λ x. eqb (kindOf x) KeywordElse) (λ c. Parse.elseBy ts d p c w (thenBody b) k) (λ c. Parse.elseBy ts′ d p′ c w (thenBody b) k)
+        (λ b k. look-at agreed k (λ x. eqb (kindOf x) KeywordElse) (λ c. Parse.elseBy ts d p c w (thenBody b) k)
+        (λ c. Parse.elseBy ts′ d p′ c w (thenBody b) k)
         (λ c e. else-by c w (thenBody b) k)
         (λ q a x. ap (λ (r : ℕ). eqb (kindAt ts r) KeywordElse) (sym q)
         ∙ sym (elses (eqb (kindAt ts k) KeywordElse) w (thenBody b) k (ap (λ (r : ℕ). eqb (kindAt ts r) KeywordElse) (sym q)) q a x)))
@@ -326,36 +339,44 @@ module _ {ts ts′ : List Tok} {n : ℕ} (agreed : Alike ts ts′ n) where
     line-free e t a x = end-free agreed Semicolon e (ok t) line-ends (λ q. ok-held (n + 1) t (n + 1) (omega arith)) a x
 
     -- an expression from row i on, and a semicolon
-    expr-line : (f : Tree → Tree) (i : ℕ) → Held ts ts′ n StmtEnd i (then (Parse.expr ts d i) (λ e k. Parse.end ts Semicolon e (ok (f e)) k))
+    expr-line : (f : Tree → Tree) (i : ℕ)
+        → Held ts ts′ n StmtEnd i (then (Parse.expr ts d i) (λ e k. Parse.end ts Semicolon e (ok (f e)) k))
         (then (Parse.expr ts′ d i) (λ e k. Parse.end ts′ Semicolon e (ok (f e)) k))
     expr-line f i =
         then-held (AddEnd agreed) StmtEnd (Parse.expr ts d i) (Parse.expr ts′ d i) _ _ (expr-held agreed d i)
         (λ e k. line-held e (f e) k) (λ e a x. line-free e (f e) a x)
 
-    assign-by : (c : Bool) (e : Tree) (j : ℕ) → Held ts ts′ n StmtEnd (j + cond c 1 0) (Parse.assignBy ts d p c e j) (Parse.assignBy ts′ d p′ c e j)
+    assign-by : (c : Bool) (e : Tree) (j : ℕ)
+        → Held ts ts′ n StmtEnd (j + cond c 1 0) (Parse.assignBy ts d p c e j) (Parse.assignBy ts′ d p′ c e j)
     unfolding Parse.assignBy
     assign-by true e j =
-        look agreed j (j + 1) (omega arith) kindOf (λ x. then (Parse.expr ts d (j + 1)) (λ r k. Parse.end ts Semicolon r (ok (assign x e r)) k))
-        (λ x. then (Parse.expr ts′ d (j + 1)) (λ r k. Parse.end ts′ Semicolon r (ok (assign x e r)) k)) (λ x q. expr-line (λ r. assign x e r) (j + 1))
+        look agreed j (j + 1) (omega arith) kindOf
+        (λ x. then (Parse.expr ts d (j + 1)) (λ r k. Parse.end ts Semicolon r (ok (assign x e r)) k))
+        (λ x. then (Parse.expr ts′ d (j + 1)) (λ r k. Parse.end ts′ Semicolon r (ok (assign x e r)) k))
+        (λ x q. expr-line (λ r. assign x e r) (j + 1))
     assign-by false e j =
         held-from (omega arith) (end-in-held agreed (only Semicolon + assigns) Semicolon e (ok (plain e)) (ok (plain e)) j first-ends
         (λ q. ok-held (j + 1) (plain e) (j + 1) (omega arith)))
 
     -- at the row behind the first expression both tables assign, or neither does; and nothing goes on with the expression
-    assigns-end : (c : Bool) (e : Tree) → isAssign (kindAt ts n) ≡ c → Near ts n (Parse.assignBy ts d p c e n) → Free ts ts′ n StmtEnd (Parse.assignBy ts d p c e n)
+    assigns-end : (c : Bool) (e : Tree) → isAssign (kindAt ts n) ≡ c → Near ts n (Parse.assignBy ts d p c e n)
+        → Free ts ts′ n StmtEnd (Parse.assignBy ts d p c e n)
         → AddEnd agreed e × (isAssign (kindAt ts′ n) ≡ c)
     unfolding Parse.assignBy Parse.onward
     assigns-end true e q a x = absurd (omega (arith, assign-by true e n .near a))
     assigns-end false e q a x =
         let s : ℕ = around (isSum e) (dotName ts n) (only Semicolon + assigns) in
         let y : Spared ts ts′ n (Parse.onward ts e n + (only Semicolon + assigns)) =
-        end-spared agreed (only Semicolon + assigns) Semicolon e (ok (plain e)) (λ q. ok-held (n + 1) (plain e) (n + 1) (omega arith)) a x in
+        end-spared agreed (only Semicolon + assigns) Semicolon e (ok (plain e))
+        (λ q. ok-held (n + 1) (plain e) (n + 1) (omega arith)) a x in
         let h : (has s Equals ≡ true) × (has s PlusEquals ≡ true) = first-assigns (isSum e) (dotName ts n) in (
           add-end agreed (only Semicolon + assigns) Semicolon e first-ends y,
           off s isAssign (λ k b. either-kind (λ x. has s x ≡ true) k Equals PlusEquals b (h .0) (h .1)) y .fails q,
         )
 
-    assign-held : (e : Tree) (j : ℕ) → Held ts ts′ n StmtEnd j (Parse.assignBy ts d p (isAssign (kindAt ts j)) e j) (Parse.assignBy ts′ d p′ (isAssign (kindAt ts′ j)) e j)
+    assign-held : (e : Tree) (j : ℕ)
+        → Held ts ts′ n StmtEnd j (Parse.assignBy ts d p (isAssign (kindAt ts j)) e j)
+        (Parse.assignBy ts′ d p′ (isAssign (kindAt ts′ j)) e j)
     assign-held e j =
         look-at agreed j (λ x. isAssign (kindOf x)) (λ c. Parse.assignBy ts d p c e j) (λ c. Parse.assignBy ts′ d p′ c e j)
         (λ c q. held-from (omega arith) (assign-by c e j))
@@ -363,17 +384,22 @@ module _ {ts ts′ : List Tok} {n : ℕ} (agreed : Alike ts ts′ n) where
         (subst (λ (r : ℕ). Near ts n (Parse.assignBy ts d p (isAssign (kindAt ts r)) e r)) q a)
         (subst (λ (r : ℕ). Free ts ts′ n StmtEnd (Parse.assignBy ts d p (isAssign (kindAt ts r)) e r)) q x) .1))
 
-    stmt-by : (l : StmtLead) (i : ℕ) → Begun (kindAt ts i) l → Held ts ts′ n StmtEnd (i + 1) (Parse.stmtBy ts d p l i) (Parse.stmtBy ts′ d p′ l i)
+    stmt-by : (l : StmtLead) (i : ℕ) → Begun (kindAt ts i) l
+        → Held ts ts′ n StmtEnd (i + 1) (Parse.stmtBy ts d p l i) (Parse.stmtBy ts′ d p′ l i)
     unfolding Parse.stmtBy
     stmt-by declaring i b =
         look agreed i (i + 1) (omega arith) kindOf
-        (λ x. Parse.named ts (λ w. Parse.want ts Equals (λ j. then (Parse.expr ts d j) (λ e k. Parse.end ts Semicolon e (ok (decl x w e)) k))) (i + 1))
-        (λ x. Parse.named ts′ (λ w. Parse.want ts′ Equals (λ j. then (Parse.expr ts′ d j) (λ e k. Parse.end ts′ Semicolon e (ok (decl x w e)) k))) (i + 1))
-        (λ x q. named-held agreed _ _ (i + 1) (λ w e. want-held agreed Equals _ _ (i + 1 + 1) (λ f. expr-line (λ e. decl x w e) (i + 1 + 1 + 1))))
+        (λ x. Parse.named ts (λ w. Parse.want ts Equals
+        (λ j. then (Parse.expr ts d j) (λ e k. Parse.end ts Semicolon e (ok (decl x w e)) k))) (i + 1))
+        (λ x. Parse.named ts′ (λ w. Parse.want ts′ Equals
+        (λ j. then (Parse.expr ts′ d j) (λ e k. Parse.end ts′ Semicolon e (ok (decl x w e)) k))) (i + 1))
+        (λ x q. named-held agreed _ _ (i + 1)
+        (λ w e. want-held agreed Equals _ _ (i + 1 + 1) (λ f. expr-line (λ e. decl x w e) (i + 1 + 1 + 1))))
     stmt-by returning i b = expr-line ret (i + 1)
     stmt-by branching i b =
         want-held agreed KeywordGuard _ _ (i + 1) (λ e. want-held agreed LParen _ _ (i + 1 + 1) (λ f.
-        named-held agreed _ _ (i + 1 + 1 + 1) (λ w h. want-held agreed RParen _ _ (i + 1 + 1 + 1 + 1) (λ c. bodies-held w (i + 1 + 1 + 1 + 1 + 1)))))
+        named-held agreed _ _ (i + 1 + 1 + 1)
+        (λ w h. want-held agreed RParen _ _ (i + 1 + 1 + 1 + 1) (λ c. bodies-held w (i + 1 + 1 + 1 + 1 + 1)))))
     stmt-by expression i b =
         then-held (AddEnd agreed) StmtEnd (Parse.expr ts d i) (Parse.expr ts′ d i) _ _ (expr-on agreed d i b) assign-held
         (λ e a x. assigns-end (isAssign (kindAt ts n)) e refl a x .0)
@@ -389,8 +415,12 @@ module _ {ts ts′ : List Tok} {n : ℕ} (agreed : Alike ts ts′ n) where
   unfolding retold Parse.elseBehind
   stmt-tells l x =
       let s : ℕ = with-else bodyThings (hangs l) in
-      let y : Spared ts ts′ n s = spared-of s x in
-      (λ h. off-kind s KeywordElse (body-rest (hangs l) .1 h) y, off s isStmt (in-body (hangs l)) y, off-kind s RBrace (body-rest (hangs l) .0) y)
+      let y : Spared ts ts′ n s = spared-of s x in (
+        λ h. off-kind s KeywordElse (body-rest (hangs l) .1 h) y,
+        off s isStmt (in-body (hangs l)) y,
+        off-kind s RBrace
+            (body-rest (hangs l) .0) y,
+      )
 
   stmts : (d : ℕ) → ((o : ℕ) → Held ts ts′ n (λ t. Unit {0}) (o + 1) (Parse.body ts d o) (Parse.body ts′ d o))
       → Things RBrace bodyThings (Parse.stmt ts d (Parse.body ts d)) (Parse.stmt ts′ d (Parse.body ts′ d)) isStmt (wrong operands) StmtEnd
@@ -410,17 +440,20 @@ module _ {ts ts′ : List Tok} {n : ℕ} (agreed : Alike ts ts′ n) where
   unfolding Parse.body isMisfit
   body-held zero o = other-held refl
   body-held (suc d) o =
-      closed-held RBrace bodyThings (Parse.stmt ts d (Parse.body ts d)) (Parse.stmt ts′ d (Parse.body ts′ d)) isStmt (wrong operands) StmtEnd (stmts d (body-held d))
+      closed-held RBrace bodyThings (Parse.stmt ts d (Parse.body ts d)) (Parse.stmt ts′ d (Parse.body ts′ d)) isStmt
+      (wrong operands) StmtEnd (stmts d (body-held d))
       (λ l k. ok l k) (λ l k. ok l k) (λ l k. ok-held (k + 1) l (k + 1) (omega arith)) (o + 1)
 
   -- ---- units
 
-  item-by : (c : Bool) (i : ℕ) → c || isStmt (kindAt ts i) ≡ true → Held ts ts′ n StmtEnd (i + 1) (Parse.itemBy ts c i) (Parse.itemBy ts′ c i)
+  item-by : (c : Bool) (i : ℕ) → c || isStmt (kindAt ts i) ≡ true
+      → Held ts ts′ n StmtEnd (i + 1) (Parse.itemBy ts c i) (Parse.itemBy ts′ c i)
   unfolding Parse.itemBy
   item-by true i b =
       look agreed i (i + 1) (omega arith) kindOf (λ x. Parse.quoted ts (λ w. Parse.want ts Semicolon (ok (text x w))) (i + 1))
       (λ x. Parse.quoted ts′ (λ w. Parse.want ts′ Semicolon (ok (text x w))) (i + 1))
-      (λ x e. quoted-held agreed _ _ (i + 1) (λ w. want-held agreed Semicolon _ _ (i + 1 + 1) (λ f. ok-held (i + 1 + 1 + 1) (text x w) (i + 1 + 1 + 1) (omega arith))))
+      (λ x e. quoted-held agreed _ _ (i + 1)
+      (λ w. want-held agreed Semicolon _ _ (i + 1 + 1) (λ f. ok-held (i + 1 + 1 + 1) (text x w) (i + 1 + 1 + 1) (omega arith))))
   item-by false i b = stmt-on 64 (Parse.body ts 64) (Parse.body ts′ 64) (body-held 64) i b
 
   item-on : (i : ℕ) → isItem (kindAt ts i) ≡ true → Held ts ts′ n StmtEnd (i + 1) (Parse.item ts i) (Parse.item ts′ i)
@@ -434,8 +467,12 @@ module _ {ts ts′ : List Tok} {n : ℕ} (agreed : Alike ts ts′ n) where
   unfolding retold Parse.elseBehind
   item-tells l x =
       let s : ℕ = with-else unitThings (hangs l) in
-      let y : Spared ts ts′ n s = spared-of s x in
-      (λ h. off-kind s KeywordElse (unit-rest (hangs l) .1 h) y, off s isItem (in-unit (hangs l)) y, off-kind s RBrace (unit-rest (hangs l) .0) y)
+      let y : Spared ts ts′ n s = spared-of s x in (
+        λ h. off-kind s KeywordElse (unit-rest (hangs l) .1 h) y,
+        off s isItem (in-unit (hangs l)) y,
+        off-kind s RBrace
+            (unit-rest (hangs l) .0) y,
+      )
 
   items : Things RBrace unitThings (Parse.item ts) (Parse.item ts′) isItem (wrong operands) StmtEnd
   unfolding isMisfit lost hangs
@@ -453,7 +490,8 @@ module _ {ts ts′ : List Tok} {n : ℕ} (agreed : Alike ts ts′ n) where
   unit-held : (i : ℕ) → Held ts ts′ n (λ t. Unit {0}) (i + 1) (Parse.unitAt ts i) (Parse.unitAt ts′ i)
   unfolding Parse.unitAt
   unit-held i =
-      braced-held RBrace unitThings (Parse.item ts) (Parse.item ts′) isItem (wrong operands) StmtEnd items (λ w l k. ok (unit w l) k) (λ w l k. ok (unit w l) k) refl
+      braced-held RBrace unitThings (Parse.item ts) (Parse.item ts′) isItem (wrong operands) StmtEnd items (λ w l k. ok (unit w l) k)
+      (λ w l k. ok (unit w l) k) refl
       (λ w l k. ok-held (k + 1) (unit w l) (k + 1) (omega arith)) i
 
   -- ---- maps
@@ -462,7 +500,8 @@ module _ {ts ts′ : List Tok} {n : ℕ} (agreed : Alike ts ts′ n) where
   abbrev MaxEnd : Type 0
   MaxEnd = Off ts ts′ n isShift
 
-  count-by : (b : Bool) (c : Tree) (k v : ℕ) → Held ts ts′ n (λ t. MaxEnd) (k + 1 + 1) (Parse.countBy ts b c k v (k + 1 + 1)) (Parse.countBy ts′ b c k v (k + 1 + 1))
+  count-by : (b : Bool) (c : Tree) (k v : ℕ)
+      → Held ts ts′ n (λ t. MaxEnd) (k + 1 + 1) (Parse.countBy ts b c k v (k + 1 + 1)) (Parse.countBy ts′ b c k v (k + 1 + 1))
   unfolding Parse.countBy isMisfit
   count-by true c k v =
       look agreed k (k + 1 + 1) (omega arith) kindOf (λ x. ok (shifted x c v) (k + 1 + 1)) (λ x. ok (shifted x c v) (k + 1 + 1))
@@ -476,7 +515,8 @@ module _ {ts ts′ : List Tok} {n : ℕ} (agreed : Alike ts ts′ n) where
   chain-loop : Loop ts ts′ n isShift (Parse.chainStep ts) (Parse.chainStep ts′) (λ t. MaxEnd)
   chain-loop =
       steps-held agreed isShift (Parse.chainStep ts) (Parse.chainStep ts′) (λ t. MaxEnd)
-      (λ c k b. upward ts n k (Parse.chainStep ts c k) (Parse.chainStep ts′ c k) (chain-step ts ts′ n agreed c k)) (λ c k b. shifted-held c k) (λ c x. x)
+      (λ c k b. upward ts n k (Parse.chainStep ts c k) (Parse.chainStep ts′ c k) (chain-step ts ts′ n agreed c k))
+      (λ c k b. shifted-held c k) (λ c x. x)
 
   chain-held : (j : ℕ) → Held ts ts′ n (λ t. MaxEnd) j (Parse.chain ts j) (Parse.chain ts′ j)
   unfolding Parse.chain
@@ -494,7 +534,8 @@ module _ {ts ts′ : List Tok} {n : ℕ} (agreed : Alike ts ts′ n) where
       want-in-held agreed (only Semicolon + shifts) (only Semicolon + shifts) Semicolon (ok (limit c)) (ok (limit c)) k refl
       (λ e. ok-held (k + 1) (limit c) (k + 1) (omega arith))
 
-  limit-free : (a b : Bool) (c : Tree) → Near ts n (Parse.limitBy ts a b c n) → Free ts ts′ n (λ t. Unit {0}) (Parse.limitBy ts a b c n) → MaxEnd
+  limit-free : (a b : Bool) (c : Tree) → Near ts n (Parse.limitBy ts a b c n) → Free ts ts′ n (λ t. Unit {0}) (Parse.limitBy ts a b c n)
+      → MaxEnd
   unfolding Parse.limitBy isMisfit
   limit-free true b c y x = absurd (true≢false (sym (y .0)))
   limit-free false true c y x = absurd (true≢false (sym (y .0)))
@@ -512,11 +553,13 @@ module _ {ts ts′ : List Tok} {n : ℕ} (agreed : Alike ts ts′ n) where
     key-by : (b : Bool) → Held ts ts′ n (λ t. Unit {0}) (j + cond b 1 0) (Parse.keyBy ts b k j) (Parse.keyBy ts′ b k j)
     unfolding Parse.keyBy isMisfit
     key-by true =
-        look agreed j (j + 1) (omega arith) kindOf (λ x. Parse.want ts Semicolon (ok (typed k x)) (j + 1)) (λ x. Parse.want ts′ Semicolon (ok (typed k x)) (j + 1))
+        look agreed j (j + 1) (omega arith) kindOf (λ x. Parse.want ts Semicolon (ok (typed k x)) (j + 1))
+        (λ x. Parse.want ts′ Semicolon (ok (typed k x)) (j + 1))
         (λ x e. want-held agreed Semicolon _ _ (j + 1) (λ f. ok-held (j + 1 + 1) (typed k x) (j + 1 + 1) (omega arith)))
     key-by false = record { near = λ a. omega (arith, a .1, at); again = λ a x. refl }
 
-    key-types : (b : Bool) → isType (kindAt ts n) ≡ b → j ≡ n → Near ts n (Parse.keyBy ts b k j) → Free ts ts′ n (λ t. Unit {0}) (Parse.keyBy ts b k j)
+    key-types : (b : Bool) → isType (kindAt ts n) ≡ b → j ≡ n → Near ts n (Parse.keyBy ts b k j)
+        → Free ts ts′ n (λ t. Unit {0}) (Parse.keyBy ts b k j)
         → isType (kindAt ts′ n) ≡ b
     unfolding Parse.keyBy setTold
     key-types true e q a x = absurd (omega (arith, key-by true .near a))
@@ -526,9 +569,11 @@ module _ {ts ts′ : List Tok} {n : ℕ} (agreed : Alike ts ts′ n) where
     key-held =
         look-at agreed j (λ x. isType (kindOf x)) (λ b. Parse.keyBy ts b k j) (λ b. Parse.keyBy ts′ b k j)
         (λ b e. held-from (omega arith) (key-by b))
-        (λ q a x. ap (λ (r : ℕ). isType (kindAt ts r)) (sym q) ∙ sym (key-types (isType (kindAt ts j)) (ap (λ (r : ℕ). isType (kindAt ts r)) (sym q)) q a x))
+        (λ q a x. ap (λ (r : ℕ). isType (kindAt ts r)) (sym q)
+        ∙ sym (key-types (isType (kindAt ts j)) (ap (λ (r : ℕ). isType (kindAt ts r)) (sym q)) q a x))
 
-  field-by : (l : FieldLead) (i : ℕ) → FieldBegun l → FieldIs (kindAt ts i) l → Held ts ts′ n (λ t. Unit {0}) (i + 1) (Parse.mapFieldBy ts l i) (Parse.mapFieldBy ts′ l i)
+  field-by : (l : FieldLead) (i : ℕ) → FieldBegun l → FieldIs (kindAt ts i) l
+      → Held ts ts′ n (λ t. Unit {0}) (i + 1) (Parse.mapFieldBy ts l i) (Parse.mapFieldBy ts′ l i)
   unfolding Parse.mapFieldBy
   field-by typing i f g =
       want-held agreed Colon _ _ (i + 1) (λ a. want-held agreed Dot _ _ (i + 1 + 1) (λ b.
@@ -576,7 +621,8 @@ module _ {ts ts′ : List Tok} {n : ℕ} (agreed : Alike ts ts′ n) where
 
   -- ---- events
 
-  length-by : (b : Bool) (f : ℕ → Tree) (v k : ℕ) → Held ts ts′ n (λ t. Unit {0}) (k + 1) (Parse.lengthBy ts b f v k (k + 1)) (Parse.lengthBy ts′ b f v k (k + 1))
+  length-by : (b : Bool) (f : ℕ → Tree) (v k : ℕ)
+      → Held ts ts′ n (λ t. Unit {0}) (k + 1) (Parse.lengthBy ts b f v k (k + 1)) (Parse.lengthBy ts′ b f v k (k + 1))
   unfolding Parse.lengthBy isMisfit
   length-by true f v k =
       want-held agreed RBracket _ _ (k + 1) (λ a. want-held agreed Semicolon _ _ (k + 1 + 1) (λ b.
@@ -595,20 +641,24 @@ module _ {ts ts′ : List Tok} {n : ℕ} (agreed : Alike ts ts′ n) where
         look agreed j (j + 1 + 1) (omega arith) kindOf (λ x. Parse.lengthAt ts (λ v. arrayField w x v) (j + 1 + 1))
         (λ x. Parse.lengthAt ts′ (λ v. arrayField w x v) (j + 1 + 1)) (λ x e. length-held (λ v. arrayField w x v) (j + 1 + 1))
     array-by false =
-        look agreed j (j + 1 + 0) (omega arith) kindOf (λ x. Parse.wantIn ts (only Semicolon + only LBracket) Semicolon (ok (plainField w x)) (j + 1))
+        look agreed j (j + 1 + 0) (omega arith) kindOf
+        (λ x. Parse.wantIn ts (only Semicolon + only LBracket) Semicolon (ok (plainField w x)) (j + 1))
         (λ x. Parse.wantIn ts′ (only Semicolon + only LBracket) Semicolon (ok (plainField w x)) (j + 1))
         (λ x e. held-from (omega arith) (want-in-held agreed (only Semicolon + only LBracket) (only Semicolon + only LBracket) Semicolon
         (ok (plainField w x)) (ok (plainField w x)) (j + 1) refl (λ e. ok-held (j + 1 + 1) (plainField w x) (j + 1 + 1) (omega arith))))
 
-    array-opens : (c : Bool) → eqb (kindAt ts n) LBracket ≡ c → j + 1 ≡ n → Near ts n (Parse.arrayBy ts c w j) → Free ts ts′ n (λ t. Unit {0}) (Parse.arrayBy ts c w j)
+    array-opens : (c : Bool) → eqb (kindAt ts n) LBracket ≡ c → j + 1 ≡ n → Near ts n (Parse.arrayBy ts c w j)
+        → Free ts ts′ n (λ t. Unit {0}) (Parse.arrayBy ts c w j)
         → eqb (kindAt ts′ n) LBracket ≡ c
     unfolding Parse.arrayBy has
     array-opens true e q a x = absurd (omega (arith, array-by true .near a))
     array-opens false e q a x =
         off-kind (only Semicolon + only LBracket) LBracket refl
-        (want-spared agreed (only Semicolon + only LBracket) Semicolon (ok (plainField w (kindAt ts j))) (λ e. ok-held (n + 1) (plainField w (kindAt ts j)) (n + 1) (omega arith))
+        (want-spared agreed (only Semicolon + only LBracket) Semicolon (ok (plainField w (kindAt ts j)))
+        (λ e. ok-held (n + 1) (plainField w (kindAt ts j)) (n + 1) (omega arith))
         (subst (λ (r : ℕ). Near ts n (Parse.wantIn ts (only Semicolon + only LBracket) Semicolon (ok (plainField w (kindAt ts j))) r)) q a)
-        (subst (λ (r : ℕ). Free ts ts′ n (λ t. Unit {0}) (Parse.wantIn ts (only Semicolon + only LBracket) Semicolon (ok (plainField w (kindAt ts j))) r)) q x)) .fails e
+        (subst (λ (r : ℕ). Free ts ts′ n (λ t. Unit {0})
+        (Parse.wantIn ts (only Semicolon + only LBracket) Semicolon (ok (plainField w (kindAt ts j))) r)) q x)) .fails e
 
     array-held : Held ts ts′ n (λ t. Unit {0}) (j + 1) (Parse.arrayBy ts (eqb (kindAt ts (j + 1)) LBracket) w j)
         (Parse.arrayBy ts′ (eqb (kindAt ts′ (j + 1)) LBracket) w j)
@@ -635,7 +685,8 @@ module _ {ts ts′ : List Tok} {n : ℕ} (agreed : Alike ts ts′ n) where
     event-types typeLead e q a x = absurd (omega (arith, array-held .near a))
     event-types bytesLead e q a x = absurd (omega (arith, bytes-held .near a))
     event-types noLead e q a x =
-        let y : (isType (kindAt ts n) ≡ false) × (eqb (kindAt ts n) KeywordBytes ≡ false) = no-lead (isType (kindAt ts n)) (eqb (kindAt ts n) KeywordBytes) e in
+        let y : (isType (kindAt ts n) ≡ false) × (eqb (kindAt ts n) KeywordBytes ≡ false) =
+        no-lead (isType (kindAt ts n)) (eqb (kindAt ts n) KeywordBytes) e in
         rw (off eventTypes isType in-event-types x .fails (y .0), off-kind eventTypes KeywordBytes refl x .fails (y .1))
       where
         no-lead : (b c : Bool) → cond b typeLead (cond c bytesLead noLead) ≡ noLead → (b ≡ false) × (c ≡ false)
@@ -643,12 +694,16 @@ module _ {ts ts′ : List Tok} {n : ℕ} (agreed : Alike ts ts′ n) where
         no-lead false true e = let z : _≡_ {A = ℕ} 0 1 = cc in absurd (omega arith)
         no-lead false false e = (refl, refl)
 
-    event-type-held : Held ts ts′ n (λ t. Unit {0}) j (Parse.eventTypeBy ts (eventLead (kindAt ts j)) w j) (Parse.eventTypeBy ts′ (eventLead (kindAt ts′ j)) w j)
+    event-type-held : Held ts ts′ n (λ t. Unit {0}) j (Parse.eventTypeBy ts (eventLead (kindAt ts j)) w j)
+        (Parse.eventTypeBy ts′ (eventLead (kindAt ts′ j)) w j)
     event-type-held =
-        look-at agreed j (λ x. eventLead (kindOf x)) (λ l. Parse.eventTypeBy ts l w j) (λ l. Parse.eventTypeBy ts′ l w j) (λ l e. event-by l)
-        (λ q a x. ap (λ (r : ℕ). eventLead (kindAt ts r)) (sym q) ∙ sym (event-types (eventLead (kindAt ts j)) (ap (λ (r : ℕ). eventLead (kindAt ts r)) (sym q)) q a x))
+        look-at agreed j (λ x. eventLead (kindOf x)) (λ l. Parse.eventTypeBy ts l w j) (λ l. Parse.eventTypeBy ts′ l w j)
+        (λ l e. event-by l)
+        (λ q a x. ap (λ (r : ℕ). eventLead (kindAt ts r)) (sym q)
+        ∙ sym (event-types (eventLead (kindAt ts j)) (ap (λ (r : ℕ). eventLead (kindAt ts r)) (sym q)) q a x))
 
-  event-field-on : (i : ℕ) → eqb (kindAt ts i) Identifier ≡ true → Held ts ts′ n (λ t. Unit {0}) (i + 1) (Parse.eventField ts i) (Parse.eventField ts′ i)
+  event-field-on : (i : ℕ) → eqb (kindAt ts i) Identifier ≡ true
+      → Held ts ts′ n (λ t. Unit {0}) (i + 1) (Parse.eventField ts i) (Parse.eventField ts′ i)
   unfolding Parse.eventField
   event-field-on i b =
       name-on agreed _ _ i (eqb-true (kindAt ts i) Identifier b)
@@ -659,7 +714,8 @@ module _ {ts ts′ : List Tok} {n : ℕ} (agreed : Alike ts ts′ n) where
   unfolding retold Parse.elseBehind
   event-told l x = spared-of (with-else eventFields (hangs l)) x
 
-  event-fields : Things RBrace eventFields (Parse.eventField ts) (Parse.eventField ts′) (λ x. eqb x Identifier) (wrong (only Identifier)) (λ t. Unit {0})
+  event-fields : Things RBrace eventFields (Parse.eventField ts) (Parse.eventField ts′) (λ x. eqb x Identifier) (wrong (only Identifier))
+      (λ t. Unit {0})
   unfolding isMisfit lost
   event-fields = record {
     on = event-field-on;
@@ -672,13 +728,20 @@ module _ {ts ts′ : List Tok} {n : ℕ} (agreed : Alike ts ts′ n) where
     last = λ l t x. tt;
   }
     where
-      tells : (a : Bool) → Spared ts ts′ n (with-else eventFields a) → Unit {0} × Off ts ts′ n (λ x. eqb x Identifier) × Off ts ts′ n (λ x. eqb x RBrace)
-      tells a x = (tt, off-kind (with-else eventFields a) Identifier (event-rest a .0) x, off-kind (with-else eventFields a) RBrace (event-rest a .1) x)
+      tells : (a : Bool) → Spared ts ts′ n (with-else eventFields a)
+          → Unit {0} × Off ts ts′ n (λ x. eqb x Identifier) × Off ts ts′ n (λ x. eqb x RBrace)
+      tells a x = (
+        tt,
+        off-kind (with-else eventFields a) Identifier (event-rest a .0) x,
+        off-kind (with-else eventFields a) RBrace
+            (event-rest a .1) x,
+      )
 
   event-held : (i : ℕ) → Held ts ts′ n (λ t. Unit {0}) (i + 1) (Parse.eventAt ts i) (Parse.eventAt ts′ i)
   unfolding Parse.eventAt
   event-held i =
-      braced-held RBrace eventFields (Parse.eventField ts) (Parse.eventField ts′) (λ x. eqb x Identifier) (wrong (only Identifier)) (λ t. Unit {0}) event-fields
+      braced-held RBrace eventFields (Parse.eventField ts) (Parse.eventField ts′) (λ x. eqb x Identifier) (wrong (only Identifier))
+      (λ t. Unit {0}) event-fields
       (λ w l k. ok (event w l) k) (λ w l k. ok (event w l) k) refl (λ w l k. ok-held (k + 1) (event w l) (k + 1) (omega arith)) i
 
   -- ---- programs
@@ -712,11 +775,13 @@ module _ {ts ts′ : List Tok} {n : ℕ} (agreed : Alike ts ts′ n) where
   parse-held : Held ts ts′ n (λ t. Unit {0}) 0 (Parse.parse ts) (Parse.parse ts′)
   unfolding Parse.parse
   parse-held =
-      closed-held Eof tops (Parse.top ts) (Parse.top ts′) isTop NotTopLevel (λ t. Unit {0}) decls (λ l k. ok (program l) k) (λ l k. ok (program l) k)
+      closed-held Eof tops (Parse.top ts) (Parse.top ts′) isTop NotTopLevel (λ t. Unit {0}) decls (λ l k. ok (program l) k)
+      (λ l k. ok (program l) k)
       (λ l k. ok-held (k + 1) (program l) (k + 1) (omega arith)) 0
 
   -- A misfit that is lost at row n stands in the other table too, where row n is spared.
-  pub misfit-again : (why : Syntax) (r : ℕ) → Parse.parse ts ≡ no why r → isMisfit why ≡ true → lost ts why r ≡ n → Spared ts ts′ n (setTold why)
+  pub misfit-again : (why : Syntax) (r : ℕ) → Parse.parse ts ≡ no why r → isMisfit why ≡ true → lost ts why r ≡ n
+      → Spared ts ts′ n (setTold why)
       → Misfit (Parse.parse ts′)
   misfit-again why r e m q x =
       subst (λ (o : Out). Again o (Parse.parse ts′)) e

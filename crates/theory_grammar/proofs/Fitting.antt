@@ -15,7 +15,8 @@ use Rattle.theory_grammar.proofs.GoesOn.{Lost, some-goes-on}
 use Rattle.theory_grammar.proofs.FitsTold.{fits-told, found-unfit}
 
 -- with each kind that is told some program goes on
-pub told-fits : (ts : List Tok) (why : Syntax) (r : ℕ) → Proper ts → Parse.parse ts ≡ no why r → isMisfit why ≡ true → (k : ℕ) → has (setTold why) k ≡ true
+pub told-fits : (ts : List Tok) (why : Syntax) (r : ℕ) → Proper ts → Parse.parse ts ≡ no why r → isMisfit why ≡ true → (k : ℕ)
+    → has (setTold why) k ≡ true
     → Fitting ts (lost ts why r) k
 unfolding isMisfit
 told-fits ts why r p e m k t = go (some-goes-on ts why r p e) (some-goes-on ts why r p e .at)
@@ -25,7 +26,8 @@ told-fits ts why r p e m k t = go (some-goes-on ts why r p e) (some-goes-on ts w
     go h (around q l o) = absurd (true≢false (sym m ∙ ap isMisfit q))
 
 -- The theorem: a refusal with 21, 22, 23, 25 or 30 tells exactly the kinds that would have fitted in place of the row that it is about.
-pub told-exactly : (ts : List Tok) (why : Syntax) (r : ℕ) → Proper ts → Parse.parse ts ≡ no why r → isMisfit why ≡ true → ToldExactly ts why r
+pub told-exactly : (ts : List Tok) (why : Syntax) (r : ℕ) → Proper ts → Parse.parse ts ≡ no why r → isMisfit why ≡ true
+    → ToldExactly ts why r
 told-exactly ts why r p e m = record { told-fits = told-fits ts why r p e m; fits-told = fits-told ts why r e m }
 
 -- So the kind that was found is not among them.

@@ -1,5 +1,6 @@
--- Of the lost row a refusal rests on what is no part of its set alone: in a table that has the rows in front alike, and at the lost row a kind
--- that is not in the set, the parser does not get any further.
+-- What a misfit tells of its lost row is its set: where another table has the rows in front alike, and at the lost row a kind that is not
+-- in
+-- the set, there is a misfit too. Here what this says of two answers, and how it goes through one answer behind another and through loops.
 use mathlib.Core.Path.{_≡_, refl, sym, ap, _∙_, subst}
 use mathlib.Core.Bool.{Bool, true, false, not, cond, _&&_, _||_, and-eq-true-iff, true≢false}
 use mathlib.Core.List.{List}
@@ -85,7 +86,8 @@ module _ (ts ts′ : List Tok) (n : ℕ) where
 
   -- a loop whose steps take the row that is tested, with trees that go on by that test
   pub record Loop (test : ℕ → Bool) (step step′ : Tree → P) (E : Tree → Type 0) : Type 0 where
-    pub held : (t : Tree) (j : ℕ) → Held E j (Parse.loop ts (λ r. test (kindAt ts r)) step t j) (Parse.loop ts′ (λ r. test (kindAt ts′ r)) step′ t j)
+    pub held : (t : Tree) (j : ℕ)
+        → Held E j (Parse.loop ts (λ r. test (kindAt ts r)) step t j) (Parse.loop ts′ (λ r. test (kindAt ts′ r)) step′ t j)
     pub free : (t : Tree) → Near ts n (Parse.loop ts (λ r. test (kindAt ts r)) step t n)
         → Free E (Parse.loop ts (λ r. test (kindAt ts r)) step t n) → E t
 
@@ -137,12 +139,15 @@ module _ {ts ts′ : List Tok} {n : ℕ} where
   then-known F G C (ok t j) o′ f f′ c h k cover = record {
     near = λ a. h .near (k t j c .near a);
     again = λ a x.
-        let e : o′ ≡ ok t j = h .again (k t j c .near a) (λ q. cover t c (subst (λ (m : ℕ). Near ts n (f t m)) q a) (subst (λ (m : ℕ). Free ts ts′ n G (f t m)) q x)) in
+        let e : o′ ≡ ok t j =
+        h .again (k t j c .near a) (λ q. cover t c (subst (λ (m : ℕ). Near ts n (f t m)) q a)
+        (subst (λ (m : ℕ). Free ts ts′ n G (f t m)) q x)) in
         subst (λ (y : Out). Again (f t j) (then y f′)) (sym e) (k t j c .again a x);
   }
   then-known F G C (no why r) o′ f f′ c h k cover = record { near = h .near; again = λ a x. misfit-then o′ f′ (h .again a x) }
 
-  pub then-held : {i : ℕ} (F G : Tree → Type 0) (o o′ : Out) (f f′ : Tree → P) → Held ts ts′ n F i o o′ → ((t : Tree) (j : ℕ) → Held ts ts′ n G j (f t j) (f′ t j))
+  pub then-held : {i : ℕ} (F G : Tree → Type 0) (o o′ : Out) (f f′ : Tree → P) → Held ts ts′ n F i o o′
+      → ((t : Tree) (j : ℕ) → Held ts ts′ n G j (f t j) (f′ t j))
       → ((t : Tree) → Near ts n (f t n) → Free ts ts′ n G (f t n) → F t) → Held ts ts′ n G i (then o f) (then o′ f′)
   then-held F G o o′ f f′ h k cover = then-known F G (λ t. Unit {0}) o o′ f f′ (all-any o) h (λ t j c. k t j) (λ t c. cover t)
 
@@ -169,7 +174,8 @@ module _ {ts ts′ : List Tok} {n : ℕ} where
   retold-held s TooDeep o o′ k h m = other-held refl
 
   -- the set s where row q itself is refused
-  pub or-held : {F : Tree → Type 0} {i : ℕ} (s q : ℕ) (o o′ : Out) → Held ts ts′ n F i o o′ → (Near ts n o → q ≡ n → has s (kindAt ts′ n) ≡ false → Misfit o′)
+  pub or-held : {F : Tree → Type 0} {i : ℕ} (s q : ℕ) (o o′ : Out) → Held ts ts′ n F i o o′
+      → (Near ts n o → q ≡ n → has s (kindAt ts′ n) ≡ false → Misfit o′)
       → Held ts ts′ n F i (or s q o) (or s q o′)
   unfolding or
   or-held s q (ok t j) o′ h m = record { near = h .near; again = λ a f. ap (or s q) (h .again a f) }
@@ -185,7 +191,8 @@ module _ {ts ts′ : List Tok} {n : ℕ} where
       (up : (t : Tree) (j : ℕ) → test (kindAt ts j) ≡ true → All (λ u k. j < k) (step t j))
       (next : (t : Tree) (j : ℕ) → test (kindAt ts j) ≡ true → Held ts ts′ n S j (step t j) (step′ t j))
       (stays : (t : Tree) → test (kindAt ts n) ≡ false → E t → S t × (test (kindAt ts′ n) ≡ false))
-      (goes : (t : Tree) → test (kindAt ts n) ≡ true → Near ts n (step t n) → Free ts ts′ n S (step t n) → S t × (test (kindAt ts′ n) ≡ true)) where
+      (goes : (t : Tree) → test (kindAt ts n) ≡ true → Near ts n (step t n) → Free ts ts′ n S (step t n)
+      → S t × (test (kindAt ts′ n) ≡ true)) where
     abbrev At : ℕ → Bool
     At r = test (kindAt ts r)
 
@@ -203,34 +210,39 @@ module _ {ts ts′ : List Tok} {n : ℕ} where
     many-near (suc f) true t j e a = next t j e .near (then-near ts n (step t j) (Rest f) (λ u k x. many-near f (At k) u k refl x) a)
 
     -- a step from row n on ends behind it, or is refused there
-    step-free : (f : ℕ) (o : Out) → All (λ u k. n < k) o → Near ts n (then o (Rest f)) → Free ts ts′ n E (then o (Rest f)) → Free ts ts′ n S o
+    step-free : (f : ℕ) (o : Out) → All (λ u k. n < k) o → Near ts n (then o (Rest f)) → Free ts ts′ n E (then o (Rest f))
+        → Free ts ts′ n S o
     unfolding then
     step-free f (ok u k) l a x = let m : k ≤ n = many-near f (At k) u k refl a in absurd (omega (arith, l))
     step-free f (no why p) l a x = x
 
     -- at row n: what must not go on with the tree does not, and both tables go on, or neither does
-    there : (f : ℕ) (b : Bool) (t : Tree) → At n ≡ b → 0 < f → Near ts n (many At step f b t n) → Free ts ts′ n E (many At step f b t n) → S t × (At′ n ≡ b)
+    there : (f : ℕ) (b : Bool) (t : Tree) → At n ≡ b → 0 < f → Near ts n (many At step f b t n) → Free ts ts′ n E (many At step f b t n)
+        → S t × (At′ n ≡ b)
     unfolding many
     there zero b t e l a x = absurd (omega arith)
     there (suc f) false t e l a x = stays t e (x refl)
     there (suc f) true t e l a x =
         goes t e (then-near ts n (step t n) (Rest f) (λ u k y. many-near f (At k) u k refl y) a) (step-free f (step t n) (up t n e) a x)
 
-    at-n : (f : ℕ) (b : Bool) (t : Tree) (j : ℕ) → At j ≡ b → n < f + j → j ≡ n → Near ts n (many At step f b t j) → Free ts ts′ n E (many At step f b t j)
+    at-n : (f : ℕ) (b : Bool) (t : Tree) (j : ℕ) → At j ≡ b → n < f + j → j ≡ n → Near ts n (many At step f b t j)
+        → Free ts ts′ n E (many At step f b t j)
         → S t × (At′ j ≡ b)
     at-n f b t j e l q a x =
         let y : S t × (At′ n ≡ b) = there f b t (ap At (sym q) ∙ e) (omega arith) (subst (λ (m : ℕ). Near ts n (many At step f b t m)) q a)
         (subst (λ (m : ℕ). Free ts ts′ n E (many At step f b t m)) q x) in
         (y .0, ap At′ q ∙ y .1)
 
-    both-go : (f : ℕ) (b : Bool) (t : Tree) (j : ℕ) → At j ≡ b → n < f + j → Near ts n (many At step f b t j) → Free ts ts′ n E (many At step f b t j) → At′ j ≡ b
+    both-go : (f : ℕ) (b : Bool) (t : Tree) (j : ℕ) → At j ≡ b → n < f + j → Near ts n (many At step f b t j)
+        → Free ts ts′ n E (many At step f b t j) → At′ j ≡ b
     both-go f b t j e l a x = go (eq-or-lt-of-le (many-near f b t j e a))
       where
         go : (j ≡ n) ⊎ (j < n) → At′ j ≡ b
         go (inl q) = at-n f b t j e l q a x .1
         go (inr h) = ap (λ (y : Tok). test (kindOf y)) (sym (agreed .agree j h)) ∙ e
 
-    many-again : (f f′ : ℕ) (b : Bool) (t : Tree) (j : ℕ) → At j ≡ b → n < f + j → n < f′ + j → Near ts n (many At step f b t j) → Free ts ts′ n E (many At step f b t j)
+    many-again : (f f′ : ℕ) (b : Bool) (t : Tree) (j : ℕ) → At j ≡ b → n < f + j → n < f′ + j → Near ts n (many At step f b t j)
+        → Free ts ts′ n E (many At step f b t j)
         → Again (many At step f b t j) (many At′ step′ f′ b t j)
     unfolding many then
     many-again zero f′ b t j e l l′ a x = absurd (omega (arith, a))
@@ -242,14 +254,17 @@ module _ {ts ts′ : List Tok} {n : ℕ} where
         (many-again f f′ (At k) u k refl (omega arith) (omega arith) y z))
       where
         go : (o : Out) → step t j ≡ o → All (λ u k. j < k) o → Near ts n (then o (Rest f)) → Free ts ts′ n E (then o (Rest f))
-            → ((u : Tree) (k : ℕ) → j < k → Near ts n (Rest f u k) → Free ts ts′ n E (Rest f u k) → Again (Rest f u k) (many At′ step′ f′ (At′ k) u k))
+            → ((u : Tree) (k : ℕ) → j < k → Near ts n (Rest f u k) → Free ts ts′ n E (Rest f u k)
+            → Again (Rest f u k) (many At′ step′ f′ (At′ k) u k))
             → Again (then o (Rest f)) (then (step′ t j) (λ u k. many At′ step′ f′ (At′ k) u k))
         go (ok u k) w h a x r =
-            let y : step′ t j ≡ ok u k = subst (λ (o : Out). Again o (step′ t j)) w (next t j e .again (subst (Near ts n) (sym w) (many-near f (At k) u k refl a))
+            let y : step′ t j ≡ ok u k = subst (λ (o : Out). Again o (step′ t j)) w
+            (next t j e .again (subst (Near ts n) (sym w) (many-near f (At k) u k refl a))
             (subst (Free ts ts′ n S) (sym w) (λ q. at-n f (At k) u k refl (omega arith) q a x .0))) in
             subst (λ (o : Out). Again (Rest f u k) (then o (λ u k. many At′ step′ f′ (At′ k) u k))) (sym y) (r u k h a x)
         go (no why p) w h a x r =
-            misfit-then (step′ t j) _ (subst (λ (o : Out). Again o (step′ t j)) w (next t j e .again (subst (Near ts n) (sym w) a) (subst (Free ts ts′ n S) (sym w) x)))
+            misfit-then (step′ t j) _ (subst (λ (o : Out). Again o (step′ t j)) w
+            (next t j e .again (subst (Near ts n) (sym w) a) (subst (Free ts ts′ n S) (sym w) x)))
 
     pub loop-held : (t : Tree) (j : ℕ) → Held ts ts′ n E j (Parse.loop ts At step t j) (Parse.loop ts′ At′ step′ t j)
     unfolding Parse.loop
@@ -268,7 +283,8 @@ module _ {ts ts′ : List Tok} {n : ℕ} where
 
   pub steps-held : (agreed : Alike ts ts′ n) (test : ℕ → Bool) (step step′ : Tree → P) (E : Tree → Type 0)
       → ((t : Tree) (j : ℕ) → test (kindAt ts j) ≡ true → All (λ u k. j < k) (step t j))
-      → ((t : Tree) (j : ℕ) → test (kindAt ts j) ≡ true → Held ts ts′ n E (j + 1) (step t j) (step′ t j)) → ((t : Tree) → E t → Off ts ts′ n test) → Loop ts ts′ n test step step′ E
+      → ((t : Tree) (j : ℕ) → test (kindAt ts j) ≡ true → Held ts ts′ n E (j + 1) (step t j) (step′ t j))
+      → ((t : Tree) → E t → Off ts ts′ n test) → Loop ts ts′ n test step step′ E
   steps-held agreed test step step′ E up next ends = record {
     held = λ t j. loop-held agreed test step step′ E E up (λ u k b. held-from (omega arith) (next u k b)) stays goes t j;
     free = λ t a x. loop-free agreed test step step′ E E up (λ u k b. held-from (omega arith) (next u k b)) stays goes t a x;
