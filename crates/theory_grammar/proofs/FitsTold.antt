@@ -1,5 +1,6 @@
--- What would have fitted, from the grammar to the parser: a kind with which some program goes on in place of the lost row is in the set that is
--- told, and the kind that was found is none of these.
+-- What would have fitted, from the grammar to the parser: a kind with which some program goes on in place of the lost row is in the set
+-- that
+-- is told, and the kind that was found is none of these.
 use mathlib.Core.Path.{_≡_, refl, sym, ap, _∙_, subst}
 use mathlib.Core.Bool.{Bool, true, false, true≢false}
 use mathlib.Core.List.{List, [], append-nil}
@@ -40,7 +41,8 @@ misfit-no-check TooDeep m c = true≢false (sym m)
 -- the tokens of a program are no misfit, of whatever nesting it is and with the checks aside
 pub program-fits : (n : ℕ) (t : Tree) → Is false Program n t → Misfit (Parse.parse (yield t)) → ⊥
 program-fits n t h m =
-    go (Parse.parse (yield t)) m (program-given (yield t) false false n t [] (sym (append-nil (yield t))) h (λ e. absurd (true≢false (sym e))))
+    go (Parse.parse (yield t)) m (program-given (yield t) false false n t [] (sym (append-nil (yield t))) h
+    (λ e. absurd (true≢false (sym e))))
   where
     go : (o : Out) → Misfit o → Gives false false o (ok t (width t)) → ⊥
     go (ok u j) m g = m
@@ -54,7 +56,7 @@ module _ (ts : List Tok) (why : Syntax) (r : ℕ) (refused : Parse.parse ts ≡ 
   none-spared k f x = program-fits (f .nested) (f .tree) (f .is) (go (alike ts (yield (f .tree)) (lost ts why r) (f .begins)))
     where
       go : Alike ts (yield (f .tree)) (lost ts why r) ⊎ (yield (f .tree) ≡ ts) → Misfit (Parse.parse (yield (f .tree)))
-      go (inl a) = misfit-again ts (yield (f .tree)) (lost ts why r) a why r refused misfit refl x
+      go (inl a) = misfit-again a why r refused misfit refl x
       go (inr e) = subst Misfit (sym (ap Parse.parse e ∙ refused)) misfit
 
   -- what would have fitted is told

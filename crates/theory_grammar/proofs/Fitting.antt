@@ -26,7 +26,8 @@ told-fits ts why r p e m k t = go (some-goes-on ts why r p e) (some-goes-on ts w
     go h (around q l o) = absurd (true≢false (sym m ∙ ap isMisfit q))
 
 -- The theorem: a refusal with 21, 22, 23, 25 or 30 tells exactly the kinds that would have fitted in place of the row that it is about.
-pub told-exactly : (ts : List Tok) (why : Syntax) (r : ℕ) → Proper ts → Parse.parse ts ≡ no why r → isMisfit why ≡ true → ToldExactly ts why r
+pub told-exactly : (ts : List Tok) (why : Syntax) (r : ℕ) → Proper ts → Parse.parse ts ≡ no why r → isMisfit why ≡ true
+    → ToldExactly ts why r
 told-exactly ts why r p e m = record { told-fits = told-fits ts why r p e m; fits-told = fits-told ts why r e m }
 
 -- So the kind that was found is not among them.

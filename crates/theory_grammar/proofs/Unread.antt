@@ -38,7 +38,8 @@ no-start k b = neither (isBasic k) (eqb k Star) b
 
 no-basic : (k : ℕ) → isBasic k ≡ false → (eqb k Number ≡ false) × (eqb k Identifier ≡ false) × (eqb k LParen ≡ false)
 no-basic k b =
-    let x : (eqb k Number || eqb k Identifier ≡ false) × (eqb k LParen ≡ false) = neither (eqb k Number || eqb k Identifier) (eqb k LParen) b in
+    let x : (eqb k Number || eqb k Identifier ≡ false) × (eqb k LParen ≡ false) =
+    neither (eqb k Number || eqb k Identifier) (eqb k LParen) b in
     let y : (eqb k Number ≡ false) × (eqb k Identifier ≡ false) = neither (eqb k Number) (eqb k Identifier) (x .0) in
     (y .0, y .1, x .1)
 
@@ -48,14 +49,17 @@ module _ (ts : List Tok) where
   module _ (g : Sort → P) (i : ℕ) where
     atom-unread : isBasic (kindAt ts i) ≡ false → Parse.atom ts g i ≡ no (wrong operands) i
     atom-unread b =
-        let x : (eqb (kindAt ts i) Number ≡ false) × (eqb (kindAt ts i) Identifier ≡ false) × (eqb (kindAt ts i) LParen ≡ false) = no-basic (kindAt ts i) b in
-        Cases.atom-else ts g i (eqb-false (kindAt ts i) Number (x .0)) (eqb-false (kindAt ts i) LParen (x .2)) (eqb-false (kindAt ts i) Identifier (x .1))
+        let x : (eqb (kindAt ts i) Number ≡ false) × (eqb (kindAt ts i) Identifier ≡ false) × (eqb (kindAt ts i) LParen ≡ false) =
+        no-basic (kindAt ts i) b in
+        Cases.atom-else ts g i (eqb-false (kindAt ts i) Number (x .0)) (eqb-false (kindAt ts i) LParen (x .2))
+        (eqb-false (kindAt ts i) Identifier (x .1))
 
     pub unary-unread : isStart (kindAt ts i) ≡ false → Parse.unary ts g i ≡ no (wrong operands) i
     unfolding Parse.prim
     unary-unread b =
         let x : (isBasic (kindAt ts i) ≡ false) × (eqb (kindAt ts i) Star ≡ false) = no-start (kindAt ts i) b in
-        Cases.unary-else ts g i (eqb-false (kindAt ts i) Star (x .1)) ∙ Cases.then-no (Parse.atom ts g i) _ (wrong operands) i (atom-unread (x .0))
+        Cases.unary-else ts g i (eqb-false (kindAt ts i) Star (x .1)) ∙ Cases.then-no (Parse.atom ts g i) _ (wrong operands) i
+        (atom-unread (x .0))
 
     pub mul-unread : isStart (kindAt ts i) ≡ false → Parse.mul ts g i ≡ no (wrong operands) i
     unfolding Parse.mul
