@@ -5,29 +5,27 @@ use mathlib.Core.Path.{_≡_, refl, sym, ap, _∙_, subst}
 use mathlib.Core.Bool.{Bool, true, false, not, cond, _&&_, _||_, and-eq-true-iff, true≢false}
 use mathlib.Core.List.{List}
 use mathlib.Core.Logic.{_⊎_, inl, inr}
-use Prim.Native.Nat.{ℕ, zero, suc, _+_, _-_, _/_, _%_, _^_, _≤_, _<_}
+use Prim.Native.Nat.{ℕ, zero, suc, _+_, _-_, _/_, _%_, _^_, _<_}
 use native.Mathlib.Nat.{eq-or-lt-of-le, div-self}
 use native.Mathlib.Omega.{arith}
-use lib.Dec.{eqb, leb}
-use lib.ListN.{length}
+use lib.Dec.{eqb}
 use lib.Pow.{pow-pos}
 use borrow.Author.Tests.{eqb-true, eq-eqb}
-use Rattle.rules.specs.declared.Syntax.{Syntax}
 use Rattle.rules.specs.declared.Syntax.the-variants.{CallOnOther}
-use Rattle.rules.specs.Kinds.{Dot, LParen, RParen, Star, Slash, Percent, Shr, Shl, Plus, Minus, Comma, Semicolon, Equals, PlusEquals, Identifier, StringLiteral, Number, LBrace}
-use Rattle.rules.specs.Fits.{only, has, operands, ons, shifts, assigns, firstArguments, wrong, setTold, retold}
+use Rattle.rules.specs.Kinds.{Dot, LParen, RParen, Star, Slash, Percent, Shr, Shl, Plus, Minus, Comma, Semicolon, Equals, PlusEquals, Identifier, StringLiteral, Number}
+use Rattle.rules.specs.Fits.{only, has, operands, ons, shifts, assigns, firstArguments, wrong, retold}
 use Rattle.rules.specs.Tree.{Tok, kindOf, spellingOf, bitsIn, Tree, none, num, var, star, group, field, call, bin, one, more, isVariable, isSum}
 use Rattle.rules.specs.Parse
-use Rattle.rules.specs.Parse.{Out, ok, no, P, then, or, pick, isAdd, isShift, isMul, isAssign, Lead, number, identifier, paren, other, lead, Sort, operand, whole, tokAt, kindAt, dotName}
+use Rattle.rules.specs.Parse.{Out, ok, no, P, then, or, pick, isAdd, isShift, isMul, Lead, number, identifier, paren, other, lead, Sort, operand, whole, tokAt, kindAt, dotName}
 use Rattle.rules.specs.Grammar.{Basic, Unary, Mul, Shift, Is, i-num, i-var, i-group, i-field, i-bare, i-call, i-prim, i-star, i-unary, i-mul, i-lone, i-shift}
 use Rattle.theory_grammar.specs.Lost.{isMisfit, lost}
 use Rattle.theory_grammar.proofs.Laws.{either-kind, three-kinds}
-use Rattle.theory_grammar.proofs.Runs.{All, all-any, map-all}
-use Rattle.theory_grammar.proofs.Cases.{then-no, or-here, retold-misfit, retold-lost}
+use Rattle.theory_grammar.proofs.Runs.{map-all}
+use Rattle.theory_grammar.proofs.Cases.{then-no, or-here}
 use Rattle.theory_grammar.proofs.Sound.{Reads, inner-sound, shift-sound}
 use Rattle.theory_grammar.proofs.Complete.{isBasic, isStart, start-case}
 use Rattle.theory_grammar.proofs.Local.{Alike, Local, upward, inner-local, arg-step, post-local, unary-local, mul-local, bin-step}
-use Rattle.theory_grammar.proofs.Unread.{unary-unread, mul-unread, add-unread, shift-unread, whole-unread}
+use Rattle.theory_grammar.proofs.Unread.{unary-unread, mul-unread, add-unread, whole-unread}
 use Rattle.theory_grammar.proofs.Held.{Misfit, unmet, Off, Spared, off, off-kind, spared-of, Near, Free, Again, Held, held-from, other-held, ok-held, then-known, then-held, then-near, or-near, or-held, Loop, steps-held}
 
 pub has-only : (k : ℕ) → has (only k) k ≡ true

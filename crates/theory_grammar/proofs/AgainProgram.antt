@@ -1,28 +1,27 @@
 -- The rest of the parser in two tables that have the first n rows alike: lists, statements, units, maps, events and programs.
 use mathlib.Core.Path.{_≡_, refl, sym, ap, _∙_, subst}
 use mathlib.Core.Bool.{Bool, true, false, not, cond, _||_, and-eq-true-iff, true≢false}
-use mathlib.Core.List.{List, [], append-nil}
-use mathlib.Core.Logic.{_⊎_, inl, inr}
+use mathlib.Core.List.{List}
 use Prim.Native.Nat.{ℕ, zero, suc, _+_, _-_, _^_, _≤_, _<_}
 use native.Mathlib.Omega.{arith}
 use lib.Dec.{eqb, leb}
-use borrow.Author.Tests.{eqb-true, eqb-false, leb-true, not-true, not-false}
+use borrow.Author.Tests.{eqb-true, eqb-false, leb-true, not-true}
 use Rattle.rules.specs.declared.Syntax.{Syntax}
-use Rattle.rules.specs.declared.Syntax.the-variants.{Wanted, NotTopLevel, NotMapField, MapTypeUnknown, NotType, MaxNegative, OutOfRange, ShiftCount, MapLacks, NotEventType, CallOnOther, TooDeep}
+use Rattle.rules.specs.declared.Syntax.the-variants.{NotTopLevel, NotMapField, NotType, NotEventType}
 use Rattle.rules.specs.Kinds.{TypeU32, TypeU64, TypeI32, TypeI64, KeywordUnit, KeywordSection, KeywordLicense, KeywordReturn, KeywordReg, KeywordImm, KeywordMap, KeywordType, KeywordKey, KeywordValue, KeywordMax, KeywordIf, KeywordElse, KeywordGuard, KeywordHeap, KeywordEvent, LBrace, RBrace, LParen, RParen, Colon, Dot, Semicolon, LBracket, RBracket, Equals, PlusEquals, Shr, Shl, Identifier, KeywordBytes, Eof}
 use Rattle.rules.specs.Fits.{only, has, operands, shifts, assigns, bodyThings, unitThings, eventFields, mapFields, tops, types, eventTypes, setTold, retold, wrong}
 use Rattle.rules.specs.Tree.{Tok, kindOf, Tree, none, decl, ret, plain, assign, guard, thenBody, elseBody, seq, text, unit, typed, limit, first, shifted, mapDecl, plainField, arrayField, bytesField, event, program, isSum, hangs, mapType, mapTypeNumber, maxBits, typeOf, typedBy, limitOf, lacking, yield}
 use Rattle.rules.specs.Parse
-use Rattle.rules.specs.Parse.{Out, ok, no, P, then, or, isShift, isAssign, isDeclaring, isText, isType, isTyped, most32, StmtLead, declaring, returning, branching, expression, stmtLead, FieldLead, typing, keying, limiting, nothing, fieldLead, EventLead, typeLead, bytesLead, noLead, eventLead, TopLead, mapLead, unitLead, eventTop, noTop, topLead, tokAt, kindAt, dotName}
+use Rattle.rules.specs.Parse.{Out, ok, no, P, then, or, isShift, isAssign, isDeclaring, isText, isType, isTyped, most32, StmtLead, declaring, returning, branching, expression, stmtLead, FieldLead, typing, keying, limiting, nothing, fieldLead, EventLead, typeLead, bytesLead, noLead, eventLead, TopLead, mapLead, unitLead, eventTop, noTop, topLead, kindAt, dotName}
 use Rattle.theory_grammar.specs.Lost.{isMisfit, lost}
 use Rattle.theory_grammar.proofs.Runs.{All, then-all, or-all}
 use Rattle.theory_grammar.proofs.Cases.{then-no, or-here, retold-misfit, retold-lost}
-use Rattle.theory_grammar.proofs.Local.{Alike, Local, upward, type-lost, chain-step, stmt-over, branch-local, item-local, map-field-local, event-field-local, top-local, alike}
+use Rattle.theory_grammar.proofs.Local.{Alike, Local, upward, type-lost, chain-step, stmt-over, branch-local, item-local, map-field-local, event-field-local, top-local}
 use Rattle.theory_grammar.proofs.Leads.{FieldIs, field-is}
 use Rattle.theory_grammar.proofs.Held.{Misfit, misfit-then, Off, Spared, off, off-kind, spared-of, Near, Free, Again, Held, held-from, other-held, ok-held, then-held, or-held, loop-held, Loop, steps-held}
-use Rattle.theory_grammar.proofs.AgainExpr.{has-only, around, line-ends, first-ends, first-assigns, AddEnd, add-end, look, look-at, want-in-held, want-held, named-held, name-on, quoted-held, valued-held, need-held, want-spared, end-in-held, end-held, end-spared, end-free, expr-on, expr-held}
+use Rattle.theory_grammar.proofs.AgainExpr.{around, line-ends, first-ends, first-assigns, AddEnd, add-end, look, look-at, want-in-held, want-held, named-held, name-on, quoted-held, valued-held, need-held, want-spared, end-in-held, end-held, end-spared, end-free, expr-on, expr-held}
 use Rattle.theory_grammar.proofs.Laws.{either-kind, three-kinds}
-use Rattle.theory_grammar.proofs.Complete.{isBasic, isStart, start-case}
+use Rattle.theory_grammar.proofs.Complete.{isStart, start-case}
 use Rattle.theory_grammar.proofs.Unread.{isStmt, isItem, isField, isTop, stmt-unread, item-unread, event-field-unread, map-field-unread, top-unread}
 
 -- ---- what begins a thing is in the set of its list

@@ -13,7 +13,7 @@ use lib.Seq.{drop-drop, drop-append-seam, getD-drop}
 use borrow.Author.Tests.{eqb-true, eqb-false, eq-eqb, not-true, not-false}
 use Rattle.rules.specs.declared.Syntax.the-variants.{TooDeep}
 use Rattle.rules.specs.Kinds.{KeywordUnit, KeywordSection, KeywordLicense, KeywordReturn, KeywordReg, KeywordImm, KeywordMap, KeywordKey, KeywordValue, KeywordMax, KeywordIf, KeywordElse, KeywordGuard, KeywordHeap, KeywordEvent, LBrace, RBrace, LParen, RParen, Colon, Dot, Comma, Semicolon, LBracket, RBracket, Equals, PlusEquals, Plus, Minus, Star, Slash, Percent, Shr, Shl, Identifier, Number, Eof}
-use Rattle.rules.specs.Fits.{bodyThings, unitThings, eventFields, tops, mapFields, retold}
+use Rattle.rules.specs.Fits.{bodyThings, unitThings, eventFields, tops, mapFields}
 use Rattle.rules.specs.Tree.{Tok, sign, name, string, value, kindOf, spellingOf, bitsIn, Tree, none, num, var, star, group, field, call, bin, one, more, decl, ret, plain, assign, guard, thenBody, elseBody, seq, text, unit, mapType, typed, limit, first, shifted, mapDecl, plainField, bytesField, arrayField, event, program, yield, isVariable, mapTypeNumber, maxBits, typeOf, typedBy, limitOf, lacking}
 use Rattle.rules.specs.Nodes.{width}
 use Rattle.rules.specs.Parse

@@ -2,24 +2,22 @@
 -- in
 -- the set, there is a misfit too. Here what this says of two answers, and how it goes through one answer behind another and through loops.
 use mathlib.Core.Path.{_≡_, refl, sym, ap, _∙_, subst}
-use mathlib.Core.Bool.{Bool, true, false, not, cond, _&&_, _||_, and-eq-true-iff, true≢false}
+use mathlib.Core.Bool.{Bool, true, false, cond, true≢false}
 use mathlib.Core.List.{List}
 use mathlib.Core.Logic.{_⊎_, inl, inr}
-use Prim.Native.Nat.{ℕ, zero, suc, _+_, _-_, _*_, _/_, _%_, _^_, _≤_, _<_}
+use Prim.Native.Nat.{ℕ, zero, suc, _+_, _-_, _^_, _≤_, _<_}
 use native.Mathlib.Nat.{eq-or-lt-of-le, div-add-mod'}
 use native.Mathlib.Omega.{arith}
-use lib.Dec.{eqb, leb}
+use lib.Dec.{eqb}
 use lib.ListN.{length}
-use borrow.Author.Tests.{eqb-true, eq-eqb}
+use borrow.Author.Tests.{eqb-true}
 use Rattle.rules.specs.declared.Syntax.{Syntax}
 use Rattle.rules.specs.declared.Syntax.the-variants.{Wanted, NotTopLevel, NotMapField, MapTypeUnknown, NotType, MaxNegative, OutOfRange, ShiftCount, MapLacks, NotEventType, CallOnOther, TooDeep}
-use Rattle.rules.specs.Kinds.{Dot, LParen, Star, Slash, Percent, Shr, Shl, Plus, Minus}
-use Rattle.rules.specs.Fits.{only, has, ons, shifts, wrong, setTold, retold}
-use Rattle.rules.specs.Tree.{Tok, kindOf, Tree, isSum}
+use Rattle.rules.specs.Fits.{has, wrong, setTold, retold}
+use Rattle.rules.specs.Tree.{Tok, kindOf, Tree}
 use Rattle.rules.specs.Parse
-use Rattle.rules.specs.Parse.{Out, ok, no, P, then, or, many, isAdd, isShift, isMul, tokAt, kindAt, dotName}
+use Rattle.rules.specs.Parse.{Out, ok, no, P, then, or, many, kindAt}
 use Rattle.theory_grammar.specs.Lost.{isMisfit, lost}
-use Rattle.theory_grammar.proofs.Laws.{either-kind, three-kinds}
 use Rattle.theory_grammar.proofs.Runs.{All, all-any}
 use Rattle.theory_grammar.proofs.Cases.{or-no, retold-misfit, retold-lost}
 use Rattle.theory_grammar.proofs.Local.{Alike}

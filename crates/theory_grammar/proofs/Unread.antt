@@ -1,8 +1,8 @@
 -- Rows that begin nothing: what each function of the parser answers at a row of a kind that begins none of its things.
-use mathlib.Core.Path.{_≡_, refl, ap, _∙_}
-use mathlib.Core.Bool.{Bool, true, false, _||_}
+use mathlib.Core.Path.{_≡_, _∙_}
+use mathlib.Core.Bool.{Bool, false, _||_}
 use mathlib.Core.List.{List}
-use Prim.Native.Nat.{ℕ, zero, suc, _+_}
+use Prim.Native.Nat.{ℕ, suc, _+_}
 use lib.Dec.{eqb}
 use borrow.Author.Tests.{eqb-false}
 use Rattle.laws.proofs.Tests.{neither}
@@ -65,7 +65,7 @@ module _ (ts : List Tok) where
     unfolding Parse.mul
     mul-unread b = Cases.then-no (Parse.unary ts g i) _ (wrong operands) i (unary-unread b)
 
-    pub shift-unread : isStart (kindAt ts i) ≡ false → Parse.shift ts g i ≡ no (wrong operands) i
+    shift-unread : isStart (kindAt ts i) ≡ false → Parse.shift ts g i ≡ no (wrong operands) i
     unfolding Parse.shift
     shift-unread b = Cases.then-no (Parse.mul ts g i) _ (wrong operands) i (mul-unread b)
 
