@@ -25,9 +25,6 @@ use Rattle.theory_grammar.proofs.Grow.{heads, heads-more}
 
 -- ---- a program is one with the checks left aside, and within a deeper nesting
 
-pub aside : {b : Bool} → false ≡ true → b ≡ true
-aside e = absurd (true≢false (sym e))
-
 -- the nesting d, or where it may be one deeper (x)
 abbrev pub over : Bool → ℕ → ℕ
 over true d = suc d
@@ -96,10 +93,6 @@ module _ {b : Bool} {N : Nt} {t : Tree} (x : Bool) (d d′ : ℕ) (e : d ≡ suc
 
   pub inside-it : Is b N (over x d) t → Is b N (suc (over x d′)) t
   inside-it h = inward x d′ (subst (λ (n : ℕ). Is b N (over x n) t) e h)
-
--- the least expression
-pub nought : {b : Bool} {d : ℕ} → Is b Add d (num 0)
-nought = i-up (i-lone (i-unary (i-prim i-num)))
 
 -- ---- what closes a map
 

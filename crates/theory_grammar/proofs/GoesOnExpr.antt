@@ -25,8 +25,8 @@ use Rattle.theory_grammar.proofs.Cases
 use Rattle.theory_grammar.proofs.Local
 use Rattle.theory_grammar.proofs.Local.{Dead, dead-then, or-local, call-dead, Local, deep-row, group-row, list-row, Alike, later, inner-local, atom-local, post-local, unary-local, mul-local, shift-local, expr-local}
 use Rattle.theory_grammar.proofs.Members.{done, _and_, each, holds}
-use Rattle.theory_grammar.proofs.Grow.{heads-more, joins-apart, each-as, add-on, args-on, Begins, operandKinds, unary-begins}
-use Rattle.theory_grammar.proofs.Begun.{closedBy, fitting, any-next, aside, over, lax, around-it, inside-it, nought, Open, opened, code, Halt, wrap, recast, widen, not-before, last-part, Start, start}
+use Rattle.theory_grammar.proofs.Grow.{heads-more, joins-apart, each-as, add-on, args-on, Begins, operandKinds, unary-begins, aside, nought}
+use Rattle.theory_grammar.proofs.Begun.{closedBy, fitting, any-next, over, lax, around-it, inside-it, Open, opened, code, Halt, wrap, recast, widen, not-before, last-part, Start, start}
 use Rattle.theory_grammar.proofs.Halts.{Stuck, stuck-as, then-stuck, then-any, or-stuck, Dooms, same-kind, self, at-kind, at-first, at-or, at-next, Refusal, Refused, wanted, too-deep, end-halt, named-halt, loop-stuck, Below, below, under-read, under-some, onward-open}
 
 module _ (ts : List Tok) (proper : Proper ts) where

@@ -22,8 +22,8 @@ use Rattle.theory_grammar.proofs.Runs.{Run, run-none, row, name-row, va
 use Rattle.theory_grammar.proofs.Sound.{Reads, reads, run-of, chain-next, chain-sound, map-field-sound, event-field-sound}
 use Rattle.theory_grammar.proofs.Local.{type-lost, ChainEnd, chain-end, map-field-local, event-field-local}
 use Rattle.theory_grammar.proofs.Members.{done, _and_, each, holds}
-use Rattle.theory_grammar.proofs.Grow.{heads, mapFieldKinds, map-field-begins, event-field-begins, map-fields-else, event-fields-else}
-use Rattle.theory_grammar.proofs.Begun.{fitting, any-next, aside, lax, emptied, i-emptied, hash, filled, i-hash, i-filled, Open, opened, fields, top, Halt, wrap, loosely}
+use Rattle.theory_grammar.proofs.Grow.{heads, mapFieldKinds, map-field-begins, event-field-begins, map-fields-else, event-fields-else, aside}
+use Rattle.theory_grammar.proofs.Begun.{fitting, any-next, lax, emptied, i-emptied, hash, filled, i-hash, i-filled, Open, opened, fields, top, Halt, wrap, loosely}
 use Rattle.theory_grammar.proofs.Halts.{Stuck, stuck-as, then-stuck, Dooms, Refusal, Refused, misfit, want-in-halt, want-halt, named-halt, valued-halt, last-halt}
 use Rattle.theory_grammar.proofs.GoesOnList.{Thing, inside, strange, braced-stuck}
 

@@ -25,8 +25,8 @@ use Rattle.theory_grammar.proofs.Cases
 use Rattle.theory_grammar.proofs.Local
 use Rattle.theory_grammar.proofs.Local.{Dead, dead-then, Local, brace-row, Alike, later, body-at, body-over, branch-local, item-local}
 use Rattle.theory_grammar.proofs.Members.{done, _and_}
-use Rattle.theory_grammar.proofs.Grow.{joins-apart, add-on, stmtKinds, itemKinds, stmt-begins, item-begins, stmts-else, items-else}
-use Rattle.theory_grammar.proofs.Begun.{fitting, shut, over, lax, around-it, nought, Open, opened, code, top, Halt, wrap, recast, widen, Start, start, stmt-starts, item-starts}
+use Rattle.theory_grammar.proofs.Grow.{joins-apart, add-on, stmtKinds, itemKinds, stmt-begins, item-begins, stmts-else, items-else, nought}
+use Rattle.theory_grammar.proofs.Begun.{fitting, shut, over, lax, around-it, Open, opened, code, top, Halt, wrap, recast, widen, Start, start, stmt-starts, item-starts}
 use Rattle.theory_grammar.proofs.Halts.{Stuck, stuck-as, then-stuck, then-any, need-stuck, Dooms, same-kind, self, at-kind, at-first, at-next, Refusal, Refused, wanted-one, too-deep, want-halt, end-halt, named-halt, quoted-halt, last-halt, Below, below, onward-open}
 use Rattle.theory_grammar.proofs.GoesOnExpr.{expr-stuck, expr-alike}
 use Rattle.theory_grammar.proofs.GoesOnList.{Thing, inside, list-stuck, braced-stuck}
@@ -84,7 +84,8 @@ module _ (ts : List Tok) (proper : Proper ts) where
 
     -- behind `if guard ( name )`
     module _ (i : ℕ) (front : Start ts i)
-        (head : Run ts i (sign KeywordIf ∷ sign KeywordGuard ∷ sign LParen ∷ name (spellingOf (tokAt ts (i + 1 + 1 + 1))) ∷ sign RParen ∷ [])
+        (head : Run ts i
+        (sign KeywordIf ∷ sign KeywordGuard ∷ sign LParen ∷ name (spellingOf (tokAt ts (i + 1 + 1 + 1))) ∷ sign RParen ∷ [])
         (i + 1 + 1 + 1 + 1 + 1)) where
       abbrev W : List Tok → List ℕ
       W x = spellingOf (tokAt x (i + 1 + 1 + 1))

@@ -22,7 +22,8 @@ use Rattle.theory_grammar.proofs.Members.{Each, done, _and_, coversOnwa
 
 -- ---- tokens that begin with a kind
 
-abbrev pub isOf : ℕ → Tok → Bool
+-- a token of a kind: `kindOf`, which computes
+abbrev isOf : ℕ → Tok → Bool
 isOf k (sign c) = eqb c k
 isOf k (name w) = eqb Identifier k
 isOf k (string w) = eqb StringLiteral k
@@ -267,13 +268,13 @@ pub record Begins (N : Nt) (d k : ℕ) : Type 0 where
 begins : {N : Nt} {d k : ℕ} (t : Tree) → Is false N d t → heads k (yield t) ≡ true → Begins N d k
 begins t h e = record { tree = t; is = h; next = e }
 
--- checks aside
-unchecked : {b : Bool} → false ≡ true → b ≡ true
-unchecked e = absurd (true≢false (sym e))
+-- a check that is left aside
+pub aside : {b : Bool} → false ≡ true → b ≡ true
+aside e = absurd (true≢false (sym e))
 
 -- the least expression
-nil : {d : ℕ} → Is false Add d (num 0)
-nil = i-up (i-lone (i-unary (i-prim i-num)))
+pub nought : {b : Bool} {d : ℕ} → Is b Add d (num 0)
+nought = i-up (i-lone (i-unary (i-prim i-num)))
 
 abbrev pub operandKinds : List ℕ
 operandKinds = LParen ∷ Star ∷ Identifier ∷ Number ∷ []
@@ -298,16 +299,16 @@ each-as f (_and_ {k = k} c h) = f k c and each-as f h
 pub unary-begins : (d : ℕ) → Each (Begins Unary (suc d)) operandKinds
 unfolding yield
 unary-begins d =
-    begins (group (num 0)) (i-prim (i-group nil)) refl and begins (star (num 0)) (i-star (i-prim i-num)) refl and begins (var [])
+    begins (group (num 0)) (i-prim (i-group nought)) refl and begins (star (num 0)) (i-star (i-prim i-num)) refl and begins (var [])
     (i-prim i-var) refl
     and begins (num 0) (i-prim i-num) refl and done
 
 pub stmt-begins : (d : ℕ) → Each (Begins Stmt (suc d)) stmtKinds
 unfolding yield
 stmt-begins d =
-    begins (ret (num 0)) (i-ret nil) refl and begins (decl KeywordReg [] (num 0)) (i-decl refl nil) refl and begins
-    (decl KeywordImm [] (num 0)) (i-decl refl nil) refl
-    and begins (decl KeywordHeap [] (num 0)) (i-decl refl nil) refl and begins (guard [] (thenBody none) none) (i-if i-no-stmts) refl
+    begins (ret (num 0)) (i-ret nought) refl and begins (decl KeywordReg [] (num 0)) (i-decl refl nought) refl and begins
+    (decl KeywordImm [] (num 0)) (i-decl refl nought) refl
+    and begins (decl KeywordHeap [] (num 0)) (i-decl refl nought) refl and begins (guard [] (thenBody none) none) (i-if i-no-stmts) refl
     and each-as (λ k b. as-stmt k b) (unary-begins d)
   where
     as-stmt : (k : ℕ) → Begins Unary (suc d) k → Begins Stmt (suc d) k
@@ -324,8 +325,8 @@ item-begins d =
 pub map-field-begins : (d : ℕ) → Each (Begins MapField d) mapFieldKinds
 unfolding yield
 map-field-begins d =
-    begins (mapType []) (i-type unchecked) refl and begins (typed KeywordKey TypeU32) (i-typed refl refl) refl
-    and begins (typed KeywordValue TypeU32) (i-typed refl refl) refl and begins (limit (first 0)) (i-limit i-first unchecked) refl and done
+    begins (mapType []) (i-type aside) refl and begins (typed KeywordKey TypeU32) (i-typed refl refl) refl
+    and begins (typed KeywordValue TypeU32) (i-typed refl refl) refl and begins (limit (first 0)) (i-limit i-first aside) refl and done
 
 pub event-field-begins : (d : ℕ) → Each (Begins EventField d) (Identifier ∷ [])
 unfolding yield
@@ -334,7 +335,7 @@ event-field-begins d = begins (plainField [] TypeU32) (i-plain-field refl) refl 
 pub decl-begins : (d : ℕ) → Each (Begins Decl d) declKinds
 unfolding yield
 decl-begins d =
-    begins (unit [] none) (i-unit i-no-items) refl and begins (mapDecl [] none) (i-map i-no-fields unchecked) refl
+    begins (unit [] none) (i-unit i-no-items) refl and begins (mapDecl [] none) (i-map i-no-fields aside) refl
     and begins (event [] none) (i-event i-no-event-fields) refl and done
 
 -- ---- `else`, behind a list that ends in an `if` without it
