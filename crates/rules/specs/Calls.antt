@@ -17,6 +17,7 @@ use Rattle.rules.specs.declared.Reason.the-variants as reason
 use Rattle.rules.specs.declared.Parsed.{Parsed}
 use Rattle.rules.specs.declared.Parsed.the-variants as parsed
 use Rattle.rules.specs.Text.{startPlace, textJudged}
+use Rattle.rules.specs.Refusals.{foundTold}
 use Rattle.rules.specs.Rows.{Row, rowNo, rowsIn, rowPlace, wellFormed, spelling}
 use Rattle.rules.specs.Sets.{Unknown, ProbeReadKernelStr, allows, setSize}
 use Rattle.rules.specs.Tree.{Tok, tokOf}
@@ -72,7 +73,7 @@ nodeRoom new = length new / wordsPerNode
 -- the reading of rows that stand in ws
 unfoldable pub outTold : List ℕ → Out → Parsed
 outTold ws (ok t j) = parsed.Nodes (size t)
-outTold ws (no why r) = parsed.Refused (reason.Syntax why) (placeOfRow ws r)
+outTold ws (no why r) = parsed.Refused (reason.Syntax why) (placeOfRow ws r) (foundTold why (rowNo ws r .kind))
 
 -- the nodes, and then what was there; a refusal leaves node memory untouched
 unfoldable pub outLeaves : Out → List ℕ → List ℕ
@@ -85,8 +86,8 @@ reading t ws tbl = parse (tokens t (rowsIn (tbl .count) ws))
 -- A refused ending is answered between 3 and 5. 5: node room below row count.
 unfoldable pub endingTold : List ℕ → List ℕ → Table → Ending → ℕ → Parsed
 endingTold t ws tbl ending.None room =
-    cond (ltb room (tbl .count)) (parsed.Refused (reason.Outer NoNodeRoom) startPlace) (outTold ws (reading t ws tbl))
-endingTold t ws tbl (ending.Refused why p) room = parsed.Refused (reason.Lexical why) p
+    cond (ltb room (tbl .count)) (parsed.Refused (reason.Outer NoNodeRoom) startPlace 0) (outTold ws (reading t ws tbl))
+endingTold t ws tbl (ending.Refused why p) room = parsed.Refused (reason.Lexical why) p 0
 
 unfoldable pub endingLeaves : List ℕ → List ℕ → Table → Ending → List ℕ → List ℕ
 endingLeaves t ws tbl ending.None new = cond (ltb (nodeRoom new) (tbl .count)) new (outLeaves (reading t ws tbl) new)
@@ -97,7 +98,7 @@ unfoldable pub parseTold : List ℕ → List ℕ → Table → ℕ → Parsed
 parseTold t ws tbl room =
     elim (judged t ws tbl) [
       | verdict.Fine ↦ endingTold t ws tbl (tbl .ending) room
-      | verdict.Refused why p ↦ parsed.Refused (reason.Outer why) p
+      | verdict.Refused why p ↦ parsed.Refused (reason.Outer why) p 0
     ]
 
 unfoldable pub parseLeaves : List ℕ → List ℕ → Table → List ℕ → List ℕ

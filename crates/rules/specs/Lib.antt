@@ -1,6 +1,7 @@
 -- docs/LANGUAGE.md as definitions, a module for each of its parts.
 pub mod Text
 pub mod Kinds
+pub mod Fits
 pub mod Refusals
 pub mod Rows
 pub mod Lex

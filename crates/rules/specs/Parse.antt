@@ -1,15 +1,16 @@
 -- "Grammar" and "Refusal numbers": the parser as a function of the tokens, with every refusal 21 to 32 in reading order. An answer is
 -- a tree and the row behind it, or why and the row where. Every recursion is the one loop `many`, or goes by the nesting that is left.
 use Prim.Native.Nat.{ℕ, zero, suc, _+_, _-_, _^_}
-use mathlib.Core.Bool.{Bool, true, false, cond, not, _||_}
+use mathlib.Core.Bool.{Bool, true, false, cond, not, _&&_, _||_}
 use mathlib.Core.List.{List}
 use lib.Dec.{eqb, leb}
 use lib.ListN.{length, getD}
 use Rattle.rules.specs.declared.Syntax.{Syntax}
-use Rattle.rules.specs.declared.Syntax.the-variants.{Wanted, NotTopLevel, NotMapField, MapTypeUnknown, NotType, MaxNegative, OutOfRange, ShiftCount, MapLacks, NotEventType, CallOnOther, TooDeep}
+use Rattle.rules.specs.declared.Syntax.the-variants.{NotTopLevel, NotMapField, MapTypeUnknown, NotType, MaxNegative, OutOfRange, ShiftCount, MapLacks, NotEventType, CallOnOther, TooDeep}
 use Rattle.rules.specs.Text.{within}
 use Rattle.rules.specs.Kinds.{TypeU32, TypeI64, KeywordUnit, KeywordSection, KeywordLicense, KeywordReturn, KeywordReg, KeywordImm, KeywordMap, KeywordType, KeywordKey, KeywordValue, KeywordMax, KeywordIf, KeywordElse, KeywordGuard, KeywordHeap, KeywordEvent, LBrace, RBrace, LParen, RParen, Colon, Dot, Comma, Semicolon, LBracket, RBracket, Equals, PlusEquals, Plus, Minus, Star, Slash, Percent, Shr, Shl, Identifier, StringLiteral, Number, KeywordBytes, Eof}
-use Rattle.rules.specs.Tree.{Tok, sign, kindOf, spellingOf, bitsIn, Tree, none, num, var, star, group, field, call, bin, one, more, decl, ret, plain, assign, guard, thenBody, elseBody, seq, text, unit, mapType, typed, limit, first, shifted, mapDecl, plainField, bytesField, arrayField, event, program, isVariable, mapTypeNumber, maxBits, typeOf, typedBy, limitOf, lacking}
+use Rattle.rules.specs.Fits.{only, operands, ons, shifts, assigns, firstArguments, bodyThings, unitThings, eventFields, tops, mapFields, wrong, retold}
+use Rattle.rules.specs.Tree.{Tok, sign, kindOf, spellingOf, bitsIn, Tree, none, num, var, star, group, field, call, bin, one, more, decl, ret, plain, assign, guard, thenBody, elseBody, seq, text, unit, mapType, typed, limit, first, shifted, mapDecl, plainField, bytesField, arrayField, event, program, isVariable, isSum, hangs, mapTypeNumber, maxBits, typeOf, typedBy, limitOf, lacking}
 
 pub data Out : Type 0 where
   ok : Tree → ℕ → Out
@@ -26,6 +27,11 @@ then (no why r) f = no why r
 abbrev pub pick : Bool → Out → Out → Out
 pick true x y = x
 pick false x y = y
+
+-- where row i itself is refused with 21, the set s is told
+unfoldable pub or : ℕ → ℕ → Out → Out
+or s i (ok t j) = ok t j
+or s i (no why r) = no (cond (eqb r i) (retold s why) why) r
 
 -- while the test holds at the row, a step
 unfoldable pub many : (ℕ → Bool) → (Tree → P) → ℕ → Bool → Tree → P
@@ -116,18 +122,22 @@ module _ (ts : List Tok) where
   abbrev pub kindAt : ℕ → ℕ
   kindAt i = kindOf (tokAt i)
 
-  -- 21: a row of kind k, and then f behind it
+  -- 21: a row of kind k, and then f behind it; else the set s is told
   unfoldable pub wantBy : Bool → ℕ → P → P
-  wantBy true k f i = f (i + 1)
-  wantBy false k f i = no (Wanted k (kindAt i)) i
+  wantBy true s f i = f (i + 1)
+  wantBy false s f i = no (wrong s) i
 
+  unfoldable pub wantIn : ℕ → ℕ → P → P
+  wantIn s k f i = wantBy (eqb (kindAt i) k) s f i
+
+  -- where nothing else would have fitted
   unfoldable pub want : ℕ → P → P
-  want k f i = wantBy (eqb (kindAt i) k) k f i
+  want k f i = wantIn (only k) k f i
 
   -- the same, with f at the row itself
   unfoldable pub needBy : Bool → ℕ → P → P
   needBy true k f i = f i
-  needBy false k f i = no (Wanted k (kindAt i)) i
+  needBy false k f i = no (wrong (only k)) i
 
   unfoldable pub need : ℕ → P → P
   need k f i = needBy (eqb (kindAt i) k) k f i
@@ -146,18 +156,38 @@ module _ (ts : List Tok) where
   unfoldable pub loop : (ℕ → Bool) → (Tree → P) → Tree → P
   loop test step t j = many test step (suc (length ts)) (test j) t j
 
-  -- things up to a row of a kind, which is not taken
-  unfoldable pub listStep : P → Tree → P
-  listStep p l j = then (p j) (λ t k. ok (seq l t) k)
+  -- behind an `if` without `else`
+  unfoldable pub elseBehind : Tree → ℕ
+  elseBehind l = cond (hangs l) (only KeywordElse) 0
 
-  unfoldable pub listTo : ℕ → P → P
-  listTo stop p j = loop (λ r. not (eqb (kindAt r) stop)) (listStep p) none j
+  -- Things up to a row of a kind, which is not taken. In place of a thing's first row the set s would have fitted, and maybe `else`.
+  unfoldable pub listStep : ℕ → P → Tree → P
+  listStep s p l j = then (or (s + elseBehind l) j (p j)) (λ t k. ok (seq l t) k)
+
+  unfoldable pub listTo : ℕ → ℕ → P → P
+  listTo stop s p j = loop (λ r. not (eqb (kindAt r) stop)) (listStep s p) none j
 
   -- name `{` contents `}`, behind the row at i
-  unfoldable pub braced : P → (List ℕ → Tree → P) → P
-  braced p f i = named (λ w. want LBrace (λ j. then (listTo RBrace p j) (λ l k. f w l (k + 1)))) (i + 1)
+  unfoldable pub braced : ℕ → P → (List ℕ → Tree → P) → P
+  braced s p f i = named (λ w. want LBrace (λ j. then (listTo RBrace s p j) (λ l k. f w l (k + 1)))) (i + 1)
 
   -- ---- expressions, over what is read behind an opening row
+
+  -- the row in front of row i is a name behind a dot
+  abbrev pub dotName : ℕ → Bool
+  dotName i = eqb (kindAt (i - 1)) Identifier && eqb (kindAt (i - 2)) Dot
+
+  -- what goes on with the expression or arguments t in front of row i
+  unfoldable pub onward : Tree → ℕ → ℕ
+  onward t i = ons + cond (isSum t) 0 shifts + cond (dotName i) (only LParen) 0
+
+  -- a row of kind k behind t; else what goes on with t is told, and the set s of what may stand behind it
+  unfoldable pub endIn : ℕ → ℕ → Tree → P → P
+  endIn s k t f i = wantIn (onward t i + s) k f i
+
+  -- where nothing but that kind may stand behind it
+  unfoldable pub end : ℕ → Tree → P → P
+  end k t f i = endIn (only k) k t f i
 
   -- a call's end at row k, with the method's name at row m: 31 on anything but a variable
   unfoldable pub called : Tree → List ℕ → Tree → ℕ → P
@@ -167,8 +197,8 @@ module _ (ts : List Tok) where
     unfoldable pub atomBy : Lead → P
     atomBy number i = ok (num (bitsIn (tokAt i))) (i + 1)
     atomBy identifier i = ok (var (spellingOf (tokAt i))) (i + 1)
-    atomBy paren i = then (g whole i) (λ t j. want RParen (ok (group t)) j)
-    atomBy other i = no (Wanted Identifier (kindAt i)) i
+    atomBy paren i = then (g whole i) (λ t j. end RParen t (ok (group t)) j)
+    atomBy other i = no (wrong operands) i
 
     unfoldable pub atom : P
     atom i = atomBy (lead (kindAt i)) i
@@ -176,14 +206,14 @@ module _ (ts : List Tok) where
     unfoldable pub argStep : Tree → P
     argStep a j = then (g whole j) (λ t k. ok (more a t) k)
 
-    -- arguments behind the parenthesis at row j
+    -- arguments behind the parenthesis at row j; in place of the first one's first row `)` would have fitted
     unfoldable pub args : P
-    args j = then (g whole j) (λ t k. loop (λ r. eqb (kindAt r) Comma) argStep (one t) k)
+    args j = then (or firstArguments (j + 1) (g whole j)) (λ t k. loop (λ r. eqb (kindAt r) Comma) argStep (one t) k)
 
     -- the parenthesis of a call is at row k: is the next one `)`?
     unfoldable pub callBy : Bool → Tree → List ℕ → ℕ → P
     callBy true t w m k = called t w none m (k + 1 + 1)
-    callBy false t w m k = then (args k) (λ a r. want RParen (called t w a m) r)
+    callBy false t w m k = then (args k) (λ a r. endIn (only Comma + only RParen) RParen a (called t w a m) r)
 
     -- behind the name: is there a parenthesis?
     unfoldable pub openBy : Bool → Tree → List ℕ → ℕ → P
@@ -234,8 +264,8 @@ module _ (ts : List Tok) where
     elseBy false w b k = ok (guard w b none) k
 
     unfoldable pub assignBy : Bool → Tree → P
-    assignBy true e j = then (expr d (j + 1)) (λ r k. want Semicolon (ok (assign (kindAt j) e r)) k)
-    assignBy false e j = want Semicolon (ok (plain e)) j
+    assignBy true e j = then (expr d (j + 1)) (λ r k. end Semicolon r (ok (assign (kindAt j) e r)) k)
+    assignBy false e j = endIn (only Semicolon + assigns) Semicolon e (ok (plain e)) j
 
     -- behind `if guard ( name )`
     unfoldable pub bodies : List ℕ → P
@@ -243,8 +273,8 @@ module _ (ts : List Tok) where
 
     unfoldable pub stmtBy : StmtLead → P
     stmtBy declaring i =
-        named (λ w. want Equals (λ j. then (expr d j) (λ e k. want Semicolon (ok (decl (kindAt i) w e)) k))) (i + 1)
-    stmtBy returning i = then (expr d (i + 1)) (λ e k. want Semicolon (ok (ret e)) k)
+        named (λ w. want Equals (λ j. then (expr d j) (λ e k. end Semicolon e (ok (decl (kindAt i) w e)) k))) (i + 1)
+    stmtBy returning i = then (expr d (i + 1)) (λ e k. end Semicolon e (ok (ret e)) k)
     stmtBy branching i = want KeywordGuard (want LParen (named (λ w. want RParen (bodies w)))) (i + 1)
     stmtBy expression i = then (expr d i) (λ e j. assignBy (isAssign (kindAt j)) e j)
 
@@ -254,7 +284,7 @@ module _ (ts : List Tok) where
   -- the statements of the body whose brace is at row o
   unfoldable pub body : ℕ → P
   body zero o = no TooDeep o
-  body (suc d) o = then (listTo RBrace (stmt d (body d)) (o + 1)) (λ l j. ok l (j + 1))
+  body (suc d) o = then (listTo RBrace bodyThings (stmt d (body d)) (o + 1)) (λ l j. ok l (j + 1))
 
   -- ---- units
 
@@ -266,7 +296,7 @@ module _ (ts : List Tok) where
   item i = itemBy (isText (kindAt i)) i
 
   unfoldable pub unitAt : P
-  unitAt i = braced item (λ w l k. ok (unit w l) k) i
+  unitAt i = braced unitThings item (λ w l k. ok (unit w l) k) i
 
   -- ---- maps
 
@@ -294,7 +324,7 @@ module _ (ts : List Tok) where
   unfoldable pub limitBy : (negative large : Bool) → Tree → P
   limitBy true x c k = no MaxNegative k
   limitBy false true c k = no OutOfRange (k - 1)
-  limitBy false false c k = want Semicolon (ok (limit c)) k
+  limitBy false false c k = wantIn (only Semicolon + shifts) Semicolon (ok (limit c)) k
 
   unfoldable pub mapFieldBy : FieldLead → P
   mapFieldBy typing i = want Colon (want Dot (named (λ w. typeBy (eqb (mapTypeNumber w) 0) w))) (i + 1)
@@ -313,7 +343,7 @@ module _ (ts : List Tok) where
 
   unfoldable pub mapAt : P
   mapAt i =
-      braced mapField (λ w l k. mapEnd (lacking (typeOf l) (typedBy KeywordKey l) (typedBy KeywordValue l) (limitOf l)) w l k) i
+      braced mapFields mapField (λ w l k. mapEnd (lacking (typeOf l) (typedBy KeywordKey l) (typedBy KeywordValue l) (limitOf l)) w l k) i
 
   -- ---- events
 
@@ -327,7 +357,7 @@ module _ (ts : List Tok) where
 
   unfoldable pub arrayBy : Bool → List ℕ → P
   arrayBy true w j = lengthAt (λ v. arrayField w (kindAt j) v) (j + 1 + 1)
-  arrayBy false w j = want Semicolon (ok (plainField w (kindAt j))) (j + 1)
+  arrayBy false w j = wantIn (only Semicolon + only LBracket) Semicolon (ok (plainField w (kindAt j))) (j + 1)
 
   unfoldable pub eventTypeBy : EventLead → List ℕ → P
   eventTypeBy typeLead w j = arrayBy (eqb (kindAt (j + 1)) LBracket) w j
@@ -338,7 +368,7 @@ module _ (ts : List Tok) where
   eventField i = named (λ w. want Colon (λ j. eventTypeBy (eventLead (kindAt j)) w j)) i
 
   unfoldable pub eventAt : P
-  eventAt i = braced eventField (λ w l k. ok (event w l) k) i
+  eventAt i = braced eventFields eventField (λ w l k. ok (event w l) k) i
 
   -- ---- program
 
@@ -352,4 +382,4 @@ module _ (ts : List Tok) where
   top i = topBy (topLead (kindAt i)) i
 
   unfoldable pub parse : Out
-  parse = then (listTo Eof top 0) (λ l j. ok (program l) (j + 1))
+  parse = then (listTo Eof tops top 0) (λ l j. ok (program l) (j + 1))

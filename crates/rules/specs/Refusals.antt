@@ -1,5 +1,5 @@
 -- "Refusal numbers": the number of each refusal, and what it tells besides.
-use Prim.Native.Nat.{ℕ}
+use Prim.Native.Nat.{ℕ, _+_, _/_, _%_, _^_}
 use Rattle.rules.specs.declared.Lexical.{Lexical}
 use Rattle.rules.specs.declared.Lexical.the-variants.{NoRowBegins, LoneSign, NoHexDigit, OpenComment, OpenString, BadEscape, NumberTooLarge}
 use Rattle.rules.specs.declared.Outer.{Outer}
@@ -8,6 +8,7 @@ use Rattle.rules.specs.declared.Syntax.{Syntax}
 use Rattle.rules.specs.declared.Syntax.the-variants.{Wanted, NotTopLevel, NotMapField, MapTypeUnknown, NotType, MaxNegative, OutOfRange, ShiftCount, MapLacks, NotEventType, CallOnOther, TooDeep}
 use Rattle.rules.specs.declared.Reason.{Reason}
 use Rattle.rules.specs.declared.Reason.the-variants as reason
+use Rattle.rules.specs.Fits.{setTold}
 
 abbrev pub outerNumber : Outer → ℕ
 outerNumber TextTooLong = 1
@@ -28,7 +29,7 @@ lexicalNumber LoneSign = 16
 lexicalNumber NoHexDigit = 17
 
 abbrev pub syntaxNumber : Syntax → ℕ
-syntaxNumber (Wanted wanted found) = 21
+syntaxNumber (Wanted low high) = 21
 syntaxNumber NotTopLevel = 22
 syntaxNumber NotMapField = 23
 syntaxNumber MapTypeUnknown = 24
@@ -41,35 +42,42 @@ syntaxNumber NotEventType = 30
 syntaxNumber CallOnOther = 31
 syntaxNumber TooDeep = 32
 
--- the kind that 21 wanted, the field of 29
-abbrev pub firstTold : Syntax → ℕ
-firstTold (Wanted wanted found) = wanted
-firstTold NotTopLevel = 0
-firstTold NotMapField = 0
-firstTold MapTypeUnknown = 0
-firstTold NotType = 0
-firstTold MaxNegative = 0
-firstTold OutOfRange = 0
-firstTold ShiftCount = 0
-firstTold (MapLacks field) = field
-firstTold NotEventType = 0
-firstTold CallOnOther = 0
-firstTold TooDeep = 0
+-- the field of 29
+abbrev pub fieldTold : Syntax → ℕ
+fieldTold (Wanted low high) = 0
+fieldTold NotTopLevel = 0
+fieldTold NotMapField = 0
+fieldTold MapTypeUnknown = 0
+fieldTold NotType = 0
+fieldTold MaxNegative = 0
+fieldTold OutOfRange = 0
+fieldTold ShiftCount = 0
+fieldTold (MapLacks field) = field
+fieldTold NotEventType = 0
+fieldTold CallOnOther = 0
+fieldTold TooDeep = 0
 
--- the kind that 21 found
+-- the set of 21, 22, 23, 25 and 30, kinds 0 to 31 and from 32 on; the first word has the field of 29
+abbrev pub firstTold : Syntax → ℕ
+firstTold why = setTold why % 2 ^ 32 + fieldTold why
+
 abbrev pub secondTold : Syntax → ℕ
-secondTold (Wanted wanted found) = found
-secondTold NotTopLevel = 0
-secondTold NotMapField = 0
-secondTold MapTypeUnknown = 0
-secondTold NotType = 0
-secondTold MaxNegative = 0
-secondTold OutOfRange = 0
-secondTold ShiftCount = 0
-secondTold (MapLacks field) = 0
-secondTold NotEventType = 0
-secondTold CallOnOther = 0
-secondTold TooDeep = 0
+secondTold why = setTold why / 2 ^ 32
+
+-- the kind that 21 found, at a row of kind k
+abbrev pub foundTold : Syntax → ℕ → ℕ
+foundTold (Wanted low high) k = k
+foundTold NotTopLevel k = 0
+foundTold NotMapField k = 0
+foundTold MapTypeUnknown k = 0
+foundTold NotType k = 0
+foundTold MaxNegative k = 0
+foundTold OutOfRange k = 0
+foundTold ShiftCount k = 0
+foundTold (MapLacks field) k = 0
+foundTold NotEventType k = 0
+foundTold CallOnOther k = 0
+foundTold TooDeep k = 0
 
 abbrev pub reasonNumber : Reason → ℕ
 reasonNumber (reason.Outer x) = outerNumber x

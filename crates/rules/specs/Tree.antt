@@ -1,11 +1,11 @@
 -- "Grammar": the rows as tokens, and the tree, with no row numbers in it. `yield` gives the tokens that a tree is read from.
 use Prim.Native.Nat.{ℕ, _+_, _-_, _*_, _/_, _%_, _^_}
-use mathlib.Core.Bool.{Bool, true, false, cond}
+use mathlib.Core.Bool.{Bool, true, false, cond, _||_}
 use mathlib.Core.List.{List, [], _∷_, _++_}
 use lib.Dec.{eqb, ltb}
 use lib.ListN.{length, take, drop, getD}
 use Rattle.rules.specs.Text.{byte, bytes}
-use Rattle.rules.specs.Kinds.{Spelt, kindIn, lastUnmade, KeywordUnit, KeywordSection, KeywordReturn, KeywordMap, KeywordType, KeywordMax, KeywordIf, KeywordElse, KeywordGuard, KeywordEvent, LBrace, RBrace, LParen, RParen, Colon, Dot, Comma, Semicolon, LBracket, RBracket, Equals, Star, Shl, Identifier, StringLiteral, Number, KeywordBytes, Eof}
+use Rattle.rules.specs.Kinds.{Spelt, kindIn, lastUnmade, KeywordUnit, KeywordSection, KeywordReturn, KeywordMap, KeywordType, KeywordMax, KeywordIf, KeywordElse, KeywordGuard, KeywordEvent, LBrace, RBrace, LParen, RParen, Colon, Dot, Comma, Semicolon, LBracket, RBracket, Equals, Plus, Minus, Star, Shl, Identifier, StringLiteral, Number, KeywordBytes, Eof}
 use Rattle.rules.specs.Rows.{Row, spelling, valueBits}
 use Rattle.rules.specs.Sets.{fromSection, Unknown}
 
@@ -144,6 +144,74 @@ isVariable (bytesField w v) = false
 isVariable (arrayField w t v) = false
 isVariable (event w l) = false
 isVariable (program l) = false
+
+-- a sum, or a list the last of which is one
+unfoldable pub isSum : Tree → Bool
+isSum none = false
+isSum (num v) = false
+isSum (var w) = false
+isSum (star t) = false
+isSum (group t) = false
+isSum (field t w) = false
+isSum (call t w a) = false
+isSum (bin k l r) = eqb k Plus || eqb k Minus
+isSum (one t) = isSum t
+isSum (more a t) = isSum t
+isSum (decl k w e) = false
+isSum (ret e) = false
+isSum (plain e) = false
+isSum (assign k l r) = false
+isSum (guard w b e) = false
+isSum (thenBody s) = false
+isSum (elseBody s) = false
+isSum (seq l t) = isSum t
+isSum (text k w) = false
+isSum (unit w l) = false
+isSum (mapType w) = false
+isSum (typed k t) = false
+isSum (limit c) = false
+isSum (first v) = false
+isSum (shifted k c v) = false
+isSum (mapDecl w l) = false
+isSum (plainField w t) = false
+isSum (bytesField w v) = false
+isSum (arrayField w t v) = false
+isSum (event w l) = false
+isSum (program l) = false
+
+-- an `if` without `else`, or a list the last of which is one
+unfoldable pub hangs : Tree → Bool
+hangs none = false
+hangs (num v) = false
+hangs (var w) = false
+hangs (star t) = false
+hangs (group t) = false
+hangs (field t w) = false
+hangs (call t w a) = false
+hangs (bin k l r) = false
+hangs (one t) = hangs t
+hangs (more a t) = hangs t
+hangs (decl k w e) = false
+hangs (ret e) = false
+hangs (plain e) = false
+hangs (assign k l r) = false
+hangs (guard w b e) = eqb (length (yield e)) 0
+hangs (thenBody s) = false
+hangs (elseBody s) = false
+hangs (seq l t) = hangs t
+hangs (text k w) = false
+hangs (unit w l) = false
+hangs (mapType w) = false
+hangs (typed k t) = false
+hangs (limit c) = false
+hangs (first v) = false
+hangs (shifted k c v) = false
+hangs (mapDecl w l) = false
+hangs (plainField w t) = false
+hangs (bytesField w v) = false
+hangs (arrayField w t v) = false
+hangs (event w l) = false
+hangs (program l) = false
 
 -- how many things a list has; an else body is one
 unfoldable pub count : Tree → ℕ

@@ -129,7 +129,7 @@ pub enum Asked {
     Refused(Outer),
 }
 
-// Why rows are no program. A wanted and a found kind; a map's field, 1 to 4.
+// Why rows are no program. The kinds that would have fitted, a bit for each: 0 to 31, and from 32 on; a map's field, 1 to 4.
 pub enum Syntax {
     Wanted(u32, u32),
     NotTopLevel,
@@ -152,8 +152,8 @@ pub enum Reason {
     Syntax(Syntax),
 }
 
-// What a parse tells: so many nodes are written, or why not and where.
+// What a parse tells: so many nodes are written, or why not and where, and for 21 the kind that was found (else 0).
 pub enum Parsed {
     Nodes(u32),
-    Refused(Reason, Cursor),
+    Refused(Reason, Cursor, u32),
 }

@@ -22,6 +22,7 @@ use Rattle.rules.specs.declared.Told.the-variants as of-scan
 use Rattle.rules.specs.declared.Parsed.{Parsed}
 use Rattle.rules.specs.declared.Parsed.the-variants as parsed
 use Rattle.rules.specs.Text.{mostBytes, validBytes, valid, placeAt, startPlace}
+use Rattle.rules.specs.Refusals.{foundTold}
 use Rattle.rules.specs.Rows.{Row, rowPlace}
 use Rattle.rules.specs.Scan.{readEnding, scan, scanTold}
 use Rattle.rules.specs.Tree.{Tree, yield}
@@ -35,7 +36,7 @@ use Rattle.theory_grammar.proofs.Complete.{program-complete}
 use Rattle.theory_calls.specs.Demand2.{rowsOf, tokensOf, Readable, ScansFully, ProgramOf, RefusedRow, Written, Refused, Answer, too-long, bad-byte, ends-refused, few-nodes, accepted, no-program}
 
 -- a refusal tells no nodes
-no-nodes : {new m : List ℕ} {r : Parsed} {why : Reason} {at : Cursor} {n : ℕ} → Refused new r m why at → r ≡ parsed.Nodes n → ⊥
+no-nodes : {new m : List ℕ} {r : Parsed} {why : Reason} {at : Cursor} {found n : ℕ} → Refused new r m why at found → r ≡ parsed.Nodes n → ⊥
 no-nodes a e = let f = a .told in let z : _≡_ {A = ℕ} 0 1 = cc in omega arith
 
 none-refused : {why : Lexical} {at : Cursor} → ending.None ≡ ending.Refused why at → ⊥
@@ -48,7 +49,8 @@ module _ (t new : List ℕ) (r : Parsed) (m : List ℕ) where
 
   -- the text has none, and a refusal of 21 to 32 is told
   abbrev pub NoneRefused : Type 0
-  NoneRefused = ((p : Tree) → ProgramOf t p → ⊥) × ((why : Syntax) × (row : Row) × RefusedRow t why row × Refused new r m (reason.Syntax why) (rowPlace row))
+  NoneRefused = ((p : Tree) → ProgramOf t p → ⊥) × ((why : Syntax) × (row : Row) × RefusedRow t why row
+      × Refused new r m (reason.Syntax why) (rowPlace row) (foundTold why (row .kind)))
 
   -- Of a text that scans fully, in enough room, it is the one or the other.
   pub one-or-none : Answer t new r m → ScansFully t → length (rowsOf t) ≤ nodeRoom new → OneWritten ⊎ NoneRefused

@@ -23,7 +23,7 @@ use Rattle.rules.specs.declared.Table.{Table}
 use Rattle.rules.specs.declared.Parsed.{Parsed}
 use Rattle.rules.specs.declared.Parsed.the-variants as parsed
 use Rattle.rules.specs.Text.{mostBytes, validBytes, valid, placeAt, startPlace}
-use Rattle.rules.specs.Refusals.{syntaxNumber}
+use Rattle.rules.specs.Refusals.{syntaxNumber, foundTold}
 use Rattle.rules.specs.Rows.{Row, rowWords, rowIn, rowsIn, wordsOf, rowPlace}
 use Rattle.rules.specs.Scan.{readEnding, scan}
 use Rattle.rules.specs.Tree.{Tree, tokOf}
@@ -35,6 +35,7 @@ use Rattle.theory_edits.specs.Scanned.{Scanned}
 use Rattle.theory_edits.proofs.WellFormed.{scanned-rows, scanned-well-formed}
 use Rattle.theory_grammar.specs.Tokens.{Whole}
 use Rattle.theory_grammar.proofs.Refused.{refused-inside}
+use Rattle.theory_grammar.proofs.Fitting.{told-exactly}
 use Rattle.theory_grammar.proofs.Same.{accepts-exactly, unambiguous, refused-sound}
 use Rattle.theory_grammar.proofs.Sound.{parse-whole}
 use Rattle.theory_grammar.proofs.Tables.{table-whole}
@@ -43,7 +44,7 @@ use Rattle.theory_calls.specs.Demand2.{rowsOf, tokensOf, Readable, Scans
 -- ---- numbers
 
 pub syntax-number : (why : Syntax) → (21 ≤ syntaxNumber why) × (syntaxNumber why ≤ 32)
-syntax-number (Wanted wanted found) = (omega arith, omega arith)
+syntax-number (Wanted low high) = (omega arith, omega arith)
 syntax-number NotTopLevel = (omega arith, omega arith)
 syntax-number NotMapField = (omega arith, omega arith)
 syntax-number MapTypeUnknown = (omega arith, omega arith)
@@ -89,14 +90,14 @@ module _ (t ws : List ℕ) (table : Table) (new : List ℕ) where
   Answers = Answer t new tells leaves
 
   -- 1 and 2
-  text-refused : (why : Outer) (at : Cursor) → judged t ws table ≡ verdict.Refused why at → Refused new tells leaves (reason.Outer why) at
+  text-refused : (why : Outer) (at : Cursor) → judged t ws table ≡ verdict.Refused why at → Refused new tells leaves (reason.Outer why) at 0
   unfolding parseTold parseLeaves
   text-refused why at e = record { told = rw (parseTold, e); left = rw (parseLeaves, e) }
 
-  long : mostBytes < length t → Refused new tells leaves (reason.Outer TextTooLong) startPlace
+  long : mostBytes < length t → Refused new tells leaves (reason.Outer TextTooLong) startPlace 0
   long h = text-refused TextTooLong startPlace (judged-text t ws table (text-long t h))
 
-  bad : length t ≤ mostBytes → valid t ≡ false → Refused new tells leaves (reason.Outer BadByte) (placeAt t (validBytes t))
+  bad : length t ≤ mostBytes → valid t ≡ false → Refused new tells leaves (reason.Outer BadByte) (placeAt t (validBytes t)) 0
   bad h v = text-refused BadByte (placeAt t (validBytes t)) (judged-text t ws table (text-bad t h v))
 
   -- a scanned table: not 3, and then its refused ending
@@ -104,13 +105,13 @@ module _ (t ws : List ℕ) (table : Table) (new : List ℕ) where
     fine : judged t ws table ≡ verdict.Fine
     fine = judged-well t ws table (text-fine t (k .fits) (k .good)) (scanned-well-formed s) (ap (λ (x : Table). x .length) (s .told))
 
-    stopped : (why : Lexical) (at : Cursor) → readEnding (scan t) ≡ ending.Refused why at → Refused new tells leaves (reason.Lexical why) at
+    stopped : (why : Lexical) (at : Cursor) → readEnding (scan t) ≡ ending.Refused why at → Refused new tells leaves (reason.Lexical why) at 0
     unfolding parseTold parseLeaves endingTold endingLeaves
     stopped why at e = record { told = rw (parseTold, fine, s .told, e); left = rw (parseLeaves, fine, s .told, e) }
 
   module _ (f : ScansFully t) (s : Scanned t ws table) where
     -- 5
-    tight : nodeRoom new < length (rowsOf t) → Refused new tells leaves (reason.Outer NoNodeRoom) startPlace
+    tight : nodeRoom new < length (rowsOf t) → Refused new tells leaves (reason.Outer NoNodeRoom) startPlace 0
     unfolding parseTold parseLeaves endingTold endingLeaves
     tight h =
         let b : ltb (nodeRoom new) (length (rowsOf t)) ≡ true = lt-ltb (nodeRoom new) (length (rowsOf t)) h in
@@ -150,10 +151,11 @@ module _ (t ws : List ℕ) (table : Table) (new : List ℕ) where
       unfolding outTold outLeaves
       written p j q = record { told = told-is (ok p j) q; left = left-is (ok p j) q }
 
-      refused : (why : Syntax) (k : ℕ) (q : parse (tokensOf t) ≡ no why k) → Refused new tells leaves (reason.Syntax why) (rowPlace (row-of why k q .row))
+      refused : (why : Syntax) (k : ℕ) (q : parse (tokensOf t) ≡ no why k)
+          → Refused new tells leaves (reason.Syntax why) (rowPlace (row-of why k q .row)) (foundTold why (row-of why k q .row .kind))
       unfolding outTold outLeaves placeOfRow
       refused why k q = record {
-        told = told-is (no why k) q ∙ ap (λ (y : Row). parsed.Refused (reason.Syntax why) (rowPlace y)) (row-of why k q .same);
+        told = told-is (no why k) q ∙ ap (λ (y : Row). parsed.Refused (reason.Syntax why) (rowPlace y) (foundTold why (y .kind))) (row-of why k q .same);
         left = left-is (no why k) q;
       }
 
@@ -164,7 +166,15 @@ module _ (t ws : List ℕ) (table : Table) (new : List ℕ) where
       reading-answers (no why k) q =
           let x : RowAt (rowsOf t) ws k = row-of why k q in
           no-program f h (λ p y. refused-sound (tokensOf t) why k q p (y .is) (sym (y .same))) why (x .row)
-          (record { number = syntax-number why; before = k; behind = x .behind; reads = q; stands = x .stands }) (refused why k q)
+          (record {
+            number = syntax-number why;
+            before = k;
+            behind = x .behind;
+            reads = q;
+            stands = x .stands;
+            exactly = λ m. told-exactly (tokensOf t) why k (whole .proper) q m;
+          })
+          (refused why k q)
 
     room-answers : (x : Bool) → ltb (nodeRoom new) (length (rowsOf t)) ≡ x → Answers
     room-answers true q = let h = ltb-true (nodeRoom new) (length (rowsOf t)) q in few-nodes f h (tight h)
@@ -186,7 +196,8 @@ module _ (t ws : List ℕ) (table : Table) (new : List ℕ) where
 -- 4. The text scans fully, and there is room for fewer nodes than it has rows. It tells 5, at 0.
 -- 5. There is room, and a tree of the grammar, within the checks and with at most 64 constructs open, has the scan's tokens for its own: one
 --    tree and no other. It tells how many nodes the tree has, writes them, and leaves the words behind them.
--- 6. There is room, and no such tree. It tells a refusal of 21 to 32, at the row to which reading order leads.
+-- 6. There is room, and no such tree. It tells a refusal of 21 to 32, at the row to which reading order leads; for 21, 22, 23, 25 and 30 with exactly
+--    the kinds that would have fitted, and for 21 with the kind of that row.
 --
 -- But for the fifth case it leaves every word.
 pub demand-2 : (t ws : List ℕ) (table : Table) (new : List ℕ) → Lent t ws table
@@ -205,7 +216,7 @@ pub demand-2-tight : (t ws : List ℕ) (table : Table) (new : List ℕ) (r : Par
     → (r ≡ parseTold t ws table (nodeRoom new)) × (m ≡ parseLeaves t ws table new)
 demand-2-tight t ws table new r m g x = by x
   where
-    like : {why : Reason} {at : Cursor} → Refused new r m why at → Refused new (tells t ws table new) (leaves t ws table new) why at
+    like : {why : Reason} {at : Cursor} {found : ℕ} → Refused new r m why at found → Refused new (tells t ws table new) (leaves t ws table new) why at found
         → (r ≡ tells t ws table new) × (m ≡ leaves t ws table new)
     like a b = (a .told ∙ sym (b .told), a .left ∙ sym (b .left))
 
@@ -223,5 +234,5 @@ demand-2-tight t ws table new r m g x = by x
         let s : Scanned t ws table = g .scanned (f .readable) in
         let x : RowAt (rowsOf t) ws (k .before) = row-of t ws table new f s why (k .before) (k .reads) in
         let e : x .row ≡ row = same-head (x .stands) (k .stands) in
-        like a (subst (λ (z : Row). Refused new (tells t ws table new) (leaves t ws table new) (reason.Syntax why) (rowPlace z)) e
+        like a (subst (λ (z : Row). Refused new (tells t ws table new) (leaves t ws table new) (reason.Syntax why) (rowPlace z) (foundTold why (z .kind))) e
         (refused t ws table new f s h why (k .before) (k .reads)))

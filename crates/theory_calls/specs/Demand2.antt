@@ -15,7 +15,7 @@ use Rattle.rules.specs.declared.Table.{Table}
 use Rattle.rules.specs.declared.Parsed.{Parsed}
 use Rattle.rules.specs.declared.Parsed.the-variants as parsed
 use Rattle.rules.specs.Text.{mostBytes, validBytes, valid, placeAt, startPlace}
-use Rattle.rules.specs.Refusals.{syntaxNumber}
+use Rattle.rules.specs.Refusals.{syntaxNumber, foundTold}
 use Rattle.rules.specs.Rows.{Row, rowPlace}
 use Rattle.rules.specs.Scan.{readRows, readEnding, scan}
 use Rattle.rules.specs.Tree.{Tok, Tree, yield}
@@ -24,6 +24,8 @@ use Rattle.rules.specs.Grammar.{Program, Is}
 use Rattle.rules.specs.Parse.{no, parse}
 use Rattle.rules.specs.Calls.{tokens, nodeRoom}
 use Rattle.theory_edits.specs.Scanned.{Scanned}
+use Rattle.theory_grammar.specs.Lost.{isMisfit}
+use Rattle.theory_grammar.specs.Fitting.{ToldExactly}
 
 -- ---- texts and their programs
 
@@ -64,6 +66,8 @@ pub record RefusedRow (t : List ℕ) (why : Syntax) (row : Row) : Type 0 where
   pub stands : drop before (rowsOf t) ≡ row ∷ behind
   -- and it is there that reading order leads to the refusal
   pub reads : parse (tokensOf t) ≡ no why before
+  -- of 21, 22, 23, 25 and 30 the set that is told is exactly the kinds that would have fitted
+  pub exactly : isMisfit why ≡ true → ToldExactly (tokensOf t) why before
 
 -- ---- what a parse call is lent
 
@@ -81,28 +85,29 @@ module _ (new : List ℕ) (r : Parsed) (m : List ℕ) where
     pub told : r ≡ parsed.Nodes (size p)
     pub left : m ≡ treeWords 0 p ++ drop (8 * size p) new
 
-  -- why and where is told, and no word is touched
-  pub record Refused (why : Reason) (at : Cursor) : Type 0 where
-    pub told : r ≡ parsed.Refused why at
+  -- why and where is told, and the kind that was found (0 but for 21), and no word is touched
+  pub record Refused (why : Reason) (at : Cursor) (found : ℕ) : Type 0 where
+    pub told : r ≡ parsed.Refused why at found
     pub left : m ≡ new
 
 -- The text was t. One of six answers, each with the case in which it is given: no two of these cases hold together.
 module _ (t new : List ℕ) (r : Parsed) (m : List ℕ) where
   pub data Answer : Type 0 where
     -- 1 and 2
-    too-long : mostBytes < length t → Refused new r m (reason.Outer TextTooLong) startPlace → Answer
-    bad-byte : length t ≤ mostBytes → valid t ≡ false → Refused new r m (reason.Outer BadByte) (placeAt t (validBytes t)) → Answer
+    too-long : mostBytes < length t → Refused new r m (reason.Outer TextTooLong) startPlace 0 → Answer
+    bad-byte : length t ≤ mostBytes → valid t ≡ false → Refused new r m (reason.Outer BadByte) (placeAt t (validBytes t)) 0 → Answer
     -- 11 to 17, with which the scan ended
     ends-refused : Readable t → (why : Lexical) (at : Cursor) → readEnding (scan t) ≡ ending.Refused why at
-        → Refused new r m (reason.Lexical why) at
+        → Refused new r m (reason.Lexical why) at 0
         → Answer
     -- 5
-    few-nodes : ScansFully t → nodeRoom new < length (rowsOf t) → Refused new r m (reason.Outer NoNodeRoom) startPlace → Answer
+    few-nodes : ScansFully t → nodeRoom new < length (rowsOf t) → Refused new r m (reason.Outer NoNodeRoom) startPlace 0 → Answer
     -- the one program of the text
     accepted : ScansFully t → length (rowsOf t) ≤ nodeRoom new → (p : Tree) → ProgramOf t p → ((q : Tree) → ProgramOf t q → q ≡ p)
         → Written new r m p
         → Answer
     -- 21 to 32
     no-program : ScansFully t → length (rowsOf t) ≤ nodeRoom new → ((p : Tree) → ProgramOf t p → ⊥)
-        → (why : Syntax) (row : Row) → RefusedRow t why row → Refused new r m (reason.Syntax why) (rowPlace row)
+        → (why : Syntax) (row : Row) → RefusedRow t why row
+        → Refused new r m (reason.Syntax why) (rowPlace row) (foundTold why (row .kind))
         → Answer

@@ -1,5 +1,5 @@
--- What was read of a tree up to a row, completed by the least that closes it. Where the checks count, a map gets the fields that it lacks, a
--- `max` is shifted to 0, and of a call on no variable only its dot and name are taken.
+-- What was read of a tree up to a row, completed by the least that closes it. Where the checks count, a map gets the fields that it lacks,
+-- a `max` is shifted to 0, and of a call on no variable only its dot and name are taken.
 use mathlib.Core.Path.{_≡_, refl, sym, ap, _∙_, subst}
 use mathlib.Core.Bool.{Bool, true, false, not, _&&_, _||_, true≢false}
 use mathlib.Core.List.{List, [], _∷_, _++_, append-assoc, append-nil}
@@ -11,20 +11,19 @@ use lib.Dec.{eqb, leb}
 use lib.ListN.{length}
 use Rattle.rules.specs.declared.Syntax.{Syntax}
 use Rattle.rules.specs.declared.Syntax.the-variants.{CallOnOther}
-use Rattle.rules.specs.Kinds.{kindIn, sameBytes, KeywordKey, KeywordValue, KeywordElse, KeywordGuard, LBrace, RBrace, LParen, RParen, Semicolon, Equals, Shl, Identifier, StringLiteral, Number, Eof}
-use Rattle.rules.specs.Tree.{Tok, name, value, Tree, none, num, field, one, thenBody, seq, mapType, typed, limit, first, shifted, mapDecl, program, yield, mapTypes, mapTypeNumber, shiftBits, maxBits, typeOf, typedBy, limitOf, lacking}
+use Rattle.rules.specs.Kinds.{kindIn, sameBytes, KeywordKey, KeywordValue, KeywordElse, KeywordGuard, LBrace, RBrace, LParen, RParen, Dot, Semicolon, Equals, Shl, Identifier, StringLiteral, Number, Eof}
+use Rattle.rules.specs.Tree.{Tok, sign, Tree, num, thenBody, seq, mapType, typed, limit, first, shifted, mapDecl, yield, mapTypes, mapTypeNumber, shiftBits, maxBits, typeOf, typedBy, limitOf, lacking}
 use Rattle.rules.specs.Parse
-use Rattle.rules.specs.Parse.{Out, ok, no, P, then, isAssign, isText, most32, StmtLead, declaring, returning, branching, expression, stmtLead, nothing, whole, kindAt}
-use Rattle.rules.specs.Grammar.{Nt, Add, Chain, MapField, MapFields, Decl, Is, i-num, i-var, i-group, i-field, i-bare, i-call, i-one, i-more, i-prim, i-star, i-unary, i-mul, i-lone, i-shift, i-up, i-add, i-decl, i-ret, i-plain, i-assign, i-if, i-if-else, i-no-stmts, i-stmts, i-stmt, i-text, i-no-items, i-items, i-first, i-shifted, i-type, i-typed, i-limit, i-no-fields, i-fields, i-plain-field, i-bytes-field, i-array-field, i-no-event-fields, i-event-fields, i-unit, i-map, i-event, i-no-decls, i-decls, i-program}
-use Rattle.theory_grammar.specs.Lost.{isMisfit, isCheck, lost, LostAt, own, around, nesting}
+use Rattle.rules.specs.Parse.{Out, ok, P, then, isAssign, isText, most32, StmtLead, declaring, returning, branching, expression, stmtLead, kindAt}
+use Rattle.rules.specs.Fits.{has, setTold}
+use Rattle.rules.specs.Grammar.{Nt, Add, Shift, Mul, Unary, Basic, Args, Stmt, Stmts, Item, Items, Chain, MapField, MapFields, EventField, EventFields, Decl, Decls, Program, Is, i-num, i-var, i-group, i-field, i-bare, i-call, i-one, i-more, i-prim, i-star, i-unary, i-mul, i-lone, i-shift, i-up, i-add, i-decl, i-ret, i-plain, i-assign, i-if, i-if-else, i-no-stmts, i-stmts, i-stmt, i-text, i-no-items, i-items, i-first, i-shifted, i-type, i-typed, i-limit, i-no-fields, i-fields, i-plain-field, i-bytes-field, i-array-field, i-no-event-fields, i-event-fields, i-unit, i-map, i-event, i-no-decls, i-decls, i-program}
+use Rattle.theory_grammar.specs.Lost.{isMisfit, isCheck, lost, LostAt, own, around}
 use Rattle.theory_grammar.proofs.Laws.{here}
-use Rattle.theory_grammar.proofs.Runs.{Run, isMark, row, _▸_, All, all-any, then-all, map-all, want-all, need-all, named-all, quoted-all}
+use Rattle.theory_grammar.proofs.Runs.{Run, isMark, row, _▸_, All, all-any, then-all, map-all, want-all, end-in-all, end-all, need-all, named-all, quoted-all}
 use Rattle.theory_grammar.proofs.Sound.{BodyUnder, body-sound}
+use Rattle.theory_grammar.proofs.Grow.{heads, heads-more}
 
 -- ---- a program is one with the checks left aside, and within a deeper nesting
-
-pub aside : {b : Bool} → false ≡ true → b ≡ true
-aside e = absurd (true≢false (sym e))
 
 -- the nesting d, or where it may be one deeper (x)
 abbrev pub over : Bool → ℕ → ℕ
@@ -95,10 +94,6 @@ module _ {b : Bool} {N : Nt} {t : Tree} (x : Bool) (d d′ : ℕ) (e : d ≡ suc
   pub inside-it : Is b N (over x d) t → Is b N (suc (over x d′)) t
   inside-it h = inward x d′ (subst (λ (n : ℕ). Is b N (over x n) t) e h)
 
--- the least expression
-pub nought : {b : Bool} {d : ℕ} → Is b Add d (num 0)
-nought = i-up (i-lone (i-unary (i-prim i-num)))
-
 -- ---- what closes a map
 
 -- a chain, shifted until nothing is left of its value
@@ -134,24 +129,85 @@ i-hash = i-type (λ _. refl)
 pub i-filled : {b : Bool} {d : ℕ} {w : List ℕ} {l : Tree} → Is b MapFields d l → Is b Decl d (mapDecl w (filled l))
 unfolding typeOf typedBy limitOf maxBits lacking mapTypeNumber mapTypes kindIn sameBytes
 i-filled h =
-    i-map (i-fields (i-fields (i-fields (i-fields h i-hash) (i-typed refl refl)) (i-typed refl refl)) (i-limit i-first (λ _. refl))) (λ _. refl)
+    i-map (i-fields (i-fields (i-fields (i-fields h i-hash) (i-typed refl refl)) (i-typed refl refl)) (i-limit i-first (λ _. refl)))
+    (λ _. refl)
 
 -- ---- what was read of a tree
 
--- A tree of the nonterminal, the checks among its rules (b) and one deeper (x) or not, begins with the rows from i up to s.
-pub record Open (b x : Bool) (ts : List Tok) (N : Nt) (d i s : ℕ) : Type 0 where
+-- what stands behind a list of the nonterminal
+abbrev pub closedBy : Nt → List Tok
+closedBy Add = []
+closedBy Shift = []
+closedBy Mul = []
+closedBy Unary = []
+closedBy Basic = []
+closedBy Args = []
+closedBy Stmt = []
+closedBy Stmts = sign RBrace ∷ []
+closedBy Item = []
+closedBy Items = sign RBrace ∷ []
+closedBy Chain = []
+closedBy MapField = []
+closedBy MapFields = sign RBrace ∷ []
+closedBy EventField = []
+closedBy EventFields = sign RBrace ∷ []
+closedBy Decl = []
+closedBy Decls = sign Eof ∷ []
+closedBy Program = []
+
+-- A tree of the nonterminal, the checks among its rules (b) and one deeper (x) or not, begins with the rows from i up to s. Where it may be
+-- one deeper, a row of kind k comes next.
+pub record Open (b x : Bool) (ts : List Tok) (N : Nt) (d i s k : ℕ) : Type 0 where
   pub tree : Tree
   pub is : Is b N (over x d) tree
   pub read : List Tok
   pub rest : List Tok
   pub spells : yield tree ≡ read ++ rest
   pub run : Run ts i read s
+  pub next : x ≡ true → heads k (rest ++ closedBy N) ≡ true
 
-pub opened : {b x : Bool} {ts : List Tok} {N : Nt} {d i s : ℕ} {xs : List Tok} (t : Tree) → Is b N (over x d) t → (zs : List Tok) → yield t ≡ xs ++ zs
-    → Run ts i xs s → Open b x ts N d i s
-opened {xs = xs} t h zs e r = record { tree = t; is = h; read = xs; rest = zs; spells = e; run = r }
+pub fitting : {b x : Bool} {ts : List Tok} {N : Nt} {d i s : ℕ} {xs : List Tok} (k : ℕ) (t : Tree) → Is b N (over x d) t → (zs : List Tok)
+    → yield t ≡ xs ++ zs
+    → Run ts i xs s → heads k (zs ++ closedBy N) ≡ true → Open b x ts N d i s k
+fitting {xs = xs} k t h zs e r n = record { tree = t; is = h; read = xs; rest = zs; spells = e; run = r; next = λ _. n }
 
--- Where a refusal arises: in code, in the fields of maps and events, or around these. In code no check is told but 31, in fields never that.
+-- whatever comes next
+pub opened : {b : Bool} {ts : List Tok} {N : Nt} {d i s : ℕ} {xs : List Tok} (t : Tree) → Is b N d t → (zs : List Tok) → yield t ≡ xs ++ zs
+    → Run ts i xs s → Open b false ts N d i s 0
+opened {xs = xs} t h zs e r =
+    record { tree = t; is = h; read = xs; rest = zs; spells = e; run = r; next = λ q. absurd (true≢false (sym q)) }
+
+pub any-next : {b : Bool} {ts : List Tok} {N : Nt} {d i s k n : ℕ} → Open b false ts N d i s k → Open b false ts N d i s n
+any-next o = record {
+  tree = o .tree;
+  is = o .is;
+  read = o .read;
+  rest = o .rest;
+  spells = o .spells;
+  run = o .run;
+  next = λ q. absurd (true≢false (sym q));
+}
+
+-- what was read of a part of a tree, behind rows that were read and in front of the tokens zs, is read of the tree
+enclosed : {b x : Bool} {ts : List Tok} {M N : Nt} {d d′ i j k s : ℕ} {xs : List Tok} (F : Tree → Tree)
+    → ((u : Tree) → Is b M (over x d′) u → Is b N (over x d) (F u))
+    → (zs : List Tok) → (x ≡ true → (l : List Tok) → heads k (l ++ closedBy M) ≡ true → heads k (l ++ zs) ≡ true)
+    → ((u : Tree) → yield (F u) ≡ xs ++ (yield u ++ zs)) → Run ts i xs j → Open b x ts M d′ j s k → Open b x ts N d i s k
+enclosed {N = N} {k = k} {xs = xs} F made zs f e q o = record {
+  tree = F (o .tree);
+  is = made (o .tree) (o .is);
+  read = xs ++ o .read;
+  rest = o .rest ++ zs;
+  spells =
+      e (o .tree) ∙ ap (λ (l : List Tok). xs ++ (l ++ zs)) (o .spells) ∙ ap (λ (l : List Tok). xs ++ l)
+      (append-assoc (o .read) (o .rest) zs)
+      ∙ sym (append-assoc xs (o .read) (o .rest ++ zs));
+  run = q ▸ o .run;
+  next = λ x. heads-more k (o .rest ++ zs) (closedBy N) (f x (o .rest) (o .next x));
+}
+
+-- Where a refusal arises: in code, in the fields of maps and events, or around these. In code no check is told but 31, in fields never
+-- that.
 pub data Where : Type 0 where
   code fields top : Where
 
@@ -160,62 +216,85 @@ Arises code why = isCheck why ≡ true → why ≡ CallOnOther
 Arises fields why = why ≡ CallOnOther → ⊥
 Arises top why = Unit {0}
 
--- A refusal at row r of what was read from row i on: the row that is lost, and a tree that begins with the rows up to it. Of 31 the lost row
--- dooms (D): whatever stands behind it, there is a refusal.
+-- a kind that a refusal tells, if it tells any
+abbrev pub Due : Syntax → ℕ → Type 0
+Due why k = isMisfit why ≡ true → has (setTold why) k ≡ true
+
+-- A refusal at row r of what was read from row i on: the row that is lost, some kind that is told, and for each such kind a tree that
+-- begins with the rows up to the lost one and then one of that kind. Of 31 the lost row dooms (D): whatever stands behind it, there is a
+-- refusal.
 pub record Halt (c : Where) (D : ℕ → Type 0) (ts : List Tok) (N : Nt) (d i : ℕ) (why : Syntax) (r : ℕ) : Type 0 where
   pub row : ℕ
   pub at : LostAt ts why r row
   pub arises : Arises c why
-  pub begun : Open (isCheck why) (isMisfit why) ts N d i row
+  pub wish : ℕ
+  pub due : Due why wish
+  pub begun : (k : ℕ) → Due why k → Open (isCheck why) (isMisfit why) ts N d i row k
   pub dooms : why ≡ CallOnOther → D row
 
 module _ {ts : List Tok} {c : Where} {D D′ : ℕ → Type 0} {M N : Nt} {d d′ i : ℕ} {why : Syntax} {r : ℕ} (F : Tree → Tree)
     (made : (u : Tree) → Is (isCheck why) M (over (isMisfit why) d′) u → Is (isCheck why) N (over (isMisfit why) d) (F u))
     (doom : why ≡ CallOnOther → (s : ℕ) → D s → D′ s) where
-  -- a part of a tree, behind rows that were read and in front of some that close it
-  pub wrap : {j : ℕ} {xs : List Tok} (zs : List Tok) → ((u : Tree) → yield (F u) ≡ xs ++ (yield u ++ zs)) → Run ts i xs j → Halt c D ts M d′ j why r
+  halted : {j : ℕ} → ((k s : ℕ) → Open (isCheck why) (isMisfit why) ts M d′ j s k → Open (isCheck why) (isMisfit why) ts N d i s k)
+      → Halt c D ts M d′ j why r
       → Halt c D′ ts N d i why r
-  wrap {j} {xs} zs e q h =
-      let o : Open (isCheck why) (isMisfit why) ts M d′ j (h .row) = h .begun in
-      record {
-        row = h .row;
-        at = h .at;
-        arises = h .arises;
-        begun = opened (F (o .tree)) (made (o .tree) (o .is)) (o .rest ++ zs)
-            (e (o .tree) ∙ ap (λ (l : List Tok). xs ++ (l ++ zs)) (o .spells) ∙ ap (λ (l : List Tok). xs ++ l) (append-assoc (o .read) (o .rest) zs)
-            ∙ sym (append-assoc xs (o .read) (o .rest ++ zs)))
-            (q ▸ o .run);
-        dooms = λ x. doom x (h .row) (h .dooms x);
-      }
+  halted f h = record {
+    row = h .row;
+    at = h .at;
+    arises = h .arises;
+    wish = h .wish;
+    due = h .due;
+    begun = λ k q. f k (h .row) (h .begun k q);
+    dooms = λ x. doom x (h .row) (h .dooms x);
+  }
+
+  -- a part of a tree, behind rows that were read and in front of some that close it
+  pub wrap : {j : ℕ} {xs : List Tok} (zs : List Tok) → closedBy M ≡ [] → ((u : Tree) → yield (F u) ≡ xs ++ (yield u ++ zs)) → Run ts i xs j
+      → Halt c D ts M d′ j why r → Halt c D′ ts N d i why r
+  wrap zs z e q h =
+      halted (λ k s. enclosed F made zs (λ x l n. heads-more k l zs
+      (subst (λ (l : List Tok). heads k l ≡ true) (append-nil l) (rw z at n))) e q) h
+
+  -- a list, in front of what stands behind it
+  pub shut : {j : ℕ} {xs : List Tok} (zs : List Tok) → (isMisfit why ≡ true → closedBy M ≡ zs)
+      → ((u : Tree) → yield (F u) ≡ xs ++ (yield u ++ zs)) → Run ts i xs j
+      → Halt c D ts M d′ j why r → Halt c D′ ts N d i why r
+  shut zs z e q h = halted (λ k s. enclosed F made zs (λ x l n. subst (λ (y : List Tok). heads k (l ++ y) ≡ true) (z x) n) e q) h
 
   -- the whole of a tree, taken as another
-  pub recast : ((u : Tree) → yield (F u) ≡ yield u) → Halt c D ts M d′ i why r → Halt c D′ ts N d i why r
-  recast e h =
-      let o : Open (isCheck why) (isMisfit why) ts M d′ i (h .row) = h .begun in
-      record {
-        row = h .row;
-        at = h .at;
-        arises = h .arises;
-        begun = opened (F (o .tree)) (made (o .tree) (o .is)) (o .rest) (e (o .tree) ∙ o .spells) (o .run);
-        dooms = λ x. doom x (h .row) (h .dooms x);
+  pub recast : closedBy M ≡ closedBy N → ((u : Tree) → yield (F u) ≡ yield u) → Halt c D ts M d′ i why r → Halt c D′ ts N d i why r
+  recast z e h = halted (λ k s o. again k s o) h
+    where
+      again : (k s : ℕ) → Open (isCheck why) (isMisfit why) ts M d′ i s k → Open (isCheck why) (isMisfit why) ts N d i s k
+      again k s o = record {
+        tree = F (o .tree);
+        is = made (o .tree) (o .is);
+        read = o .read;
+        rest = o .rest;
+        spells = e (o .tree) ∙ o .spells;
+        run = o .run;
+        next = λ x. subst (λ (y : List Tok). heads k (o .rest ++ y) ≡ true) z (o .next x);
       }
 
 -- the same tree, for a wider part of the parser
-pub widen : {ts : List Tok} {c : Where} {D D′ : ℕ → Type 0} {N : Nt} {d i : ℕ} {why : Syntax} {r : ℕ} → ((s : ℕ) → D s → D′ s) → Halt c D ts N d i why r
+pub widen : {ts : List Tok} {c : Where} {D D′ : ℕ → Type 0} {N : Nt} {d i : ℕ} {why : Syntax} {r : ℕ} → ((s : ℕ) → D s → D′ s)
+    → Halt c D ts N d i why r
     → Halt c D′ ts N d i why r
-widen f h = recast (λ u. u) (λ u q. q) (λ _. f) (λ u. refl) h
+widen f h = recast (λ u. u) (λ u q. q) (λ _. f) refl (λ u. refl) h
 
 -- wherever it arises
-pub loosely : {c : Where} {D : ℕ → Type 0} {ts : List Tok} {N : Nt} {d i : ℕ} {why : Syntax} {r : ℕ} → Halt c D ts N d i why r → Halt top D ts N d i why r
-loosely h = record { row = h .row; at = h .at; arises = tt; begun = h .begun; dooms = h .dooms }
+pub loosely : {c : Where} {D : ℕ → Type 0} {ts : List Tok} {N : Nt} {d i : ℕ} {why : Syntax} {r : ℕ} → Halt c D ts N d i why r
+    → Halt top D ts N d i why r
+loosely h = record { row = h .row; at = h .at; arises = tt; wish = h .wish; due = h .due; begun = h .begun; dooms = h .dooms }
 
 -- the lost row is not in front of what was read
-pub not-before : {c : Where} {D : ℕ → Type 0} {ts : List Tok} {N : Nt} {d i : ℕ} (why : Syntax) (r : ℕ) → Halt c D ts N d i why r → i ≤ lost ts why r
+pub not-before : {c : Where} {D : ℕ → Type 0} {ts : List Tok} {N : Nt} {d i : ℕ} (why : Syntax) (r : ℕ) → Halt c D ts N d i why r
+    → i ≤ lost ts why r
 not-before {ts = ts} {i = i} why r h = go (h .at)
   where
     go : LostAt ts why r (h .row) → i ≤ lost ts why r
-    go (own e) = omega (arith, h .begun .run .next, e)
-    go (around q l o) = omega (arith, h .begun .run .next, l)
+    go (own e) = omega (arith, h .begun (h .wish) (h .due) .run .next, e)
+    go (around q l o) = omega (arith, h .begun (h .wish) (h .due) .run .next, l)
 
 -- the last part of a list of tokens, with nothing behind it
 pub last-part : (xs : List Tok) (x : Tok) (ys : List Tok) → xs ++ (x ∷ ys) ≡ (xs ++ (x ∷ [])) ++ (ys ++ [])
@@ -223,10 +302,11 @@ last-part xs x ys = rw (append-nil ys) (sym (append-assoc xs (x ∷ []) ys))
 
 -- ---- where expressions and statements start
 
--- A row in the table, or its end, and none behind a name.
+-- A row in the table, or its end, and none behind a name or a dot.
 pub record Start (ts : List Tok) (i : ℕ) : Type 0 where
   pub inside : i ≤ length ts
   pub fresh : eqb (kindAt ts (i - 1)) Identifier ≡ false
+  pub undotted : eqb (kindAt ts (i - 1)) Dot ≡ false
 
 no-name : (k : ℕ) → isMark k ≡ true → eqb k Identifier ≡ false
 no-name k b = go (eqb k Identifier) (eqb k StringLiteral) (eqb k Number) (eqb k Eof) b
@@ -235,16 +315,20 @@ no-name k b = go (eqb k Identifier) (eqb k StringLiteral) (eqb k Number) (eqb k 
     go true y z e b = absurd (true≢false (sym b))
     go false y z e b = refl
 
-pub start : (ts : List Tok) (i k : ℕ) → kindAt ts i ≡ k → isMark k ≡ true → Start ts (i + 1)
-start ts i k e b = record {
+pub start : (ts : List Tok) (i k : ℕ) → kindAt ts i ≡ k → isMark k ≡ true → eqb k Dot ≡ false → Start ts (i + 1)
+start ts i k e b n = record {
   inside = row ts i k e b .inside;
   fresh = ap (λ (n : ℕ). eqb (kindAt ts n) Identifier) (omega arith) ∙ ap (λ (x : ℕ). eqb x Identifier) e ∙ no-name k b;
+  undotted = ap (λ (n : ℕ). eqb (kindAt ts n) Dot) (omega arith) ∙ ap (λ (x : ℕ). eqb x Dot) e ∙ n;
 }
 
 module _ (ts : List Tok) where
   -- behind a semicolon
   ends-here : (t : Tree) (k : ℕ) → All (λ u j. Start ts j) (Parse.want ts Semicolon (ok t) k)
-  ends-here t k = want-all ts (λ u j. Start ts j) Semicolon (ok t) k (λ e. start ts k Semicolon e refl)
+  ends-here t k = want-all ts (λ u j. Start ts j) Semicolon (ok t) k (λ e. start ts k Semicolon e refl refl)
+
+  ends-behind : (e t : Tree) (k : ℕ) → All (λ u j. Start ts j) (Parse.end ts Semicolon e (ok t) k)
+  ends-behind e t k = end-all ts (λ u j. Start ts j) Semicolon e (ok t) k (λ q. start ts k Semicolon q refl refl)
 
   -- an answer, and then one behind which a statement may start
   then-starts : (o : Out) (f : Tree → P) → ((t : Tree) (j : ℕ) → All (λ u k. Start ts k) (f t j)) → All (λ u k. Start ts k) (then o f)
@@ -252,35 +336,39 @@ module _ (ts : List Tok) where
 
   body-end : (d o : ℕ) (l : Tree) (j : ℕ) → BodyUnder ts d o l j → Start ts j
   body-end zero o l j b = absurd b
-  body-end (suc d) o l j b = subst (Start ts) (b .next) (start ts (b .last) RBrace (b .brace) refl)
+  body-end (suc d) o l j b = subst (Start ts) (b .next) (start ts (b .last) RBrace (b .brace) refl refl)
 
   -- a body at its brace
   body-starts : (d j : ℕ) → All (λ u k. Start ts k) (Parse.need ts LBrace (Parse.body ts d) j)
   body-starts d j =
       need-all ts (λ u k. Start ts k) LBrace (Parse.body ts d) j
-      (λ e. map-all (BodyUnder ts d j) (λ u k. Start ts k) (Parse.body ts d j) (body-sound ts d j (here ts j LBrace e refl)) (λ l k b. body-end d j l k b))
+      (λ e. map-all (BodyUnder ts d j) (λ u k. Start ts k) (Parse.body ts d j) (body-sound ts d j (here ts j LBrace e refl))
+      (λ l k b. body-end d j l k b))
 
-  else-starts : (d : ℕ) (c : Bool) (w : List ℕ) (b : Tree) (k : ℕ) → Start ts k → All (λ u j. Start ts j) (Parse.elseBy ts d (Parse.body ts d) c w b k)
+  else-starts : (d : ℕ) (c : Bool) (w : List ℕ) (b : Tree) (k : ℕ) → Start ts k
+      → All (λ u j. Start ts j) (Parse.elseBy ts d (Parse.body ts d) c w b k)
   unfolding Parse.elseBy
   else-starts d true w b k s =
-      then-all (λ u j. Start ts j) (λ u j. Start ts j) (Parse.need ts LBrace (Parse.body ts d) (k + 1)) _ (body-starts d (k + 1)) (λ e r x. x)
+      then-all (λ u j. Start ts j) (λ u j. Start ts j) (Parse.need ts LBrace (Parse.body ts d) (k + 1)) _ (body-starts d (k + 1))
+      (λ e r x. x)
   else-starts d false w b k s = s
 
   assign-starts : (d : ℕ) (c : Bool) (e : Tree) (j : ℕ) → All (λ u k. Start ts k) (Parse.assignBy ts d (Parse.body ts d) c e j)
   unfolding Parse.assignBy
-  assign-starts d true e j = then-starts (Parse.expr ts d (j + 1)) _ (λ r k. ends-here _ k)
-  assign-starts d false e j = ends-here _ j
+  assign-starts d true e j = then-starts (Parse.expr ts d (j + 1)) _ (λ r k. ends-behind r _ k)
+  assign-starts d false e j = end-in-all ts (λ u k. Start ts k) _ Semicolon e _ j (λ q. start ts j Semicolon q refl refl)
 
   stmt-starts-by : (d : ℕ) (l : StmtLead) (i : ℕ) → All (λ u k. Start ts k) (Parse.stmtBy ts d (Parse.body ts d) l i)
   unfolding Parse.stmtBy Parse.bodies
   stmt-starts-by d declaring i =
       named-all ts (λ u k. Start ts k) _ (i + 1) (λ f. want-all ts (λ u k. Start ts k) Equals _ (i + 1 + 1) (λ h.
-      then-starts (Parse.expr ts d (i + 1 + 1 + 1)) _ (λ e k. ends-here _ k)))
-  stmt-starts-by d returning i = then-starts (Parse.expr ts d (i + 1)) _ (λ e k. ends-here _ k)
+      then-starts (Parse.expr ts d (i + 1 + 1 + 1)) _ (λ e k. ends-behind e _ k)))
+  stmt-starts-by d returning i = then-starts (Parse.expr ts d (i + 1)) _ (λ e k. ends-behind e _ k)
   stmt-starts-by d branching i =
       want-all ts (λ u k. Start ts k) KeywordGuard _ (i + 1) (λ e. want-all ts (λ u k. Start ts k) LParen _ (i + 1 + 1) (λ f.
       named-all ts (λ u k. Start ts k) _ (i + 1 + 1 + 1) (λ h. want-all ts (λ u k. Start ts k) RParen _ (i + 1 + 1 + 1 + 1) (λ c.
-      then-all (λ u k. Start ts k) (λ u k. Start ts k) (Parse.need ts LBrace (Parse.body ts d) (i + 1 + 1 + 1 + 1 + 1)) _ (body-starts d (i + 1 + 1 + 1 + 1 + 1))
+      then-all (λ u k. Start ts k) (λ u k. Start ts k) (Parse.need ts LBrace (Parse.body ts d) (i + 1 + 1 + 1 + 1 + 1)) _
+      (body-starts d (i + 1 + 1 + 1 + 1 + 1))
       (λ b k s. else-starts d (eqb (kindAt ts k) KeywordElse) _ (thenBody b) k s)))))
   stmt-starts-by d expression i = then-starts (Parse.expr ts d i) _ (λ e j. assign-starts d (isAssign (kindAt ts j)) e j)
 

@@ -2,7 +2,7 @@
 -- Two refusals stand far behind their row: 31, which is told behind the call's `)`, and 32 of an `if`, at its brace. A table that has the
 -- rows up to the call's `(`, or up to the `if`, is refused too, in one way or another.
 use mathlib.Core.Path.{_≡_, refl, sym, ap, _∙_, subst}
-use mathlib.Core.Bool.{Bool, true, false, not, cond, true≢false}
+use mathlib.Core.Bool.{Bool, true, false, not, cond, _&&_, true≢false}
 use mathlib.Core.List.{List, [], append-nil}
 use mathlib.Core.Logic.{_⊎_, inl, inr}
 use Prim.Native.Nat.{ℕ, zero, suc, _+_, _-_, _^_, _≤_, _<_, min}
@@ -12,14 +12,16 @@ use lib.ListN.{length, getD, take, length-take}
 use lib.Seq.{take-all, getD-take}
 use borrow.Author.Tests.{eqb-true, leb-true, leb-false, ltb-true, ltb-false, not-true, not-false}
 use Rattle.rules.specs.declared.Syntax.{Syntax}
-use Rattle.rules.specs.declared.Syntax.the-variants.{Wanted, NotType, MaxNegative, OutOfRange, ShiftCount, MapTypeUnknown, NotMapField, MapLacks, NotEventType, NotTopLevel, CallOnOther, TooDeep}
+use Rattle.rules.specs.declared.Syntax.the-variants.{NotType, MaxNegative, OutOfRange, ShiftCount, MapTypeUnknown, NotMapField, MapLacks, NotEventType, NotTopLevel, CallOnOther, TooDeep}
 use Rattle.rules.specs.Kinds.{KeywordElse, KeywordGuard, KeywordKey, KeywordValue, LBrace, RBrace, LParen, RParen, Colon, Dot, Comma, Semicolon, LBracket, RBracket, Equals, Identifier, StringLiteral, Number, Star, Shr, Shl, Eof}
-use Rattle.rules.specs.Tree.{Tok, sign, kindOf, spellingOf, bitsIn, Tree, none, num, var, group, call, bin, one, decl, ret, plain, assign, thenBody, text, typed, limit, first, shifted, plainField, arrayField, isVariable, mapTypeNumber, maxBits, typeOf, typedBy, limitOf, lacking, yield}
+use Rattle.rules.specs.Fits.{only, operands, ons, assigns, shifts, bodyThings, unitThings, eventFields, tops, mapFields, firstArguments, wrong, retold}
+use Rattle.rules.specs.Tree.{Tok, sign, kindOf, spellingOf, bitsIn, Tree, none, num, var, group, call, bin, one, decl, ret, plain, assign, thenBody, text, typed, limit, first, shifted, plainField, arrayField, isVariable, isSum, mapTypeNumber, maxBits, typeOf, typedBy, limitOf, lacking, yield}
 use Rattle.rules.specs.Nodes.{width}
 use Rattle.rules.specs.Parse
-use Rattle.rules.specs.Parse.{Out, ok, no, P, then, pick, many, isAdd, isShift, isMul, isAssign, isText, isType, isTyped, most32, Lead, number, identifier, paren, other, lead, StmtLead, declaring, returning, branching, expression, stmtLead, FieldLead, typing, keying, limiting, nothing, fieldLead, EventLead, typeLead, bytesLead, noLead, eventLead, TopLead, mapLead, unitLead, eventTop, noTop, topLead, Sort, operand, whole, tokAt, kindAt}
+use Rattle.rules.specs.Parse.{Out, ok, no, P, then, or, pick, many, isAdd, isShift, isMul, isAssign, isText, isType, isTyped, most32, Lead, number, identifier, paren, other, lead, StmtLead, declaring, returning, branching, expression, stmtLead, FieldLead, typing, keying, limiting, nothing, fieldLead, EventLead, typeLead, bytesLead, noLead, eventLead, TopLead, mapLead, unitLead, eventTop, noTop, topLead, Sort, operand, whole, tokAt, kindAt}
 use Rattle.theory_grammar.specs.Lost.{isMisfit, isCheck, lost, GoesOn}
 use Rattle.theory_grammar.proofs.Laws.{either-kind}
+use Rattle.theory_grammar.proofs.Cases.{or-no, retold-misfit, retold-check, retold-lost}
 use Rattle.theory_grammar.proofs.Leads.{LeadIs, lead-is, FieldIs, field-is}
 use Rattle.theory_grammar.proofs.Runs.{All, all-any, loop-all, valued-all}
 use Rattle.theory_grammar.proofs.Complete.{Gives, gives, checked, nested, program-given}
@@ -41,13 +43,26 @@ unfolding then
 then-dead why (ok t j) f c h = h t j
 then-dead why (no why′ r) f c h = λ e. absurd (true≢false (sym c ∙ e))
 
-want-dead : (why : Syntax) (ts : List Tok) (k : ℕ) (f : P) (i : ℕ) → Dead why (f (i + 1)) → Dead why (Parse.want ts k f i)
-unfolding Parse.want Parse.wantBy isCheck
-want-dead why ts k f i h = go (eqb (kindAt ts i) k)
+want-in-dead : (why : Syntax) (ts : List Tok) (s k : ℕ) (f : P) (i : ℕ) → Dead why (f (i + 1)) → Dead why (Parse.wantIn ts s k f i)
+unfolding Parse.wantIn Parse.wantBy isCheck
+want-in-dead why ts s k f i h = go (eqb (kindAt ts i) k)
   where
-    go : (b : Bool) → Dead why (Parse.wantBy ts b k f i)
+    go : (b : Bool) → Dead why (Parse.wantBy ts b s f i)
     go true = h
     go false = λ e. refl
+
+want-dead : (why : Syntax) (ts : List Tok) (k : ℕ) (f : P) (i : ℕ) → Dead why (f (i + 1)) → Dead why (Parse.want ts k f i)
+unfolding Parse.want
+want-dead why ts k f i h = want-in-dead why ts (only k) k f i h
+
+end-in-dead : (why : Syntax) (ts : List Tok) (s k : ℕ) (t : Tree) (f : P) (i : ℕ) → Dead why (f (i + 1)) → Dead why (Parse.endIn ts s k t f i)
+unfolding Parse.endIn
+end-in-dead why ts s k t f i h = want-in-dead why ts (Parse.onward ts t i + s) k f i h
+
+pub or-dead : (why : Syntax) (s i : ℕ) (o : Out) → Dead why o → Dead why (or s i o)
+unfolding or
+or-dead why s i (ok t j) d = d
+or-dead why s i (no why′ r) d = or-no (λ x n. isCheck why ≡ false → isCheck x ≡ false) s i why′ r (λ e. retold-check s why′ ∙ d e) d
 
 -- a call on something else than a variable is refused, whatever stands in it
 module _ (ts : List Tok) (g : Sort → P) (t : Tree) (w : List ℕ) (m : ℕ) (other : isVariable t ≡ false) where
@@ -59,16 +74,16 @@ module _ (ts : List Tok) (g : Sort → P) (t : Tree) (w : List ℕ) (m : ℕ) (o
   unfolding Parse.callBy isCheck
   call-dead true k = called-dead none (k + 1 + 1)
   call-dead false k =
-      then-dead CallOnOther (Parse.args ts g k) _ refl (λ a r. want-dead CallOnOther ts RParen (Parse.called ts t w a m) r (called-dead a (r + 1)))
+      then-dead CallOnOther (Parse.args ts g k) _ refl (λ a r. end-in-dead CallOnOther ts _ RParen a (Parse.called ts t w a m) r (called-dead a (r + 1)))
 
 -- a body where none is left
 no-body : (ts : List Tok) (w : List ℕ) (j : ℕ)
-    → Parse.bodies ts zero (Parse.body ts zero) w j ≡ pick (eqb (kindAt ts j) LBrace) (no TooDeep j) (no (Wanted LBrace (kindAt ts j)) j)
+    → Parse.bodies ts zero (Parse.body ts zero) w j ≡ pick (eqb (kindAt ts j) LBrace) (no TooDeep j) (no (wrong (only LBrace)) j)
 unfolding Parse.bodies Parse.need Parse.needBy Parse.body then
 no-body ts w j = go (eqb (kindAt ts j) LBrace)
   where
     go : (b : Bool) → then (Parse.needBy ts b LBrace (Parse.body ts zero) j) (λ b k. Parse.elseBy ts zero (Parse.body ts zero) (eqb (kindAt ts k) KeywordElse) w (thenBody b) k)
-        ≡ pick b (no TooDeep j) (no (Wanted LBrace (kindAt ts j)) j)
+        ≡ pick b (no TooDeep j) (no (wrong (only LBrace)) j)
     go true = refl
     go false = refl
 
@@ -80,7 +95,7 @@ branch-dead ts i =
     (want-dead TooDeep ts RParen _ (i + 1 + 1 + 1 + 1) (subst (Dead TooDeep) (sym (no-body ts _ (i + 1 + 1 + 1 + 1 + 1)))
     (go (eqb (kindAt ts (i + 1 + 1 + 1 + 1 + 1)) LBrace))))))
   where
-    go : (b : Bool) → Dead TooDeep (pick b (no TooDeep (i + 1 + 1 + 1 + 1 + 1)) (no (Wanted LBrace (kindAt ts (i + 1 + 1 + 1 + 1 + 1))) (i + 1 + 1 + 1 + 1 + 1)))
+    go : (b : Bool) → Dead TooDeep (pick b (no TooDeep (i + 1 + 1 + 1 + 1 + 1)) (no (wrong (only LBrace)) (i + 1 + 1 + 1 + 1 + 1)))
     go true = λ e. refl
     go false = λ e. refl
 
@@ -197,6 +212,24 @@ module _ (ts : List Tok) (n : ℕ) where
       → ((t : Tree) (j : ℕ) → m ≤ j → LocalBut L j q (f t j) (f′ t j)) → LocalBut L i q (then o f) (then o′ f′)
   then-local o o′ f f′ h k = then-known (λ t j. Unit {0}) o o′ f f′ (all-any o) h (λ t j a l. k t j l)
 
+  -- the set that is told where row q itself is refused
+  pub or-local : {i m : ℕ} (s q : ℕ) (o o′ : Out) → Local i m o o′ → Local i m (or s q o) (or s q o′)
+  unfolding or
+  or-local s q (ok t j) o′ (same l e u) = same l (ap (or s q) e) u
+  or-local s q (ok t j) o′ (behind b u) = behind b u
+  or-local s q (ok t j) o′ (both l d) = absurd d
+  or-local s q (ok t j) o′ (late p) = absurd p
+  or-local s q (no why r) o′ (same l e u) = same l (ap (or s q) e) tt
+  or-local s q (no why r) o′ (behind b u) = behind (or-no (λ x k. n ≤ lost ts x k) s q why r (omega (arith, b, retold-lost ts s why r)) b) tt
+  or-local s q (no why r) o′ (both l d) =
+      both l (or-no (λ x k. (isMisfit x ≡ false) × Dead x (or s q o′)) s q why r
+      (retold-misfit s why ∙ d .0, dead-as (retold s why) why (or s q o′) (retold-check s why) (or-dead why s q o′ (d .1))) (d .0, or-dead why s q o′ (d .1)))
+    where
+      dead-as : (x y : Syntax) (a : Out) → isCheck x ≡ isCheck y → Dead y a → Dead x a
+      dead-as x y (ok t j) e d = d
+      dead-as x y (no why r) e d = λ c. d (sym e ∙ c)
+  or-local s q (no why r) o′ (late p) = absurd p
+
   -- ---- loops
 
   module _ (test : ℕ → Bool) (step : Tree → P) (test′ : ℕ → Bool) (step′ : Tree → P)
@@ -249,22 +282,22 @@ module _ (ts : List Tok) (i : ℕ) where
       ∙ ap (λ (x : ℕ). cond (eqb x Colon) (i + 1 + 1 + 1 - 1) (i + 1 + 1 + 1)) f ∙ omega arith
 
 -- a wanted row, as a choice
-module _ (ts : List Tok) (k : ℕ) (f : P) (i : ℕ) where
-  want-pick : Parse.want ts k f i ≡ pick (eqb (kindAt ts i) k) (f (i + 1)) (no (Wanted k (kindAt ts i)) i)
-  unfolding Parse.want Parse.wantBy
+module _ (ts : List Tok) (s k : ℕ) (f : P) (i : ℕ) where
+  want-pick : Parse.wantIn ts s k f i ≡ pick (eqb (kindAt ts i) k) (f (i + 1)) (no (wrong s) i)
+  unfolding Parse.wantIn Parse.wantBy
   want-pick = go (eqb (kindAt ts i) k)
     where
-      go : (b : Bool) → Parse.wantBy ts b k f i ≡ pick b (f (i + 1)) (no (Wanted k (kindAt ts i)) i)
+      go : (b : Bool) → Parse.wantBy ts b s f i ≡ pick b (f (i + 1)) (no (wrong s) i)
       go true = refl
       go false = refl
 
-  need-pick : Parse.need ts k f i ≡ pick (eqb (kindAt ts i) k) (f i) (no (Wanted k (kindAt ts i)) i)
-  unfolding Parse.need Parse.needBy
-  need-pick = go (eqb (kindAt ts i) k)
-    where
-      go : (b : Bool) → Parse.needBy ts b k f i ≡ pick b (f i) (no (Wanted k (kindAt ts i)) i)
-      go true = refl
-      go false = refl
+need-pick : (ts : List Tok) (k : ℕ) (f : P) (i : ℕ) → Parse.need ts k f i ≡ pick (eqb (kindAt ts i) k) (f i) (no (wrong (only k)) i)
+unfolding Parse.need Parse.needBy
+need-pick ts k f i = go (eqb (kindAt ts i) k)
+  where
+    go : (b : Bool) → Parse.needBy ts b k f i ≡ pick b (f i) (no (wrong (only k)) i)
+    go true = refl
+    go false = refl
 
 -- ---- rows that open a construct where none is left
 
@@ -353,26 +386,54 @@ module _ (ts ts′ : List Tok) (n : ℕ) (agreed : Alike ts ts′ n) where
       → LocalBut ts n L i m (F (φ (tokAt ts i))) (F′ (φ (tokAt ts′ i)))
   look i m φ F F′ h = look-back i i m (omega arith) φ F F′ h
 
+  -- what goes on with a tree goes by the rows in front
+  onward-alike : (t : Tree) (i : ℕ) → i < n → Parse.onward ts t i ≡ Parse.onward ts′ t i
+  unfolding Parse.onward
+  onward-alike t i h =
+      ap (λ (x : Tok). told (eqb (kindOf x) Identifier && eqb (kindAt ts (i - 2)) Dot)) (agreed .agree (i - 1) (omega arith))
+      ∙ ap (λ (x : Tok). told (eqb (kindAt ts′ (i - 1)) Identifier && eqb (kindOf x) Dot)) (agreed .agree (i - 2) (omega arith))
+    where
+      told : Bool → ℕ
+      told b = ons + cond (isSum t) 0 shifts + cond b (only LParen) 0
+
   module _ {L : Syntax → ℕ → Type 0} where
-    -- 21, at a row of the kind x, where k is wanted
-    wanted : (k i m x : ℕ) → LocalBut ts n L i m (no (Wanted k x) i) (no (Wanted k x) i)
+    -- 21, with sets that are the same where the row is among the first n
+    wanted : (s s′ i m : ℕ) → (i < n → s ≡ s′) → LocalBut ts n L i m (no (wrong s) i) (no (wrong s′) i)
     unfolding lost
-    wanted k i m x = no-local ts n i m (Wanted k x) i (omega arith)
+    wanted s s′ i m q = go (ltb i n) refl
+      where
+        go : (c : Bool) → ltb i n ≡ c → LocalBut ts n L i m (no (wrong s) i) (no (wrong s′) i)
+        go true c = same (ltb-true i n c) (ap (λ (x : ℕ). no (wrong x) i) (q (ltb-true i n c))) tt
+        go false c = behind (ltb-false i n c) tt
 
     -- a where the row i is of kind k, and 21 where it is not
-    pick-local : (k i m : ℕ) (a a′ : Out) → (kindAt ts i ≡ k → LocalBut ts n L i m a a′)
-        → LocalBut ts n L i m (pick (eqb (kindAt ts i) k) a (no (Wanted k (kindAt ts i)) i)) (pick (eqb (kindAt ts′ i) k) a′ (no (Wanted k (kindAt ts′ i)) i))
-    pick-local k i m a a′ h =
-        look i m kindOf (λ x. pick (eqb x k) a (no (Wanted k x) i)) (λ x. pick (eqb x k) a′ (no (Wanted k x) i)) (λ x e. go (eqb x k) x refl e)
+    pick-local : (s s′ k i m : ℕ) (a a′ : Out) → (i < n → s ≡ s′) → (kindAt ts i ≡ k → LocalBut ts n L i m a a′)
+        → LocalBut ts n L i m (pick (eqb (kindAt ts i) k) a (no (wrong s) i)) (pick (eqb (kindAt ts′ i) k) a′ (no (wrong s′) i))
+    pick-local s s′ k i m a a′ q h =
+        look i m kindOf (λ x. pick (eqb x k) a (no (wrong s) i)) (λ x. pick (eqb x k) a′ (no (wrong s′) i)) (λ x e. go (eqb x k) x refl e)
       where
-        go : (b : Bool) (x : ℕ) → eqb x k ≡ b → kindAt ts i ≡ x → LocalBut ts n L i m (pick b a (no (Wanted k x) i)) (pick b a′ (no (Wanted k x) i))
-        go true x q e = h (e ∙ eqb-true x k q)
-        go false x q e = wanted k i m x
+        go : (b : Bool) (x : ℕ) → eqb x k ≡ b → kindAt ts i ≡ x → LocalBut ts n L i m (pick b a (no (wrong s) i)) (pick b a′ (no (wrong s′) i))
+        go true x y e = h (e ∙ eqb-true x k y)
+        go false x y e = wanted s s′ i m q
 
     -- a row of kind k, and what is read behind it, which may rest on that row alone
+    want-in-at : (s s′ k : ℕ) (f f′ : P) (i m : ℕ) → (i < n → s ≡ s′) → (kindAt ts i ≡ k → LocalBut ts n L i m (f (i + 1)) (f′ (i + 1)))
+        → LocalBut ts n L i m (Parse.wantIn ts s k f i) (Parse.wantIn ts′ s′ k f′ i)
+    want-in-at s s′ k f f′ i m q h =
+        along ts n (want-pick ts s k f i) (want-pick ts′ s′ k f′ i) (pick-local s s′ k i m (f (i + 1)) (f′ (i + 1)) q h)
+
     want-at : (k : ℕ) (f f′ : P) (i m : ℕ) → (kindAt ts i ≡ k → LocalBut ts n L i m (f (i + 1)) (f′ (i + 1)))
         → LocalBut ts n L i m (Parse.want ts k f i) (Parse.want ts′ k f′ i)
-    want-at k f f′ i m h = along ts n (want-pick ts k f i) (want-pick ts′ k f′ i) (pick-local k i m (f (i + 1)) (f′ (i + 1)) h)
+    unfolding Parse.want
+    want-at k f f′ i m h = want-in-at (only k) (only k) k f f′ i m (λ _. refl) h
+
+    -- the same behind an expression or arguments t
+    end-in-local : (s k : ℕ) (t : Tree) (f f′ : P) (i m : ℕ) → LocalBut ts n L (i + 1) m (f (i + 1)) (f′ (i + 1))
+        → LocalBut ts n L i m (Parse.endIn ts s k t f i) (Parse.endIn ts′ s k t f′ i)
+    unfolding Parse.endIn
+    end-in-local s k t f f′ i m h =
+        want-in-at (Parse.onward ts t i + s) (Parse.onward ts′ t i + s) k f f′ i m (λ l. ap (λ (x : ℕ). x + s) (onward-alike t i l))
+        (λ e. ease ts n (omega arith) (omega arith) h)
 
     want-known : (k : ℕ) (f f′ : P) (i m : ℕ) → (kindAt ts i ≡ k → LocalBut ts n L (i + 1) m (f (i + 1)) (f′ (i + 1)))
         → LocalBut ts n L i m (Parse.want ts k f i) (Parse.want ts′ k f′ i)
@@ -383,7 +444,7 @@ module _ (ts ts′ : List Tok) (n : ℕ) (agreed : Alike ts ts′ n) where
     want-local k f f′ i m h = want-known k f f′ i m (λ e. h)
 
     need-local : (k : ℕ) (f f′ : P) (i m : ℕ) → LocalBut ts n L i m (f i) (f′ i) → LocalBut ts n L i m (Parse.need ts k f i) (Parse.need ts′ k f′ i)
-    need-local k f f′ i m h = along ts n (need-pick ts k f i) (need-pick ts′ k f′ i) (pick-local k i m (f i) (f′ i) (λ e. h))
+    need-local k f f′ i m h = along ts n (need-pick ts k f i) (need-pick ts′ k f′ i) (pick-local (only k) (only k) k i m (f i) (f′ i) (λ _. refl) (λ e. h))
 
     -- a name, which what is read behind it may rest on alone
     named-at : (f f′ : List ℕ → P) (i m : ℕ) → ((w : List ℕ) → kindAt ts i ≡ Identifier → LocalBut ts n L i m (f w (i + 1)) (f′ w (i + 1)))
@@ -413,6 +474,17 @@ module _ (ts ts′ : List Tok) (n : ℕ) (agreed : Alike ts ts′ n) where
     want-ok : (k : ℕ) (t : Tree) (i m : ℕ) → m ≤ i + 1 → LocalBut ts n L i m (Parse.want ts k (ok t) i) (Parse.want ts′ k (ok t) i)
     want-ok k t i m h = want-local k (ok t) (ok t) i m (ok-local ts n (i + 1) m t (i + 1) (omega arith) h)
 
+    want-in-ok : (s k : ℕ) (t : Tree) (i m : ℕ) → m ≤ i + 1 → LocalBut ts n L i m (Parse.wantIn ts s k (ok t) i) (Parse.wantIn ts′ s k (ok t) i)
+    want-in-ok s k t i m h =
+        want-in-at s s k (ok t) (ok t) i m (λ _. refl) (λ e. ease ts n (omega arith) (omega arith) (ok-local ts n (i + 1) m t (i + 1) (omega arith) h))
+
+    end-in-ok : (s k : ℕ) (e t : Tree) (i m : ℕ) → m ≤ i + 1 → LocalBut ts n L i m (Parse.endIn ts s k e (ok t) i) (Parse.endIn ts′ s k e (ok t) i)
+    end-in-ok s k e t i m h = end-in-local s k e (ok t) (ok t) i m (ok-local ts n (i + 1) m t (i + 1) (omega arith) h)
+
+    end-ok : (k : ℕ) (e t : Tree) (i m : ℕ) → m ≤ i + 1 → LocalBut ts n L i m (Parse.end ts k e (ok t) i) (Parse.end ts′ k e (ok t) i)
+    unfolding Parse.end
+    end-ok k e t i m h = end-in-ok (only k) k e t i m h
+
   -- ---- expressions
 
   -- what is left open of a call whose method's name is at row m: 31, on anything but a variable
@@ -439,8 +511,8 @@ module _ (ts ts′ : List Tok) (n : ℕ) (agreed : Alike ts ts′ n) where
         look i (i + 1) spellingOf (λ w. ok (var w) (i + 1)) (λ w. ok (var w) (i + 1)) (λ w e. ok-local ts n i (i + 1) (var w) (i + 1) (omega arith) (omega arith))
     atom-by paren i f =
         then-local ts n (g whole i) (g′ whole i) _ _ (under whole i i (deep-row ts i (ap (λ (x : ℕ). eqb x LBrace) f)) (omega arith))
-        (λ t j l. want-ok RParen (group t) j (i + 1) (omega arith))
-    atom-by other i f = look i (i + 1) kindOf (λ x. no (Wanted Identifier x) i) (λ x. no (Wanted Identifier x) i) (λ x e. wanted Identifier i (i + 1) x)
+        (λ t j l. end-ok RParen t (group t) j (i + 1) (omega arith))
+    atom-by other i f = wanted operands operands i (i + 1) (λ _. refl)
 
     pub atom-local : (i : ℕ) → Local ts n i (i + 1) (Parse.atom ts g i) (Parse.atom ts′ g′ i)
     unfolding Parse.atom
@@ -458,7 +530,8 @@ module _ (ts ts′ : List Tok) (n : ℕ) (agreed : Alike ts ts′ n) where
     args-local : (o : ℕ) → o + 1 ≤ lost ts TooDeep o → Local ts n (o + 1) (o + 1) (Parse.args ts g o) (Parse.args ts′ g′ o)
     unfolding Parse.args
     args-local o h =
-        then-local ts n (g whole o) (g′ whole o) _ _ (under whole o (o + 1) h (omega arith))
+        then-local ts n (or firstArguments (o + 1) (g whole o)) (or firstArguments (o + 1) (g′ whole o)) _ _
+        (or-local ts n firstArguments (o + 1) (g whole o) (g′ whole o) (under whole o (o + 1) h (omega arith)))
         (λ t k l. ease ts n (omega arith) l (loop-local (λ x. eqb x Comma) (Parse.argStep ts g) (Parse.argStep ts′ g′) arg-step (one t) k))
 
     -- a call whose method's name is at row m, and whose parenthesis at row k
@@ -468,7 +541,7 @@ module _ (ts ts′ : List Tok) (n : ℕ) (agreed : Alike ts ts′ n) where
     call-by true t w m k q d h = ease ts n (omega arith) (omega arith) (called-local t w none m (k + 1 + 1) q (omega arith))
     call-by false t w m k q d h =
         then-local ts n (Parse.args ts g k) (Parse.args ts′ g′ k) _ _ (sure ts n (args-local k d))
-        (λ a r l. want-local RParen (Parse.called ts t w a m) (Parse.called ts′ t w a m) r q (called-local t w a m (r + 1) q (omega arith)))
+        (λ a r l. end-in-local _ RParen a (Parse.called ts t w a m) (Parse.called ts′ t w a m) r q (called-local t w a m (r + 1) q (omega arith)))
 
     open-by : (b : Bool) (t : Tree) (w : List ℕ) (m q : ℕ) → kindAt ts m ≡ Identifier → eqb (kindAt ts (m + 1)) LParen ≡ b → q ≤ m + 1
         → Local ts n (m + 1) q (Parse.openBy ts g b t w m (m + 1)) (Parse.openBy ts′ g′ b t w m (m + 1))
@@ -547,20 +620,21 @@ module _ (ts ts′ : List Tok) (n : ℕ) (agreed : Alike ts ts′ n) where
 
   -- ---- lists, up to a row of kind `stop`
 
-  pub list-local : (stop : ℕ) (p p′ : P) → ((i : ℕ) → Local ts n i (i + 1) (p i) (p′ i)) → (j : ℕ)
-      → Local ts n j j (Parse.listTo ts stop p j) (Parse.listTo ts′ stop p′ j)
-  unfolding Parse.listTo Parse.listStep
-  list-local stop p p′ s j =
-      loop-local (λ x. not (eqb x stop)) (Parse.listStep ts p) (Parse.listStep ts′ p′)
-      (λ l k b. then-local ts n (p k) (p′ k) _ _ (s k) (λ t r m. ok-local ts n r (k + 1) _ r (omega arith) m)) none j
+  pub list-local : (stop also : ℕ) (p p′ : P) → ((i : ℕ) → Local ts n i (i + 1) (p i) (p′ i)) → (j : ℕ)
+      → Local ts n j j (Parse.listTo ts stop also p j) (Parse.listTo ts′ stop also p′ j)
+  unfolding Parse.listTo Parse.listStep Parse.elseBehind
+  list-local stop also p p′ s j =
+      loop-local (λ x. not (eqb x stop)) (Parse.listStep ts also p) (Parse.listStep ts′ also p′)
+      (λ l k b. then-local ts n (or (also + Parse.elseBehind ts l) k (p k)) (or (also + Parse.elseBehind ts′ l) k (p′ k)) _ _
+      (or-local ts n (also + Parse.elseBehind ts l) k (p k) (p′ k) (s k)) (λ t r m. ok-local ts n r (k + 1) _ r (omega arith) m)) none j
 
-  braced-local : (p p′ : P) (f f′ : List ℕ → Tree → P) → ((i : ℕ) → Local ts n i (i + 1) (p i) (p′ i)) → (i : ℕ)
+  braced-local : (also : ℕ) (p p′ : P) (f f′ : List ℕ → Tree → P) → ((i : ℕ) → Local ts n i (i + 1) (p i) (p′ i)) → (i : ℕ)
       → ((w : List ℕ) (l : Tree) (k : ℕ) → i + 1 ≤ k → Local ts n k (i + 1) (f w l (k + 1)) (f′ w l (k + 1)))
-      → Local ts n i (i + 1) (Parse.braced ts p f i) (Parse.braced ts′ p′ f′ i)
+      → Local ts n i (i + 1) (Parse.braced ts also p f i) (Parse.braced ts′ also p′ f′ i)
   unfolding Parse.braced
-  braced-local p p′ f f′ s i h =
+  braced-local also p p′ f f′ s i h =
       ease ts n (omega arith) (omega arith) (named-local _ _ (i + 1) (i + 1) (λ w. want-local LBrace _ _ (i + 1 + 1) (i + 1)
-      (then-local ts n (Parse.listTo ts RBrace p (i + 1 + 1 + 1)) (Parse.listTo ts′ RBrace p′ (i + 1 + 1 + 1)) _ _ (list-local RBrace p p′ s (i + 1 + 1 + 1))
+      (then-local ts n (Parse.listTo ts RBrace also p (i + 1 + 1 + 1)) (Parse.listTo ts′ RBrace also p′ (i + 1 + 1 + 1)) _ _ (list-local RBrace also p p′ s (i + 1 + 1 + 1))
       (λ l k m. h w l k (omega arith)))))
 
   -- ---- statements, over what is read behind a brace
@@ -603,7 +677,7 @@ module _ (ts ts′ : List Tok) (n : ℕ) (agreed : Alike ts ts′ n) where
         (Parse.bodies ts′ zero (Parse.body ts′ zero) w (i + 1 + 1 + 1 + 1 + 1))
     bodies-none w =
         along ts n (no-body ts w (i + 1 + 1 + 1 + 1 + 1)) (no-body ts′ w (i + 1 + 1 + 1 + 1 + 1))
-        (pick-local LBrace (i + 1 + 1 + 1 + 1 + 1) (i + 1) _ _ (λ e. late (refl, refl, e)))
+        (pick-local (only LBrace) (only LBrace) LBrace (i + 1 + 1 + 1 + 1 + 1) (i + 1) _ _ (λ _. refl) (λ e. late (refl, refl, e)))
 
     branch-none : Local ts n i (i + 1) (Parse.stmtBy ts zero (Parse.body ts zero) branching i) (Parse.stmtBy ts′ zero (Parse.body ts′ zero) branching i)
     unfolding isMisfit
@@ -619,25 +693,25 @@ module _ (ts ts′ : List Tok) (n : ℕ) (agreed : Alike ts ts′ n) where
     assign-by : (c : Bool) (t : Tree) (j q : ℕ) → q ≤ j → Local ts n j q (Parse.assignBy ts d p c t j) (Parse.assignBy ts′ d p′ c t j)
     unfolding Parse.assignBy
     assign-by true t j q h =
-        look j q kindOf (λ x. then (Parse.expr ts d (j + 1)) (λ u k. Parse.want ts Semicolon (ok (assign x t u)) k))
-        (λ x. then (Parse.expr ts′ d (j + 1)) (λ u k. Parse.want ts′ Semicolon (ok (assign x t u)) k))
+        look j q kindOf (λ x. then (Parse.expr ts d (j + 1)) (λ u k. Parse.end ts Semicolon u (ok (assign x t u)) k))
+        (λ x. then (Parse.expr ts′ d (j + 1)) (λ u k. Parse.end ts′ Semicolon u (ok (assign x t u)) k))
         (λ x e. ease ts n (omega arith) (omega arith) (then-local ts n (Parse.expr ts d (j + 1)) (Parse.expr ts′ d (j + 1)) _ _ (expr-local d (j + 1))
-        (λ u k l. want-ok Semicolon (assign x t u) k q (omega arith))))
-    assign-by false t j q h = want-ok Semicolon (plain t) j q (omega arith)
+        (λ u k l. end-ok Semicolon u (assign x t u) k q (omega arith))))
+    assign-by false t j q h = end-in-ok (only Semicolon + assigns) Semicolon t (plain t) j q (omega arith)
 
     stmt-by : (l : StmtLead) (i : ℕ) → Local ts n i (i + 1) (Parse.stmtBy ts d p l i) (Parse.stmtBy ts′ d p′ l i)
     unfolding Parse.stmtBy
     stmt-by declaring i =
         look i (i + 1) kindOf
-        (λ x. Parse.named ts (λ w. Parse.want ts Equals (λ j. then (Parse.expr ts d j) (λ e k. Parse.want ts Semicolon (ok (decl x w e)) k))) (i + 1))
-        (λ x. Parse.named ts′ (λ w. Parse.want ts′ Equals (λ j. then (Parse.expr ts′ d j) (λ e k. Parse.want ts′ Semicolon (ok (decl x w e)) k))) (i + 1))
+        (λ x. Parse.named ts (λ w. Parse.want ts Equals (λ j. then (Parse.expr ts d j) (λ e k. Parse.end ts Semicolon e (ok (decl x w e)) k))) (i + 1))
+        (λ x. Parse.named ts′ (λ w. Parse.want ts′ Equals (λ j. then (Parse.expr ts′ d j) (λ e k. Parse.end ts′ Semicolon e (ok (decl x w e)) k))) (i + 1))
         (λ x e. ease ts n (omega arith) (omega arith) (named-local _ _ (i + 1) (i + 1) (λ w. want-local Equals _ _ (i + 1 + 1) (i + 1)
         (then-local ts n (Parse.expr ts d (i + 1 + 1 + 1)) (Parse.expr ts′ d (i + 1 + 1 + 1)) _ _ (expr-local d (i + 1 + 1 + 1))
-        (λ t k l. want-ok Semicolon (decl x w t) k (i + 1) (omega arith))))))
+        (λ t k l. end-ok Semicolon t (decl x w t) k (i + 1) (omega arith))))))
     stmt-by returning i =
         ease ts n (omega arith) (omega arith)
         (then-local ts n (Parse.expr ts d (i + 1)) (Parse.expr ts′ d (i + 1)) _ _ (expr-local d (i + 1))
-        (λ t k l. want-ok Semicolon (ret t) k (i + 1) (omega arith)))
+        (λ t k l. end-ok Semicolon t (ret t) k (i + 1) (omega arith)))
     stmt-by branching i = branch i
     stmt-by expression i =
         then-local ts n (Parse.expr ts d i) (Parse.expr ts′ d i) _ _ (expr-local d i)
@@ -654,9 +728,9 @@ module _ (ts ts′ : List Tok) (n : ℕ) (agreed : Alike ts ts′ n) where
       → (o : ℕ) → Local ts n (o + 1) (o + 1) (Parse.body ts (suc d) o) (Parse.body ts′ (suc d) o)
   unfolding Parse.body
   body-over d branch o =
-      then-local ts n (Parse.listTo ts RBrace (Parse.stmt ts d (Parse.body ts d)) (o + 1))
-      (Parse.listTo ts′ RBrace (Parse.stmt ts′ d (Parse.body ts′ d)) (o + 1)) _ _
-      (list-local RBrace (Parse.stmt ts d (Parse.body ts d)) (Parse.stmt ts′ d (Parse.body ts′ d)) (stmt-over d (Parse.body ts d) (Parse.body ts′ d) branch) (o + 1))
+      then-local ts n (Parse.listTo ts RBrace bodyThings (Parse.stmt ts d (Parse.body ts d)) (o + 1))
+      (Parse.listTo ts′ RBrace bodyThings (Parse.stmt ts′ d (Parse.body ts′ d)) (o + 1)) _ _
+      (list-local RBrace bodyThings (Parse.stmt ts d (Parse.body ts d)) (Parse.stmt ts′ d (Parse.body ts′ d)) (stmt-over d (Parse.body ts d) (Parse.body ts′ d) branch) (o + 1))
       (λ l j m. ok-local ts n j (o + 1) l (j + 1) (omega arith) (omega arith))
 
   pub branch-local : (d i : ℕ) → Local ts n i (i + 1) (Parse.stmtBy ts d (Parse.body ts d) branching i) (Parse.stmtBy ts′ d (Parse.body ts′ d) branching i)
@@ -681,7 +755,7 @@ module _ (ts ts′ : List Tok) (n : ℕ) (agreed : Alike ts ts′ n) where
 
   unit-local : (i : ℕ) → Local ts n i (i + 1) (Parse.unitAt ts i) (Parse.unitAt ts′ i)
   unfolding Parse.unitAt
-  unit-local i = braced-local (Parse.item ts) (Parse.item ts′) _ _ item-local i (λ w l k h. ok-local ts n k (i + 1) _ (k + 1) (omega arith) (omega arith))
+  unit-local i = braced-local unitThings (Parse.item ts) (Parse.item ts′) _ _ item-local i (λ w l k h. ok-local ts n k (i + 1) _ (k + 1) (omega arith) (omega arith))
 
   -- ---- maps
 
@@ -708,7 +782,7 @@ module _ (ts ts′ : List Tok) (n : ℕ) (agreed : Alike ts ts′ n) where
       (λ x e. ok-local ts n (k + 1) q (shifted x c v) (k + 1 + 1) (omega arith) h)
   count-by false c k v q h = no-local ts n (k + 1) q ShiftCount (k + 1) (omega arith)
 
-  chain-step : (c : Tree) (k : ℕ) → Local ts n k (k + 1) (Parse.chainStep ts c k) (Parse.chainStep ts′ c k)
+  pub chain-step : (c : Tree) (k : ℕ) → Local ts n k (k + 1) (Parse.chainStep ts c k) (Parse.chainStep ts′ c k)
   unfolding Parse.chainStep
   chain-step c k =
       ease ts n (omega arith) (omega arith) (valued-local _ _ (k + 1) (k + 1) (λ v. count-by (leb v 63) c k v (k + 1) (omega arith)))
@@ -724,7 +798,7 @@ module _ (ts ts′ : List Tok) (n : ℕ) (agreed : Alike ts ts′ n) where
   unfolding Parse.limitBy lost
   limit-by true b c k q l h = no-local ts n k q MaxNegative k (omega arith)
   limit-by false true c k q l h = no-local ts n k q OutOfRange (k - 1) (omega arith)
-  limit-by false false c k q l h = want-ok Semicolon (limit c) k q (omega arith)
+  limit-by false false c k q l h = want-in-ok (only Semicolon + shifts) Semicolon (limit c) k q (omega arith)
 
   field-by : (l : FieldLead) (i : ℕ) → FieldIs (kindAt ts i) l → Local ts n i (i + 1) (Parse.mapFieldBy ts l i) (Parse.mapFieldBy ts′ l i)
   unfolding Parse.mapFieldBy lost
@@ -758,7 +832,7 @@ module _ (ts ts′ : List Tok) (n : ℕ) (agreed : Alike ts ts′ n) where
   map-local : (i : ℕ) → Local ts n i (i + 1) (Parse.mapAt ts i) (Parse.mapAt ts′ i)
   unfolding Parse.mapAt
   map-local i =
-      braced-local (Parse.mapField ts) (Parse.mapField ts′) _ _ map-field-local i
+      braced-local mapFields (Parse.mapField ts) (Parse.mapField ts′) _ _ map-field-local i
       (λ w l k h. map-end (lacking (typeOf l) (typedBy KeywordKey l) (typedBy KeywordValue l) (limitOf l)) w l k (i + 1) h)
 
   -- ---- events
@@ -784,9 +858,9 @@ module _ (ts ts′ : List Tok) (n : ℕ) (agreed : Alike ts ts′ n) where
       (λ x. Parse.lengthAt ts′ (λ v. arrayField w x v) (j + 1 + 1))
       (λ x e. ease ts n (omega arith) (omega arith) (length-local _ (j + 1 + 1) q (omega arith)))
   array-by false w j q h =
-      look-back j (j + 1) q (omega arith) kindOf (λ x. Parse.want ts Semicolon (ok (plainField w x)) (j + 1))
-      (λ x. Parse.want ts′ Semicolon (ok (plainField w x)) (j + 1))
-      (λ x e. want-ok Semicolon (plainField w x) (j + 1) q (omega arith))
+      look-back j (j + 1) q (omega arith) kindOf (λ x. Parse.wantIn ts (only Semicolon + only LBracket) Semicolon (ok (plainField w x)) (j + 1))
+      (λ x. Parse.wantIn ts′ (only Semicolon + only LBracket) Semicolon (ok (plainField w x)) (j + 1))
+      (λ x e. want-in-ok (only Semicolon + only LBracket) Semicolon (plainField w x) (j + 1) q (omega arith))
 
   event-by : (l : EventLead) (w : List ℕ) (j q : ℕ) → q ≤ j → Local ts n j q (Parse.eventTypeBy ts l w j) (Parse.eventTypeBy ts′ l w j)
   unfolding Parse.eventTypeBy lost
@@ -806,7 +880,7 @@ module _ (ts ts′ : List Tok) (n : ℕ) (agreed : Alike ts ts′ n) where
 
   event-local : (i : ℕ) → Local ts n i (i + 1) (Parse.eventAt ts i) (Parse.eventAt ts′ i)
   unfolding Parse.eventAt
-  event-local i = braced-local (Parse.eventField ts) (Parse.eventField ts′) _ _ event-field-local i (λ w l k h. ok-local ts n k (i + 1) _ (k + 1) (omega arith) (omega arith))
+  event-local i = braced-local eventFields (Parse.eventField ts) (Parse.eventField ts′) _ _ event-field-local i (λ w l k h. ok-local ts n k (i + 1) _ (k + 1) (omega arith) (omega arith))
 
   -- ---- programs
 
@@ -824,7 +898,7 @@ module _ (ts ts′ : List Tok) (n : ℕ) (agreed : Alike ts ts′ n) where
   parse-local : Local ts n 0 0 (Parse.parse ts) (Parse.parse ts′)
   unfolding Parse.parse
   parse-local =
-      then-local ts n (Parse.listTo ts Eof (Parse.top ts) 0) (Parse.listTo ts′ Eof (Parse.top ts′) 0) _ _ (list-local Eof (Parse.top ts) (Parse.top ts′) top-local 0)
+      then-local ts n (Parse.listTo ts Eof tops (Parse.top ts) 0) (Parse.listTo ts′ Eof tops (Parse.top ts′) 0) _ _ (list-local Eof tops (Parse.top ts) (Parse.top ts′) top-local 0)
       (λ l j h. ok-local ts n j 0 _ (j + 1) (omega arith) (omega arith))
 
 -- ---- what is read of a table is read of one that has the rows up to its end alike
@@ -841,6 +915,10 @@ module _ (ts : List Tok) (n i m : ℕ) (o o′ : Out) (t : Tree) (j : ℕ) (e : 
   later (behind b u) = subst (Up ts n m) e u
   later (both l d) = absurd (subst (Told ts n (λ why r. (isMisfit why ≡ false) × Dead why o′)) e d)
   later (late x) = absurd (subst (Told ts n (λ why r. ⊥)) e x)
+
+pub upward : (ts : List Tok) (n i : ℕ) (o o′ : Out) → Local ts n i (i + 1) o o′ → All (λ t j. i < j) o
+upward ts n i (ok t j) o′ h = let l : i + 1 ≤ j = later ts n i (i + 1) (ok t j) o′ t j refl h in omega arith
+upward ts n i (no why r) o′ h = tt
 
 -- ---- the same first rows
 

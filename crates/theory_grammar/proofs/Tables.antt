@@ -21,10 +21,12 @@ use Rattle.rules.specs.Parse.{ok, no, tokAt, kindAt}
 use Rattle.rules.specs.Calls.{tokens, reading}
 use Rattle.rules.specs.Grammar.{Program, Is}
 use Rattle.laws.proofs.Rows.{rows-length}
-use Rattle.theory_grammar.specs.Lost.{First}
+use Rattle.theory_grammar.specs.Lost.{isMisfit, First}
+use Rattle.theory_grammar.specs.Fitting.{ToldExactly}
 use Rattle.theory_grammar.specs.Tokens.{isProper, Proper, Whole}
 use Rattle.theory_grammar.proofs.Same.{accepts-exactly}
 use Rattle.theory_grammar.proofs.Place.{refused-first}
+use Rattle.theory_grammar.proofs.Fitting.{told-exactly}
 
 -- ---- one row
 
@@ -125,3 +127,8 @@ module _ (t ws : List ℕ) (tbl : Table) (good : wellFormed ws tbl ≡ true) (fi
   pub refuses-first : (why : Syntax) (r : ℕ) → reading t ws tbl ≡ no why r → First (tokens t (rowsIn (tbl .count) ws)) why r
   unfolding reading
   refuses-first why r e = refused-first (tokens t (rowsIn (tbl .count) ws)) why r (table-whole .proper) e
+
+  -- The theorem: what is refused with 21, 22, 23, 25 or 30 tells exactly the kinds that would have fitted.
+  pub tells-exactly : (why : Syntax) (r : ℕ) → reading t ws tbl ≡ no why r → isMisfit why ≡ true → ToldExactly (tokens t (rowsIn (tbl .count) ws)) why r
+  unfolding reading
+  tells-exactly why r e m = told-exactly (tokens t (rowsIn (tbl .count) ws)) why r (table-whole .proper) e m

@@ -16,7 +16,7 @@ use Rattle.rules.specs.Grammar.{Basic, Program, Is}
 
 -- 21, 22, 23, 25 and 30: a row of another kind was wanted
 unfoldable pub isMisfit : Syntax → Bool
-isMisfit (Wanted wanted found) = true
+isMisfit (Wanted low high) = true
 isMisfit NotTopLevel = true
 isMisfit NotMapField = true
 isMisfit MapTypeUnknown = false
@@ -31,7 +31,7 @@ isMisfit TooDeep = false
 
 -- 24, 26 to 29 and 31: what is checked beside the grammar (`Grammar.Is`, strict). 32 is neither: the nesting.
 unfoldable pub isCheck : Syntax → Bool
-isCheck (Wanted wanted found) = false
+isCheck (Wanted low high) = false
 isCheck NotTopLevel = false
 isCheck NotMapField = false
 isCheck MapTypeUnknown = true
@@ -53,7 +53,7 @@ isCheck TooDeep = false
 -- for 31 the parenthesis behind the method's name,
 -- for 32 of a body's brace the `if`, five rows before it, and of an argument list (its parenthesis stands behind a name) the row that is no `)`.
 unfoldable pub lost : List Tok → Syntax → ℕ → ℕ
-lost ts (Wanted wanted found) r = r
+lost ts (Wanted low high) r = r
 lost ts NotTopLevel r = r
 lost ts NotMapField r = r
 lost ts MapTypeUnknown r = r - 1
