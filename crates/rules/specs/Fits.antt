@@ -4,7 +4,7 @@ use Prim.Native.Nat.{ℕ, _+_, _*_, _/_, _%_, _^_}
 use lib.Dec.{eqb}
 use Rattle.rules.specs.declared.Syntax.{Syntax}
 use Rattle.rules.specs.declared.Syntax.the-variants.{Wanted, NotTopLevel, NotMapField, MapTypeUnknown, NotType, MaxNegative, OutOfRange, ShiftCount, MapLacks, NotEventType, CallOnOther, TooDeep}
-use Rattle.rules.specs.Kinds.{TypeU32, TypeU64, TypeI32, TypeI64, KeywordUnit, KeywordSection, KeywordLicense, KeywordReturn, KeywordReg, KeywordImm, KeywordMap, KeywordType, KeywordKey, KeywordValue, KeywordMax, KeywordIf, KeywordElse, KeywordHeap, KeywordEvent, RBrace, LParen, Dot, Equals, PlusEquals, Plus, Minus, Star, Slash, Percent, Shr, Shl, Identifier, Number, KeywordBytes, Eof}
+use Rattle.rules.specs.Kinds.{TypeU32, TypeU64, TypeI32, TypeI64, KeywordUnit, KeywordSection, KeywordLicense, KeywordReturn, KeywordReg, KeywordImm, KeywordMap, KeywordType, KeywordKey, KeywordValue, KeywordMax, KeywordIf, KeywordElse, KeywordHeap, KeywordEvent, RBrace, LParen, RParen, Dot, Equals, PlusEquals, Plus, Minus, Star, Slash, Percent, Shr, Shl, Identifier, Number, KeywordBytes, Eof}
 
 -- the set of one kind, and whether a kind is in a set
 abbrev pub only : ℕ → ℕ
@@ -37,13 +37,29 @@ shifts = only Shr + only Shl
 abbrev pub assigns : ℕ
 assigns = only Equals + only PlusEquals
 
--- 22, 23, 25 and 30
+-- a call's first argument, or `)`
+abbrev pub firstArguments : ℕ
+firstArguments = operands + only RParen
+
+-- ---- lists: what begins a thing of theirs, or ends them
+
+abbrev pub bodyThings : ℕ
+bodyThings = operands + statements + only RBrace
+
+abbrev pub unitThings : ℕ
+unitThings = bodyThings + texts
+
+abbrev pub eventFields : ℕ
+eventFields = only Identifier + only RBrace
+
+-- 22 and 23
 abbrev pub tops : ℕ
 tops = only KeywordUnit + only KeywordMap + only KeywordEvent + only Eof
 
 abbrev pub mapFields : ℕ
 mapFields = only KeywordType + only KeywordKey + only KeywordValue + only KeywordMax + only RBrace
 
+-- 25 and 30
 abbrev pub types : ℕ
 types = only TypeU32 + only TypeU64 + only TypeI32 + only TypeI64
 
@@ -71,17 +87,17 @@ setTold NotEventType = eventTypes
 setTold CallOnOther = 0
 setTold TooDeep = 0
 
--- 21 with so many kinds more; any other refusal as it is
-unfoldable pub widened : ℕ → Syntax → Syntax
-widened s (Wanted low high) = wrong (high * 2 ^ 32 + low + s)
-widened s NotTopLevel = NotTopLevel
-widened s NotMapField = NotMapField
-widened s MapTypeUnknown = MapTypeUnknown
-widened s NotType = NotType
-widened s MaxNegative = MaxNegative
-widened s OutOfRange = OutOfRange
-widened s ShiftCount = ShiftCount
-widened s (MapLacks field) = MapLacks field
-widened s NotEventType = NotEventType
-widened s CallOnOther = CallOnOther
-widened s TooDeep = TooDeep
+-- 21 with another set; any other refusal as it is
+unfoldable pub retold : ℕ → Syntax → Syntax
+retold s (Wanted low high) = wrong s
+retold s NotTopLevel = NotTopLevel
+retold s NotMapField = NotMapField
+retold s MapTypeUnknown = MapTypeUnknown
+retold s NotType = NotType
+retold s MaxNegative = MaxNegative
+retold s OutOfRange = OutOfRange
+retold s ShiftCount = ShiftCount
+retold s (MapLacks field) = MapLacks field
+retold s NotEventType = NotEventType
+retold s CallOnOther = CallOnOther
+retold s TooDeep = TooDeep

@@ -9,7 +9,7 @@ use Rattle.rules.specs.declared.Syntax.{Syntax}
 use Rattle.rules.specs.declared.Syntax.the-variants.{NotTopLevel, NotMapField, MapTypeUnknown, NotType, MaxNegative, OutOfRange, ShiftCount, MapLacks, NotEventType, CallOnOther, TooDeep}
 use Rattle.rules.specs.Text.{within}
 use Rattle.rules.specs.Kinds.{TypeU32, TypeI64, KeywordUnit, KeywordSection, KeywordLicense, KeywordReturn, KeywordReg, KeywordImm, KeywordMap, KeywordType, KeywordKey, KeywordValue, KeywordMax, KeywordIf, KeywordElse, KeywordGuard, KeywordHeap, KeywordEvent, LBrace, RBrace, LParen, RParen, Colon, Dot, Comma, Semicolon, LBracket, RBracket, Equals, PlusEquals, Plus, Minus, Star, Slash, Percent, Shr, Shl, Identifier, StringLiteral, Number, KeywordBytes, Eof}
-use Rattle.rules.specs.Fits.{only, operands, statements, texts, ons, shifts, assigns, wrong, widened}
+use Rattle.rules.specs.Fits.{only, operands, ons, shifts, assigns, firstArguments, bodyThings, unitThings, eventFields, tops, mapFields, wrong, retold}
 use Rattle.rules.specs.Tree.{Tok, sign, kindOf, spellingOf, bitsIn, Tree, none, num, var, star, group, field, call, bin, one, more, decl, ret, plain, assign, guard, thenBody, elseBody, seq, text, unit, mapType, typed, limit, first, shifted, mapDecl, plainField, bytesField, arrayField, event, program, isVariable, isSum, hangs, mapTypeNumber, maxBits, typeOf, typedBy, limitOf, lacking}
 
 pub data Out : Type 0 where
@@ -28,10 +28,10 @@ abbrev pub pick : Bool → Out → Out → Out
 pick true x y = x
 pick false x y = y
 
--- what else would have fitted at row i, told where that row itself is refused
+-- where row i itself is refused with 21, the set s is told
 unfoldable pub or : ℕ → ℕ → Out → Out
 or s i (ok t j) = ok t j
-or s i (no why r) = no (cond (eqb r i) (widened s why) why) r
+or s i (no why r) = no (cond (eqb r i) (retold s why) why) r
 
 -- while the test holds at the row, a step
 unfoldable pub many : (ℕ → Bool) → (Tree → P) → ℕ → Bool → Tree → P
@@ -160,12 +160,12 @@ module _ (ts : List Tok) where
   unfoldable pub elseBehind : Tree → ℕ
   elseBehind l = cond (hangs l) (only KeywordElse) 0
 
-  -- Things up to a row of a kind, which is not taken. In place of a thing's first row that kind would have fitted, what else begins a thing, and `else`.
+  -- Things up to a row of a kind, which is not taken. In place of a thing's first row the set s would have fitted, and maybe `else`.
   unfoldable pub listStep : ℕ → P → Tree → P
   listStep s p l j = then (or (s + elseBehind l) j (p j)) (λ t k. ok (seq l t) k)
 
   unfoldable pub listTo : ℕ → ℕ → P → P
-  listTo stop s p j = loop (λ r. not (eqb (kindAt r) stop)) (listStep (only stop + s) p) none j
+  listTo stop s p j = loop (λ r. not (eqb (kindAt r) stop)) (listStep s p) none j
 
   -- name `{` contents `}`, behind the row at i
   unfoldable pub braced : ℕ → P → (List ℕ → Tree → P) → P
@@ -208,7 +208,7 @@ module _ (ts : List Tok) where
 
     -- arguments behind the parenthesis at row j; in place of the first one's first row `)` would have fitted
     unfoldable pub args : P
-    args j = then (or (only RParen) (j + 1) (g whole j)) (λ t k. loop (λ r. eqb (kindAt r) Comma) argStep (one t) k)
+    args j = then (or firstArguments (j + 1) (g whole j)) (λ t k. loop (λ r. eqb (kindAt r) Comma) argStep (one t) k)
 
     -- the parenthesis of a call is at row k: is the next one `)`?
     unfoldable pub callBy : Bool → Tree → List ℕ → ℕ → P
@@ -284,7 +284,7 @@ module _ (ts : List Tok) where
   -- the statements of the body whose brace is at row o
   unfoldable pub body : ℕ → P
   body zero o = no TooDeep o
-  body (suc d) o = then (listTo RBrace statements (stmt d (body d)) (o + 1)) (λ l j. ok l (j + 1))
+  body (suc d) o = then (listTo RBrace bodyThings (stmt d (body d)) (o + 1)) (λ l j. ok l (j + 1))
 
   -- ---- units
 
@@ -296,7 +296,7 @@ module _ (ts : List Tok) where
   item i = itemBy (isText (kindAt i)) i
 
   unfoldable pub unitAt : P
-  unitAt i = braced (statements + texts) item (λ w l k. ok (unit w l) k) i
+  unitAt i = braced unitThings item (λ w l k. ok (unit w l) k) i
 
   -- ---- maps
 
@@ -343,7 +343,7 @@ module _ (ts : List Tok) where
 
   unfoldable pub mapAt : P
   mapAt i =
-      braced 0 mapField (λ w l k. mapEnd (lacking (typeOf l) (typedBy KeywordKey l) (typedBy KeywordValue l) (limitOf l)) w l k) i
+      braced mapFields mapField (λ w l k. mapEnd (lacking (typeOf l) (typedBy KeywordKey l) (typedBy KeywordValue l) (limitOf l)) w l k) i
 
   -- ---- events
 
@@ -368,7 +368,7 @@ module _ (ts : List Tok) where
   eventField i = named (λ w. want Colon (λ j. eventTypeBy (eventLead (kindAt j)) w j)) i
 
   unfoldable pub eventAt : P
-  eventAt i = braced 0 eventField (λ w l k. ok (event w l) k) i
+  eventAt i = braced eventFields eventField (λ w l k. ok (event w l) k) i
 
   -- ---- program
 
@@ -382,4 +382,4 @@ module _ (ts : List Tok) where
   top i = topBy (topLead (kindAt i)) i
 
   unfoldable pub parse : Out
-  parse = then (listTo Eof 0 top 0) (λ l j. ok (program l) (j + 1))
+  parse = then (listTo Eof tops top 0) (λ l j. ok (program l) (j + 1))

@@ -9,9 +9,10 @@ use Rattle.rules.specs.declared.Ending.the-variants as ending
 use Rattle.rules.specs.Text
 use Rattle.rules.specs.Text.{bytes}
 use Rattle.rules.specs.Kinds
-use Rattle.rules.specs.Refusals.{lexicalNumber, syntaxNumber, firstTold, secondTold}
+use Rattle.rules.specs.Fits
+use Rattle.rules.specs.Refusals.{lexicalNumber, syntaxNumber, firstTold, secondTold, foundTold}
 use Rattle.rules.specs.Rows
-use Rattle.rules.specs.Rows.{Row, rowWords, rowPlace, wordsOf}
+use Rattle.rules.specs.Rows.{Row, rowNo, rowWords, rowPlace, wordsOf}
 use Rattle.rules.specs.Lex
 use Rattle.rules.specs.Scan
 use Rattle.rules.specs.Scan.{scan, readRows, readEnding}
@@ -37,7 +38,8 @@ placeWords p more = p .offset .0 ∷ p .line .0 ∷ p .column .0 ∷ more
 pub refusalOf : List ℕ → Ending → Out → List ℕ
 refusalOf ws (ending.Refused why p) o = lexicalNumber why ∷ placeWords p []
 refusalOf ws ending.None (ok t j) = []
-refusalOf ws ending.None (no why r) = syntaxNumber why ∷ placeWords (placeOfRow ws r) (firstTold why ∷ secondTold why ∷ [])
+refusalOf ws ending.None (no why r) =
+    syntaxNumber why ∷ placeWords (placeOfRow ws r) (firstTold why ∷ secondTold why ∷ foundTold why (rowNo ws r .kind) ∷ [])
 
 pub treeOf : Ending → Out → List (List ℕ)
 treeOf (ending.Refused why p) o = []
@@ -105,7 +107,7 @@ cases =
           (32 ∷ 17 ∷ 18 ∷ 1 ∷ 18 ∷ 0 ∷ 0 ∷ 0 ∷ []) ∷
           (26 ∷ 18 ∷ 19 ∷ 1 ∷ 19 ∷ 0 ∷ 0 ∷ 0 ∷ []) ∷
           (52 ∷ 19 ∷ 19 ∷ 1 ∷ 20 ∷ 0 ∷ 0 ∷ 0 ∷ []) ∷ [];
-      refusal = 21 ∷ 13 ∷ 1 ∷ 14 ∷ 32 ∷ 47 ∷ [];
+      refusal = 21 ∷ 13 ∷ 1 ∷ 14 ∷ 0x40000000 ∷ 0x3E19 ∷ 47 ∷ [];
       nodes = [];
     }
     -- [P] `x -1;` 21
@@ -120,7 +122,7 @@ cases =
           (32 ∷ 11 ∷ 12 ∷ 1 ∷ 12 ∷ 0 ∷ 0 ∷ 0 ∷ []) ∷
           (26 ∷ 12 ∷ 13 ∷ 1 ∷ 13 ∷ 0 ∷ 0 ∷ 0 ∷ []) ∷
           (52 ∷ 13 ∷ 13 ∷ 1 ∷ 14 ∷ 0 ∷ 0 ∷ 0 ∷ []) ∷ [];
-      refusal = 21 ∷ 9 ∷ 1 ∷ 10 ∷ 32 ∷ 50 ∷ [];
+      refusal = 21 ∷ 9 ∷ 1 ∷ 10 ∷ 0x40000000 ∷ 0xFE19 ∷ 50 ∷ [];
       nodes = [];
     }
     -- `a--1` is a minus -1
@@ -201,7 +203,7 @@ cases =
           (50 ∷ 0 ∷ 1 ∷ 1 ∷ 1 ∷ 0 ∷ 0 ∷ 0 ∷ []) ∷
           (48 ∷ 1 ∷ 4 ∷ 1 ∷ 2 ∷ 0 ∷ 0 ∷ 0 ∷ []) ∷
           (52 ∷ 4 ∷ 4 ∷ 1 ∷ 5 ∷ 0 ∷ 0 ∷ 0 ∷ []) ∷ [];
-      refusal = 22 ∷ 0 ∷ 1 ∷ 1 ∷ 0 ∷ 0 ∷ [];
+      refusal = 22 ∷ 0 ∷ 1 ∷ 1 ∷ 0x8041 ∷ 0x100000 ∷ 0 ∷ [];
       nodes = [];
     }
     -- [P] `/*/` 12 at 2
@@ -217,7 +219,7 @@ cases =
       rows =
           (50 ∷ 0 ∷ 19 ∷ 1 ∷ 1 ∷ 4294967295 ∷ 2147483647 ∷ 0 ∷ []) ∷
           (52 ∷ 19 ∷ 19 ∷ 1 ∷ 20 ∷ 0 ∷ 0 ∷ 0 ∷ []) ∷ [];
-      refusal = 22 ∷ 0 ∷ 1 ∷ 1 ∷ 0 ∷ 0 ∷ [];
+      refusal = 22 ∷ 0 ∷ 1 ∷ 1 ∷ 0x8041 ∷ 0x100000 ∷ 0 ∷ [];
       nodes = [];
     }
     -- [P] with `-` before ..808 still 15
@@ -286,7 +288,7 @@ cases =
           (32 ∷ 46 ∷ 47 ∷ 1 ∷ 47 ∷ 0 ∷ 0 ∷ 0 ∷ []) ∷
           (26 ∷ 47 ∷ 48 ∷ 1 ∷ 48 ∷ 0 ∷ 0 ∷ 0 ∷ []) ∷
           (52 ∷ 48 ∷ 48 ∷ 1 ∷ 49 ∷ 0 ∷ 0 ∷ 0 ∷ []) ∷ [];
-      refusal = 27 ∷ 44 ∷ 1 ∷ 45 ∷ 0 ∷ 0 ∷ [];
+      refusal = 27 ∷ 44 ∷ 1 ∷ 45 ∷ 0 ∷ 0 ∷ 0 ∷ [];
       nodes = [];
     }
     -- max: `1 << 63` 26, at the row after the expression
@@ -317,7 +319,7 @@ cases =
           (32 ∷ 46 ∷ 47 ∷ 1 ∷ 47 ∷ 0 ∷ 0 ∷ 0 ∷ []) ∷
           (26 ∷ 47 ∷ 48 ∷ 1 ∷ 48 ∷ 0 ∷ 0 ∷ 0 ∷ []) ∷
           (52 ∷ 48 ∷ 48 ∷ 1 ∷ 49 ∷ 0 ∷ 0 ∷ 0 ∷ []) ∷ [];
-      refusal = 26 ∷ 46 ∷ 1 ∷ 47 ∷ 0 ∷ 0 ∷ [];
+      refusal = 26 ∷ 46 ∷ 1 ∷ 47 ∷ 0 ∷ 0 ∷ 0 ∷ [];
       nodes = [];
     }
     -- max: `1 << 64` 28, at the count
@@ -348,7 +350,7 @@ cases =
           (32 ∷ 46 ∷ 47 ∷ 1 ∷ 47 ∷ 0 ∷ 0 ∷ 0 ∷ []) ∷
           (26 ∷ 47 ∷ 48 ∷ 1 ∷ 48 ∷ 0 ∷ 0 ∷ 0 ∷ []) ∷
           (52 ∷ 48 ∷ 48 ∷ 1 ∷ 49 ∷ 0 ∷ 0 ∷ 0 ∷ []) ∷ [];
-      refusal = 28 ∷ 44 ∷ 1 ∷ 45 ∷ 0 ∷ 0 ∷ [];
+      refusal = 28 ∷ 44 ∷ 1 ∷ 45 ∷ 0 ∷ 0 ∷ 0 ∷ [];
       nodes = [];
     }
     -- `(x).m()` is fine
@@ -393,7 +395,7 @@ cases =
           (32 ∷ 14 ∷ 15 ∷ 1 ∷ 15 ∷ 0 ∷ 0 ∷ 0 ∷ []) ∷
           (26 ∷ 15 ∷ 16 ∷ 1 ∷ 16 ∷ 0 ∷ 0 ∷ 0 ∷ []) ∷
           (52 ∷ 16 ∷ 16 ∷ 1 ∷ 17 ∷ 0 ∷ 0 ∷ 0 ∷ []) ∷ [];
-      refusal = 31 ∷ 11 ∷ 1 ∷ 12 ∷ 0 ∷ 0 ∷ [];
+      refusal = 31 ∷ 11 ∷ 1 ∷ 12 ∷ 0 ∷ 0 ∷ 0 ∷ [];
       nodes = [];
     }
     -- the lister's text
@@ -488,11 +490,11 @@ cases =
       rows =
           (49 ∷ 0 ∷ 4 ∷ 1 ∷ 1 ∷ 0 ∷ 0 ∷ 0 ∷ []) ∷
           (52 ∷ 4 ∷ 4 ∷ 1 ∷ 5 ∷ 0 ∷ 0 ∷ 0 ∷ []) ∷ [];
-      refusal = 22 ∷ 0 ∷ 1 ∷ 1 ∷ 0 ∷ 0 ∷ [];
+      refusal = 22 ∷ 0 ∷ 1 ∷ 1 ∷ 0x8041 ∷ 0x100000 ∷ 0 ∷ [];
       nodes = [];
     }
     ∷ []
 
 pub right : map (λ (c : Case). answer (c .text)) cases ≡ cases
-unfolding placeWords refusalOf treeOf answer Text.front Text.utf8 Text.met Text.lineIn Text.charAt Text.isCut Text.validFrom Text.validBytes Text.valid Text.cutBytes Text.isBlank Text.newlines Text.lineAt Text.columnAt Text.placeAt Text.textJudged Text.moved Text.over Text.along Kinds.isMade Kinds.reserved Kinds.signs Kinds.sameBytes Kinds.kindIn Kinds.lengthIn Rows.rowWords Rows.rowIn Rows.rowsIn Rows.wordsOf Rows.bitsOf Rows.valueBits Rows.rowAt Rows.eofRow Rows.rowPlace Rows.every Rows.chained Rows.lengthFits Rows.spansFit Rows.valueFits Rows.placeFits Rows.linesFit Rows.rowFits Rows.follows Rows.lastRow Rows.endsBehind Rows.isEof Rows.eofLast Rows.endingFits Rows.rowsFit Rows.wellFormed Rows.spelling Lex.lineComment Lex.beforeClose Lex.blockComment Lex.isDigit Lex.isLetter Lex.isWord Lex.word Lex.isHexDigit Lex.digitValue Lex.spelt Lex.numberOf Lex.decimal Lex.hex Lex.number Lex.isEscape Lex.string Lex.maybeTwo Lex.single Lex.sign Lex.slashed Lex.dashed Lex.beginning Lex.piece Lex.decidedAt Lex.item Scan.readRows Scan.readEnding Scan.read Scan.scan Scan.roomOf Scan.told Scan.laid Scan.scanTold Scan.scanLeaves Sets.sections Sets.fits Sets.kindOfSection Sets.fromSection Sets.allowed Sets.member Sets.allows Sets.setSize Tree.kindOf Tree.spellingOf Tree.bitsIn Tree.tokOf Tree.yield Tree.isVariable Tree.count Tree.sectionsOf Tree.content Tree.sectionText Tree.kindOfFirst Tree.unitKind Tree.mapTypes Tree.mapTypeNumber Tree.shiftRight Tree.shiftBits Tree.maxBits Tree.typeOf Tree.typedBy Tree.limitOf Tree.lacking Nodes.width Nodes.placeOf Nodes.licenceRow Nodes.binaryNode Nodes.declNode Nodes.assignNode Nodes.textNode Nodes.nodesOf Nodes.size Nodes.nodeWords Nodes.wordsOfNodes Nodes.treeWords Parse.then Parse.many Parse.lead Parse.stmtLead Parse.fieldLead Parse.eventLead Parse.topLead Parse.wantBy Parse.want Parse.needBy Parse.need Parse.named Parse.quoted Parse.valued Parse.loop Parse.listStep Parse.listTo Parse.braced Parse.called Parse.atomBy Parse.atom Parse.argStep Parse.args Parse.callBy Parse.openBy Parse.post Parse.prim Parse.unaryBy Parse.unary Parse.binStep Parse.mul Parse.shift Parse.add Parse.inner Parse.expr Parse.elseBy Parse.assignBy Parse.bodies Parse.stmtBy Parse.stmt Parse.body Parse.itemBy Parse.item Parse.unitAt Parse.typeBy Parse.keyBy Parse.countBy Parse.chainStep Parse.chain Parse.limitBy Parse.mapFieldBy Parse.mapField Parse.mapEnd Parse.mapAt Parse.lengthBy Parse.lengthAt Parse.arrayBy Parse.eventTypeBy Parse.eventField Parse.eventAt Parse.topBy Parse.top Parse.parse Calls.judged Calls.spellingJudged Calls.spellingPart Calls.memberAsked Calls.sizeAsked Calls.tokens Calls.placeOfRow Calls.nodeRoom Calls.outTold Calls.outLeaves Calls.reading Calls.endingTold Calls.endingLeaves Calls.parseTold Calls.parseLeaves
+unfolding placeWords refusalOf treeOf answer Text.front Text.utf8 Text.met Text.lineIn Text.charAt Text.isCut Text.validFrom Text.validBytes Text.valid Text.cutBytes Text.isBlank Text.newlines Text.lineAt Text.columnAt Text.placeAt Text.textJudged Text.moved Text.over Text.along Kinds.isMade Kinds.reserved Kinds.signs Kinds.sameBytes Kinds.kindIn Kinds.lengthIn Rows.rowWords Rows.rowIn Rows.rowsIn Rows.wordsOf Rows.bitsOf Rows.valueBits Rows.rowAt Rows.eofRow Rows.rowPlace Rows.every Rows.chained Rows.lengthFits Rows.spansFit Rows.valueFits Rows.placeFits Rows.linesFit Rows.rowFits Rows.follows Rows.lastRow Rows.endsBehind Rows.isEof Rows.eofLast Rows.endingFits Rows.rowsFit Rows.wellFormed Rows.spelling Lex.lineComment Lex.beforeClose Lex.blockComment Lex.isDigit Lex.isLetter Lex.isWord Lex.word Lex.isHexDigit Lex.digitValue Lex.spelt Lex.numberOf Lex.decimal Lex.hex Lex.number Lex.isEscape Lex.string Lex.maybeTwo Lex.single Lex.sign Lex.slashed Lex.dashed Lex.beginning Lex.piece Lex.decidedAt Lex.item Scan.readRows Scan.readEnding Scan.read Scan.scan Scan.roomOf Scan.told Scan.laid Scan.scanTold Scan.scanLeaves Sets.sections Sets.fits Sets.kindOfSection Sets.fromSection Sets.allowed Sets.member Sets.allows Sets.setSize Tree.kindOf Tree.spellingOf Tree.bitsIn Tree.tokOf Tree.yield Tree.isVariable Tree.isSum Tree.hangs Tree.count Tree.sectionsOf Tree.content Tree.sectionText Tree.kindOfFirst Tree.unitKind Tree.mapTypes Tree.mapTypeNumber Tree.shiftRight Tree.shiftBits Tree.maxBits Tree.typeOf Tree.typedBy Tree.limitOf Tree.lacking Nodes.width Nodes.placeOf Nodes.licenceRow Nodes.binaryNode Nodes.declNode Nodes.assignNode Nodes.textNode Nodes.nodesOf Nodes.size Nodes.nodeWords Nodes.wordsOfNodes Nodes.treeWords Fits.has Fits.setTold Fits.retold Parse.then Parse.or Parse.many Parse.lead Parse.stmtLead Parse.fieldLead Parse.eventLead Parse.topLead Parse.wantBy Parse.wantIn Parse.want Parse.needBy Parse.need Parse.named Parse.quoted Parse.valued Parse.loop Parse.elseBehind Parse.listStep Parse.listTo Parse.braced Parse.onward Parse.endIn Parse.end Parse.called Parse.atomBy Parse.atom Parse.argStep Parse.args Parse.callBy Parse.openBy Parse.post Parse.prim Parse.unaryBy Parse.unary Parse.binStep Parse.mul Parse.shift Parse.add Parse.inner Parse.expr Parse.elseBy Parse.assignBy Parse.bodies Parse.stmtBy Parse.stmt Parse.body Parse.itemBy Parse.item Parse.unitAt Parse.typeBy Parse.keyBy Parse.countBy Parse.chainStep Parse.chain Parse.limitBy Parse.mapFieldBy Parse.mapField Parse.mapEnd Parse.mapAt Parse.lengthBy Parse.lengthAt Parse.arrayBy Parse.eventTypeBy Parse.eventField Parse.eventAt Parse.topBy Parse.top Parse.parse Calls.judged Calls.spellingJudged Calls.spellingPart Calls.memberAsked Calls.sizeAsked Calls.tokens Calls.placeOfRow Calls.nodeRoom Calls.outTold Calls.outLeaves Calls.reading Calls.endingTold Calls.endingLeaves Calls.parseTold Calls.parseLeaves
 right = refl

@@ -8,9 +8,10 @@ use lib.Dec.{eqb, ltb}
 use lib.ListN.{length, drop, length-append}
 use borrow.Author.Tests.{eqb-true, ltb-true, ltb-false}
 use Rattle.rules.specs.Kinds.{Identifier, StringLiteral, Number, Eof}
+use Rattle.rules.specs.Fits.{only}
 use Rattle.rules.specs.Tree.{Tok, sign, name, string, value, kindOf, spellingOf, bitsIn, Tree}
 use Rattle.rules.specs.Parse
-use Rattle.rules.specs.Parse.{Out, ok, no, P, then, many, tokAt, kindAt}
+use Rattle.rules.specs.Parse.{Out, ok, no, P, then, or, many, tokAt, kindAt}
 use Rattle.theory_grammar.specs.Tokens.{isSign, isProper, Proper}
 use Rattle.theory_grammar.proofs.Laws.{here, from}
 
@@ -138,6 +139,11 @@ module _ (C D : Tree → ℕ → Type 0) where
   map-all (ok t j) h k = k t j h
   map-all (no why r) h k = tt
 
+pub or-all : (C : Tree → ℕ → Type 0) (s i : ℕ) (o : Out) → All C o → All C (or s i o)
+unfolding or
+or-all C s i (ok t j) h = h
+or-all C s i (no why r) h = tt
+
 pub many-all : (C : Tree → ℕ → Type 0) (test : ℕ → Bool) (step : Tree → P) → ((t : Tree) (j : ℕ) → C t j → test j ≡ true → All C (step t j))
     → (f : ℕ) (b : Bool) (t : Tree) (j : ℕ) → test j ≡ b → C t j → All C (many test step f b t j)
 unfolding many
@@ -168,13 +174,25 @@ module _ (ts : List Tok) where
   loop-all C test step s t j h = many-all C test step s (suc (length ts)) (test j) t j refl h
 
   module _ (C : Tree → ℕ → Type 0) where
-    pub want-all : (k : ℕ) (f : P) (i : ℕ) → (kindAt ts i ≡ k → All C (f (i + 1))) → All C (Parse.want ts k f i)
-    unfolding Parse.want Parse.wantBy
-    want-all k f i h = go (eqb (kindAt ts i) k) refl
+    pub want-in-all : (s k : ℕ) (f : P) (i : ℕ) → (kindAt ts i ≡ k → All C (f (i + 1))) → All C (Parse.wantIn ts s k f i)
+    unfolding Parse.wantIn Parse.wantBy
+    want-in-all s k f i h = go (eqb (kindAt ts i) k) refl
       where
-        go : (b : Bool) → eqb (kindAt ts i) k ≡ b → All C (Parse.wantBy ts b k f i)
+        go : (b : Bool) → eqb (kindAt ts i) k ≡ b → All C (Parse.wantBy ts b s f i)
         go true b = h (eqb-true (kindAt ts i) k b)
         go false b = tt
+
+    pub want-all : (k : ℕ) (f : P) (i : ℕ) → (kindAt ts i ≡ k → All C (f (i + 1))) → All C (Parse.want ts k f i)
+    unfolding Parse.want
+    want-all k f i h = want-in-all (only k) k f i h
+
+    pub end-in-all : (s k : ℕ) (t : Tree) (f : P) (i : ℕ) → (kindAt ts i ≡ k → All C (f (i + 1))) → All C (Parse.endIn ts s k t f i)
+    unfolding Parse.endIn
+    end-in-all s k t f i h = want-in-all (Parse.onward ts t i + s) k f i h
+
+    pub end-all : (k : ℕ) (t : Tree) (f : P) (i : ℕ) → (kindAt ts i ≡ k → All C (f (i + 1))) → All C (Parse.end ts k t f i)
+    unfolding Parse.end
+    end-all k t f i h = end-in-all (only k) k t f i h
 
     pub need-all : (k : ℕ) (f : P) (i : ℕ) → (kindAt ts i ≡ k → All C (f i)) → All C (Parse.need ts k f i)
     unfolding Parse.need Parse.needBy
