@@ -6,7 +6,7 @@ use Prim.Native.Nat.{ℕ, _-_, _^_}
 use lib.ListN.{getD}
 use Rattle.rules.specs.Text.{mostBytes}
 use Rattle.rules.specs.Kinds.{TypeU32, TypeU64, TypeI32, TypeI64}
-use Rattle.rules.specs.Fits.{operands, statements, texts, ons, shifts, assigns, tops, mapFields, types, eventTypes}
+use Rattle.rules.specs.Fits.{operands, statements, texts, ons, shifts, assigns, firstArguments, bodyThings, unitThings, eventFields, tops, mapFields, types, eventTypes}
 use Rattle.rules.specs.Rows.{Row, rowWords, wordsPerRow}
 use Rattle.rules.specs.Lex.{largest}
 use Rattle.rules.specs.Edit.{judging}
@@ -29,7 +29,8 @@ limits =
 
 -- the pieces of sets
 abbrev pub pieces : List ℕ
-pieces = operands ∷ statements ∷ texts ∷ ons ∷ shifts ∷ assigns ∷ tops ∷ mapFields ∷ types ∷ eventTypes ∷ []
+pieces =
+    operands ∷ statements ∷ texts ∷ ons ∷ shifts ∷ assigns ∷ firstArguments ∷ bodyThings ∷ unitThings ∷ eventFields ∷ tops ∷ mapFields ∷ types ∷ eventTypes ∷ []
 
 -- the words at so many indices
 unfoldable pub wordsAt : List ℕ → List ℕ → List ℕ

@@ -24,6 +24,16 @@ pub const SHIFTS: u64 = (1 << kind::SHR) + (1 << kind::SHL);
 
 pub const ASSIGNS: u64 = (1 << kind::EQUALS) + (1 << kind::PLUS_EQUALS);
 
+// A call's first argument, or `)`.
+pub const FIRST_ARGUMENTS: u64 = OPERANDS + (1 << kind::RPAREN);
+
+// Lists: what begins a thing of theirs, or ends them.
+pub const BODY_THINGS: u64 = OPERANDS + STATEMENTS + (1 << kind::RBRACE);
+
+pub const UNIT_THINGS: u64 = BODY_THINGS + TEXTS;
+
+pub const EVENT_FIELDS: u64 = (1 << kind::IDENTIFIER) + (1 << kind::RBRACE);
+
 // What 22, 23, 25 and 30 tell.
 pub const TOPS: u64 = (1 << kind::UNIT) + (1 << kind::MAP) + (1 << kind::EVENT) + (1 << kind::EOF);
 
@@ -33,12 +43,25 @@ pub const TYPES: u64 = (1 << kind::TYPE_U32) + (1 << kind::TYPE_U64) + (1 << kin
 
 pub const EVENT_TYPES: u64 = TYPES + (1 << kind::BYTES);
 
-const ALL: [u64; 10] = [
-    OPERANDS, STATEMENTS, TEXTS, ONS, SHIFTS, ASSIGNS, TOPS, MAP_FIELDS, TYPES, EVENT_TYPES,
+const ALL: [u64; 14] = [
+    OPERANDS,
+    STATEMENTS,
+    TEXTS,
+    ONS,
+    SHIFTS,
+    ASSIGNS,
+    FIRST_ARGUMENTS,
+    BODY_THINGS,
+    UNIT_THINGS,
+    EVENT_FIELDS,
+    TOPS,
+    MAP_FIELDS,
+    TYPES,
+    EVENT_TYPES,
 ];
 
 // All of them are the definitions'.
-pub fn all() -> [u64; 10]
+pub fn all() -> [u64; 14]
     ensures { λ r. ⌜ r ≡ pieces ⌝ }
 {
     ALL
