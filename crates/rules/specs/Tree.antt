@@ -145,7 +145,7 @@ isVariable (arrayField w t v) = false
 isVariable (event w l) = false
 isVariable (program l) = false
 
--- a sum, or arguments the last of which is one
+-- a sum, or a list the last of which is one
 unfoldable pub isSum : Tree → Bool
 isSum none = false
 isSum (num v) = false
@@ -164,7 +164,7 @@ isSum (assign k l r) = false
 isSum (guard w b e) = false
 isSum (thenBody s) = false
 isSum (elseBody s) = false
-isSum (seq l t) = false
+isSum (seq l t) = isSum t
 isSum (text k w) = false
 isSum (unit w l) = false
 isSum (mapType w) = false
@@ -189,8 +189,8 @@ hangs (group t) = false
 hangs (field t w) = false
 hangs (call t w a) = false
 hangs (bin k l r) = false
-hangs (one t) = false
-hangs (more a t) = false
+hangs (one t) = hangs t
+hangs (more a t) = hangs t
 hangs (decl k w e) = false
 hangs (ret e) = false
 hangs (plain e) = false
