@@ -34,6 +34,17 @@ pub const UNIT_THINGS: u64 = BODY_THINGS + TEXTS;
 
 pub const EVENT_FIELDS: u64 = (1 << kind::IDENTIFIER) + (1 << kind::RBRACE);
 
+// What may stand behind an expression that is a statement, a `max`, and a type of an event's field; `;` alone; and `else`.
+pub const EFFECT_ENDS: u64 = SEMICOLON + ASSIGNS;
+
+pub const MAX_ENDS: u64 = SEMICOLON + SHIFTS;
+
+pub const FIELD_ENDS: u64 = SEMICOLON + (1 << kind::LBRACKET);
+
+pub const SEMICOLON: u64 = 1 << kind::SEMICOLON;
+
+pub const ELSE: u64 = 1 << kind::ELSE;
+
 // What 22, 23, 25 and 30 tell.
 pub const TOPS: u64 = (1 << kind::UNIT) + (1 << kind::MAP) + (1 << kind::EVENT) + (1 << kind::EOF);
 
