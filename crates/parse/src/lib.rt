@@ -11,6 +11,7 @@ use rules::Parsed;
 use rules::Reason;
 use rules::Syntax;
 use rules::Table;
+use rules::fits;
 use rules::kind::EOF;
 use rules::kind::EVENT;
 use rules::kind::MAP;

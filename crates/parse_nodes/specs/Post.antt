@@ -1,6 +1,6 @@
 -- What the parser's functions promise: the parser's answer as a function, the state behind a tree, and node memory.
 use mathlib.Core.Path.{_≡_}
-use mathlib.Core.Bool.{true, false, cond}
+use mathlib.Core.Bool.{Bool, true, false, cond}
 use mathlib.Core.List.{List}
 use Prim.Native.Nat.{ℕ, _+_, _*_, _^_, _≤_, _<_}
 use lib.ListN.{length, getD}
@@ -32,6 +32,14 @@ stateAt i n p = record { row = i; node = n; place = p; things = 0; variable = fa
 -- the state behind a variable
 abbrev pub variableAt : (row node place : ℕ) → At
 variableAt i n p = record { row = i; node = n; place = p; things = 0; variable = true; summed = false; hanging = false }
+
+-- the state behind an operator with its operands, which is a sum or not
+abbrev pub joinedAt : (row node place : ℕ) → Bool → At
+joinedAt i n p b = record { row = i; node = n; place = p; things = 0; variable = false; summed = b; hanging = false }
+
+-- the state behind an `if` without `else`
+abbrev pub hangingAt : (row node place : ℕ) → At
+hangingAt i n p = record { row = i; node = n; place = p; things = 0; variable = false; summed = false; hanging = true }
 
 -- the state s as one behind a list of so many things, the last of which s stands behind
 abbrev pub countedAt : At → (place things : ℕ) → At

@@ -20,16 +20,17 @@ use rules::kind::RPAREN;
 use rules::kind::SEMICOLON;
 use rules::node_kind;
 ghost use mathlib.Core.Path.{_≡_};
-ghost use mathlib.Core.Bool.{true};
+ghost use mathlib.Core.Bool.{true, cond};
 ghost use Prim.Native.Nat.{_+_, _*_, _≤_, _<_};
 ghost use lib.Dec.{eqb};
 ghost use lib.ListN.{length};
 ghost use lib.Seq.{sets};
 ghost use Rattle.rules.specs.Kinds.{KeywordElse};
+ghost use Rattle.rules.specs.Fits.{only, bodyThings};
 ghost use Rattle.rules.specs.Tree.{thenBody};
-ghost use Rattle.rules.specs.Nodes.{declNode, assignNode, node, nodeWords};
+ghost use Rattle.rules.specs.Nodes.{NodeIf, declNode, assignNode, node, nodeWords, missing};
 ghost use Rattle.rules.specs.Parse.{isDeclaring, isAssign, declaring, returning, branching, expression, stmtBy, assignBy, elseBy, stmt, body, kindAt};
-ghost use Rattle.parse_nodes.specs.Post.{stateAt, Answers, Onward, Asks, AsksAt, AsksOpen};
+ghost use Rattle.parse_nodes.specs.Post.{stateAt, hangingAt, Answers, Onward, Asks, AsksAt, AsksOpen};
 ghost use Rattle.parse_stmt.specs.Bodies.{HeadSays, BodyAnswers, AsksElse, Elsewise};
 
 // Whether a row's kind is reg, imm or heap.

@@ -20,12 +20,14 @@ ghost use Prim.Native.Nat.{_+_, _-_, _*_, _≤_, _<_};
 ghost use lib.Dec.{eqb};
 ghost use lib.ListN.{length, take, drop};
 ghost use lib.Seq.{sets};
+ghost use Rattle.rules.specs.Kinds.{KeywordElse};
+ghost use Rattle.rules.specs.Fits.{only, unitThings};
 ghost use Rattle.rules.specs.Sets.{fromSection};
 ghost use Rattle.rules.specs.Tree.{sectionText};
 ghost use Rattle.rules.specs.Nodes.{NodeUnit, factNode, nodeWords};
-ghost use Rattle.parse_nodes.specs.Post.{stateAt, Asks, AsksOpen};
+ghost use Rattle.parse_nodes.specs.Post.{stateAt, AsksOpen};
 ghost use Rattle.parse_nodes.specs.Names.{Spans};
-ghost use Rattle.parse_units.specs.Contents.{unset, firstOf, spelt, AsksItem, AsksString, AsksText, AsksQuoted, Texted, ItemMet, ItemsMet, UnitMet};
+ghost use Rattle.parse_units.specs.Contents.{unset, firstOf, spelt, AsksItem, AsksItems, AsksString, AsksText, AsksQuoted, Texted, ItemMet, ItemsMet, UnitMet};
 
 const QUOTE: u8 = b'"';
 
@@ -133,16 +135,6 @@ fn text_item(
     Went::Done(with_text(text, rows, nodes, u, word))
 }
 
-// What would have fitted in place of a thing's first row, behind an `if` without `else` or not.
-fn things(hanging: bool) -> u64
-    ensures { λ r. ⌜ r ≡ unitThings + cond hanging (only KeywordElse) 0 ⌝ }
-{
-    if hanging {
-        return fits::UNIT_THINGS + fits::ELSE;
-    }
-    fits::UNIT_THINGS
-}
-
 // A statement, a section or a licence at the contents' row.
 fn item(text: &[u8], rows: &[u32], count: u32, nodes: &mut [u32], u: Contents) -> Went
     requires { ⌜ AsksItem (now text) (now rows) count u ⌝ }
@@ -163,8 +155,18 @@ fn item(text: &[u8], rows: &[u32], count: u32, nodes: &mut [u32], u: Contents) -
                 licence: u.licence,
             })
         }
-        Got::Refused(why, r) => Went::Refused(parse_nodes::instead(why, r, row, things(here.hanging)), r),
+        Got::Refused(why, r) => Went::Refused(why, r),
     }
+}
+
+// What would have fitted in place of a thing's first row, behind an `if` without `else` or not.
+fn things(hanging: bool) -> u64
+    ensures { λ r. ⌜ r ≡ unitThings + cond hanging (only KeywordElse) 0 ⌝ }
+{
+    if hanging {
+        return fits::UNIT_THINGS + fits::ELSE;
+    }
+    fits::UNIT_THINGS
 }
 
 // The contents from the first thing on, up to `}`, which is not taken.
@@ -187,7 +189,8 @@ fn items(text: &[u8], rows: &[u32], count: u32, nodes: &mut [u32], start: At) ->
                 u = v;
             }
             Went::Refused(why, r) => {
-                return Went::Refused(why, r);
+                let told = parse_nodes::instead(why, r, here.row, things(here.hanging));
+                return Went::Refused(told, r);
             }
         }
     }

@@ -34,7 +34,12 @@ pub const UNIT_THINGS: u64 = BODY_THINGS + TEXTS;
 
 pub const EVENT_FIELDS: u64 = (1 << kind::IDENTIFIER) + (1 << kind::RBRACE);
 
-// What may stand behind an expression that is a statement, a `max`, and a type of an event's field; `;` alone; and `else`.
+// What may stand behind an expression in a group, in an argument list, and as a statement; behind a `max`, and a type of an event's field;
+// `;` alone; and `else`.
+pub const RPAREN: u64 = 1 << kind::RPAREN;
+
+pub const ARGUMENT_ENDS: u64 = RPAREN + (1 << kind::COMMA);
+
 pub const EFFECT_ENDS: u64 = SEMICOLON + ASSIGNS;
 
 pub const MAX_ENDS: u64 = SEMICOLON + SHIFTS;
