@@ -18,7 +18,7 @@ use Rattle.rules.specs.Parse.{Out, ok, no, P, then, isAssign, isText, most32, S
 use Rattle.rules.specs.Grammar.{Nt, Add, Chain, MapField, MapFields, Decl, Is, i-num, i-var, i-group, i-field, i-bare, i-call, i-one, i-more, i-prim, i-star, i-unary, i-mul, i-lone, i-shift, i-up, i-add, i-decl, i-ret, i-plain, i-assign, i-if, i-if-else, i-no-stmts, i-stmts, i-stmt, i-text, i-no-items, i-items, i-first, i-shifted, i-type, i-typed, i-limit, i-no-fields, i-fields, i-plain-field, i-bytes-field, i-array-field, i-no-event-fields, i-event-fields, i-unit, i-map, i-event, i-no-decls, i-decls, i-program}
 use Rattle.theory_grammar.specs.Lost.{isMisfit, isCheck, lost, LostAt, own, around, nesting}
 use Rattle.theory_grammar.proofs.Laws.{here}
-use Rattle.theory_grammar.proofs.Runs.{Run, isMark, row, _▸_, All, all-any, then-all, map-all, want-all, need-all, named-all, quoted-all}
+use Rattle.theory_grammar.proofs.Runs.{Run, isMark, row, _▸_, All, all-any, then-all, map-all, want-all, end-in-all, end-all, need-all, named-all, quoted-all}
 use Rattle.theory_grammar.proofs.Sound.{BodyUnder, body-sound}
 
 -- ---- a program is one with the checks left aside, and within a deeper nesting
@@ -246,6 +246,9 @@ module _ (ts : List Tok) where
   ends-here : (t : Tree) (k : ℕ) → All (λ u j. Start ts j) (Parse.want ts Semicolon (ok t) k)
   ends-here t k = want-all ts (λ u j. Start ts j) Semicolon (ok t) k (λ e. start ts k Semicolon e refl)
 
+  ends-behind : (e t : Tree) (k : ℕ) → All (λ u j. Start ts j) (Parse.end ts Semicolon e (ok t) k)
+  ends-behind e t k = end-all ts (λ u j. Start ts j) Semicolon e (ok t) k (λ q. start ts k Semicolon q refl)
+
   -- an answer, and then one behind which a statement may start
   then-starts : (o : Out) (f : Tree → P) → ((t : Tree) (j : ℕ) → All (λ u k. Start ts k) (f t j)) → All (λ u k. Start ts k) (then o f)
   then-starts o f h = then-all (λ t j. Unit {0}) (λ u k. Start ts k) o f (all-any o) (λ t j a. h t j)
@@ -268,15 +271,15 @@ module _ (ts : List Tok) where
 
   assign-starts : (d : ℕ) (c : Bool) (e : Tree) (j : ℕ) → All (λ u k. Start ts k) (Parse.assignBy ts d (Parse.body ts d) c e j)
   unfolding Parse.assignBy
-  assign-starts d true e j = then-starts (Parse.expr ts d (j + 1)) _ (λ r k. ends-here _ k)
-  assign-starts d false e j = ends-here _ j
+  assign-starts d true e j = then-starts (Parse.expr ts d (j + 1)) _ (λ r k. ends-behind r _ k)
+  assign-starts d false e j = end-in-all ts (λ u k. Start ts k) _ Semicolon e _ j (λ q. start ts j Semicolon q refl)
 
   stmt-starts-by : (d : ℕ) (l : StmtLead) (i : ℕ) → All (λ u k. Start ts k) (Parse.stmtBy ts d (Parse.body ts d) l i)
   unfolding Parse.stmtBy Parse.bodies
   stmt-starts-by d declaring i =
       named-all ts (λ u k. Start ts k) _ (i + 1) (λ f. want-all ts (λ u k. Start ts k) Equals _ (i + 1 + 1) (λ h.
-      then-starts (Parse.expr ts d (i + 1 + 1 + 1)) _ (λ e k. ends-here _ k)))
-  stmt-starts-by d returning i = then-starts (Parse.expr ts d (i + 1)) _ (λ e k. ends-here _ k)
+      then-starts (Parse.expr ts d (i + 1 + 1 + 1)) _ (λ e k. ends-behind e _ k)))
+  stmt-starts-by d returning i = then-starts (Parse.expr ts d (i + 1)) _ (λ e k. ends-behind e _ k)
   stmt-starts-by d branching i =
       want-all ts (λ u k. Start ts k) KeywordGuard _ (i + 1) (λ e. want-all ts (λ u k. Start ts k) LParen _ (i + 1 + 1) (λ f.
       named-all ts (λ u k. Start ts k) _ (i + 1 + 1 + 1) (λ h. want-all ts (λ u k. Start ts k) RParen _ (i + 1 + 1 + 1 + 1) (λ c.

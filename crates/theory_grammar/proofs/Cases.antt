@@ -1,6 +1,6 @@
 -- The parser's definitions, case by case, as the code and the grammar go through them.
 use mathlib.Core.Path.{_≡_, refl, ap, _∙_}
-use mathlib.Core.Bool.{Bool, true, false, not, true≢false}
+use mathlib.Core.Bool.{Bool, true, false, cond, not, true≢false}
 use mathlib.Core.List.{List}
 use Prim.Native.Nat.{ℕ, zero, suc, _+_, _-_, _^_}
 use native.Mathlib.Numerals.{sub-one}
@@ -10,9 +10,11 @@ use borrow.Author.Tests.{ne-eqb, eq-eqb}
 use Rattle.rules.specs.declared.Syntax.{Syntax}
 use Rattle.rules.specs.declared.Syntax.the-variants.{Wanted, NotTopLevel, NotMapField, MapTypeUnknown, NotType, MaxNegative, OutOfRange, ShiftCount, MapLacks, NotEventType, CallOnOther, TooDeep}
 use Rattle.rules.specs.Kinds.{KeywordUnit, KeywordReturn, KeywordMap, KeywordType, KeywordKey, KeywordValue, KeywordMax, KeywordIf, KeywordElse, KeywordGuard, KeywordEvent, LBrace, RBrace, LParen, RParen, Colon, Dot, Comma, Semicolon, LBracket, RBracket, Equals, Star, Identifier, StringLiteral, Number, KeywordBytes, Eof}
+use Rattle.rules.specs.Fits.{only, operands, shifts, assigns, bodyThings, unitThings, eventFields, tops, mapFields, firstArguments, wrong, retold}
 use Rattle.rules.specs.Tree.{Tok, spellingOf, bitsIn, Tree, none, num, var, star, group, field, call, bin, one, more, decl, ret, plain, assign, guard, thenBody, elseBody, seq, text, unit, mapType, typed, limit, first, shifted, mapDecl, plainField, bytesField, arrayField, event, program, isVariable, mapTypeNumber, maxBits, typeOf, typedBy, limitOf, lacking}
 use Rattle.rules.specs.Parse
-use Rattle.rules.specs.Parse.{Out, ok, no, P, then, many, isAdd, isShift, isMul, isAssign, isDeclaring, isText, isType, isTyped, most32, declaring, returning, branching, expression, Sort, operand, whole, tokAt, kindAt}
+use Rattle.rules.specs.Parse.{Out, ok, no, P, then, or, many, isAdd, isShift, isMul, isAssign, isDeclaring, isText, isType, isTyped, most32, declaring, returning, branching, expression, Sort, operand, whole, tokAt, kindAt}
+use Rattle.theory_grammar.specs.Lost.{isMisfit, isCheck, lost}
 use Rattle.theory_grammar.proofs.Laws.{either-kind}
 
 -- ---- answers and loops
@@ -24,6 +26,64 @@ then-ok o f t j e = rw e
 pub then-no : (o : Out) (f : Tree → P) (why : Syntax) (r : ℕ) → o ≡ no why r → then o f ≡ no why r
 unfolding then
 then-no o f why r e = rw e
+
+-- `or` leaves a tree as it is; of a refusal it keeps the row, and all that is asked of why but its set
+pub or-ok : (s i : ℕ) (o : Out) (t : Tree) (j : ℕ) → o ≡ ok t j → or s i o ≡ ok t j
+unfolding or
+or-ok s i o t j e = rw e
+
+pub retold-misfit : (s : ℕ) (why : Syntax) → isMisfit (retold s why) ≡ isMisfit why
+unfolding retold isMisfit
+retold-misfit s (Wanted low high) = refl
+retold-misfit s NotTopLevel = refl
+retold-misfit s NotMapField = refl
+retold-misfit s MapTypeUnknown = refl
+retold-misfit s NotType = refl
+retold-misfit s MaxNegative = refl
+retold-misfit s OutOfRange = refl
+retold-misfit s ShiftCount = refl
+retold-misfit s (MapLacks m) = refl
+retold-misfit s NotEventType = refl
+retold-misfit s CallOnOther = refl
+retold-misfit s TooDeep = refl
+
+pub retold-check : (s : ℕ) (why : Syntax) → isCheck (retold s why) ≡ isCheck why
+unfolding retold isCheck
+retold-check s (Wanted low high) = refl
+retold-check s NotTopLevel = refl
+retold-check s NotMapField = refl
+retold-check s MapTypeUnknown = refl
+retold-check s NotType = refl
+retold-check s MaxNegative = refl
+retold-check s OutOfRange = refl
+retold-check s ShiftCount = refl
+retold-check s (MapLacks m) = refl
+retold-check s NotEventType = refl
+retold-check s CallOnOther = refl
+retold-check s TooDeep = refl
+
+pub retold-lost : (ts : List Tok) (s : ℕ) (why : Syntax) (r : ℕ) → lost ts (retold s why) r ≡ lost ts why r
+unfolding retold lost
+retold-lost ts s (Wanted low high) r = refl
+retold-lost ts s NotTopLevel r = refl
+retold-lost ts s NotMapField r = refl
+retold-lost ts s MapTypeUnknown r = refl
+retold-lost ts s NotType r = refl
+retold-lost ts s MaxNegative r = refl
+retold-lost ts s OutOfRange r = refl
+retold-lost ts s ShiftCount r = refl
+retold-lost ts s (MapLacks m) r = refl
+retold-lost ts s NotEventType r = refl
+retold-lost ts s CallOnOther r = refl
+retold-lost ts s TooDeep r = refl
+
+-- what holds of a refusal, retold or not, holds of what `or` makes of it
+pub or-no : (C : Syntax → ℕ → Type 0) (s i : ℕ) (why : Syntax) (r : ℕ) → C (retold s why) r → C why r → C (cond (eqb r i) (retold s why) why) r
+or-no C s i why r a b = go (eqb r i)
+  where
+    go : (c : Bool) → C (cond c (retold s why) why) r
+    go true = a
+    go false = b
 
 module _ (test : ℕ → Bool) (step : Tree → P) (f : ℕ) (t : Tree) (j : ℕ) where
   pub many-stop : test j ≡ false → many test step f (test j) t j ≡ ok t j
@@ -42,20 +102,46 @@ module _ (test : ℕ → Bool) (step : Tree → P) (f : ℕ) (t : Tree) (j : ℕ
 module _ (ts : List Tok) where
   -- ---- a row of a kind
 
+  module _ (s k : ℕ) (f : P) (i : ℕ) where
+    pub want-in-yes : kindAt ts i ≡ k → Parse.wantIn ts s k f i ≡ f (i + 1)
+    unfolding Parse.wantIn Parse.wantBy
+    want-in-yes e = rw (eq-eqb (kindAt ts i) k e)
+
+    pub want-in-no : (kindAt ts i ≡ k → ⊥) → Parse.wantIn ts s k f i ≡ no (wrong s) i
+    unfolding Parse.wantIn Parse.wantBy
+    want-in-no h = rw (ne-eqb (kindAt ts i) k h)
+
+    -- behind an expression or arguments t
+    pub end-in-yes : (t : Tree) → kindAt ts i ≡ k → Parse.endIn ts s k t f i ≡ f (i + 1)
+    unfolding Parse.endIn Parse.wantIn Parse.wantBy
+    end-in-yes t e = rw (eq-eqb (kindAt ts i) k e)
+
+    pub end-in-no : (t : Tree) → (kindAt ts i ≡ k → ⊥) → Parse.endIn ts s k t f i ≡ no (wrong (Parse.onward ts t i + s)) i
+    unfolding Parse.endIn Parse.wantIn Parse.wantBy
+    end-in-no t h = rw (ne-eqb (kindAt ts i) k h)
+
   module _ (k : ℕ) (f : P) (i : ℕ) where
     pub want-yes : kindAt ts i ≡ k → Parse.want ts k f i ≡ f (i + 1)
-    unfolding Parse.want Parse.wantBy
-    want-yes e = rw (eq-eqb (kindAt ts i) k e)
+    unfolding Parse.want
+    want-yes e = want-in-yes (only k) k f i e
 
-    pub want-no : (kindAt ts i ≡ k → ⊥) → Parse.want ts k f i ≡ no (Wanted k (kindAt ts i)) i
-    unfolding Parse.want Parse.wantBy
-    want-no h = rw (ne-eqb (kindAt ts i) k h)
+    pub want-no : (kindAt ts i ≡ k → ⊥) → Parse.want ts k f i ≡ no (wrong (only k)) i
+    unfolding Parse.want
+    want-no h = want-in-no (only k) k f i h
+
+    pub end-yes : (t : Tree) → kindAt ts i ≡ k → Parse.end ts k t f i ≡ f (i + 1)
+    unfolding Parse.end
+    end-yes t e = end-in-yes (only k) k f i t e
+
+    pub end-no : (t : Tree) → (kindAt ts i ≡ k → ⊥) → Parse.end ts k t f i ≡ no (wrong (Parse.onward ts t i + only k)) i
+    unfolding Parse.end
+    end-no t h = end-in-no (only k) k f i t h
 
     pub need-yes : kindAt ts i ≡ k → Parse.need ts k f i ≡ f i
     unfolding Parse.need Parse.needBy
     need-yes e = rw (eq-eqb (kindAt ts i) k e)
 
-    pub need-no : (kindAt ts i ≡ k → ⊥) → Parse.need ts k f i ≡ no (Wanted k (kindAt ts i)) i
+    pub need-no : (kindAt ts i ≡ k → ⊥) → Parse.need ts k f i ≡ no (wrong (only k)) i
     unfolding Parse.need Parse.needBy
     need-no h = rw (ne-eqb (kindAt ts i) k h)
 
@@ -64,7 +150,7 @@ module _ (ts : List Tok) where
     unfolding Parse.named
     named-yes e = want-yes Identifier (f (spellingOf (tokAt ts i))) i e
 
-    pub named-no : (kindAt ts i ≡ Identifier → ⊥) → Parse.named ts f i ≡ no (Wanted Identifier (kindAt ts i)) i
+    pub named-no : (kindAt ts i ≡ Identifier → ⊥) → Parse.named ts f i ≡ no (wrong (only Identifier)) i
     unfolding Parse.named
     named-no h = want-no Identifier (f (spellingOf (tokAt ts i))) i h
 
@@ -79,19 +165,20 @@ module _ (ts : List Tok) where
 
   -- ---- loops and lists
 
-  pub list-is : (stop : ℕ) (p : P) (j : ℕ)
-      → Parse.listTo ts stop p j ≡ many (λ r. not (eqb (kindAt ts r) stop)) (Parse.listStep ts p) (suc (length ts)) (not (eqb (kindAt ts j) stop)) none j
+  pub list-is : (stop also : ℕ) (p : P) (j : ℕ)
+      → Parse.listTo ts stop also p j ≡ many (λ r. not (eqb (kindAt ts r) stop)) (Parse.listStep ts also p) (suc (length ts)) (not (eqb (kindAt ts j) stop)) none j
   unfolding Parse.listTo Parse.loop
-  list-is stop p j = refl
+  list-is stop also p j = refl
 
-  pub list-step : (p : P) (l : Tree) (j : ℕ) → Parse.listStep ts p l j ≡ then (p j) (λ t k. ok (seq l t) k)
+  pub list-step : (s : ℕ) (p : P) (l : Tree) (j : ℕ)
+      → Parse.listStep ts s p l j ≡ then (or (s + Parse.elseBehind ts l) j (p j)) (λ t k. ok (seq l t) k)
   unfolding Parse.listStep
-  list-step p l j = refl
+  list-step s p l j = refl
 
-  pub braced-is : (p : P) (f : List ℕ → Tree → P) (i : ℕ)
-      → Parse.braced ts p f i ≡ Parse.named ts (λ w. Parse.want ts LBrace (λ j. then (Parse.listTo ts RBrace p j) (λ l k. f w l (k + 1)))) (i + 1)
+  pub braced-is : (also : ℕ) (p : P) (f : List ℕ → Tree → P) (i : ℕ)
+      → Parse.braced ts also p f i ≡ Parse.named ts (λ w. Parse.want ts LBrace (λ j. then (Parse.listTo ts RBrace also p j) (λ l k. f w l (k + 1)))) (i + 1)
   unfolding Parse.braced
-  braced-is p f i = refl
+  braced-is also p f i = refl
 
   -- ---- expressions
 
@@ -127,12 +214,12 @@ module _ (ts : List Tok) where
       unfolding Parse.atom Parse.atomBy Parse.lead
       atom-var e = rw e
 
-      pub atom-paren : kindAt ts i ≡ LParen → Parse.atom ts g i ≡ then (g whole i) (λ t j. Parse.want ts RParen (ok (group t)) j)
+      pub atom-paren : kindAt ts i ≡ LParen → Parse.atom ts g i ≡ then (g whole i) (λ t j. Parse.end ts RParen t (ok (group t)) j)
       unfolding Parse.atom Parse.atomBy Parse.lead
       atom-paren e = rw e
 
       pub atom-else : (kindAt ts i ≡ Number → ⊥) → (kindAt ts i ≡ LParen → ⊥) → (kindAt ts i ≡ Identifier → ⊥)
-          → Parse.atom ts g i ≡ no (Wanted Identifier (kindAt ts i)) i
+          → Parse.atom ts g i ≡ no (wrong operands) i
       unfolding Parse.atom Parse.atomBy Parse.lead
       atom-else a b c = rw (ne-eqb (kindAt ts i) Number a, ne-eqb (kindAt ts i) LParen b, ne-eqb (kindAt ts i) Identifier c)
 
@@ -145,7 +232,7 @@ module _ (ts : List Tok) where
       unary-else h = rw (ne-eqb (kindAt ts i) Star h)
 
       pub args-is : Parse.args ts g i
-          ≡ then (g whole i) (λ t k. many (λ r. eqb (kindAt ts r) Comma) (Parse.argStep ts g) (suc (length ts)) (eqb (kindAt ts k) Comma) (one t) k)
+          ≡ then (or firstArguments (i + 1) (g whole i)) (λ t k. many (λ r. eqb (kindAt ts r) Comma) (Parse.argStep ts g) (suc (length ts)) (eqb (kindAt ts k) Comma) (one t) k)
       unfolding Parse.args Parse.loop
       args-is = refl
 
@@ -179,7 +266,7 @@ module _ (ts : List Tok) where
       bin-step p = refl
 
       -- a field or a call, whose dot is at row j
-      pub post-nameless : (kindAt ts (j + 1) ≡ Identifier → ⊥) → Parse.post ts g t j ≡ no (Wanted Identifier (kindAt ts (j + 1))) (j + 1)
+      pub post-nameless : (kindAt ts (j + 1) ≡ Identifier → ⊥) → Parse.post ts g t j ≡ no (wrong (only Identifier)) (j + 1)
       unfolding Parse.post
       post-nameless h = named-no _ (j + 1) h
 
@@ -194,7 +281,8 @@ module _ (ts : List Tok) where
       post-bare e f h = named-yes _ (j + 1) e ∙ rw (f, h)
 
       pub post-args : kindAt ts (j + 1) ≡ Identifier → kindAt ts (j + 1 + 1) ≡ LParen → (kindAt ts (j + 1 + 1 + 1) ≡ RParen → ⊥)
-          → Parse.post ts g t j ≡ then (Parse.args ts g (j + 1 + 1)) (λ a r. Parse.want ts RParen (Parse.called ts t (spellingOf (tokAt ts (j + 1))) a (j + 1)) r)
+          → Parse.post ts g t j ≡ then (Parse.args ts g (j + 1 + 1)) (λ a r.
+          Parse.endIn ts (only Comma + only RParen) RParen a (Parse.called ts t (spellingOf (tokAt ts (j + 1))) a (j + 1)) r)
       unfolding Parse.post Parse.openBy Parse.callBy
       post-args e f h = named-yes _ (j + 1) e ∙ rw (f, ne-eqb (kindAt ts (j + 1 + 1 + 1)) RParen h)
 
@@ -217,23 +305,23 @@ module _ (ts : List Tok) where
     bodies-is w j = refl
 
     pub assign-yes : (e : Tree) (j : ℕ) → isAssign (kindAt ts j) ≡ true
-        → Parse.assignBy ts d p (isAssign (kindAt ts j)) e j ≡ then (Parse.expr ts d (j + 1)) (λ r k. Parse.want ts Semicolon (ok (assign (kindAt ts j) e r)) k)
+        → Parse.assignBy ts d p (isAssign (kindAt ts j)) e j ≡ then (Parse.expr ts d (j + 1)) (λ r k. Parse.end ts Semicolon r (ok (assign (kindAt ts j) e r)) k)
     unfolding Parse.assignBy
     assign-yes e j b = rw b
 
     pub assign-no : (e : Tree) (j : ℕ) → isAssign (kindAt ts j) ≡ false
-        → Parse.assignBy ts d p (isAssign (kindAt ts j)) e j ≡ Parse.want ts Semicolon (ok (plain e)) j
+        → Parse.assignBy ts d p (isAssign (kindAt ts j)) e j ≡ Parse.endIn ts (only Semicolon + assigns) Semicolon e (ok (plain e)) j
     unfolding Parse.assignBy
     assign-no e j b = rw b
 
     module _ (i : ℕ) where
       pub stmt-declaring : isDeclaring (kindAt ts i) ≡ true → Parse.stmt ts d p i
-          ≡ Parse.named ts (λ w. Parse.want ts Equals (λ j. then (Parse.expr ts d j) (λ e k. Parse.want ts Semicolon (ok (decl (kindAt ts i) w e)) k))) (i + 1)
+          ≡ Parse.named ts (λ w. Parse.want ts Equals (λ j. then (Parse.expr ts d j) (λ e k. Parse.end ts Semicolon e (ok (decl (kindAt ts i) w e)) k))) (i + 1)
       unfolding Parse.stmt Parse.stmtBy Parse.stmtLead
       stmt-declaring b = rw b
 
       pub stmt-returning : kindAt ts i ≡ KeywordReturn
-          → Parse.stmt ts d p i ≡ then (Parse.expr ts d (i + 1)) (λ e k. Parse.want ts Semicolon (ok (ret e)) k)
+          → Parse.stmt ts d p i ≡ then (Parse.expr ts d (i + 1)) (λ e k. Parse.end ts Semicolon e (ok (ret e)) k)
       unfolding Parse.stmt Parse.stmtBy Parse.stmtLead
       stmt-returning e = rw e
 
@@ -266,11 +354,11 @@ module _ (ts : List Tok) where
       lead-expression a b c = rw (a, ne-eqb (kindAt ts i) KeywordReturn b, ne-eqb (kindAt ts i) KeywordIf c)
 
       pub declaring-is : Parse.stmtBy ts d p declaring i
-          ≡ Parse.named ts (λ w. Parse.want ts Equals (λ j. then (Parse.expr ts d j) (λ e k. Parse.want ts Semicolon (ok (decl (kindAt ts i) w e)) k))) (i + 1)
+          ≡ Parse.named ts (λ w. Parse.want ts Equals (λ j. then (Parse.expr ts d j) (λ e k. Parse.end ts Semicolon e (ok (decl (kindAt ts i) w e)) k))) (i + 1)
       unfolding Parse.stmtBy
       declaring-is = refl
 
-      pub returning-is : Parse.stmtBy ts d p returning i ≡ then (Parse.expr ts d (i + 1)) (λ e k. Parse.want ts Semicolon (ok (ret e)) k)
+      pub returning-is : Parse.stmtBy ts d p returning i ≡ then (Parse.expr ts d (i + 1)) (λ e k. Parse.end ts Semicolon e (ok (ret e)) k)
       unfolding Parse.stmtBy
       returning-is = refl
 
@@ -288,7 +376,7 @@ module _ (ts : List Tok) where
   body-none o d e = rw e
 
   pub body-some : (o d : ℕ) → (d ≡ 0 → ⊥)
-      → Parse.body ts d o ≡ then (Parse.listTo ts RBrace (Parse.stmt ts (d - 1) (Parse.body ts (d - 1))) (o + 1)) (λ l j. ok l (j + 1))
+      → Parse.body ts d o ≡ then (Parse.listTo ts RBrace bodyThings (Parse.stmt ts (d - 1) (Parse.body ts (d - 1))) (o + 1)) (λ l j. ok l (j + 1))
   unfolding Parse.body
   body-some o zero h = absurd (h refl)
   body-some o (suc d) h = rw sub-one
@@ -304,7 +392,7 @@ module _ (ts : List Tok) where
   unfolding Parse.item Parse.itemBy
   item-stmt i b = rw b
 
-  pub unit-is : (i : ℕ) → Parse.unitAt ts i ≡ Parse.braced ts (Parse.item ts) (λ w l k. ok (unit w l) k) i
+  pub unit-is : (i : ℕ) → Parse.unitAt ts i ≡ Parse.braced ts unitThings (Parse.item ts) (λ w l k. ok (unit w l) k) i
   unfolding Parse.unitAt
   unit-is i = refl
 
@@ -361,7 +449,7 @@ module _ (ts : List Tok) where
     limit-large a b = rw (a, b)
 
     pub limit-fine : leb (2 ^ 63) (maxBits c) ≡ false → leb (maxBits c) most32 ≡ true
-        → Parse.limitBy ts (leb (2 ^ 63) (maxBits c)) (not (leb (maxBits c) most32)) c k ≡ Parse.want ts Semicolon (ok (limit c)) k
+        → Parse.limitBy ts (leb (2 ^ 63) (maxBits c)) (not (leb (maxBits c) most32)) c k ≡ Parse.wantIn ts (only Semicolon + shifts) Semicolon (ok (limit c)) k
     unfolding Parse.limitBy
     limit-fine a b = rw (a, b)
 
@@ -396,7 +484,7 @@ module _ (ts : List Tok) where
   map-end-lacks w l k (suc f) h = refl
 
   pub map-is : (i : ℕ) → Parse.mapAt ts i
-      ≡ Parse.braced ts (Parse.mapField ts) (λ w l k. Parse.mapEnd ts (lacking (typeOf l) (typedBy KeywordKey l) (typedBy KeywordValue l) (limitOf l)) w l k) i
+      ≡ Parse.braced ts mapFields (Parse.mapField ts) (λ w l k. Parse.mapEnd ts (lacking (typeOf l) (typedBy KeywordKey l) (typedBy KeywordValue l) (limitOf l)) w l k) i
   unfolding Parse.mapAt
   map-is i = refl
 
@@ -422,7 +510,7 @@ module _ (ts : List Tok) where
     array-yes e = rw e
 
     pub array-no : (kindAt ts (j + 1) ≡ LBracket → ⊥)
-        → Parse.arrayBy ts (eqb (kindAt ts (j + 1)) LBracket) w j ≡ Parse.want ts Semicolon (ok (plainField w (kindAt ts j))) (j + 1)
+        → Parse.arrayBy ts (eqb (kindAt ts (j + 1)) LBracket) w j ≡ Parse.wantIn ts (only Semicolon + only LBracket) Semicolon (ok (plainField w (kindAt ts j))) (j + 1)
     unfolding Parse.arrayBy
     array-no h = rw (ne-eqb (kindAt ts (j + 1)) LBracket h)
 
@@ -446,7 +534,7 @@ module _ (ts : List Tok) where
   unfolding Parse.eventField
   event-field-is i = refl
 
-  pub event-is : (i : ℕ) → Parse.eventAt ts i ≡ Parse.braced ts (Parse.eventField ts) (λ w l k. ok (event w l) k) i
+  pub event-is : (i : ℕ) → Parse.eventAt ts i ≡ Parse.braced ts eventFields (Parse.eventField ts) (λ w l k. ok (event w l) k) i
   unfolding Parse.eventAt
   event-is i = refl
 
@@ -469,6 +557,6 @@ module _ (ts : List Tok) where
     unfolding Parse.top Parse.topBy Parse.topLead
     top-other a b c = rw (ne-eqb (kindAt ts i) KeywordMap a, ne-eqb (kindAt ts i) KeywordUnit b, ne-eqb (kindAt ts i) KeywordEvent c)
 
-  pub parse-is : Parse.parse ts ≡ then (Parse.listTo ts Eof (Parse.top ts) 0) (λ l j. ok (program l) (j + 1))
+  pub parse-is : Parse.parse ts ≡ then (Parse.listTo ts Eof tops (Parse.top ts) 0) (λ l j. ok (program l) (j + 1))
   unfolding Parse.parse
   parse-is = refl

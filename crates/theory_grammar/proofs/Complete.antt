@@ -13,10 +13,11 @@ use lib.Seq.{drop-drop, drop-append-seam, getD-drop}
 use borrow.Author.Tests.{eqb-true, eqb-false, eq-eqb, not-true, not-false}
 use Rattle.rules.specs.declared.Syntax.the-variants.{TooDeep}
 use Rattle.rules.specs.Kinds.{KeywordUnit, KeywordSection, KeywordLicense, KeywordReturn, KeywordReg, KeywordImm, KeywordMap, KeywordKey, KeywordValue, KeywordMax, KeywordIf, KeywordElse, KeywordGuard, KeywordHeap, KeywordEvent, LBrace, RBrace, LParen, RParen, Colon, Dot, Comma, Semicolon, LBracket, RBracket, Equals, PlusEquals, Plus, Minus, Star, Slash, Percent, Shr, Shl, Identifier, Number, Eof}
+use Rattle.rules.specs.Fits.{bodyThings, unitThings, eventFields, tops, mapFields, retold}
 use Rattle.rules.specs.Tree.{Tok, sign, name, string, value, kindOf, spellingOf, bitsIn, Tree, none, num, var, star, group, field, call, bin, one, more, decl, ret, plain, assign, guard, thenBody, elseBody, seq, text, unit, mapType, typed, limit, first, shifted, mapDecl, plainField, bytesField, arrayField, event, program, yield, isVariable, mapTypeNumber, maxBits, typeOf, typedBy, limitOf, lacking}
 use Rattle.rules.specs.Nodes.{width}
 use Rattle.rules.specs.Parse
-use Rattle.rules.specs.Parse.{Out, ok, no, P, then, many, isAdd, isShift, isMul, isAssign, isDeclaring, isText, isType, isTyped, most32, Sort, operand, whole, tokAt, kindAt}
+use Rattle.rules.specs.Parse.{Out, ok, no, P, then, or, many, isAdd, isShift, isMul, isAssign, isDeclaring, isText, isType, isTyped, most32, Sort, operand, whole, tokAt, kindAt}
 use Rattle.rules.specs.Grammar.{Nt, Add, Shift, Mul, Unary, Basic, Args, Stmt, Stmts, Item, Items, Chain, MapField, MapFields, EventField, EventFields, Decl, Decls, Program, Is, i-num, i-var, i-group, i-field, i-bare, i-call, i-one, i-more, i-prim, i-star, i-unary, i-mul, i-lone, i-shift, i-up, i-add, i-decl, i-ret, i-plain, i-assign, i-if, i-if-else, i-no-stmts, i-stmts, i-stmt, i-text, i-no-items, i-items, i-first, i-shifted, i-type, i-typed, i-limit, i-no-fields, i-fields, i-plain-field, i-bytes-field, i-array-field, i-no-event-fields, i-event-fields, i-unit, i-map, i-event, i-no-decls, i-decls, i-program}
 use Rattle.theory_grammar.proofs.Laws.{either-kind, three-kinds, yield-width, is-wide}
 use Rattle.theory_grammar.proofs.Cases
@@ -55,6 +56,17 @@ unfolding then
 then-nested (ok t j) f c = absurd c
 then-nested (no why r) f c = c
 
+or-checked : (s i : ℕ) (o : Out) → Checked o → Checked (or s i o)
+unfolding or
+or-checked s i (ok t j) c = absurd c
+or-checked s i (no why r) c = Cases.or-no (λ x n. isCheck x ≡ true) s i why r (Cases.retold-check s why ∙ c) c
+
+or-nested : (s i : ℕ) (o : Out) → Nested o → Nested (or s i o)
+unfolding or
+or-nested s i (ok t j) c = absurd c
+or-nested s i (no why r) c =
+    Cases.or-no (λ x n. (isMisfit x ≡ false) × (isCheck x ≡ false)) s i why r (Cases.retold-misfit s why ∙ c .0, Cases.retold-check s why ∙ c .1) c
+
 not-strict : (b : Bool) → (b ≡ true → ⊥) → b ≡ false
 not-strict true h = absurd (h refl)
 not-strict false h = refl
@@ -76,6 +88,11 @@ module _ {strict close : Bool} {o : Out} where
   then-run {r} {t} {j} f (gives e) h = Cases.then-ok o f t j e ▹ h
   then-run f (checked s c) h = checked s (then-checked o f c)
   then-run f (nested s c) h = nested s (then-nested o f c)
+
+  or-run : {t : Tree} {j : ℕ} (s i : ℕ) → Gives strict close o (ok t j) → Gives strict close (or s i o) (ok t j)
+  or-run {t} {j} s i (gives e) = gives (Cases.or-ok s i o t j e)
+  or-run s i (checked q c) = checked q (or-checked s i o c)
+  or-run s i (nested q c) = nested q (or-nested s i o c)
 
   -- a check that holds where checks count: what is given if it holds, and a refusal if it does not
   passes : {r : Out} (b : Bool) → (strict ≡ true → b ≡ true) → (b ≡ true → Gives strict close o r) → (b ≡ false → Checked o) → Gives strict close o r
@@ -119,6 +136,18 @@ module _ {ts : List Tok} where
   module _ {strict close : Bool} {i : ℕ} {ys : List Tok} {o : Out} where
     want-run : {k : ℕ} (f : P) → From ts i (sign k ∷ ys) → (From ts (i + 1) ys → Gives strict close (f (i + 1)) o) → Gives strict close (Parse.want ts k f i) o
     want-run {k} f e h = Cases.want-yes ts k f i (sign-kind e) ▹ h (tail-of e)
+
+    want-in-run : {k : ℕ} (s : ℕ) (f : P) → From ts i (sign k ∷ ys) → (From ts (i + 1) ys → Gives strict close (f (i + 1)) o)
+        → Gives strict close (Parse.wantIn ts s k f i) o
+    want-in-run {k} s f e h = Cases.want-in-yes ts s k f i (sign-kind e) ▹ h (tail-of e)
+
+    end-run : {k : ℕ} (t : Tree) (f : P) → From ts i (sign k ∷ ys) → (From ts (i + 1) ys → Gives strict close (f (i + 1)) o)
+        → Gives strict close (Parse.end ts k t f i) o
+    end-run {k} t f e h = Cases.end-yes ts k f i t (sign-kind e) ▹ h (tail-of e)
+
+    end-in-run : {k : ℕ} (s : ℕ) (t : Tree) (f : P) → From ts i (sign k ∷ ys) → (From ts (i + 1) ys → Gives strict close (f (i + 1)) o)
+        → Gives strict close (Parse.endIn ts s k t f i) o
+    end-in-run {k} s t f e h = Cases.end-in-yes ts s k f i t (sign-kind e) ▹ h (tail-of e)
 
     need-run : {k : ℕ} (f : P) → From ts i (sign k ∷ ys) → Gives strict close (f i) o → Gives strict close (Parse.need ts k f i) o
     need-run {k} f e h = Cases.need-yes ts k f i (sign-kind e) ▹ h
@@ -305,8 +334,8 @@ module _ (strict close : Bool) (ts : List Tok) where
   G d = Parse.inner ts d
 
   -- a list of things p up to a row of kind `stop` has come to l
-  abbrev ListReach : ℕ → P → ℕ → Tree → Type 0
-  ListReach stop p i l = Reach strict close ts (Parse.listTo ts stop p i) (λ r. not (eqb (kindAt ts r) stop)) (Parse.listStep ts p) l (i + width l)
+  abbrev ListReach : ℕ → ℕ → P → ℕ → Tree → Type 0
+  ListReach stop also p i l = Reach strict close ts (Parse.listTo ts stop also p i) (λ r. not (eqb (kindAt ts r) stop)) (Parse.listStep ts also p) l (i + width l)
 
   -- what the parser does, with d constructs left, at the rows of a tree of each nonterminal, if what follows them is ys
   abbrev At : Nt → ℕ → Tree → ℕ → Type 0
@@ -317,16 +346,16 @@ module _ (strict close : Bool) (ts : List Tok) where
   At Add d t i = Reach strict close ts (Parse.add ts (G d) i) (λ r. isAdd (kindAt ts r)) (Parse.binStep ts (G d) (Parse.mul ts (G d))) t (i + width t)
   At Args d t i = (o : ℕ) → o + 1 ≡ i → Reach strict close ts (Parse.args ts (G d) o) (λ r. eqb (kindAt ts r) Comma) (Parse.argStep ts (G d)) t (i + width t)
   At Stmt d t i = Gives strict close (Parse.stmt ts d (Parse.body ts d) i) (ok t (i + width t))
-  At Stmts d t i = ListReach RBrace (Parse.stmt ts d (Parse.body ts d)) i t
+  At Stmts d t i = ListReach RBrace bodyThings (Parse.stmt ts d (Parse.body ts d)) i t
   At Item d t i = d ≡ 64 → Gives strict close (Parse.item ts i) (ok t (i + width t))
-  At Items d t i = d ≡ 64 → ListReach RBrace (Parse.item ts) i t
+  At Items d t i = d ≡ 64 → ListReach RBrace unitThings (Parse.item ts) i t
   At Chain d t i = Reach strict close ts (Parse.chain ts i) (λ r. isShift (kindAt ts r)) (Parse.chainStep ts) t (i + width t)
   At MapField d t i = Gives strict close (Parse.mapField ts i) (ok t (i + width t))
-  At MapFields d t i = ListReach RBrace (Parse.mapField ts) i t
+  At MapFields d t i = ListReach RBrace mapFields (Parse.mapField ts) i t
   At EventField d t i = Gives strict close (Parse.eventField ts i) (ok t (i + width t))
-  At EventFields d t i = ListReach RBrace (Parse.eventField ts) i t
+  At EventFields d t i = ListReach RBrace eventFields (Parse.eventField ts) i t
   At Decl d t i = d ≡ 64 → Gives strict close (Parse.top ts i) (ok t (i + width t))
-  At Decls d t i = d ≡ 64 → ListReach Eof (Parse.top ts) i t
+  At Decls d t i = d ≡ 64 → ListReach Eof tops (Parse.top ts) i t
   At Program d t i = d ≡ 64 → i ≡ 0 → Gives strict close (Parse.parse ts) (ok t (width t))
 
   abbrev Claim : Nt → ℕ → Tree → Type 0
@@ -399,7 +428,7 @@ module _ (strict close : Bool) (ts : List Tok) where
         let e1 : From ts (i + 1) (yield t ++ (sign RParen ∷ ys)) = regroup (tail-of e) (append-assoc (yield t) (sign RParen ∷ []) ys) in
         reach-loop
         (then-run _
-        (Cases.atom-paren ts (G d) i (sign-kind e) ▹ then-run _ (c i _ e1 (refl, refl, refl, refl, refl)) (want-run _ (after t e1) (λ _. up-to (omega arith))))
+        (Cases.atom-paren ts (G d) i (sign-kind e) ▹ then-run _ (c i _ e1 (refl, refl, refl, refl, refl)) (end-run t _ (after t e1) (λ _. up-to (omega arith))))
         (gives refl))
 
     run-field : (w : List ℕ) → Claim Basic d t → Claim Basic d (field t w)
@@ -430,7 +459,8 @@ module _ (strict close : Bool) (ts : List Tok) where
     run-one : WholeAt d t → Claim Args d (one t)
     unfolding yield width Parse.args
     run-one c i ys e s o q =
-        reach-loop (then-run _ (leads (c o ys (subst (λ (n : ℕ). From ts n (yield t ++ ys)) (sym q) e) s) (up-to (ap (λ (n : ℕ). n + width t) q))) (gives refl))
+        reach-loop
+        (then-run _ (or-run _ _ (leads (c o ys (subst (λ (n : ℕ). From ts n (yield t ++ ys)) (sym q) e) s) (up-to (ap (λ (n : ℕ). n + width t) q)))) (gives refl))
 
     run-prim : Claim Basic d t → ((ys : List Tok) → isBasic (front (yield t ++ ys)) ≡ true) → Claim Unary d t
     run-prim c lead i ys e s =
@@ -466,7 +496,7 @@ module _ (strict close : Bool) (ts : List Tok) where
           (named-run _ (tail-of a) (λ b.
           rw (sign-kind b, ap (λ (x : ℕ). eqb x RParen) (kind-of (tail-of b)) ∙ no-paren)
           (then-run _ (reach-end (v (j + 1) _ (tail-of b) (refl, refl, refl, refl, refl) j refl) (ap (λ (x : ℕ). eqb x Comma) (sign-kind (after u (tail-of b)))))
-          (want-run _ (after u (tail-of b)) (λ _. call-ends w u (i + width t + 1) _ _ q (omega arith))))))
+          (end-in-run _ u _ (after u (tail-of b)) (λ _. call-ends w u (i + width t + 1) _ _ q (omega arith))))))
           (omega arith)
 
       run-more : Claim Args d t → WholeAt d u → Claim Args d (more t u)
@@ -510,36 +540,36 @@ module _ (strict close : Bool) (ts : List Tok) where
 
   -- ---- lists of things p up to a row of kind `stop`
 
-  module _ (stop : ℕ) (p : P) where
-    list-nil : (i : ℕ) → ListReach stop p i none
+  module _ (stop also : ℕ) (p : P) where
+    list-nil : (i : ℕ) → ListReach stop also p i none
     unfolding Parse.listTo width
     list-nil i = reach-at (omega arith) (reach-loop (gives refl))
 
-    list-snoc : (i : ℕ) (l s : Tree) (ys : List Tok) → From ts i ((yield l ++ yield s) ++ ys) → (From ts i (yield l ++ (yield s ++ ys)) → ListReach stop p i l)
+    list-snoc : (i : ℕ) (l s : Tree) (ys : List Tok) → From ts i ((yield l ++ yield s) ++ ys) → (From ts i (yield l ++ (yield s ++ ys)) → ListReach stop also p i l)
         → (From ts (i + width l) (yield s ++ ys) → Gives strict close (p (i + width l)) (ok s (i + width l + width s))) → eqb (front (yield s ++ ys)) stop ≡ false
         → 1 ≤ width s
-        → ListReach stop p i (seq l s)
+        → ListReach stop also p i (seq l s)
     unfolding Parse.listStep width
     list-snoc i l s ys e c v lead w =
         let e1 : From ts i (yield l ++ (yield s ++ ys)) = regroup e (append-assoc (yield l) (yield s) ys) in
         let a : From ts (i + width l) (yield s ++ ys) = after l e1 in
         let h : i + width l < length ts = omega (arith, length-drop (i + width l) ts, ap length (a .are), length-append (yield s) ys, yield-width s) in
         reach-at (omega arith)
-        (reach-next (c e1) (ap not (ap (λ (x : ℕ). eqb x stop) (kind-of a) ∙ lead)) h (then-run _ (v a) (gives refl)) (omega arith))
+        (reach-next (c e1) (ap not (ap (λ (x : ℕ). eqb x stop) (kind-of a) ∙ lead)) h (then-run _ (or-run _ _ (v a)) (gives refl)) (omega arith))
 
-    list-ends : (i : ℕ) (l : Tree) (ys : List Tok) → From ts i (yield l ++ (sign stop ∷ ys)) → ListReach stop p i l
-        → Gives strict close (Parse.listTo ts stop p i) (ok l (i + width l))
+    list-ends : (i : ℕ) (l : Tree) (ys : List Tok) → From ts i (yield l ++ (sign stop ∷ ys)) → ListReach stop also p i l
+        → Gives strict close (Parse.listTo ts stop also p i) (ok l (i + width l))
     list-ends i l ys e c = reach-end c (ap not (eq-eqb _ stop (sign-kind (after l e))))
 
   -- name `{` contents `}`, behind a keyword
-  braced-ends : (p : P) (f : List ℕ → Tree → P) (i k : ℕ) (w : List ℕ) (l : Tree) (ys : List Tok) → From ts i ((sign k ∷ name w ∷ sign LBrace ∷ (yield l ++ (sign RBrace ∷ []))) ++ ys)
-      → ((j : ℕ) → From ts j (yield l ++ (sign RBrace ∷ ys)) → ListReach RBrace p j l)
-      → Gives strict close (Parse.braced ts p f i) (f w l (i + (3 + width l + 1)))
+  braced-ends : (also : ℕ) (p : P) (f : List ℕ → Tree → P) (i k : ℕ) (w : List ℕ) (l : Tree) (ys : List Tok) → From ts i ((sign k ∷ name w ∷ sign LBrace ∷ (yield l ++ (sign RBrace ∷ []))) ++ ys)
+      → ((j : ℕ) → From ts j (yield l ++ (sign RBrace ∷ ys)) → ListReach RBrace also p j l)
+      → Gives strict close (Parse.braced ts also p f i) (f w l (i + (3 + width l + 1)))
   unfolding Parse.braced
-  braced-ends p f i k w l ys e c =
+  braced-ends also p f i k w l ys e c =
       let e1 : From ts i (sign k ∷ name w ∷ sign LBrace ∷ (yield l ++ (sign RBrace ∷ ys))) = regroup e (simp append-assoc) in
       named-run _ (tail-of e1) (λ a. want-run _ a
-      (λ b. then-run _ (list-ends RBrace p (i + 1 + 1 + 1) l ys b (c (i + 1 + 1 + 1) b)) (gives (ap (f w l) (omega arith)))))
+      (λ b. then-run _ (list-ends RBrace also p (i + 1 + 1 + 1) l ys b (c (i + 1 + 1 + 1) b)) (gives (ap (f w l) (omega arith)))))
 
   -- ---- statements
 
@@ -549,14 +579,14 @@ module _ (strict close : Bool) (ts : List Tok) where
       let e1 : From ts i (sign k ∷ name w ∷ sign Equals ∷ (yield t ++ (sign Semicolon ∷ ys))) = regroup e (simp append-assoc) in
       Cases.stmt-declaring ts d (Parse.body ts d) i (ap isDeclaring (sign-kind e1) ∙ b)
       ▹ named-run _ (tail-of e1) (λ a. want-run _ a (λ f. then-run _ (expr-ends d t c (i + 1 + 1 + 1) _ f (refl, refl, refl, refl, refl))
-      (want-run _ (after t f) (λ _. ap (λ (x : ℕ). ok (decl x w t) (i + 1 + 1 + 1 + width t + 1)) (sign-kind e1) ▹ up-to (omega arith)))))
+      (end-run t _ (after t f) (λ _. ap (λ (x : ℕ). ok (decl x w t) (i + 1 + 1 + 1 + width t + 1)) (sign-kind e1) ▹ up-to (omega arith)))))
 
   run-ret : (d : ℕ) (t : Tree) → Claim Add d t → Claim Stmt d (ret t)
   unfolding yield width front kindOf
   run-ret d t c i ys e s =
       let e1 : From ts i (sign KeywordReturn ∷ (yield t ++ (sign Semicolon ∷ ys))) = regroup e (simp append-assoc) in
       Cases.stmt-returning ts d (Parse.body ts d) i (sign-kind e1)
-      ▹ then-run _ (expr-ends d t c (i + 1) _ (tail-of e1) (refl, refl, refl, refl, refl)) (want-run _ (after t (tail-of e1)) (λ _. up-to (omega arith)))
+      ▹ then-run _ (expr-ends d t c (i + 1) _ (tail-of e1) (refl, refl, refl, refl, refl)) (end-run t _ (after t (tail-of e1)) (λ _. up-to (omega arith)))
 
   -- a statement that begins with an expression
   expression-first : (d : ℕ) (t : Tree) (i : ℕ) (ys : List Tok) → From ts i (yield t ++ ys) → isStart (front (yield t ++ ys)) ≡ true
@@ -575,7 +605,7 @@ module _ (strict close : Bool) (ts : List Tok) where
       let a : From ts (i + width t) (sign Semicolon ∷ ys) = after t e1 in
       expression-first d t i _ e1 (lead _)
       ▹ then-run _ (expr-ends d t c i _ e1 (refl, refl, refl, refl, refl))
-      (Cases.assign-no ts d (Parse.body ts d) t (i + width t) (ap isAssign (sign-kind a)) ▹ want-run _ a (λ _. up-to (omega arith)))
+      (Cases.assign-no ts d (Parse.body ts d) t (i + width t) (ap isAssign (sign-kind a)) ▹ end-in-run _ t _ a (λ _. up-to (omega arith)))
 
   run-assign : (d k : ℕ) (t u : Tree) → isAssign k ≡ true → Claim Add d t → Claim Add d u → ((ys : List Tok) → isStart (front (yield t ++ ys)) ≡ true) → Claim Stmt d (assign k t u)
   unfolding yield width front kindOf
@@ -586,13 +616,13 @@ module _ (strict close : Bool) (ts : List Tok) where
       ▹ then-run _ (expr-ends d t c i _ e1 (assign-stops k b))
       (Cases.assign-yes ts d (Parse.body ts d) t (i + width t) (ap isAssign (sign-kind a) ∙ b)
       ▹ then-run _ (expr-ends d u v (i + width t + 1) _ (tail-of a) (refl, refl, refl, refl, refl))
-      (want-run _ (after u (tail-of a)) (λ _. ap (λ (x : ℕ). ok (assign x t u) (i + width t + 1 + width u + 1)) (sign-kind a) ▹ up-to (omega arith))))
+      (end-run u _ (after u (tail-of a)) (λ _. ap (λ (x : ℕ). ok (assign x t u) (i + width t + 1 + width u + 1)) (sign-kind a) ▹ up-to (omega arith))))
 
   body-at : (n d : ℕ) (l : Tree) → Fits (suc n) d → ((d : ℕ) → Fits n d → Claim Stmts d l) → BodyAt d l
   unfolding Parse.body front kindOf
   body-at n zero l f c o ys e = too-deep n o f refl
   body-at n (suc d) l f c o ys e =
-      then-run _ (list-ends RBrace (Parse.stmt ts d (Parse.body ts d)) (o + 1) l ys (tail-of e) (c d (fits-under n d f) (o + 1) _ (tail-of e) refl)) (gives refl)
+      then-run _ (list-ends RBrace bodyThings (Parse.stmt ts d (Parse.body ts d)) (o + 1) l ys (tail-of e) (c d (fits-under n d f) (o + 1) _ (tail-of e) refl)) (gives refl)
 
   -- behind `if guard ( name )`
   guard-run : (d : ℕ) (w : List ℕ) (i : ℕ) (ys : List Tok) (o : Out)
@@ -637,7 +667,7 @@ module _ (strict close : Bool) (ts : List Tok) where
   run-unit : (d : ℕ) (w : List ℕ) (l : Tree) → Claim Items d l → Claim Decl d (unit w l)
   unfolding yield width front kindOf Parse.unitAt
   run-unit d w l c i ys e s q =
-      Cases.top-unit ts i (sign-kind e) ▹ braced-ends (Parse.item ts) (λ w l k. ok (unit w l) k) i KeywordUnit w l ys e (λ j a. c j _ a refl q)
+      Cases.top-unit ts i (sign-kind e) ▹ braced-ends unitThings (Parse.item ts) (λ w l k. ok (unit w l) k) i KeywordUnit w l ys e (λ j a. c j _ a refl q)
 
   -- ---- maps
 
@@ -683,7 +713,7 @@ module _ (strict close : Bool) (ts : List Tok) where
   limit-ends t k j ys q e f =
       passes (not (leb (2 ^ 63) (maxBits t))) (λ z. and-eq-true-iff (not (leb (2 ^ 63) (maxBits t))) (leb (maxBits t) most32) .0 (q z) .0)
       (λ a. passes (leb (maxBits t) most32) (λ z. and-eq-true-iff (not (leb (2 ^ 63) (maxBits t))) (leb (maxBits t) most32) .0 (q z) .1)
-      (λ b. Cases.limit-fine ts t k (not-true (leb (2 ^ 63) (maxBits t)) a) b ▹ want-run _ e (λ _. up-to f))
+      (λ b. Cases.limit-fine ts t k (not-true (leb (2 ^ 63) (maxBits t)) a) b ▹ want-in-run _ _ e (λ _. up-to f))
       (λ b. subst Checked (sym (Cases.limit-large ts t k (not-true (leb (2 ^ 63) (maxBits t)) a) b)) refl))
       (λ a. subst Checked (sym (Cases.limit-negative ts t k (not-false (leb (2 ^ 63) (maxBits t)) a))) refl)
 
@@ -703,7 +733,7 @@ module _ (strict close : Bool) (ts : List Tok) where
       let f : ℕ = lacking (typeOf l) (typedBy KeywordKey l) (typedBy KeywordValue l) (limitOf l) in
       Cases.top-map ts i (sign-kind e)
       ▹ leads
-      (braced-ends (Parse.mapField ts)
+      (braced-ends mapFields (Parse.mapField ts)
       (λ w l k. Parse.mapEnd ts (lacking (typeOf l) (typedBy KeywordKey l) (typedBy KeywordValue l) (limitOf l)) w l k) i KeywordMap w l ys e (λ j a. c j _ a tt))
       (passes (eqb f 0) b (λ h. gives (Cases.map-end-whole ts w l (i + (3 + width l + 1)) f (eqb-true f 0 h)))
       (λ h. subst Checked (sym (Cases.map-end-lacks ts w l (i + (3 + width l + 1)) f (eqb-false f 0 h))) refl))
@@ -728,7 +758,7 @@ module _ (strict close : Bool) (ts : List Tok) where
       named-run _ e (λ a. want-run _ a (λ c.
       Cases.event-type ts w (i + 1 + 1) (ap isType (sign-kind c) ∙ b)
       ▹ Cases.array-no ts w (i + 1 + 1) (not-bracket (i + 1 + 1 + 1) Semicolon ys (tail-of c) refl)
-      ▹ want-run _ (tail-of c) (λ _. ap (λ (x : ℕ). ok (plainField w x) (i + 1 + 1 + 1 + 1)) (sign-kind c) ▹ up-to (omega arith))))
+      ▹ want-in-run _ _ (tail-of c) (λ _. ap (λ (x : ℕ). ok (plainField w x) (i + 1 + 1 + 1 + 1)) (sign-kind c) ▹ up-to (omega arith))))
 
   run-bytes-field : (d : ℕ) (w : List ℕ) (v : ℕ) → (strict ≡ true → leb v most32 ≡ true) → Claim EventField d (bytesField w v)
   unfolding yield width Parse.eventField
@@ -749,7 +779,7 @@ module _ (strict close : Bool) (ts : List Tok) where
   run-event : (d : ℕ) (w : List ℕ) (l : Tree) → Claim EventFields d l → Claim Decl d (event w l)
   unfolding yield width front kindOf Parse.eventAt
   run-event d w l c i ys e s q =
-      Cases.top-event ts i (sign-kind e) ▹ braced-ends (Parse.eventField ts) (λ w l k. ok (event w l) k) i KeywordEvent w l ys e (λ j a. c j _ a tt)
+      Cases.top-event ts i (sign-kind e) ▹ braced-ends eventFields (Parse.eventField ts) (λ w l k. ok (event w l) k) i KeywordEvent w l ys e (λ j a. c j _ a tt)
 
   -- ---- programs
 
@@ -757,7 +787,7 @@ module _ (strict close : Bool) (ts : List Tok) where
   unfolding yield width front kindOf Parse.parse
   run-program d l c i ys e s q z =
       let e1 : From ts 0 (yield l ++ (sign Eof ∷ ys)) = regroup (subst (λ (n : ℕ). From ts n ((yield l ++ (sign Eof ∷ [])) ++ ys)) z e) (append-assoc (yield l) (sign Eof ∷ []) ys) in
-      then-run _ (list-ends Eof (Parse.top ts) 0 l ys e1 (c 0 _ e1 tt q)) (up-to (omega arith))
+      then-run _ (list-ends Eof tops (Parse.top ts) 0 l ys e1 (c 0 _ e1 tt q)) (up-to (omega arith))
 
   -- ---- every tree of the grammar
 
@@ -806,36 +836,36 @@ module _ (strict close : Bool) (ts : List Tok) where
   run (i-assign {k = k} {l} {r} b h v) d f = run-assign d k l r b (run h d f) (run v d f) (opens h)
   run (i-if {d = n} {w} {b} h) d f = run-if d w b (body-at n d b f (run h))
   run (i-if-else {d = n} {w} {b} {e} h v) d f = run-if-else d w b e (body-at n d b f (run h)) (body-at n d e f (run v))
-  run i-no-stmts d f = λ i ys e s. list-nil RBrace (Parse.stmt ts d (Parse.body ts d)) i
+  run i-no-stmts d f = λ i ys e s. list-nil RBrace bodyThings (Parse.stmt ts d (Parse.body ts d)) i
   run (i-stmts {l = l} {s = t} h v) d f = λ i ys e s.
-      list-snoc RBrace (Parse.stmt ts d (Parse.body ts d)) i l t ys e (λ a. run h d f i (yield t ++ ys) a (opens v ys .1)) (λ a. run v d f (i + width l) ys a s)
+      list-snoc RBrace bodyThings (Parse.stmt ts d (Parse.body ts d)) i l t ys e (λ a. run h d f i (yield t ++ ys) a (opens v ys .1)) (λ a. run v d f (i + width l) ys a s)
       (opens v ys .0) (is-wide v)
   run (i-stmt {s = t} h) d f = run-stmt d t (run h d f) (λ ys. opens h ys .2)
   run (i-text {k = k} {w} b) d f = run-text d k w b
-  run i-no-items d f = λ i ys e s q. list-nil RBrace (Parse.item ts) i
+  run i-no-items d f = λ i ys e s q. list-nil RBrace unitThings (Parse.item ts) i
   run (i-items {l = l} {s = t} h v) d f = λ i ys e s q.
-      list-snoc RBrace (Parse.item ts) i l t ys e (λ a. run h d f i (yield t ++ ys) a (opens v ys .1) q) (λ a. run v d f (i + width l) ys a s q) (opens v ys .0)
+      list-snoc RBrace unitThings (Parse.item ts) i l t ys e (λ a. run h d f i (yield t ++ ys) a (opens v ys .1) q) (λ a. run v d f (i + width l) ys a s q) (opens v ys .0)
       (is-wide v)
   run (i-first {v = v}) d f = run-first d v
   run (i-shifted {k = k} {v} {c} h b q) d f = run-shifted d k v c b q (run h d f)
   run (i-type {w = w} q) d f = run-type d w q
   run (i-typed {k = k} {t} b c) d f = run-typed d k t b c
   run (i-limit {c = c} h q) d f = run-limit d c q (run h d f)
-  run i-no-fields d f = λ i ys e s. list-nil RBrace (Parse.mapField ts) i
+  run i-no-fields d f = λ i ys e s. list-nil RBrace mapFields (Parse.mapField ts) i
   run (i-fields {l = l} {s = t} h v) d f = λ i ys e s.
-      list-snoc RBrace (Parse.mapField ts) i l t ys e (λ a. run h d f i (yield t ++ ys) a tt) (λ a. run v d f (i + width l) ys a s) (opens v ys) (is-wide v)
+      list-snoc RBrace mapFields (Parse.mapField ts) i l t ys e (λ a. run h d f i (yield t ++ ys) a tt) (λ a. run v d f (i + width l) ys a s) (opens v ys) (is-wide v)
   run (i-plain-field {t = t} {w} b) d f = run-plain-field d w t b
   run (i-bytes-field {v = v} {w} q) d f = run-bytes-field d w v q
   run (i-array-field {t = t} {v} {w} b q) d f = run-array-field d w t v b q
-  run i-no-event-fields d f = λ i ys e s. list-nil RBrace (Parse.eventField ts) i
+  run i-no-event-fields d f = λ i ys e s. list-nil RBrace eventFields (Parse.eventField ts) i
   run (i-event-fields {l = l} {s = t} h v) d f = λ i ys e s.
-      list-snoc RBrace (Parse.eventField ts) i l t ys e (λ a. run h d f i (yield t ++ ys) a tt) (λ a. run v d f (i + width l) ys a s) (opens v ys) (is-wide v)
+      list-snoc RBrace eventFields (Parse.eventField ts) i l t ys e (λ a. run h d f i (yield t ++ ys) a tt) (λ a. run v d f (i + width l) ys a s) (opens v ys) (is-wide v)
   run (i-unit {w = w} {l} h) d f = run-unit d w l (run h d f)
   run (i-map {w = w} {l} h q) d f = run-map d w l q (run h d f)
   run (i-event {w = w} {l} h) d f = run-event d w l (run h d f)
-  run i-no-decls d f = λ i ys e s q. list-nil Eof (Parse.top ts) i
+  run i-no-decls d f = λ i ys e s q. list-nil Eof tops (Parse.top ts) i
   run (i-decls {l = l} {s = t} h v) d f = λ i ys e s q.
-      list-snoc Eof (Parse.top ts) i l t ys e (λ a. run h d f i (yield t ++ ys) a tt q) (λ a. run v d f (i + width l) ys a s q) (opens v ys) (is-wide v)
+      list-snoc Eof tops (Parse.top ts) i l t ys e (λ a. run h d f i (yield t ++ ys) a tt q) (λ a. run v d f (i + width l) ys a s q) (opens v ys) (is-wide v)
   run (i-program {l = l} h) d f = run-program d l (run h d f)
 
 -- ---- the theorems

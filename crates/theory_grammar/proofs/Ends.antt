@@ -9,13 +9,14 @@ use lib.ListN.{length}
 use borrow.Author.Tests.{eqb-true}
 use Rattle.rules.specs.declared.Syntax.the-variants.{CallOnOther}
 use Rattle.rules.specs.Kinds.{RBrace, LParen, RParen, Identifier, Eof}
+use Rattle.rules.specs.Fits.{bodyThings, unitThings, eventFields, mapFields}
 use Rattle.rules.specs.Tree.{Tok, spellingOf, Tree, none, call, isVariable, count}
 use Rattle.rules.specs.Nodes.{width}
 use Rattle.rules.specs.Parse
 use Rattle.rules.specs.Parse.{Out, ok, no, pick, tokAt, kindAt}
 use Rattle.rules.specs.Grammar.{Nt, Args, Stmt, Stmts, Item, Items, Chain, MapField, MapFields, EventField, EventFields, Decl, i-no-stmts, i-stmts, i-no-items, i-items, i-no-fields, i-fields, i-no-event-fields, i-event-fields}
 use Rattle.theory_grammar.proofs.Laws.{here, fewest, is-wide, is-count}
-use Rattle.theory_grammar.proofs.Runs.{All, then-all, map-all, want-all, named-all}
+use Rattle.theory_grammar.proofs.Runs.{All, then-all, map-all, end-in-all, named-all}
 use Rattle.theory_grammar.proofs.Sound.{Reads, Under, BodyUnder, args-sound, inner-sound, list-sound, stmt-sound, body-sound, item-sound, chain-sound, map-field-sound, event-field-sound, top-sound, Accepts, program-sound}
 
 -- where a tree ends, of what is read from row i on
@@ -67,7 +68,7 @@ module _ (ts : List Tok) (d : ℕ) where
         called-on w none (j + 1) (k + 1 + 1) (omega arith) (omega (arith, here ts (k + 1) RParen (eqb-true (kindAt ts (k + 1)) RParen b) refl))
     call-on false w k n h b =
         then-all (Ends ts (k + 1)) (On ts i j) (Parse.args ts (Parse.inner ts d) k) _ (ends-args k h)
-        (λ a r u. want-all ts (On ts i j) RParen (Parse.called ts t w a (j + 1)) r
+        (λ a r u. end-in-all ts (On ts i j) _ RParen a (Parse.called ts t w a (j + 1)) r
         (λ e. called-on w a (j + 1) (r + 1) (omega (arith, u .0)) (omega (arith, here ts r RParen e refl))))
 
     open-on : (b : Bool) (w : List ℕ) (k : ℕ) → k ≡ j + 1 + 1 → k ≤ length ts → eqb (kindAt ts k) LParen ≡ b
@@ -95,10 +96,10 @@ module _ (ts : List Tok) (d : ℕ) where
   ends-body o h =
       map-all (BodyUnder ts d o) (λ l j. (j ≡ o + (1 + width l + 1)) × (j ≤ length ts) × (count l ≤ width l)) (Parse.body ts d o) (body-sound ts d o h) (λ l j u. body-ends ts d o l j u)
 
-  pub ends-stmts : (i : ℕ) → i ≤ length ts → All (λ l j. Ends ts i l j × (kindAt ts j ≡ RBrace)) (Parse.listTo ts RBrace (Parse.stmt ts d (Parse.body ts d)) i)
+  pub ends-stmts : (i : ℕ) → i ≤ length ts → All (λ l j. Ends ts i l j × (kindAt ts j ≡ RBrace)) (Parse.listTo ts RBrace bodyThings (Parse.stmt ts d (Parse.body ts d)) i)
   ends-stmts i h =
-      list-ends ts Stmts d i RBrace (Parse.listTo ts RBrace (Parse.stmt ts d (Parse.body ts d)) i)
-      (list-sound ts Stmts Stmt d i-no-stmts (λ l s a b. i-stmts a b) (omega arith) RBrace (Parse.stmt ts d (Parse.body ts d)) (stmt-sound ts d) i h)
+      list-ends ts Stmts d i RBrace (Parse.listTo ts RBrace bodyThings (Parse.stmt ts d (Parse.body ts d)) i)
+      (list-sound ts Stmts Stmt d i-no-stmts (λ l s a b. i-stmts a b) (omega arith) RBrace bodyThings (Parse.stmt ts d (Parse.body ts d)) (stmt-sound ts d) i h)
 
 -- ---- units, maps, events and programs
 
@@ -131,20 +132,20 @@ module _ (ts : List Tok) where
   wide-top i = reads-wide ts Decl 64 i (Parse.top ts i) (omega arith) (top-sound ts i)
 
   -- lists, up to the row that stops them
-  pub ends-items : (i : ℕ) → i ≤ length ts → All (λ l j. Ends ts i l j × (kindAt ts j ≡ RBrace)) (Parse.listTo ts RBrace (Parse.item ts) i)
+  pub ends-items : (i : ℕ) → i ≤ length ts → All (λ l j. Ends ts i l j × (kindAt ts j ≡ RBrace)) (Parse.listTo ts RBrace unitThings (Parse.item ts) i)
   ends-items i h =
-      list-ends ts Items 64 i RBrace (Parse.listTo ts RBrace (Parse.item ts) i)
-      (list-sound ts Items Item 64 i-no-items (λ l s a b. i-items a b) (omega arith) RBrace (Parse.item ts) (item-sound ts) i h)
+      list-ends ts Items 64 i RBrace (Parse.listTo ts RBrace unitThings (Parse.item ts) i)
+      (list-sound ts Items Item 64 i-no-items (λ l s a b. i-items a b) (omega arith) RBrace unitThings (Parse.item ts) (item-sound ts) i h)
 
-  pub ends-map-fields : (i : ℕ) → i ≤ length ts → All (λ l j. Ends ts i l j × (kindAt ts j ≡ RBrace)) (Parse.listTo ts RBrace (Parse.mapField ts) i)
+  pub ends-map-fields : (i : ℕ) → i ≤ length ts → All (λ l j. Ends ts i l j × (kindAt ts j ≡ RBrace)) (Parse.listTo ts RBrace mapFields (Parse.mapField ts) i)
   ends-map-fields i h =
-      list-ends ts MapFields 64 i RBrace (Parse.listTo ts RBrace (Parse.mapField ts) i)
-      (list-sound ts MapFields MapField 64 i-no-fields (λ l s a b. i-fields a b) (omega arith) RBrace (Parse.mapField ts) (map-field-sound ts) i h)
+      list-ends ts MapFields 64 i RBrace (Parse.listTo ts RBrace mapFields (Parse.mapField ts) i)
+      (list-sound ts MapFields MapField 64 i-no-fields (λ l s a b. i-fields a b) (omega arith) RBrace mapFields (Parse.mapField ts) (map-field-sound ts) i h)
 
-  pub ends-event-fields : (i : ℕ) → i ≤ length ts → All (λ l j. Ends ts i l j × (kindAt ts j ≡ RBrace)) (Parse.listTo ts RBrace (Parse.eventField ts) i)
+  pub ends-event-fields : (i : ℕ) → i ≤ length ts → All (λ l j. Ends ts i l j × (kindAt ts j ≡ RBrace)) (Parse.listTo ts RBrace eventFields (Parse.eventField ts) i)
   ends-event-fields i h =
-      list-ends ts EventFields 64 i RBrace (Parse.listTo ts RBrace (Parse.eventField ts) i)
-      (list-sound ts EventFields EventField 64 i-no-event-fields (λ l s a b. i-event-fields a b) (omega arith) RBrace (Parse.eventField ts) (event-field-sound ts) i h)
+      list-ends ts EventFields 64 i RBrace (Parse.listTo ts RBrace eventFields (Parse.eventField ts) i)
+      (list-sound ts EventFields EventField 64 i-no-event-fields (λ l s a b. i-event-fields a b) (omega arith) RBrace eventFields (Parse.eventField ts) (event-field-sound ts) i h)
 
   -- a program, where the table has an Eof: its rows are in the table
   pub ends-parse : (e : ℕ) → e < length ts → kindAt ts e ≡ Eof → All (λ t j. (j ≡ width t) × (j ≤ length ts)) (Parse.parse ts)

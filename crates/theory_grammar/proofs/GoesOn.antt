@@ -556,65 +556,65 @@ module _ (ts : List Tok) (proper : Proper ts) where
       (Q : List Tok → P) (q-sound : (i : ℕ) → All (Reads ts M d i) (Q ts i)) (q-next : (i : ℕ) → All (λ t j. S j) (Q ts i))
       (q-alike : (i : ℕ) (ts′ : List Tok) (n : ℕ) → Alike ts ts′ n → Local ts n i (i + 1) (Q ts i) (Q ts′ i))
       (q-stuck : (i : ℕ) → i ≤ length ts → S i → Stuck (Halt c (Dooms i (λ x. Q x i)) ts M d i) (Q ts i)) where
-    list-step : (i : ℕ) (l : Tree) (j : ℕ) → Reads ts Ns d i l j → S j → Stuck (Halt c (Dooms j (λ x. Parse.listStep x (Q x) l j)) ts Ns d i) (Parse.listStep ts (Q ts) l j)
+    list-step : (i : ℕ) (l : Tree) (j : ℕ) → Reads ts Ns d i l j → S j → Stuck (Halt c (Dooms j (λ x. Parse.listStep x also (Q x) l j)) ts Ns d i) (Parse.listStep ts also (Q ts) l j)
     unfolding Parse.listStep yield
     list-step i l j r s =
-        then-any (Halt c (Dooms j (λ x. Parse.listStep x (Q x) l j)) ts Ns d i) (Q ts j) _
-        (stuck-as (Halt c (Dooms j (λ x. Q x j)) ts M d j) (Halt c (Dooms j (λ x. Parse.listStep x (Q x) l j)) ts Ns d i) (Q ts j) (q-stuck j (r .inside) s)
+        then-any (Halt c (Dooms j (λ x. Parse.listStep x also (Q x) l j)) ts Ns d i) (Q ts j) _
+        (stuck-as (Halt c (Dooms j (λ x. Q x j)) ts M d j) (Halt c (Dooms j (λ x. Parse.listStep x also (Q x) l j)) ts Ns d i) (Q ts j) (q-stuck j (r .inside) s)
         (λ why k o. wrap (λ u. seq l u) (λ u w. join (isCheck why) (over (isMisfit why) d) l u (lax (isMisfit why) (r .is)) w)
         (λ _. at-first j j (λ x. Q x j) (λ x t k. ok (seq l t) k) (omega arith)) []
         (λ u. ap (λ (x : List Tok). yield l ++ x) (sym (append-nil (yield u)))) (run-of r) o))
         (λ t k. tt)
 
-    list-keeps : (stop i : ℕ) (l : Tree) (j : ℕ) → Reads ts Ns d i l j → All (λ u k. Reads ts Ns d i u k × S k) (Parse.listStep ts (Q ts) l j)
+    list-keeps : (stop i : ℕ) (l : Tree) (j : ℕ) → Reads ts Ns d i l j → All (λ u k. Reads ts Ns d i u k × S k) (Parse.listStep ts also (Q ts) l j)
     unfolding Parse.listStep
     list-keeps stop i l j r =
-        all-both (Reads ts Ns d i) (λ u k. S k) (Parse.listStep ts (Q ts) l j)
-        (map-all (λ u k. Reads ts Ns d i u k × (j < k)) (Reads ts Ns d i) (Parse.listStep ts (Q ts) l j)
+        all-both (Reads ts Ns d i) (λ u k. S k) (Parse.listStep ts also (Q ts) l j)
+        (map-all (λ u k. Reads ts Ns d i u k × (j < k)) (Reads ts Ns d i) (Parse.listStep ts also (Q ts) l j)
         (list-next ts Ns M d (nil true d) (join true d) wide stop (Q ts) q-sound i l j r) (λ u k x. x .0))
         (then-all (λ t k. S k) (λ u k. S k) (Q ts j) _ (q-next j) (λ t k s. s))
 
-    step-alike : (l : Tree) (j : ℕ) (ts′ : List Tok) (n : ℕ) → Alike ts ts′ n → Local ts n j (j + 1) (Parse.listStep ts (Q ts) l j) (Parse.listStep ts′ (Q ts′) l j)
+    step-alike : (l : Tree) (j : ℕ) (ts′ : List Tok) (n : ℕ) → Alike ts ts′ n → Local ts n j (j + 1) (Parse.listStep ts also (Q ts) l j) (Parse.listStep ts′ also (Q ts′) l j)
     unfolding Parse.listStep
     step-alike l j ts′ n a = then-local ts n (Q ts j) (Q ts′ j) _ _ (q-alike j ts′ n a) (λ t r m. ok-local ts n r (j + 1) _ r (omega arith) m)
 
-    list-stuck : (stop i : ℕ) → i ≤ length ts → S i → Stuck (Halt c (Dooms i (λ x. Parse.listTo x stop (Q x) i)) ts Ns d i) (Parse.listTo ts stop (Q ts) i)
+    list-stuck : (stop i : ℕ) → i ≤ length ts → S i → Stuck (Halt c (Dooms i (λ x. Parse.listTo x stop also (Q x) i)) ts Ns d i) (Parse.listTo ts stop also (Q ts) i)
     unfolding Parse.listTo yield
     list-stuck stop i h s =
-        loop-stuck c Ns d i (λ k. not (eqb k stop)) (λ x. Parse.listStep x (Q x)) (λ l j. Reads ts Ns d i l j × S j)
+        loop-stuck c Ns d i (λ k. not (eqb k stop)) (λ x. Parse.listStep x also (Q x)) (λ l j. Reads ts Ns d i l j × S j)
         (λ l j r b. list-keeps stop i l j (r .0)) (λ l j b ts′ n a. step-alike l j ts′ n a) (λ l j r b. list-step i l j (r .0) (r .1)) none i (reads (nil true d) (run-none ts i h), s)
 
     -- name `{` contents `}` behind the keyword at row i, closed by the tokens zs
     module _ (F : List ℕ → Tree → Tree) (k i : ℕ) (f : List Tok → List ℕ → Tree → P) (zs : List Tok) where
-      braced-doom : kindAt ts (i + 1) ≡ Identifier → kindAt ts (i + 1 + 1) ≡ LBrace → (s : ℕ) → Dooms (i + 1 + 1 + 1) (λ x. Parse.listTo x RBrace (Q x) (i + 1 + 1 + 1)) s
-          → Dooms i (λ x. Parse.braced x (Q x) (f x) i) s
+      braced-doom : kindAt ts (i + 1) ≡ Identifier → kindAt ts (i + 1 + 1) ≡ LBrace → (s : ℕ) → Dooms (i + 1 + 1 + 1) (λ x. Parse.listTo x RBrace also (Q x) (i + 1 + 1 + 1)) s
+          → Dooms i (λ x. Parse.braced x also (Q x) (f x) i) s
       unfolding Parse.braced
       braced-doom a b s h = (
         omega (arith, h .0),
         λ ts′ y. subst (Dead CallOnOther)
             (sym (Cases.named-yes ts′ _ (i + 1) (same-kind y (omega (arith, h .0)) a) ∙ Cases.want-yes ts′ LBrace _ (i + 1 + 1) (same-kind y (omega (arith, h .0)) b)))
-            (dead-then CallOnOther (Parse.listTo ts′ RBrace (Q ts′) (i + 1 + 1 + 1)) _ (h .1 ts′ y)),
+            (dead-then CallOnOther (Parse.listTo ts′ RBrace also (Q ts′) (i + 1 + 1 + 1)) _ (h .1 ts′ y)),
       )
 
       braced-stuck : ((b : Bool) (n : ℕ) (w : List ℕ) (l : Tree) → Is b Ns n l → Is b Decl n (F w l))
           → ((w : List ℕ) (l : Tree) → yield (F w l) ≡ sign k ∷ name w ∷ sign LBrace ∷ (yield l ++ zs))
           → Run ts i (sign k ∷ []) (i + 1) → (kindAt ts (i + 1 + 1) ≡ LBrace → S (i + 1 + 1 + 1))
           → ((w : List ℕ) (l : Tree) (j : ℕ) → Is true Ns d l → Run ts i (sign k ∷ name w ∷ sign LBrace ∷ yield l) j
-          → Stuck (Halt top (Dooms i (λ x. Parse.braced x (Q x) (f x) i)) ts Decl d i) (f ts w l (j + 1)))
-          → Stuck (Halt top (Dooms i (λ x. Parse.braced x (Q x) (f x) i)) ts Decl d i) (Parse.braced ts (Q ts) (f ts) i)
+          → Stuck (Halt top (Dooms i (λ x. Parse.braced x also (Q x) (f x) i)) ts Decl d i) (f ts w l (j + 1)))
+          → Stuck (Halt top (Dooms i (λ x. Parse.braced x also (Q x) (f x) i)) ts Decl d i) (Parse.braced ts also (Q ts) (f ts) i)
       unfolding Parse.braced yield
       braced-stuck made spells r at ends =
-          let D : ℕ → Type 0 = Dooms i (λ x. Parse.braced x (Q x) (f x) i) in
+          let D : ℕ → Type 0 = Dooms i (λ x. Parse.braced x also (Q x) (f x) i) in
           named-halt top D Decl d i _ (i + 1) (opened (F [] none) (made false (suc d) [] none (nil false (suc d))) (name [] ∷ sign LBrace ∷ zs) (spells [] none) r)
           (λ a.
           want-halt top D Decl d i LBrace _ (i + 1 + 1)
           (opened (F _ none) (made false (suc d) _ none (nil false (suc d))) (sign LBrace ∷ zs) (spells _ none) (r ▸ name-row ts (i + 1) a)) (λ b.
           let x : Run ts i (sign k ∷ name (spellingOf (tokAt ts (i + 1))) ∷ sign LBrace ∷ []) (i + 1 + 1 + 1) =
           r ▸ name-row ts (i + 1) a ▸ row ts (i + 1 + 1) LBrace b refl in
-          then-stuck (Halt top D ts Decl d i) (λ l j. Reads ts Ns d (i + 1 + 1 + 1) l j × (kindAt ts j ≡ RBrace)) (Parse.listTo ts RBrace (Q ts) (i + 1 + 1 + 1)) _
+          then-stuck (Halt top D ts Decl d i) (λ l j. Reads ts Ns d (i + 1 + 1 + 1) l j × (kindAt ts j ≡ RBrace)) (Parse.listTo ts RBrace also (Q ts) (i + 1 + 1 + 1)) _
           (list-sound ts Ns M d (nil true d) (join true d) wide RBrace (Q ts) q-sound (i + 1 + 1 + 1) (x .inside))
-          (stuck-as (Halt c (Dooms (i + 1 + 1 + 1) (λ x. Parse.listTo x RBrace (Q x) (i + 1 + 1 + 1))) ts Ns d (i + 1 + 1 + 1)) (Halt top D ts Decl d i)
-          (Parse.listTo ts RBrace (Q ts) (i + 1 + 1 + 1)) (list-stuck RBrace (i + 1 + 1 + 1) (x .inside) (at b))
+          (stuck-as (Halt c (Dooms (i + 1 + 1 + 1) (λ x. Parse.listTo x RBrace also (Q x) (i + 1 + 1 + 1))) ts Ns d (i + 1 + 1 + 1)) (Halt top D ts Decl d i)
+          (Parse.listTo ts RBrace also (Q ts) (i + 1 + 1 + 1)) (list-stuck RBrace (i + 1 + 1 + 1) (x .inside) (at b))
           (λ why s o. wrap (F (spellingOf (tokAt ts (i + 1)))) (λ l w. made (isCheck why) (over (isMisfit why) d) _ l w) (λ _. braced-doom a b) zs (spells _) x (loosely o)))
           (λ l j e u. ends _ l j (u .0 .is) (x ▸ run-of (u .0)))))
 
@@ -825,7 +825,7 @@ module _ (ts : List Tok) (proper : Proper ts) where
   unfolding Parse.body
   body-stuck zero = λ o. refl
   body-stuck (suc d) = λ o h.
-      let q : List Tok → Out = λ x. Parse.listTo x RBrace (Parse.stmt x d (Parse.body x d)) (o + 1) in
+      let q : List Tok → Out = λ x. Parse.listTo x RBrace bodyThings (Parse.stmt x d (Parse.body x d)) (o + 1) in
       then-any (Halt code (Dooms (o + 1) (λ x. then (q x) (λ l j. ok l (j + 1)))) ts Stmts d (o + 1)) (q ts) (λ l j. ok l (j + 1))
       (stuck-as (Halt code (Dooms (o + 1) q) ts Stmts d (o + 1)) (Halt code (Dooms (o + 1) (λ x. then (q x) (λ l j. ok l (j + 1)))) ts Stmts d (o + 1)) (q ts)
       (list-stuck code Stmts Stmt d (λ b n. i-no-stmts) (λ b n l s a c. i-stmts a c) (omega arith) (Start ts) (λ x. Parse.stmt x d (Parse.body x d)) (stmt-sound ts d)
@@ -1006,7 +1006,7 @@ module _ (ts : List Tok) (proper : Proper ts) where
       braced-stuck fields MapFields MapField 64 (λ b n. i-no-fields) (λ b n l s a c. i-fields a c) (omega arith) (λ j. Unit {0}) Parse.mapField
       (map-field-sound ts) (λ j. all-any (Parse.mapField ts j)) (λ j ts′ n a. map-field-local ts ts′ n a j) map-field-stuck
       (λ w l. mapDecl w (filled l)) KeywordMap i mapEnds closing (λ b n w l q. i-filled q) map-spells (row ts i KeywordMap e refl) (λ b. tt)
-      (λ w l j h r. map-end (Dooms i (λ x. Parse.braced x (Parse.mapField x) (mapEnds x) i)) (lacking (typeOf l) (typedBy KeywordKey l) (typedBy KeywordValue l) (limitOf l)) i w l j h r)
+      (λ w l j h r. map-end (Dooms i (λ x. Parse.braced x mapFields (Parse.mapField x) (mapEnds x) i)) (lacking (typeOf l) (typedBy KeywordKey l) (typedBy KeywordValue l) (limitOf l)) i w l j h r)
 
   -- ---- events
 
@@ -1095,7 +1095,7 @@ module _ (ts : List Tok) (proper : Proper ts) where
   parse-stuck : Stuck (Halt top (Dooms 0 Parse.parse) ts Program 64 0) (Parse.parse ts)
   unfolding Parse.parse yield
   parse-stuck =
-      let q : List Tok → Out = λ x. Parse.listTo x Eof (Parse.top x) 0 in
+      let q : List Tok → Out = λ x. Parse.listTo x Eof tops (Parse.top x) 0 in
       then-any (Halt top (Dooms 0 Parse.parse) ts Program 64 0) (q ts) _
       (stuck-as (Halt top (Dooms 0 q) ts Decls 64 0) (Halt top (Dooms 0 Parse.parse) ts Program 64 0) (q ts)
       (list-stuck top Decls Decl 64 (λ b n. i-no-decls) (λ b n l s a c. i-decls a c) (omega arith) (λ j. Unit {0}) Parse.top (top-sound ts)

@@ -548,19 +548,19 @@ module _ (ts ts′ : List Tok) (n : ℕ) (agreed : Alike ts ts′ n) where
   -- ---- lists, up to a row of kind `stop`
 
   pub list-local : (stop : ℕ) (p p′ : P) → ((i : ℕ) → Local ts n i (i + 1) (p i) (p′ i)) → (j : ℕ)
-      → Local ts n j j (Parse.listTo ts stop p j) (Parse.listTo ts′ stop p′ j)
+      → Local ts n j j (Parse.listTo ts stop also p j) (Parse.listTo ts′ stop also p′ j)
   unfolding Parse.listTo Parse.listStep
   list-local stop p p′ s j =
-      loop-local (λ x. not (eqb x stop)) (Parse.listStep ts p) (Parse.listStep ts′ p′)
+      loop-local (λ x. not (eqb x stop)) (Parse.listStep ts also p) (Parse.listStep ts′ also p′)
       (λ l k b. then-local ts n (p k) (p′ k) _ _ (s k) (λ t r m. ok-local ts n r (k + 1) _ r (omega arith) m)) none j
 
   braced-local : (p p′ : P) (f f′ : List ℕ → Tree → P) → ((i : ℕ) → Local ts n i (i + 1) (p i) (p′ i)) → (i : ℕ)
       → ((w : List ℕ) (l : Tree) (k : ℕ) → i + 1 ≤ k → Local ts n k (i + 1) (f w l (k + 1)) (f′ w l (k + 1)))
-      → Local ts n i (i + 1) (Parse.braced ts p f i) (Parse.braced ts′ p′ f′ i)
+      → Local ts n i (i + 1) (Parse.braced ts also p f i) (Parse.braced ts′ also p′ f′ i)
   unfolding Parse.braced
   braced-local p p′ f f′ s i h =
       ease ts n (omega arith) (omega arith) (named-local _ _ (i + 1) (i + 1) (λ w. want-local LBrace _ _ (i + 1 + 1) (i + 1)
-      (then-local ts n (Parse.listTo ts RBrace p (i + 1 + 1 + 1)) (Parse.listTo ts′ RBrace p′ (i + 1 + 1 + 1)) _ _ (list-local RBrace p p′ s (i + 1 + 1 + 1))
+      (then-local ts n (Parse.listTo ts RBrace also p (i + 1 + 1 + 1)) (Parse.listTo ts′ RBrace also p′ (i + 1 + 1 + 1)) _ _ (list-local RBrace p p′ s (i + 1 + 1 + 1))
       (λ l k m. h w l k (omega arith)))))
 
   -- ---- statements, over what is read behind a brace
@@ -654,8 +654,8 @@ module _ (ts ts′ : List Tok) (n : ℕ) (agreed : Alike ts ts′ n) where
       → (o : ℕ) → Local ts n (o + 1) (o + 1) (Parse.body ts (suc d) o) (Parse.body ts′ (suc d) o)
   unfolding Parse.body
   body-over d branch o =
-      then-local ts n (Parse.listTo ts RBrace (Parse.stmt ts d (Parse.body ts d)) (o + 1))
-      (Parse.listTo ts′ RBrace (Parse.stmt ts′ d (Parse.body ts′ d)) (o + 1)) _ _
+      then-local ts n (Parse.listTo ts RBrace bodyThings (Parse.stmt ts d (Parse.body ts d)) (o + 1))
+      (Parse.listTo ts′ RBrace bodyThings (Parse.stmt ts′ d (Parse.body ts′ d)) (o + 1)) _ _
       (list-local RBrace (Parse.stmt ts d (Parse.body ts d)) (Parse.stmt ts′ d (Parse.body ts′ d)) (stmt-over d (Parse.body ts d) (Parse.body ts′ d) branch) (o + 1))
       (λ l j m. ok-local ts n j (o + 1) l (j + 1) (omega arith) (omega arith))
 
@@ -824,7 +824,7 @@ module _ (ts ts′ : List Tok) (n : ℕ) (agreed : Alike ts ts′ n) where
   parse-local : Local ts n 0 0 (Parse.parse ts) (Parse.parse ts′)
   unfolding Parse.parse
   parse-local =
-      then-local ts n (Parse.listTo ts Eof (Parse.top ts) 0) (Parse.listTo ts′ Eof (Parse.top ts′) 0) _ _ (list-local Eof (Parse.top ts) (Parse.top ts′) top-local 0)
+      then-local ts n (Parse.listTo ts Eof tops (Parse.top ts) 0) (Parse.listTo ts′ Eof tops (Parse.top ts′) 0) _ _ (list-local Eof (Parse.top ts) (Parse.top ts′) top-local 0)
       (λ l j h. ok-local ts n j 0 _ (j + 1) (omega arith) (omega arith))
 
 -- ---- what is read of a table is read of one that has the rows up to its end alike

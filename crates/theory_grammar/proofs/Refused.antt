@@ -12,9 +12,10 @@ use borrow.Author.Tests.{eqb-true}
 use Rattle.rules.specs.declared.Syntax.{Syntax}
 use Rattle.rules.specs.declared.Syntax.the-variants.{CallOnOther}
 use Rattle.rules.specs.Kinds.{KeywordUnit, KeywordReturn, KeywordMap, KeywordKey, KeywordValue, KeywordIf, KeywordElse, KeywordGuard, KeywordEvent, KeywordType, KeywordMax, KeywordBytes, LBrace, RBrace, LParen, RParen, Colon, Dot, Comma, Semicolon, LBracket, RBracket, Equals, Star, Identifier, StringLiteral, Number, Eof}
+use Rattle.rules.specs.Fits.{only, bodyThings, unitThings, eventFields, tops, mapFields, firstArguments}
 use Rattle.rules.specs.Tree.{Tok, spellingOf, bitsIn, Tree, none, group, call, thenBody, isVariable, mapTypeNumber, maxBits, typeOf, typedBy, limitOf, lacking, program}
 use Rattle.rules.specs.Parse
-use Rattle.rules.specs.Parse.{Out, ok, no, P, then, pick, many, isAdd, isShift, isMul, isAssign, isText, isType, most32, Lead, number, identifier, paren, other, lead, StmtLead, declaring, returning, branching, expression, stmtLead, FieldLead, typing, keying, limiting, nothing, fieldLead, EventLead, typeLead, bytesLead, noLead, eventLead, TopLead, mapLead, unitLead, eventTop, noTop, topLead, Sort, operand, whole, tokAt, kindAt}
+use Rattle.rules.specs.Parse.{Out, ok, no, P, then, or, pick, many, isAdd, isShift, isMul, isAssign, isText, isType, most32, Lead, number, identifier, paren, other, lead, StmtLead, declaring, returning, branching, expression, stmtLead, FieldLead, typing, keying, limiting, nothing, fieldLead, EventLead, typeLead, bytesLead, noLead, eventLead, TopLead, mapLead, unitLead, eventTop, noTop, topLead, Sort, operand, whole, tokAt, kindAt}
 use Rattle.theory_grammar.proofs.Runs.{All, isMark}
 use Rattle.theory_grammar.proofs.Leads.{LeadIs, lead-is, StmtIs, stmt-is, FieldIs, field-is, EventIs, event-is, TopIs, top-is, add-mark, shift-mark, mul-mark, assign-mark, declaring-mark, text-mark, typed-mark, type-mark}
 use Rattle.theory_grammar.proofs.Ends.{Ends, ends-stmts, ends-items, ends-map-fields, ends-event-fields}
@@ -35,6 +36,11 @@ module _ (e : ℕ) where
   unfolding then
   then-known C (ok t j) f a h k = k t j a h
   then-known C (no why r) f a h k = h
+
+  or-within : (s i : ℕ) (o : Out) → Within e o → Within e (or s i o)
+  unfolding or
+  or-within s i (ok t j) h = h
+  or-within s i (no why r) h = h
 
   many-within : (test : ℕ → Bool) (step : Tree → P) → ((t : Tree) (j : ℕ) → j ≤ e → test j ≡ true → Within e (step t j))
       → (f : ℕ) (b : Bool) (t : Tree) (j : ℕ) → test j ≡ b → j ≤ e → Within e (many test step f b t j)
@@ -66,13 +72,26 @@ module _ (ts : List Tok) (e : ℕ) (eof : kindAt ts e ≡ Eof) (short : e < leng
   unfolding Parse.loop
   loop-within test step s t j h = many-within e test step s (suc (length ts)) (test j) t j refl h
 
-  want-within : (k : ℕ) (f : P) (i : ℕ) → eqb k Eof ≡ false → i ≤ e → (i + 1 ≤ e → Within e (f (i + 1))) → Within e (Parse.want ts k f i)
-  unfolding Parse.want Parse.wantBy
-  want-within k f i b h s = go (eqb (kindAt ts i) k) refl
+  want-in-within : (s k : ℕ) (f : P) (i : ℕ) → eqb k Eof ≡ false → i ≤ e → (i + 1 ≤ e → Within e (f (i + 1))) → Within e (Parse.wantIn ts s k f i)
+  unfolding Parse.wantIn Parse.wantBy
+  want-in-within s k f i b h q = go (eqb (kindAt ts i) k) refl
     where
-      go : (c : Bool) → eqb (kindAt ts i) k ≡ c → Within e (Parse.wantBy ts c k f i)
-      go true c = s (onward i k (eqb-true (kindAt ts i) k c) b h)
+      go : (c : Bool) → eqb (kindAt ts i) k ≡ c → Within e (Parse.wantBy ts c s f i)
+      go true c = q (onward i k (eqb-true (kindAt ts i) k c) b h)
       go false c = h
+
+  want-within : (k : ℕ) (f : P) (i : ℕ) → eqb k Eof ≡ false → i ≤ e → (i + 1 ≤ e → Within e (f (i + 1))) → Within e (Parse.want ts k f i)
+  unfolding Parse.want
+  want-within k f i b h s = want-in-within (only k) k f i b h s
+
+  end-in-within : (s k : ℕ) (t : Tree) (f : P) (i : ℕ) → eqb k Eof ≡ false → i ≤ e → (i + 1 ≤ e → Within e (f (i + 1)))
+      → Within e (Parse.endIn ts s k t f i)
+  unfolding Parse.endIn
+  end-in-within s k t f i b h q = want-in-within (Parse.onward ts t i + s) k f i b h q
+
+  end-within : (k : ℕ) (t : Tree) (f : P) (i : ℕ) → eqb k Eof ≡ false → i ≤ e → (i + 1 ≤ e → Within e (f (i + 1))) → Within e (Parse.end ts k t f i)
+  unfolding Parse.end
+  end-within k t f i b h q = end-in-within (only k) k t f i b h q
 
   need-within : (k : ℕ) (f : P) (i : ℕ) → eqb k Eof ≡ false → i ≤ e → (i + 1 ≤ e → Within e (f i)) → Within e (Parse.need ts k f i)
   unfolding Parse.need Parse.needBy
@@ -109,7 +128,7 @@ module _ (ts : List Tok) (e : ℕ) (eof : kindAt ts e ≡ Eof) (short : e < leng
     unfolding Parse.atomBy
     atom-by number i f h = onward i Number f refl h
     atom-by identifier i f h = onward i Identifier f refl h
-    atom-by paren i f h = then-within e (g whole i) _ (under whole i (onward i LParen f refl h)) (λ t j l. want-within RParen (ok (group t)) j refl l (λ n. n))
+    atom-by paren i f h = then-within e (g whole i) _ (under whole i (onward i LParen f refl h)) (λ t j l. end-within RParen t (ok (group t)) j refl l (λ n. n))
     atom-by other i f h = h
 
     atom-within : (i : ℕ) → i ≤ e → Within e (Parse.atom ts g i)
@@ -119,7 +138,7 @@ module _ (ts : List Tok) (e : ℕ) (eof : kindAt ts e ≡ Eof) (short : e < leng
     args-within : (o : ℕ) → o + 1 ≤ e → Within e (Parse.args ts g o)
     unfolding Parse.args Parse.argStep
     args-within o h =
-        then-within e (g whole o) _ (under whole o h)
+        then-within e (or firstArguments (o + 1) (g whole o)) _ (or-within e firstArguments (o + 1) (g whole o) (under whole o h))
         (λ t k l. loop-within (λ r. eqb (kindAt ts r) Comma) (Parse.argStep ts g)
         (λ a j m b. then-within e (g whole j) _ (under whole j (onward j Comma (eqb-true (kindAt ts j) Comma b) refl m)) (λ u r n. n)) _ k l)
 
@@ -127,7 +146,7 @@ module _ (ts : List Tok) (e : ℕ) (eof : kindAt ts e ≡ Eof) (short : e < leng
     unfolding Parse.callBy
     call-by true t w m k p h b = called-within t w none m (k + 1 + 1) p (onward (k + 1) RParen (eqb-true (kindAt ts (k + 1)) RParen b) refl h)
     call-by false t w m k p h b =
-        then-within e (Parse.args ts g k) _ (args-within k h) (λ a r l. want-within RParen (Parse.called ts t w a m) r refl l (λ n. called-within t w a m (r + 1) p n))
+        then-within e (Parse.args ts g k) _ (args-within k h) (λ a r l. end-in-within _ RParen a (Parse.called ts t w a m) r refl l (λ n. called-within t w a m (r + 1) p n))
 
     open-by : (b : Bool) (t : Tree) (w : List ℕ) (m k : ℕ) → m ≤ e → k ≤ e → eqb (kindAt ts k) LParen ≡ b → Within e (Parse.openBy ts g b t w m k)
     unfolding Parse.openBy
@@ -185,23 +204,23 @@ module _ (ts : List Tok) (e : ℕ) (eof : kindAt ts e ≡ Eof) (short : e < leng
 
   -- ---- lists, up to a row of kind `stop`
 
-  list-within : (stop : ℕ) (p : P) → ((i : ℕ) → i ≤ e → Within e (p i)) → (j : ℕ) → j ≤ e → Within e (Parse.listTo ts stop p j)
+  list-within : (stop also : ℕ) (p : P) → ((i : ℕ) → i ≤ e → Within e (p i)) → (j : ℕ) → j ≤ e → Within e (Parse.listTo ts stop also p j)
   unfolding Parse.listTo Parse.listStep
-  list-within stop p s j h =
-      loop-within (λ r. not (eqb (kindAt ts r) stop)) (Parse.listStep ts p) (λ l k m b. then-within e (p k) _ (s k m) (λ t r n. n)) none j h
+  list-within stop also p s j h =
+      loop-within (λ r. not (eqb (kindAt ts r) stop)) (Parse.listStep ts also p) (λ l k m b. then-within e (or (also + Parse.elseBehind ts l) k (p k)) _ (or-within e _ k (p k) (s k m)) (λ t r n. n)) none j h
 
   -- the same in braces, with the brace taken
-  closed-within : (p : P) → ((i : ℕ) → i ≤ e → Within e (p i)) → ((i : ℕ) → i ≤ length ts → All (λ l j. Ends ts i l j × (kindAt ts j ≡ RBrace)) (Parse.listTo ts RBrace p i))
-      → (f : Tree → P) → ((l : Tree) (k : ℕ) → k ≤ e → Within e (f l k)) → (j : ℕ) → j ≤ e → Within e (then (Parse.listTo ts RBrace p j) (λ l k. f l (k + 1)))
-  closed-within p s ends f t j h =
-      then-known e (λ l k. Ends ts j l k × (kindAt ts k ≡ RBrace)) (Parse.listTo ts RBrace p j) _ (ends j (omega arith)) (list-within RBrace p s j h)
+  closed-within : (also : ℕ) (p : P) → ((i : ℕ) → i ≤ e → Within e (p i)) → ((i : ℕ) → i ≤ length ts → All (λ l j. Ends ts i l j × (kindAt ts j ≡ RBrace)) (Parse.listTo ts RBrace also p i))
+      → (f : Tree → P) → ((l : Tree) (k : ℕ) → k ≤ e → Within e (f l k)) → (j : ℕ) → j ≤ e → Within e (then (Parse.listTo ts RBrace also p j) (λ l k. f l (k + 1)))
+  closed-within also p s ends f t j h =
+      then-known e (λ l k. Ends ts j l k × (kindAt ts k ≡ RBrace)) (Parse.listTo ts RBrace also p j) _ (ends j (omega arith)) (list-within RBrace also p s j h)
       (λ l k c m. t l (k + 1) (onward k RBrace (c .1) refl m))
 
-  braced-within : (p : P) → ((i : ℕ) → i ≤ e → Within e (p i)) → ((i : ℕ) → i ≤ length ts → All (λ l j. Ends ts i l j × (kindAt ts j ≡ RBrace)) (Parse.listTo ts RBrace p i))
-      → (f : List ℕ → Tree → P) → ((w : List ℕ) (l : Tree) (k : ℕ) → k ≤ e → Within e (f w l k)) → (i : ℕ) → i + 1 ≤ e → Within e (Parse.braced ts p f i)
+  braced-within : (also : ℕ) (p : P) → ((i : ℕ) → i ≤ e → Within e (p i)) → ((i : ℕ) → i ≤ length ts → All (λ l j. Ends ts i l j × (kindAt ts j ≡ RBrace)) (Parse.listTo ts RBrace also p i))
+      → (f : List ℕ → Tree → P) → ((w : List ℕ) (l : Tree) (k : ℕ) → k ≤ e → Within e (f w l k)) → (i : ℕ) → i + 1 ≤ e → Within e (Parse.braced ts also p f i)
   unfolding Parse.braced
-  braced-within p s ends f t i h =
-      named-within _ (i + 1) h (λ w m. want-within LBrace _ (i + 1 + 1) refl m (λ n. closed-within p s ends (f w) (t w) (i + 1 + 1 + 1) n))
+  braced-within also p s ends f t i h =
+      named-within _ (i + 1) h (λ w m. want-within LBrace _ (i + 1 + 1) refl m (λ n. closed-within also p s ends (f w) (t w) (i + 1 + 1 + 1) n))
 
   -- ---- statements, over what is read behind a brace
 
@@ -221,16 +240,16 @@ module _ (ts : List Tok) (e : ℕ) (eof : kindAt ts e ≡ Eof) (short : e < leng
     assign-by : (c : Bool) (t : Tree) (j : ℕ) → j ≤ e → isAssign (kindAt ts j) ≡ c → Within e (Parse.assignBy ts d p c t j)
     unfolding Parse.assignBy
     assign-by true t j h c =
-        then-within e (Parse.expr ts d (j + 1)) _ (expr-within d (j + 1) (mark-onward j (assign-mark (kindAt ts j) c) h)) (λ u k l. want-within Semicolon _ k refl l (λ n. n))
-    assign-by false t j h c = want-within Semicolon _ j refl h (λ n. n)
+        then-within e (Parse.expr ts d (j + 1)) _ (expr-within d (j + 1) (mark-onward j (assign-mark (kindAt ts j) c) h)) (λ u k l. end-within Semicolon u _ k refl l (λ n. n))
+    assign-by false t j h c = end-in-within _ Semicolon t _ j refl h (λ n. n)
 
     stmt-by : (l : StmtLead) (i : ℕ) → StmtIs (kindAt ts i) l → i ≤ e → Within e (Parse.stmtBy ts d p l i)
     unfolding Parse.stmtBy
     stmt-by declaring i b h =
         named-within _ (i + 1) (mark-onward i (declaring-mark (kindAt ts i) b) h) (λ w m. want-within Equals _ (i + 1 + 1) refl m (λ n.
-        then-within e (Parse.expr ts d (i + 1 + 1 + 1)) _ (expr-within d (i + 1 + 1 + 1) n) (λ t k l. want-within Semicolon _ k refl l (λ r. r))))
+        then-within e (Parse.expr ts d (i + 1 + 1 + 1)) _ (expr-within d (i + 1 + 1 + 1) n) (λ t k l. end-within Semicolon t _ k refl l (λ r. r))))
     stmt-by returning i b h =
-        then-within e (Parse.expr ts d (i + 1)) _ (expr-within d (i + 1) (onward i KeywordReturn b refl h)) (λ t k l. want-within Semicolon _ k refl l (λ r. r))
+        then-within e (Parse.expr ts d (i + 1)) _ (expr-within d (i + 1) (onward i KeywordReturn b refl h)) (λ t k l. end-within Semicolon t _ k refl l (λ r. r))
     stmt-by branching i b h =
         want-within KeywordGuard _ (i + 1) refl (onward i KeywordIf b refl h) (λ m. want-within LParen _ (i + 1 + 1) refl m (λ n.
         named-within _ (i + 1 + 1 + 1) n (λ w r. want-within RParen _ (i + 1 + 1 + 1 + 1) refl r (λ q. bodies-within w (i + 1 + 1 + 1 + 1 + 1) q))))
@@ -243,7 +262,7 @@ module _ (ts : List Tok) (e : ℕ) (eof : kindAt ts e ≡ Eof) (short : e < leng
   body-within : (d o : ℕ) → o + 1 ≤ e → Within e (Parse.body ts d o)
   unfolding Parse.body
   body-within zero o h = omega arith
-  body-within (suc d) o h = closed-within (Parse.stmt ts d (Parse.body ts d)) (stmt-over d (Parse.body ts d) (body-within d)) (ends-stmts ts d) (λ l k. ok l k) (λ l k m. m) (o + 1) h
+  body-within (suc d) o h = closed-within bodyThings (Parse.stmt ts d (Parse.body ts d)) (stmt-over d (Parse.body ts d) (body-within d)) (ends-stmts ts d) (λ l k. ok l k) (λ l k m. m) (o + 1) h
 
   pub stmt-within : (d i : ℕ) → i ≤ e → Within e (Parse.stmt ts d (Parse.body ts d) i)
   stmt-within d i h = stmt-over d (Parse.body ts d) (body-within d) i h
@@ -261,7 +280,7 @@ module _ (ts : List Tok) (e : ℕ) (eof : kindAt ts e ≡ Eof) (short : e < leng
 
   pub unit-within : (i : ℕ) → i + 1 ≤ e → Within e (Parse.unitAt ts i)
   unfolding Parse.unitAt
-  unit-within i h = braced-within (Parse.item ts) item-within (ends-items ts) _ (λ w l k m. m) i h
+  unit-within i h = braced-within unitThings (Parse.item ts) item-within (ends-items ts) _ (λ w l k m. m) i h
 
   -- ---- maps
 
@@ -294,7 +313,7 @@ module _ (ts : List Tok) (e : ℕ) (eof : kindAt ts e ≡ Eof) (short : e < leng
   unfolding Parse.limitBy
   limit-by true b c k h = h
   limit-by false true c k h = omega arith
-  limit-by false false c k h = want-within Semicolon _ k refl h (λ n. n)
+  limit-by false false c k h = want-in-within _ Semicolon _ k refl h (λ n. n)
 
   field-by : (l : FieldLead) (i : ℕ) → FieldIs (kindAt ts i) l → i ≤ e → Within e (Parse.mapFieldBy ts l i)
   unfolding Parse.mapFieldBy
@@ -320,7 +339,7 @@ module _ (ts : List Tok) (e : ℕ) (eof : kindAt ts e ≡ Eof) (short : e < leng
   pub map-within : (i : ℕ) → i + 1 ≤ e → Within e (Parse.mapAt ts i)
   unfolding Parse.mapAt
   map-within i h =
-      braced-within (Parse.mapField ts) map-field-within (ends-map-fields ts) _
+      braced-within mapFields (Parse.mapField ts) map-field-within (ends-map-fields ts) _
       (λ w l k m. map-end (lacking (typeOf l) (typedBy KeywordKey l) (typedBy KeywordValue l) (limitOf l)) w l k m) i h
 
   -- ---- events
@@ -337,7 +356,7 @@ module _ (ts : List Tok) (e : ℕ) (eof : kindAt ts e ≡ Eof) (short : e < leng
   array-by : (c : Bool) (w : List ℕ) (j : ℕ) → j + 1 ≤ e → eqb (kindAt ts (j + 1)) LBracket ≡ c → Within e (Parse.arrayBy ts c w j)
   unfolding Parse.arrayBy
   array-by true w j h c = length-within _ (j + 1 + 1) (onward (j + 1) LBracket (eqb-true (kindAt ts (j + 1)) LBracket c) refl h)
-  array-by false w j h c = want-within Semicolon _ (j + 1) refl h (λ n. n)
+  array-by false w j h c = want-in-within _ Semicolon _ (j + 1) refl h (λ n. n)
 
   event-by : (l : EventLead) (w : List ℕ) (j : ℕ) → EventIs (kindAt ts j) l → j ≤ e → Within e (Parse.eventTypeBy ts l w j)
   unfolding Parse.eventTypeBy
@@ -352,7 +371,7 @@ module _ (ts : List Tok) (e : ℕ) (eof : kindAt ts e ≡ Eof) (short : e < leng
 
   pub event-within : (i : ℕ) → i + 1 ≤ e → Within e (Parse.eventAt ts i)
   unfolding Parse.eventAt
-  event-within i h = braced-within (Parse.eventField ts) event-field-within (ends-event-fields ts) _ (λ w l k m. m) i h
+  event-within i h = braced-within eventFields (Parse.eventField ts) event-field-within (ends-event-fields ts) _ (λ w l k m. m) i h
 
   -- ---- programs
 
@@ -367,13 +386,13 @@ module _ (ts : List Tok) (e : ℕ) (eof : kindAt ts e ≡ Eof) (short : e < leng
   unfolding Parse.top
   top-within i h = top-by (topLead (kindAt ts i)) i (top-is (kindAt ts i)) h
 
-  decls-within : Within e (Parse.listTo ts Eof (Parse.top ts) 0)
-  decls-within = list-within Eof (Parse.top ts) top-within 0 (omega arith)
+  decls-within : Within e (Parse.listTo ts Eof tops (Parse.top ts) 0)
+  decls-within = list-within Eof tops (Parse.top ts) top-within 0 (omega arith)
 
   -- The theorem: a refused parse is refused at a row of the table, up to its Eof.
   pub refused-inside : (why : Syntax) (r : ℕ) → Parse.parse ts ≡ no why r → r ≤ e
   unfolding Parse.parse then
-  refused-inside why r q = go (Parse.listTo ts Eof (Parse.top ts) 0) decls-within q
+  refused-inside why r q = go (Parse.listTo ts Eof tops (Parse.top ts) 0) decls-within q
     where
       go : (o : Out) → Within e o → then o (λ l j. ok (program l) (j + 1)) ≡ no why r → r ≤ e
       go (ok t j) h z = let x : _≡_ {A = ℕ} 0 1 = cc in absurd (omega arith)

@@ -11,15 +11,16 @@ use lib.Seq.{drop-length}
 use borrow.Author.Tests.{eqb-true, eq-eqb, ltb-true, ltb-false, not-false}
 use Rattle.rules.specs.declared.Syntax.the-variants.{CallOnOther}
 use Rattle.rules.specs.Kinds.{KeywordUnit, KeywordReturn, KeywordMap, KeywordType, KeywordKey, KeywordValue, KeywordMax, KeywordIf, KeywordElse, KeywordGuard, KeywordEvent, LBrace, RBrace, LParen, RParen, Colon, Dot, Comma, Semicolon, LBracket, RBracket, Equals, Star, Identifier, Number, KeywordBytes, Eof}
+use Rattle.rules.specs.Fits.{bodyThings, unitThings, eventFields, tops, mapFields, firstArguments}
 use Rattle.rules.specs.Tree.{Tok, sign, name, spellingOf, bitsIn, Tree, none, star, group, call, bin, one, more, decl, ret, plain, assign, guard, thenBody, elseBody, seq, text, mapType, typed, limit, first, plainField, bytesField, arrayField, program, yield, isVariable, mapTypeNumber, maxBits, typeOf, typedBy, limitOf, lacking}
 use Rattle.rules.specs.Nodes.{width}
 use Rattle.rules.specs.Parse
-use Rattle.rules.specs.Parse.{ok, no, P, then, pick, isAdd, isShift, isMul, isAssign, isText, isType, isTyped, most32, Lead, number, identifier, paren, other, lead, StmtLead, declaring, returning, branching, expression, stmtLead, FieldLead, typing, keying, limiting, nothing, fieldLead, EventLead, typeLead, bytesLead, noLead, eventLead, TopLead, mapLead, unitLead, eventTop, noTop, topLead, Sort, operand, whole, tokAt, kindAt}
+use Rattle.rules.specs.Parse.{ok, no, P, then, or, pick, isAdd, isShift, isMul, isAssign, isText, isType, isTyped, most32, Lead, number, identifier, paren, other, lead, StmtLead, declaring, returning, branching, expression, stmtLead, FieldLead, typing, keying, limiting, nothing, fieldLead, EventLead, typeLead, bytesLead, noLead, eventLead, TopLead, mapLead, unitLead, eventTop, noTop, topLead, Sort, operand, whole, tokAt, kindAt}
 use Rattle.rules.specs.Grammar.{Nt, Add, Shift, Mul, Unary, Basic, Args, Stmt, Stmts, Item, Items, Chain, MapField, MapFields, EventField, EventFields, Decl, Decls, Program, Is, i-num, i-var, i-group, i-field, i-bare, i-call, i-one, i-more, i-prim, i-star, i-unary, i-mul, i-lone, i-shift, i-up, i-add, i-decl, i-ret, i-plain, i-assign, i-if, i-if-else, i-no-stmts, i-stmts, i-stmt, i-text, i-no-items, i-items, i-first, i-shifted, i-type, i-typed, i-limit, i-no-fields, i-fields, i-plain-field, i-bytes-field, i-array-field, i-no-event-fields, i-event-fields, i-unit, i-map, i-event, i-no-decls, i-decls, i-program}
 use Rattle.theory_grammar.specs.Tokens.{Proper, Whole}
 use Rattle.theory_grammar.proofs.Laws.{here, from, yield-width, fewest, is-wide}
 use Rattle.theory_grammar.proofs.Leads.{LeadIs, lead-is, StmtIs, stmt-is, FieldIs, field-is, EventIs, event-is, TopIs, top-is, add-mark, shift-mark, mul-mark, assign-mark, declaring-mark, text-mark, typed-mark, type-mark}
-use Rattle.theory_grammar.proofs.Runs.{Run, isMark, run-none, row, name-row, string-row, value-row, _▸_, sign-of, All, all-ok, then-all, map-all, loop-all, loop-ends, want-all, need-all, named-all, quoted-all, valued-all}
+use Rattle.theory_grammar.proofs.Runs.{Run, isMark, run-none, row, name-row, string-row, value-row, _▸_, sign-of, All, all-ok, then-all, map-all, or-all, loop-all, loop-ends, want-in-all, want-all, end-in-all, end-all, need-all, named-all, quoted-all, valued-all}
 
 -- What is read at row i up to row j: a tree of the nonterminal, whose tokens the rows are.
 pub record Reads (ts : List Tok) (N : Nt) (d i : ℕ) (t : Tree) (j : ℕ) : Type 0 where
@@ -113,7 +114,7 @@ module _ (ts : List Tok) where
     atom-by identifier i f = reads i-var (name-row ts i f)
     atom-by paren i f =
         then-all (Under ts Add d i) (Reads ts Basic d i) (g whole i) _ (under whole i (here ts i LParen f refl))
-        (λ t j u. want-all ts (Reads ts Basic d i) RParen (ok (group t)) j (λ e. groups d i t j f u e))
+        (λ t j u. end-all ts (Reads ts Basic d i) RParen t (ok (group t)) j (λ e. groups d i t j f u e))
     atom-by other i f = tt
 
     pub atom-sound : (i : ℕ) → All (Reads ts Basic d i) (Parse.atom ts g i)
@@ -129,7 +130,7 @@ module _ (ts : List Tok) where
     pub args-sound : (o : ℕ) → o < length ts → All (Under ts Args d o) (Parse.args ts g o)
     unfolding Parse.args
     args-sound o h =
-        then-all (Under ts Add d o) (Under ts Args d o) (g whole o) _ (under whole o h)
+        then-all (Under ts Add d o) (Under ts Args d o) (or firstArguments (o + 1) (g whole o)) _ (or-all (Under ts Add d o) firstArguments (o + 1) (g whole o) (under whole o h))
         (λ t k u. loop-all ts (Under ts Args d o) (λ r. eqb (kindAt ts r) Comma) (Parse.argStep ts g) (arg-step o) (one t) k (ones d o t k u))
 
     called-sound : (C : Tree → ℕ → Type 0) (t : Tree) (w : List ℕ) (a : Tree) (m k : ℕ) → (isVariable t ≡ true → C (call t w a) k)
@@ -152,7 +153,7 @@ module _ (ts : List Tok) where
           ▸ row ts (j + 1 + 1 + 1) RParen (eqb-true (kindAt ts (j + 1 + 1 + 1)) RParen b) refl))
       call-by false b h =
           then-all (Under ts Args d (j + 1 + 1)) (Reads ts Basic d i) (Parse.args ts g (j + 1 + 1)) _ (args-sound (j + 1 + 1) (here ts (j + 1 + 1) LParen h refl))
-          (λ a k u. want-all ts (Reads ts Basic d i) RParen (Parse.called ts t _ a (j + 1)) k
+          (λ a k u. end-in-all ts (Reads ts Basic d i) _ RParen a (Parse.called ts t _ a (j + 1)) k
           (λ c. called-sound (Reads ts Basic d i) t _ a (j + 1) (k + 1) (λ q. calls d i t j a k r e f h q u c)))
 
       open-by : (b : Bool) → eqb (kindAt ts (j + 1 + 1)) LParen ≡ b
@@ -227,19 +228,20 @@ module _ (ts : List Tok) where
   -- ---- lists: things p of the nonterminal M, up to a row of kind `stop`
 
   module _ (Ns M : Nt) (d : ℕ) (nil : Is true Ns d none) (join : (l s : Tree) → Is true Ns d l → Is true M d s → Is true Ns d (seq l s)) (wide : 1 ≤ fewest M)
-      (stop : ℕ) (p : P) (p-sound : (i : ℕ) → All (Reads ts M d i) (p i)) where
-    pub list-next : (i : ℕ) (l : Tree) (j : ℕ) → Reads ts Ns d i l j → All (λ u k. Reads ts Ns d i u k × (j < k)) (Parse.listStep ts p l j)
+      (stop also : ℕ) (p : P) (p-sound : (i : ℕ) → All (Reads ts M d i) (p i)) where
+    pub list-next : (i : ℕ) (l : Tree) (j : ℕ) → Reads ts Ns d i l j → All (λ u k. Reads ts Ns d i u k × (j < k)) (Parse.listStep ts also p l j)
     unfolding Parse.listStep yield
     list-next i l j r =
-        then-all (Reads ts M d j) (λ u k. Reads ts Ns d i u k × (j < k)) (p j) _ (p-sound j)
+        then-all (Reads ts M d j) (λ u k. Reads ts Ns d i u k × (j < k)) (or (also + Parse.elseBehind ts l) j (p j)) _
+        (or-all (Reads ts M d j) (also + Parse.elseBehind ts l) j (p j) (p-sound j))
         (λ t k v. (reads (join l t (r .is) (v .is)) (run-of r ▸ run-of v), omega (arith, v .next, is-wide (v .is))))
 
-    pub list-sound : (i : ℕ) → i ≤ length ts → All (λ l j. Reads ts Ns d i l j × (kindAt ts j ≡ stop)) (Parse.listTo ts stop p i)
+    pub list-sound : (i : ℕ) → i ≤ length ts → All (λ l j. Reads ts Ns d i l j × (kindAt ts j ≡ stop)) (Parse.listTo ts stop also p i)
     unfolding Parse.listTo yield
     list-sound i h =
         map-all (λ l j. Reads ts Ns d i l j × (not (eqb (kindAt ts j) stop) ≡ false)) (λ l j. Reads ts Ns d i l j × (kindAt ts j ≡ stop))
-        (Parse.loop ts (λ r. not (eqb (kindAt ts r) stop)) (Parse.listStep ts p) none i)
-        (loop-ends ts (Reads ts Ns d i) (λ r. not (eqb (kindAt ts r) stop)) (Parse.listStep ts p) (λ l j r. r .inside) (λ l j r b. list-next i l j r) none i (reads nil (run-none ts i h)))
+        (Parse.loop ts (λ r. not (eqb (kindAt ts r) stop)) (Parse.listStep ts also p) none i)
+        (loop-ends ts (Reads ts Ns d i) (λ r. not (eqb (kindAt ts r) stop)) (Parse.listStep ts also p) (λ l j r. r .inside) (λ l j r b. list-next i l j r) none i (reads nil (run-none ts i h)))
         (λ l j r. (r .0, eqb-true (kindAt ts j) stop (not-false (eqb (kindAt ts j) stop) (r .1))))
 
   -- ---- statements, over what is read behind a brace
@@ -291,22 +293,22 @@ module _ (ts : List Tok) where
     unfolding Parse.assignBy yield
     assign-by true i e j c r =
         then-all (Reads ts Add d (j + 1)) (Reads ts Stmt d i) (Parse.expr ts d (j + 1)) _ (expr-sound d (j + 1))
-        (λ u k v. want-all ts (Reads ts Stmt d i) Semicolon (ok (assign (kindAt ts j) e u)) k
+        (λ u k v. end-all ts (Reads ts Stmt d i) Semicolon u (ok (assign (kindAt ts j) e u)) k
         (λ f. reads (i-assign c (r .is) (v .is)) (run-of r ▸ row ts j (kindAt ts j) refl (assign-mark (kindAt ts j) c) ▸ run-of v ▸ row ts k Semicolon f refl)))
     assign-by false i e j c r =
-        want-all ts (Reads ts Stmt d i) Semicolon (ok (plain e)) j (λ f. reads (i-plain (r .is)) (run-of r ▸ row ts j Semicolon f refl))
+        end-in-all ts (Reads ts Stmt d i) _ Semicolon e (ok (plain e)) j (λ f. reads (i-plain (r .is)) (run-of r ▸ row ts j Semicolon f refl))
 
     stmt-by : (l : StmtLead) (i : ℕ) → StmtIs (kindAt ts i) l → All (Reads ts Stmt d i) (Parse.stmtBy ts d p l i)
     unfolding Parse.stmtBy yield
     stmt-by declaring i b =
         named-all ts (Reads ts Stmt d i) _ (i + 1) (λ f. want-all ts (Reads ts Stmt d i) Equals _ (i + 1 + 1) (λ h.
         then-all (Reads ts Add d (i + 1 + 1 + 1)) (Reads ts Stmt d i) (Parse.expr ts d (i + 1 + 1 + 1)) _ (expr-sound d (i + 1 + 1 + 1))
-        (λ e k r. want-all ts (Reads ts Stmt d i) Semicolon (ok (decl (kindAt ts i) (spellingOf (tokAt ts (i + 1))) e)) k (λ c.
+        (λ e k r. end-all ts (Reads ts Stmt d i) Semicolon e (ok (decl (kindAt ts i) (spellingOf (tokAt ts (i + 1))) e)) k (λ c.
         reads (i-decl b (r .is))
         (row ts i (kindAt ts i) refl (declaring-mark (kindAt ts i) b) ▸ name-row ts (i + 1) f ▸ row ts (i + 1 + 1) Equals h refl ▸ run-of r ▸ row ts k Semicolon c refl)))))
     stmt-by returning i b =
         then-all (Reads ts Add d (i + 1)) (Reads ts Stmt d i) (Parse.expr ts d (i + 1)) _ (expr-sound d (i + 1))
-        (λ e k r. want-all ts (Reads ts Stmt d i) Semicolon (ok (ret e)) k
+        (λ e k r. end-all ts (Reads ts Stmt d i) Semicolon e (ok (ret e)) k
         (λ c. reads (i-ret (r .is)) (row ts i KeywordReturn b refl ▸ run-of r ▸ row ts k Semicolon c refl)))
     stmt-by branching i b =
         want-all ts (Reads ts Stmt d i) KeywordGuard _ (i + 1) (λ e. want-all ts (Reads ts Stmt d i) LParen _ (i + 1 + 1) (λ f.
@@ -324,8 +326,8 @@ module _ (ts : List Tok) where
   unfolding Parse.body
   body-sound zero o h = tt
   body-sound (suc d) o h =
-      then-all (λ l j. Reads ts Stmts d (o + 1) l j × (kindAt ts j ≡ RBrace)) (Body ts d o) (Parse.listTo ts RBrace (Parse.stmt ts d (Parse.body ts d)) (o + 1)) _
-      (list-sound Stmts Stmt d i-no-stmts (λ l s a b. i-stmts a b) (omega arith) RBrace (Parse.stmt ts d (Parse.body ts d)) (stmt-over d (Parse.body ts d) (body-sound d)) (o + 1) (omega arith))
+      then-all (λ l j. Reads ts Stmts d (o + 1) l j × (kindAt ts j ≡ RBrace)) (Body ts d o) (Parse.listTo ts RBrace bodyThings (Parse.stmt ts d (Parse.body ts d)) (o + 1)) _
+      (list-sound Stmts Stmt d i-no-stmts (λ l s a b. i-stmts a b) (omega arith) RBrace bodyThings (Parse.stmt ts d (Parse.body ts d)) (stmt-over d (Parse.body ts d) (body-sound d)) (o + 1) (omega arith))
       (λ l j r. record { last = j; reads = r .0; brace = r .1; next = refl })
 
   pub stmt-sound : (d i : ℕ) → All (Reads ts Stmt d i) (Parse.stmt ts d (Parse.body ts d) i)
@@ -334,15 +336,15 @@ module _ (ts : List Tok) where
   -- ---- name `{` contents `}` behind a keyword
 
   module _ (Ns M : Nt) (d : ℕ) (nil : Is true Ns d none) (join : (l s : Tree) → Is true Ns d l → Is true M d s → Is true Ns d (seq l s)) (wide : 1 ≤ fewest M)
-      (p : P) (p-sound : (i : ℕ) → All (Reads ts M d i) (p i)) where
+      (also : ℕ) (p : P) (p-sound : (i : ℕ) → All (Reads ts M d i) (p i)) where
     pub braced-sound : (C : Tree → ℕ → Type 0) (i : ℕ) (f : List ℕ → Tree → P)
         → ((w : List ℕ) (l : Tree) (j : ℕ) → Is true Ns d l → Run ts (i + 1) (name w ∷ sign LBrace ∷ (yield l ++ (sign RBrace ∷ []))) j → All C (f w l j))
-        → All C (Parse.braced ts p f i)
+        → All C (Parse.braced ts also p f i)
     unfolding Parse.braced
     braced-sound C i f h =
         named-all ts C _ (i + 1) (λ a. want-all ts C LBrace _ (i + 1 + 1) (λ b.
-        then-all (λ l j. Reads ts Ns d (i + 1 + 1 + 1) l j × (kindAt ts j ≡ RBrace)) C (Parse.listTo ts RBrace p (i + 1 + 1 + 1)) _
-        (list-sound Ns M d nil join wide RBrace p p-sound (i + 1 + 1 + 1) (omega (arith, here ts (i + 1 + 1) LBrace b refl)))
+        then-all (λ l j. Reads ts Ns d (i + 1 + 1 + 1) l j × (kindAt ts j ≡ RBrace)) C (Parse.listTo ts RBrace also p (i + 1 + 1 + 1)) _
+        (list-sound Ns M d nil join wide RBrace also p p-sound (i + 1 + 1 + 1) (omega (arith, here ts (i + 1 + 1) LBrace b refl)))
         (λ l j r. h (spellingOf (tokAt ts (i + 1))) l (j + 1) (r .0 .is)
         (name-row ts (i + 1) a ▸ row ts (i + 1 + 1) LBrace b refl ▸ run-of (r .0) ▸ row ts j RBrace (r .1) refl))))
 
@@ -363,7 +365,7 @@ module _ (ts : List Tok) where
   pub unit-sound : (i : ℕ) → kindAt ts i ≡ KeywordUnit → All (Reads ts Decl 64 i) (Parse.unitAt ts i)
   unfolding Parse.unitAt yield
   unit-sound i e =
-      braced-sound Items Item 64 i-no-items (λ l s a b. i-items a b) (omega arith) (Parse.item ts) item-sound (Reads ts Decl 64 i) i _
+      braced-sound Items Item 64 i-no-items (λ l s a b. i-items a b) (omega arith) unitThings (Parse.item ts) item-sound (Reads ts Decl 64 i) i _
       (λ w l j h r. reads (i-unit h) (row ts i KeywordUnit e refl ▸ r))
 
   -- ---- maps
@@ -412,7 +414,7 @@ module _ (ts : List Tok) where
   limit-by true b i c k e f r p q = tt
   limit-by false true i c k e f r p q = tt
   limit-by false false i c k e f r p q =
-      want-all ts (Reads ts MapField 64 i) Semicolon (ok (limit c)) k (λ s.
+      want-in-all ts (Reads ts MapField 64 i) _ Semicolon (ok (limit c)) k (λ s.
       reads (i-limit (r .is) (λ _. rw p (not-false (leb (maxBits c) most32) q))) (row ts i KeywordMax e refl ▸ row ts (i + 1) Colon f refl ▸ run-of r ▸ row ts k Semicolon s refl))
 
   field-by : (l : FieldLead) (i : ℕ) → FieldIs (kindAt ts i) l → All (Reads ts MapField 64 i) (Parse.mapFieldBy ts l i)
@@ -441,7 +443,7 @@ module _ (ts : List Tok) where
   pub map-sound : (i : ℕ) → kindAt ts i ≡ KeywordMap → All (Reads ts Decl 64 i) (Parse.mapAt ts i)
   unfolding Parse.mapAt
   map-sound i e =
-      braced-sound MapFields MapField 64 i-no-fields (λ l s a b. i-fields a b) (omega arith) (Parse.mapField ts) map-field-sound (Reads ts Decl 64 i) i _
+      braced-sound MapFields MapField 64 i-no-fields (λ l s a b. i-fields a b) (omega arith) mapFields (Parse.mapField ts) map-field-sound (Reads ts Decl 64 i) i _
       (λ w l j h r. map-end (lacking (typeOf l) (typedBy KeywordKey l) (typedBy KeywordValue l) (limitOf l)) i w l j h (row ts i KeywordMap e refl ▸ r) refl)
 
   -- ---- events
@@ -472,7 +474,7 @@ module _ (ts : List Tok) where
         ▸ row ts (i + 1 + 1 + 1) LBracket (eqb-true (kindAt ts (i + 1 + 1 + 1)) LBracket c) refl ▸ value-row ts (i + 1 + 1 + 1 + 1) n
         ▸ row ts (i + 1 + 1 + 1 + 1 + 1) RBracket x refl ▸ row ts (i + 1 + 1 + 1 + 1 + 1 + 1) Semicolon s refl))
     array-by false t c =
-        want-all ts (Reads ts EventField 64 i) Semicolon (ok (plainField (spellingOf (tokAt ts i)) (kindAt ts (i + 1 + 1)))) (i + 1 + 1 + 1) (λ s.
+        want-in-all ts (Reads ts EventField 64 i) _ Semicolon (ok (plainField (spellingOf (tokAt ts i)) (kindAt ts (i + 1 + 1)))) (i + 1 + 1 + 1) (λ s.
         reads (i-plain-field t)
         (name-row ts i e ▸ row ts (i + 1) Colon f refl ▸ row ts (i + 1 + 1) (kindAt ts (i + 1 + 1)) refl (type-mark (kindAt ts (i + 1 + 1)) t) ▸ row ts (i + 1 + 1 + 1) Semicolon s refl))
 
@@ -496,7 +498,7 @@ module _ (ts : List Tok) where
   pub event-sound : (i : ℕ) → kindAt ts i ≡ KeywordEvent → All (Reads ts Decl 64 i) (Parse.eventAt ts i)
   unfolding Parse.eventAt yield
   event-sound i e =
-      braced-sound EventFields EventField 64 i-no-event-fields (λ l s a b. i-event-fields a b) (omega arith) (Parse.eventField ts) event-field-sound (Reads ts Decl 64 i) i _
+      braced-sound EventFields EventField 64 i-no-event-fields (λ l s a b. i-event-fields a b) (omega arith) eventFields (Parse.eventField ts) event-field-sound (Reads ts Decl 64 i) i _
       (λ w l j h r. reads (i-event h) (row ts i KeywordEvent e refl ▸ r))
 
   -- ---- programs
@@ -513,14 +515,14 @@ module _ (ts : List Tok) where
   top-sound i = top-by (topLead (kindAt ts i)) i (top-is (kindAt ts i))
 
   -- the declarations of a program, up to the row that ends them
-  pub decls-sound : All (λ l j. Reads ts Decls 64 0 l j × (kindAt ts j ≡ Eof)) (Parse.listTo ts Eof (Parse.top ts) 0)
-  decls-sound = list-sound Decls Decl 64 i-no-decls (λ l s a b. i-decls a b) (omega arith) Eof (Parse.top ts) top-sound 0 (omega arith)
+  pub decls-sound : All (λ l j. Reads ts Decls 64 0 l j × (kindAt ts j ≡ Eof)) (Parse.listTo ts Eof tops (Parse.top ts) 0)
+  decls-sound = list-sound Decls Decl 64 i-no-decls (λ l s a b. i-decls a b) (omega arith) Eof tops (Parse.top ts) top-sound 0 (omega arith)
 
   -- what is accepted is a program, of any tokens
   pub accepted-is : All (λ t j. Is true Program 64 t) (Parse.parse ts)
   unfolding Parse.parse
   accepted-is =
-      then-all (λ l j. Reads ts Decls 64 0 l j × (kindAt ts j ≡ Eof)) (λ t j. Is true Program 64 t) (Parse.listTo ts Eof (Parse.top ts) 0) _ decls-sound (λ l j r. i-program (r .0 .is))
+      then-all (λ l j. Reads ts Decls 64 0 l j × (kindAt ts j ≡ Eof)) (λ t j. Is true Program 64 t) (Parse.listTo ts Eof tops (Parse.top ts) 0) _ decls-sound (λ l j r. i-program (r .0 .is))
 
   -- the same, with the ending row, where the table has an Eof
   module _ (e : ℕ) (inside : e < length ts) (eof : kindAt ts e ≡ Eof) where
@@ -548,7 +550,7 @@ module _ (ts : List Tok) where
     pub program-sound : All (Accepts ts) (Parse.parse ts)
     unfolding Parse.parse
     program-sound =
-        then-all (λ l j. Reads ts Decls 64 0 l j × (kindAt ts j ≡ Eof)) (Accepts ts) (Parse.listTo ts Eof (Parse.top ts) 0) _ decls-sound (λ l j r. whole-program l j (r .0) (r .1))
+        then-all (λ l j. Reads ts Decls 64 0 l j × (kindAt ts j ≡ Eof)) (Accepts ts) (Parse.listTo ts Eof tops (Parse.top ts) 0) _ decls-sound (λ l j r. whole-program l j (r .0) (r .1))
 
     -- The theorem: what is accepted is a program, and the rows are its tokens, and then what stands behind the Eof.
     pub parse-sound : (t : Tree) (j : ℕ) → Proper ts → Parse.parse ts ≡ ok t j → Is true Program 64 t × (ts ≡ yield t ++ drop j ts)
