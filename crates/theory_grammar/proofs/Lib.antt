@@ -8,10 +8,6 @@ pub mod Ends
 pub mod Refused
 pub mod Complete
 pub mod Same
-pub mod Local
-pub mod Begun
-pub mod GoesOn
-pub mod Place
 pub mod Tables
 pub mod Order
 pub mod Loops

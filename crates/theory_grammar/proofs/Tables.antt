@@ -21,10 +21,8 @@ use Rattle.rules.specs.Parse.{ok, no, tokAt, kindAt}
 use Rattle.rules.specs.Calls.{tokens, reading}
 use Rattle.rules.specs.Grammar.{Program, Is}
 use Rattle.laws.proofs.Rows.{rows-length}
-use Rattle.theory_grammar.specs.Lost.{First}
 use Rattle.theory_grammar.specs.Tokens.{isProper, Proper, Whole}
 use Rattle.theory_grammar.proofs.Same.{accepts-exactly}
-use Rattle.theory_grammar.proofs.Place.{refused-first}
 
 -- ---- one row
 
@@ -119,7 +117,3 @@ module _ (t ws : List ℕ) (tbl : Table) (good : wellFormed ws tbl ≡ true) (fi
       subst (λ (n : ℕ). (reading t ws tbl ≡ ok p n) ↔ (Is true Program 64 p × (tokens t (rowsIn (tbl .count) ws) ≡ yield p))) (tokens-length t (tbl .count) ws)
       (accepts-exactly (tokens t (rowsIn (tbl .count) ws)) p table-whole)
 
-  -- The theorem: what is refused, with any of 21 to 32, is refused for the first row of the table with which no program goes on.
-  pub refuses-first : (why : Syntax) (r : ℕ) → reading t ws tbl ≡ no why r → First (tokens t (rowsIn (tbl .count) ws)) why r
-  unfolding reading
-  refuses-first why r e = refused-first (tokens t (rowsIn (tbl .count) ws)) why r (table-whole .proper) e
