@@ -15,10 +15,13 @@ use Rattle.parse_nodes.specs.Post.{kindWord, stateAt}
 unfoldable pub retoldAt : (s first : ℕ) → Syntax → ℕ → Syntax
 retoldAt s first why r = cond (eqb r first) (retold s why) why
 
+-- the row in front of row i is a name behind a dot
+unfoldable pub dottedWords : List ℕ → ℕ → ℕ → Bool
+dottedWords ws n i = eqb (kindWord ws n (i - 1)) Identifier && eqb (kindWord ws n (i - 2)) Dot
+
 -- what goes on with an expression in front of row i, a sum or not
 unfoldable pub onwardWords : List ℕ → ℕ → Bool → ℕ → ℕ
-onwardWords ws n summed i =
-    ons + cond summed 0 shifts + cond (eqb (kindWord ws n (i - 1)) Identifier && eqb (kindWord ws n (i - 2)) Dot) (only LParen) 0
+onwardWords ws n summed i = ons + cond summed 0 shifts + cond (dottedWords ws n i) (only LParen) 0
 
 -- the header of the declaration whose word is at row i, its first node at nd
 pub data Header (ws : List ℕ) (n i nd : ℕ) (r : Got) : Type 0 where

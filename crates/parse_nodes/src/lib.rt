@@ -5,7 +5,6 @@ use rules::kind::DOT;
 use rules::kind::EOF;
 use rules::kind::IDENTIFIER;
 use rules::kind::LBRACE;
-use rules::kind::LPAREN;
 use rules::limit;
 use rules::node;
 use rules::node::MISSING;
@@ -19,7 +18,7 @@ ghost use lib.Seq.{sets};
 ghost use Rattle.rules.specs.Nodes.{NodeVariable, NodeNumber, node, factNode, nodeWords, missing};
 ghost use Rattle.rules.specs.Fits.{only, wrong};
 ghost use Rattle.parse_nodes.specs.Post.{kindWord, stateAt, variableAt, countedAt, AsksOpen};
-ghost use Rattle.parse_nodes.specs.Fitting.{retoldAt, onwardWords, Header};
+ghost use Rattle.parse_nodes.specs.Fitting.{retoldAt, dottedWords, onwardWords, Header};
 
 // Where the parser stands: the next row, the next node, the place of what was read and how many things it has if it is a list. Of what was
 // read, or of its last thing: whether it is a variable, a sum, an `if` without `else`.
@@ -281,21 +280,32 @@ fn kind_before(rows: &[u32], count: u32, row: u32, back: u32) -> u32
     kind_at(rows, count, row - back)
 }
 
+// Whether the row in front of one is a name behind a dot.
+fn is_dotted(rows: &[u32], count: u32, row: u32) -> bool
+    requires { ⌜ (count * 8 ≤ length (now rows)) ⌝ }
+    ensures { λ r. ⌜ r ≡ dottedWords (now (rows .entry)) count row ⌝ }
+{
+    let name = kind_before(rows, count, row, 1);
+    let dot = kind_before(rows, count, row, 2);
+    (name == IDENTIFIER) & (dot == DOT)
+}
+
 // What goes on with the expression or arguments that s stands behind.
 fn onward(rows: &[u32], count: u32, s: At) -> u64
     requires { ⌜ (count * 8 ≤ length (now rows)) ⌝ }
     ensures { λ r. ⌜ r ≡ onwardWords (now (rows .entry)) count (s .summed) (s .row) ⌝ }
 {
-    let name = kind_before(rows, count, s.row, 1);
-    let dot = kind_before(rows, count, s.row, 2);
-    let mut set = fits::ONS;
-    if !s.summed {
-        set += fits::SHIFTS;
+    let dotted = is_dotted(rows, count, s.row);
+    if s.summed {
+        if dotted {
+            return fits::ONS + fits::LPAREN;
+        }
+        return fits::ONS;
     }
-    if (name == IDENTIFIER) & (dot == DOT) {
-        set += 1 << LPAREN;
+    if dotted {
+        return fits::ONS + fits::SHIFTS + fits::LPAREN;
     }
-    set
+    fits::ONS + fits::SHIFTS
 }
 
 // 21 behind an expression or arguments, which any of a set would have ended.

@@ -38,6 +38,8 @@ pub const EVENT_FIELDS: u64 = (1 << kind::IDENTIFIER) + (1 << kind::RBRACE);
 // `;` alone; and `else`.
 pub const RPAREN: u64 = 1 << kind::RPAREN;
 
+pub const LPAREN: u64 = 1 << kind::LPAREN;
+
 pub const ARGUMENT_ENDS: u64 = RPAREN + (1 << kind::COMMA);
 
 pub const EFFECT_ENDS: u64 = SEMICOLON + ASSIGNS;
