@@ -16,7 +16,7 @@ ghost use Prim.Native.Nat.{_+_, _-_, _*_, _^_, _≤_, _<_};
 ghost use lib.ListN.{length, set};
 ghost use lib.Seq.{sets};
 ghost use Rattle.rules.specs.Nodes.{NodeVariable, NodeNumber, node, factNode, nodeWords, missing};
-ghost use Rattle.rules.specs.Fits.{only, wrong};
+ghost use Rattle.rules.specs.Fits.{only, wrong, retold};
 ghost use Rattle.parse_nodes.specs.Post.{kindWord, stateAt, variableAt, countedAt, AsksOpen};
 ghost use Rattle.parse_nodes.specs.Fitting.{retoldAt, dottedWords, onwardWords, Header};
 
@@ -256,17 +256,34 @@ pub fn wanted(kind: u32) -> Syntax
     wrong(1 << kind)
 }
 
+// A refusal, 21 with another set.
+fn retold(set: u64, why: Syntax) -> Syntax
+    ensures { λ r. ⌜ r ≡ retold set why ⌝ }
+{
+    match why {
+        Syntax::Wanted(_, _) => wrong(set),
+        Syntax::NotTopLevel => Syntax::NotTopLevel,
+        Syntax::NotMapField => Syntax::NotMapField,
+        Syntax::MapTypeUnknown => Syntax::MapTypeUnknown,
+        Syntax::NotType => Syntax::NotType,
+        Syntax::MaxNegative => Syntax::MaxNegative,
+        Syntax::OutOfRange => Syntax::OutOfRange,
+        Syntax::ShiftCount => Syntax::ShiftCount,
+        Syntax::MapLacks(field) => Syntax::MapLacks(field),
+        Syntax::NotEventType => Syntax::NotEventType,
+        Syntax::CallOnOther => Syntax::CallOnOther,
+        Syntax::TooDeep => Syntax::TooDeep,
+    }
+}
+
 // A refusal at a row, with the set that is told where the first row itself is refused with 21.
 pub fn instead(why: Syntax, at: usize, first: u32, set: u64) -> Syntax
     ensures { λ r. ⌜ r ≡ retoldAt set first why at ⌝ }
 {
-    if at != first as usize {
-        return why;
+    if at == first as usize {
+        return retold(set, why);
     }
-    match why {
-        Syntax::Wanted(_, _) => wrong(set),
-        other => other,
-    }
+    why
 }
 
 // The kind so many rows before one, or that of the first row where there are fewer.

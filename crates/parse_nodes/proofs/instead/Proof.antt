@@ -1,22 +1,21 @@
 -- `nodes::instead` meets its contract: another set, exactly where the first row itself is refused with 21.
+use mathlib.Core.Path.{_∙_}
+use borrow.Author.Tests.{eq-eqb, ne-eqb}
 use borrow.Author.Needs.{needs}
+use Rattle.parse_nodes.specs.Fitting.{retoldAt}
 use Rattle.parse_nodes.proofs.instead.Statement.{statement}
 use Rattle.parse_nodes.proofs.instead.Tie as tie
 
+retold-requires : tie.Need-retold-requires
+retold-requires c κs = search needs
+
 returns : tie.Need-returns
-returns c = ?
-
-enum-told : tie.Need-enum-told
-enum-told c = search needs
-
-wrong-requires : tie.Need-wrong-requires
-wrong-requires c κs = search needs
+unfolding retoldAt
+returns c = c .retold .ensures ∙ rw (eq-eqb (c .before .before .args .at) (c .before .before .args .first) (c .before .if1 .taken))
 
 returns-2 : tie.Need-returns-2
-returns-2 c = ?
-
-returns-3 : tie.Need-returns-3
-returns-3 c = ?
+unfolding retoldAt
+returns-2 c = rw (ne-eqb (c .before .args .at) (c .before .args .first) (c .if1 .left))
 
 pub instead-spec : {M : Type 1} → statement M
-instead-spec = tie.close (tie.spec returns enum-told wrong-requires returns-2 returns-3)
+instead-spec = tie.close (tie.spec retold-requires returns returns-2)

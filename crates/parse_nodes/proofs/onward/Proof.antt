@@ -1,5 +1,7 @@
 -- `nodes::onward` meets its contract.
+use mathlib.Core.Path.{sym, _∙_}
 use borrow.Author.Needs.{needs}
+use Rattle.parse_nodes.specs.Fitting.{onwardWords}
 use Rattle.parse_nodes.proofs.onward.Statement.{statement}
 use Rattle.parse_nodes.proofs.onward.Tie as tie
 
@@ -10,10 +12,12 @@ add-result : tie.Need-add-result
 add-result c = search needs
 
 returns : tie.Need-returns
-returns c = ?
+unfolding onwardWords
+returns c = rw (c .before .if1 .taken, sym (c .before .before .is-dotted .ensures) ∙ c .if2 .taken)
 
 returns-2 : tie.Need-returns-2
-returns-2 c = ?
+unfolding onwardWords
+returns-2 c = rw (c .before .if1 .taken, sym (c .before .before .is-dotted .ensures) ∙ c .if2 .left)
 
 add-result-2 : tie.Need-add-result-2
 add-result-2 c = search needs
@@ -22,13 +26,15 @@ add-result-3 : tie.Need-add-result-3
 add-result-3 c = search needs
 
 returns-3 : tie.Need-returns-3
-returns-3 c = ?
+unfolding onwardWords
+returns-3 c = rw (c .before .if1 .left, sym (c .before .before .is-dotted .ensures) ∙ c .if3 .taken)
 
 add-result-4 : tie.Need-add-result-4
 add-result-4 c = search needs
 
 returns-4 : tie.Need-returns-4
-returns-4 c = ?
+unfolding onwardWords
+returns-4 c = rw (c .before .if1 .left, sym (c .before .before .is-dotted .ensures) ∙ c .if3 .left)
 
 pub onward-spec : {M : Type 1} → statement M
 onward-spec =

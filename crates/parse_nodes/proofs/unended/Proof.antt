@@ -1,5 +1,8 @@
 -- `nodes::unended` meets its contract.
+use mathlib.Core.Path.{_∙_}
+use native.Mathlib.Omega.{arith}
 use borrow.Author.Needs.{needs}
+use Rattle.parse_nodes.proofs.Fitting.{onward-low}
 use Rattle.parse_nodes.proofs.unended.Statement.{statement}
 use Rattle.parse_nodes.proofs.unended.Tie as tie
 
@@ -7,7 +10,10 @@ onward-requires : tie.Need-onward-requires
 onward-requires c κs = search needs
 
 add-wrong : tie.Need-add-wrong
-add-wrong c = let h = onward-low (c .before .args .rows .now) (c .before .args .count) (c .before .args .s .summed) (c .before .args .s .row) in omega (arith, c .onward .ensures, h, c .before .pre .1)
+add-wrong c =
+    let a = c .before .before .args in
+    let h = onward-low (a .rows .now) (a .count) (a .s .summed) (a .s .row) in
+    omega (arith, c .onward .ensures, h, c .before .before .pre .1)
 
 wrong-requires : tie.Need-wrong-requires
 wrong-requires c κs = search needs
