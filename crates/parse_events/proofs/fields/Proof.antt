@@ -1,124 +1,90 @@
--- `events::fields` meets its contract. At the loop's head the fields so far are read, and the rest gives the event.
-use mathlib.Core.Path.{_≡_, refl, sym, ap, _∙_}
-use mathlib.Core.List.{List}
-use Prim.Native.Nat.{ℕ, _+_, _-_}
-use native.Mathlib.Omega.{arith}
-use borrow.Author.Needs.{needs}
-use Rattle.rules.specs.Parse
-use Rattle.rules.specs.Kinds.{RBrace}
-use Rattle.rules.specs.Tree.{Tok, event}
-use Rattle.rules.specs.Parse.{kindAt}
-use Rattle.theory_grammar.proofs.Cases.{then-ok, then-no}
-use Rattle.theory_grammar.proofs.Ends.{Ends}
-use Rattle.parse_nodes.specs.Post.{Tells}
-use Rattle.parse_nodes.proofs.Rows.{tokens, tells-some}
-use Rattle.parse_nodes.proofs.Turn.{Any, Came, refused, met-ok, met-no, same-len}
-use Rattle.parse_nodes.proofs.Steps.{Listing, list-start, list-ends, list-fails, list-again}
-use Rattle.parse_nodes.specs.declared.At.{At}
-use Rattle.parse_nodes.proofs.Seen.{seen}
-use Rattle.parse_events.proofs.Nodes.{field-came, field-up, stands-event}
 use Rattle.parse_events.proofs.fields.Statement.{statement}
 use Rattle.parse_events.proofs.fields.Tie as tie
-
--- the fields that are read from row i + 3 on, up to the brace
-abbrev Reading : List Tok → ℕ → ℕ → List ℕ → At → List ℕ → Type 0
-Reading ts i n m s m′ = Listing Any ts RBrace (Parse.eventField ts) (Parse.listTo ts RBrace (Parse.eventField ts) (i + 1 + 1 + 1)) (i + 1 + 1 + 1) n m s m′
+use Rattle.parse_events.proofs.fields.Reads as reads
+use Rattle.parse_events.proofs.fields.Lts as lts
+use Rattle.parse_events.proofs.field.Reads as field-reads
+use Rattle.parse_nodes.proofs.close.Reads as close-reads
+use Rattle.parse_nodes.proofs.counted.Reads as counted-reads
+use Rattle.parse_nodes.proofs.instead.Reads as instead-reads
+use Rattle.parse_nodes.proofs.kind_at.Reads as kind-at-reads
 
 abbrev Inv-loop : tie.InvT-loop
-Inv-loop rows count nodes₀ row node name first s₀ nodes s = (ts : List Tok) → Tells ts rows count → Reading ts row node nodes₀ s nodes
+Inv-loop rows count nodes₀ row name s₀ nodes s = ?
 
 abbrev μ-loop : tie.MeasureT-loop
-μ-loop rows count nodes₀ row node name first s₀ nodes s = count - s .row
+μ-loop rows count nodes₀ row name s₀ nodes s = ?
 
--- whatever the tokens
-some : (c : tie.At-loop Inv-loop μ-loop) → Reading (tokens (c .before .before .before .args .rows .now) (c .before .before .before .args .count)) (c .before .before .before .args .row) (c .before .before .before .args .node) (c .before .before .before .args .nodes .now) (c .loop .s) (c .loop .nodes)
-some c = c .loop .inv _ (tells-some (c .before .before .before .args .rows .now) (c .before .before .before .args .count))
-
-goes-on : (c : tie.Else1 Inv-loop μ-loop) (ts : List Tok) → Tells ts (c .before .before .before .before .before .args .rows .now) (c .before .before .before .before .before .args .count) → kindAt ts (c .before .before .loop .s .row) ≡ RBrace → ⊥
-goes-on c ts h e = c .if1 .left (seen ts (c .before .before .before .before .before .args .rows .now) (c .before .before .before .before .before .args .count) h (c .before .before .loop .s .row) (c .before .kind-at .result) (c .before .kind-at .ensures) ∙ e)
-
-got : (c : tie.After-t Inv-loop μ-loop) (ts : List Tok) → Tells ts (c .before .before .before .before .before .before .before .before .before .before .before .args .rows .now) (c .before .before .before .before .before .before .before .before .before .before .before .args .count)
-    → Came (Ends ts (c .before .before .before .before .before .before .before .before .loop .s .row)) ts (Parse.eventField ts (c .before .before .before .before .before .before .before .before .loop .s .row)) (c .before .before .before .before .before .before .before .before .loop .s .row) (c .before .before .before .before .before .before .before .before .loop .s .node) (c .before .before .before .before .before .before .before .before .loop .nodes) (c .t .given .0 .0) (c .before .before .before .before .field .last .1 .1 .0)
-got c ts h = field-came ts (c .before .before .before .before .before .before .before .before .loop .s .row) (c .before .before .before .before .before .before .before .before .loop .s .node) (c .before .before .before .before .before .before .before .before .loop .nodes) (c .t .given .0 .0) (c .before .before .before .before .field .last .1 .1 .0) (c .before .before .before .before .field .result) (c .before .before .before .before .field .ensures ts h) (c .t .given .1)
-
+-- src/lib.rt:161:16
 add-name : tie.Need-add-name Inv-loop μ-loop
-add-name c = search needs
+add-name c = ?
 
-add-first : tie.Need-add-first Inv-loop μ-loop
-add-first c = search needs
-
-add-first-2 : tie.Need-add-first-2 Inv-loop μ-loop
-add-first-2 c = search needs
-
+-- src/lib.rt:163:5
 loop-holds : tie.Need-loop-holds Inv-loop μ-loop
-loop-holds c ts h =
-    let a = c .before .before .args in
-    list-start Any ts RBrace (Parse.eventField ts) (Parse.listTo ts RBrace (Parse.eventField ts) (a .row + 1 + 1 + 1)) (a .row + 1 + 1 + 1) (a .node) (a .nodes .now) _ refl (omega (arith, h .long, c .before .before .pre .1)) refl tt
+loop-holds c = ?
 
+-- src/lib.rt:165:12
 kind-at-requires : tie.Need-kind-at-requires Inv-loop μ-loop
-kind-at-requires c κs = c .before .before .before .pre .0 .lent
+kind-at-requires c κs = ?
 
+-- src/lib.rt:167:13
 close-requires : tie.Need-close-requires Inv-loop μ-loop
-close-requires c κs = let w = some (c .before .before .before) in omega (arith, w .stands, w .few, w .counts, w .inside, tells-some (c .before .before .before .before .before .before .args .rows .now) (c .before .before .before .before .before .before .args .count) .long, c .before .before .before .before .before .before .pre .0, c .before .before .before .before .before .before .pre .1)
+close-requires c κs = ?
 
-add-t20 : tie.Need-add-t20 Inv-loop μ-loop
-add-t20 c = let w = some (c .before .before .before .before .before .before) in omega (arith, w .inside, c .before .before .before .before .before .before .before .before .before .pre .0, tells-some (c .before .before .before .before .before .before .before .before .before .args .rows .now) (c .before .before .before .before .before .before .before .before .before .args .count) .long)
+-- src/lib.rt:169:22
+add-t18 : tie.Need-add-t18 Inv-loop μ-loop
+add-t18 c = ?
 
-add-t21 : tie.Need-add-t21 Inv-loop μ-loop
-add-t21 c = let w = some (c .before .before .before .before .before .before) in omega (arith, w .inside, w .stands, w .few, c .before .before .before .before .before .before .before .before .before .pre .0, tells-some (c .before .before .before .before .before .before .before .before .before .args .rows .now) (c .before .before .before .before .before .before .before .before .before .args .count) .long)
+-- src/lib.rt:170:23
+add-t19 : tie.Need-add-t19 Inv-loop μ-loop
+add-t19 c = ?
 
+-- src/lib.rt:168:13
 same-length : tie.Need-same-length Inv-loop μ-loop
-same-length c = c .before .before .close .kept .0 ∙ same-len _ _ _ _ _ _ (some (c .before .before .before .before .before .before) .stands)
+same-length c = ?
 
+-- src/lib.rt:168:13
 returns : tie.Need-returns Inv-loop μ-loop
-returns c ts h w =
-    let a = c .before .before .before .before .before .before .before .before .before .args in
-    let v = c .before .before .before .before .before .before .loop .inv ts h in
-    let e = list-ends Any ts RBrace (Parse.eventField ts) _ (a .row + 1 + 1 + 1) (a .node) (a .nodes .now) (c .before .before .before .before .before .before .loop .s) (c .before .before .before .before .before .before .loop .nodes) v (sym (seen ts (a .rows .now) (a .count) h (c .before .before .before .before .before .before .loop .s .row) (c .before .before .before .before .before .kind-at .result) (c .before .before .before .before .before .kind-at .ensures)) ∙ c .before .before .before .before .if1 .taken) in
-    met-ok _ _ _ (event w (v .tree)) _ _ _ (then-ok _ _ (v .tree) (c .before .before .before .before .before .before .loop .s .row) e)
-    (stands-event (a .row) (a .node) (a .nodes .now) (c .before .before .before .before .before .before .loop .nodes) (c .before .before .close .last .0) (c .before .before .before .before .before .before .loop .s) _ (v .tree) w (v .stands) refl (c .before .before .close .ensures))
+returns c = ?
 
+-- src/lib.rt:178:15
 field-requires : tie.Need-field-requires Inv-loop μ-loop
-field-requires c κs =
-    let w = some (c .before .before .before) in
-    let p = c .before .before .before .before .before .before .pre in
-    let l = tells-some (c .before .before .before .before .before .before .args .rows .now) (c .before .before .before .before .before .before .args .count) .long in
-    record { lent = p .0 .lent; inside = omega (arith, w .inside); few = omega (arith, w .stands, w .few); short = p .0 .short; nest = p .0 .nest }
+field-requires c κs = ?
 
+-- src/lib.rt:179:23
 enum-known-t : tie.Need-enum-known-t Inv-loop μ-loop
-enum-known-t c = search needs
+enum-known-t c = ?
 
+-- src/lib.rt:180:54
 add-counted : tie.Need-add-counted Inv-loop μ-loop
-add-counted c = let w = some (c .before .before .before .before .before .before .before .before .before .before) in omega (arith, w .inside, w .stands, w .counts, c .before .before .before .before .before .before .before .before .before .before .before .before .before .pre .0, tells-some (c .before .before .before .before .before .before .before .before .before .before .before .before .before .args .rows .now) (c .before .before .before .before .before .before .before .before .before .before .before .before .before .args .count) .long)
+add-counted c = ?
 
+-- src/lib.rt:180:17
 counted-requires : tie.Need-counted-requires Inv-loop μ-loop
-counted-requires c κs = search needs
+counted-requires c κs = ?
 
+-- src/lib.rt:163:5
 loop-less : tie.Need-loop-less Inv-loop μ-loop
-loop-less c =
-    let a = c .before .before .before .before .before .before .before .before .before .before .before .before .before .before .args in
-    let g = got (c .before .before .before) (tokens (a .rows .now) (a .count)) (tells-some (a .rows .now) (a .count)) in
-    let r = ap (λ (x : At). x .row) (c .counted .ensures) in
-    omega (arith, g .inside, field-up _ _ _ _ _ _ g, tells-some (a .rows .now) (a .count) .long)
+loop-less c = ?
 
+-- src/lib.rt:163:5
 loop-again : tie.Need-loop-again Inv-loop μ-loop
-loop-again c ts h =
-    let a = c .before .before .before .before .before .before .before .before .before .before .before .before .before .before .args in
-    let g = got (c .before .before .before) ts h in
-    list-again Any ts RBrace (Parse.eventField ts) _ (a .row + 1 + 1 + 1) (a .node) (a .nodes .now) (c .before .before .before .before .before .before .before .before .before .before .before .loop .s) (c .before .before .before .before .before .before .before .before .before .before .before .loop .nodes) (c .before .before .before .before .before .before .before .before .before .before .before .loop .inv ts h) (goes-on (c .before .before .before .before .before .before .before .before .before) ts h) Any _ (c .before .before .before .t .given .0 .0) (c .before .before .before .before .before .before .before .field .last .1 .1 .0) (c .counted .result) g (field-up _ _ _ _ _ _ g) (c .counted .ensures) tt
+loop-again c = ?
 
+-- src/lib.rt:182:26
 enum-known-why : tie.Need-enum-known-why Inv-loop μ-loop
-enum-known-why c = search needs
+enum-known-why c = ?
 
+-- src/lib.rt:183:37
+instead-requires : tie.Need-instead-requires Inv-loop μ-loop
+instead-requires c κs = ?
+
+-- src/lib.rt:183:17
 same-length-2 : tie.Need-same-length-2 Inv-loop μ-loop
-same-length-2 c = c .before .before .before .before .before .field .kept .1 .1 .0 ∙ same-len _ _ _ _ _ _ (some (c .before .before .before .before .before .before .before .before .before) .stands)
+same-length-2 c = ?
 
+-- src/lib.rt:183:17
 returns-2 : tie.Need-returns-2 Inv-loop μ-loop
-returns-2 c ts h w =
-    let a = c .before .before .before .before .before .before .before .before .before .before .before .before .args in
-    let e = refused _ _ _ _ _ _ _ _ (c .before .before .before .before .before .field .ensures ts h) (c .before .why .given .1) in
-    met-no _ _ _ (c .before .why .given .0 .0) (c .before .why .given .0 .1 .0) _ _ (then-no _ _ (c .before .why .given .0 .0) (c .before .why .given .0 .1 .0)
-    (refused _ _ _ _ _ _ _ _ (list-fails Any ts RBrace (Parse.eventField ts) _ (a .row + 1 + 1 + 1) (a .node) (a .nodes .now) (c .before .before .before .before .before .before .before .before .before .loop .s) (c .before .before .before .before .before .before .before .before .before .loop .nodes) (c .before .before .before .before .before .before .before .before .before .loop .inv ts h) (goes-on (c .before .before .before .before .before .before .before) ts h) (c .before .why .given .0 .0) (c .before .why .given .0 .1 .0) (c .before .before .before .before .before .field .last .1 .1 .0) e) refl))
+returns-2 c = ?
 
 pub fields-spec : {M : Type 1} → statement M
 fields-spec =
@@ -127,13 +93,11 @@ fields-spec =
     Inv-loop
     μ-loop
     add-name
-    add-first
-    add-first-2
     loop-holds
     kind-at-requires
     close-requires
-    add-t20
-    add-t21
+    add-t18
+    add-t19
     same-length
     returns
     field-requires
@@ -143,5 +107,6 @@ fields-spec =
     loop-less
     loop-again
     enum-known-why
+    instead-requires
     same-length-2
     returns-2)
