@@ -8,17 +8,19 @@ use native.Mathlib.Omega.{arith}
 use lib.Seq.{sets}
 use Rattle.rules.specs.Parse
 use Rattle.rules.specs.declared.Syntax.{Syntax}
-use Rattle.rules.specs.Tree.{Tok, Tree, event, isVariable, isSum, hangs, count}
+use Rattle.rules.specs.Tree.{Tok, Tree, none, seq, event, isVariable, isSum, hangs, count}
 use Rattle.rules.specs.Nodes.{node, factNode, nodeWords, width, size, placeOf, treeWords}
 use Rattle.rules.specs.Parse.{Out, ok, no}
 use Rattle.theory_grammar.proofs.Laws.{words-plain-field, words-bytes-field, words-array-field, words-event}
-use Rattle.theory_grammar.proofs.Runs.{all-ok}
+use Rattle.rules.specs.Grammar.{EventField, Is, i-plain-field, i-bytes-field, i-array-field}
+use Rattle.theory_grammar.proofs.Runs.{All, all-ok, all-both, map-all}
+use Rattle.theory_grammar.proofs.Sound.{Reads, event-field-sound}
 use Rattle.theory_grammar.proofs.Ends.{Ends, ends-event-field, wide-event-field}
 use Rattle.parse_nodes.specs.declared.Got.the-variants as got
 use Rattle.parse_nodes.specs.Post.{stateAt, Met, Stands}
 use Rattle.parse_nodes.specs.declared.At.{At}
 use Rattle.parse_nodes.specs.declared.Got.{Got}
-use Rattle.parse_nodes.proofs.Turn.{Came, came-ends}
+use Rattle.parse_nodes.proofs.Turn.{Came, came}
 use Rattle.parse_nodes.proofs.Steps.{stands-at, mem-over}
 use Rattle.parse_events.specs.Shapes.{Shows, plain, bytes, array, Found}
 use Rattle.parse_events.specs.declared.Shape.{Shape}
@@ -89,12 +91,39 @@ field-met o i n m m′ s g q =
 
 -- ---- a field's call, and the event behind its fields
 
+-- behind a field or a list of fields no `else` may stand
+abbrev pub Flat : Tree → Type 0
+Flat t = hangs t ≡ false
+
+pub flat-none : Flat none
+unfolding hangs
+flat-none = refl
+
+pub flat-seq : {l t : Tree} → Flat t → Flat (seq l t)
+unfolding hangs
+flat-seq h = h
+
+flat-field : {d : ℕ} {t : Tree} → Is true EventField d t → Flat t
+unfolding hangs
+flat-field (i-plain-field k) = refl
+flat-field (i-bytes-field k) = refl
+flat-field (i-array-field k l) = refl
+
+-- where a field ends
+abbrev pub FieldEnds : List Tok → ℕ → Tree → ℕ → Type 0
+FieldEnds ts i t j = Ends ts i t j × Flat t
+
+field-ends : (ts : List Tok) (i : ℕ) → All (FieldEnds ts i) (Parse.eventField ts i)
+field-ends ts i =
+    all-both (Ends ts i) (λ t j. Flat t) (Parse.eventField ts i) (ends-event-field ts i)
+    (map-all (Reads ts EventField 64 i) (λ t j. Flat t) (Parse.eventField ts i) (event-field-sound ts i) (λ t j r. flat-field (r .is)))
+
 module _ (ts : List Tok) (i n : ℕ) (m : List ℕ) (s : At) (m′ : List ℕ) where
-  pub field-came : (r : Got) → Met (Parse.eventField ts i) i n m m′ r → r ≡ got.Done s → Came (Ends ts i) ts (Parse.eventField ts i) i n m s m′
-  field-came r h e = came-ends ts (Parse.eventField ts i) i n m m′ r s (ends-event-field ts i) h e
+  pub field-came : (r : Got) → Met (Parse.eventField ts i) i n m m′ r → r ≡ got.Done s → Came (FieldEnds ts i) ts (Parse.eventField ts i) i n m s m′
+  field-came r h e = came (FieldEnds ts i) ts (Parse.eventField ts i) i n m m′ r s (field-ends ts i) (λ t j f. f .0) h e
 
   -- a field has a row or more
-  pub field-up : Came (Ends ts i) ts (Parse.eventField ts i) i n m s m′ → i < s .row
+  pub field-up : Came (FieldEnds ts i) ts (Parse.eventField ts i) i n m s m′ → i < s .row
   field-up v = omega (arith, all-ok (λ t j. 1 ≤ width t) (Parse.eventField ts i) (v .tree) (s .row) (wide-event-field ts i) (v .is), v .stands .rows)
 
 pub stands-event : (i n : ℕ) (m m₁ m₂ : List ℕ) (s s′ : At) (t : Tree) (w : List ℕ) → Stands (i + 1 + 1 + 1) n t m s m₁

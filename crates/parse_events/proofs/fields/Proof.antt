@@ -1,5 +1,6 @@
 -- `events::fields` meets its contract. At the loop's head the fields so far are read, and the rest gives the event.
 use mathlib.Core.Path.{_≡_, refl, sym, ap, _∙_}
+use mathlib.Core.Bool.{false}
 use mathlib.Core.List.{List}
 use Prim.Native.Nat.{ℕ, _+_, _-_}
 use native.Mathlib.Omega.{arith}
@@ -9,29 +10,28 @@ use Rattle.rules.specs.Kinds.{RBrace}
 use Rattle.rules.specs.Tree.{Tok, event}
 use Rattle.rules.specs.Parse.{kindAt}
 use Rattle.theory_grammar.proofs.Cases.{then-ok, then-no}
-use Rattle.theory_grammar.proofs.Ends.{Ends}
 use Rattle.parse_nodes.specs.Post.{Tells}
 use Rattle.parse_nodes.proofs.Rows.{tokens, tells-some}
-use Rattle.parse_nodes.proofs.Turn.{Any, Came, refused, met-ok, met-no, same-len}
+use Rattle.parse_nodes.proofs.Turn.{Came, refused, met-ok, met-told, same-len}
 use Rattle.parse_nodes.proofs.Steps.{Listing, list-start, list-ends, list-fails, list-again}
 use Rattle.parse_nodes.specs.declared.At.{At}
 use Rattle.parse_nodes.proofs.Seen.{seen}
 use Rattle.rules.specs.Fits.{eventFields}
-use Rattle.parse_events.proofs.Nodes.{field-came, field-up, stands-event}
+use Rattle.parse_events.proofs.Nodes.{Flat, FieldEnds, field-came, field-up, flat-none, flat-seq, stands-event}
 use Rattle.parse_events.proofs.fields.Statement.{statement}
 use Rattle.parse_events.proofs.fields.Tie as tie
 
 -- the fields that are read from row i + 3 on, up to the brace
 abbrev Reading : List Tok → ℕ → ℕ → List ℕ → At → List ℕ → Type 0
 Reading ts i n m s m′ =
-    Listing Any ts RBrace eventFields (Parse.eventField ts) (Parse.listTo ts RBrace eventFields (Parse.eventField ts) (i + 1 + 1 + 1))
+    Listing Flat ts RBrace eventFields (Parse.eventField ts) (Parse.listTo ts RBrace eventFields (Parse.eventField ts) (i + 1 + 1 + 1))
     (i + 1 + 1 + 1) n m s m′
 
 abbrev Inv-loop : tie.InvT-loop
-Inv-loop rows count nodes₀ row start name s₀ nodes s = (ts : List Tok) → Tells ts rows count → Reading ts row (start .node) nodes₀ s nodes
+Inv-loop rows count nodes₀ row name s₀ nodes s = (ts : List Tok) → Tells ts rows count → Reading ts row (s₀ .node) nodes₀ s nodes
 
 abbrev μ-loop : tie.MeasureT-loop
-μ-loop rows count nodes₀ row start name s₀ nodes s = count - s .row
+μ-loop rows count nodes₀ row name s₀ nodes s = count - s .row
 
 -- ---- the places on the way, as they are seen from the function's entry
 
@@ -79,7 +79,7 @@ goes-on c ts h e =
 
 -- the field that was read there
 got : (c : tie.After-t Inv-loop μ-loop) (ts : List Tok) → Told ts (turn (behind-field c))
-    → Came (Ends ts (turn (behind-field c) .loop .s .row)) ts (Parse.eventField ts (turn (behind-field c) .loop .s .row))
+    → Came (FieldEnds ts (turn (behind-field c) .loop .s .row)) ts (Parse.eventField ts (turn (behind-field c) .loop .s .row))
     (turn (behind-field c) .loop .s .row) (turn (behind-field c) .loop .s .node) (turn (behind-field c) .loop .nodes) (c .t .given .0 .0)
     (behind-field c .field .last .1 .1 .0)
 got c ts h =
@@ -96,8 +96,8 @@ loop-holds : tie.Need-loop-holds Inv-loop μ-loop
 loop-holds c ts h =
     let a = c .before .before .args in
     let p = c .before .before .pre in
-    list-start Any ts RBrace eventFields (Parse.eventField ts) _ (a .row + 1 + 1 + 1) (a .start .node) (a .nodes .now) _ refl
-    (omega (arith, h .long, p .inside)) (p .first) tt
+    list-start Flat ts RBrace eventFields (Parse.eventField ts) _ (a .row + 1 + 1 + 1) (a .start .node) (a .nodes .now) _ refl
+    (omega (arith, h .long, p .inside)) (p .first) flat-none
 
 kind-at-requires : tie.Need-kind-at-requires Inv-loop μ-loop
 kind-at-requires c κs = entry c .pre .at .lent
@@ -128,7 +128,7 @@ returns c ts h w =
     let i : ℕ = a .row + 1 + 1 + 1 in
     let v = l .inv ts h in
     let k = sym (seen ts (a .rows .now) (a .count) h (l .s .row) (d .kind-at .result) (d .kind-at .ensures)) in
-    let e = list-ends Any ts RBrace eventFields (Parse.eventField ts) _ i (a .start .node) (a .nodes .now) (l .s) (l .nodes) v
+    let e = list-ends Flat ts RBrace eventFields (Parse.eventField ts) _ i (a .start .node) (a .nodes .now) (l .s) (l .nodes) v
       (k ∙ c .before .before .before .before .if1 .taken) in
     met-ok _ _ _ (event w (v .tree)) _ _ _ (then-ok _ _ (v .tree) (l .s .row) e)
     (stands-event (a .row) (a .start .node) (a .nodes .now) (l .nodes) (c .before .before .close .last .0) (l .s) _ (v .tree) w (v .stands) refl
@@ -168,9 +168,9 @@ loop-again c ts h =
     let l = turn f .loop in
     let a = entry (turn f) .args in
     let g = got t ts h in
-    list-again Any ts RBrace eventFields (Parse.eventField ts) _ (a .row + 1 + 1 + 1) (a .start .node) (a .nodes .now) (l .s) (l .nodes) (l .inv ts h)
-    (goes-on (at-field f) ts h) Any _ (t .t .given .0 .0) (f .field .last .1 .1 .0) (c .counted .result) g (field-up _ _ _ _ _ _ g)
-    (c .counted .ensures) tt
+    list-again Flat ts RBrace eventFields (Parse.eventField ts) _ (a .row + 1 + 1 + 1) (a .start .node) (a .nodes .now) (l .s) (l .nodes) (l .inv ts h)
+    (goes-on (at-field f) ts h) Flat _ (t .t .given .0 .0) (f .field .last .1 .1 .0) (c .counted .result) g (field-up _ _ _ _ _ _ g)
+    (c .counted .ensures) (flat-seq (g .known .1))
 
 enum-known-why : tie.Need-enum-known-why Inv-loop μ-loop
 enum-known-why c = search needs
@@ -190,10 +190,11 @@ returns-2 c ts h w =
     let m = f .field .last .1 .1 .0 in
     let e = refused _ _ _ _ _ _ _ _ (f .field .ensures ts h) (y .1) in
     let v = l .inv ts h in
-    let n = unhanging v in
-    let q = list-fails Any ts RBrace eventFields (Parse.eventField ts) _ (a .row + 1 + 1 + 1) (a .start .node) (a .nodes .now) (l .s) (l .nodes) v
+    let n : l .s .hanging ≡ false = v .stands .hanging ∙ v .known .known in
+    let q = list-fails Flat ts RBrace eventFields (Parse.eventField ts) _ (a .row + 1 + 1 + 1) (a .start .node) (a .nodes .now) (l .s) (l .nodes) v
       (goes-on (at-field f) ts h) (y .0 .0) (y .0 .1 .0) m e in
-    met-told _ _ _ _ _ _ _ _ (then-no _ _ _ _ (refused _ _ _ _ _ _ _ _ q refl)) (c .instead .ensures)
+    met-told _ _ _ _ _ _ _ _ (then-no _ _ _ _ (refused _ _ _ _ _ _ _ _ q refl))
+    (c .instead .ensures ∙ rw n)
 
 pub fields-spec : {M : Type 1} → statement M
 fields-spec =
