@@ -1,7 +1,7 @@
 -- The shapes of fields: what is found, and the node of a field.
 -- ---- answers
 use mathlib.Core.Path.{_≡_, refl, sym, subst}
-use mathlib.Core.Bool.{false}
+use mathlib.Core.Bool.{true, false}
 use mathlib.Core.List.{List}
 use Prim.Native.Nat.{ℕ, _+_, _*_, _≤_, _<_}
 use native.Mathlib.Omega.{arith}
@@ -99,9 +99,9 @@ pub flat-none : Flat none
 unfolding hangs
 flat-none = refl
 
-pub flat-seq : {l t : Tree} → Flat t → Flat (seq l t)
+pub flat-seq : (l t : Tree) → Flat t → Flat (seq l t)
 unfolding hangs
-flat-seq h = h
+flat-seq l t h = h
 
 flat-field : {d : ℕ} {t : Tree} → Is true EventField d t → Flat t
 unfolding hangs

@@ -13,7 +13,7 @@ use Rattle.theory_grammar.proofs.Cases.{then-ok, then-no}
 use Rattle.parse_nodes.specs.Post.{Tells}
 use Rattle.parse_nodes.proofs.Rows.{tokens, tells-some}
 use Rattle.parse_nodes.proofs.Turn.{Came, refused, met-ok, met-told, same-len}
-use Rattle.parse_nodes.proofs.Steps.{Listing, list-start, list-ends, list-fails, list-again}
+use Rattle.parse_nodes.proofs.Steps.{Listing, list-start, list-ends, list-fails-flat, list-again}
 use Rattle.parse_nodes.specs.declared.At.{At}
 use Rattle.parse_nodes.proofs.Seen.{seen}
 use Rattle.rules.specs.Fits.{eventFields}
@@ -170,7 +170,7 @@ loop-again c ts h =
     let g = got t ts h in
     list-again Flat ts RBrace eventFields (Parse.eventField ts) _ (a .row + 1 + 1 + 1) (a .start .node) (a .nodes .now) (l .s) (l .nodes) (l .inv ts h)
     (goes-on (at-field f) ts h) Flat _ (t .t .given .0 .0) (f .field .last .1 .1 .0) (c .counted .result) g (field-up _ _ _ _ _ _ g)
-    (c .counted .ensures) (flat-seq (g .known .1))
+    (c .counted .ensures) (flat-seq _ (g .tree) (g .known .1))
 
 enum-known-why : tie.Need-enum-known-why Inv-loop μ-loop
 enum-known-why c = search needs
@@ -191,10 +191,10 @@ returns-2 c ts h w =
     let e = refused _ _ _ _ _ _ _ _ (f .field .ensures ts h) (y .1) in
     let v = l .inv ts h in
     let n : l .s .hanging ≡ false = v .stands .hanging ∙ v .known .known in
-    let q = list-fails Flat ts RBrace eventFields (Parse.eventField ts) _ (a .row + 1 + 1 + 1) (a .start .node) (a .nodes .now) (l .s) (l .nodes) v
-      (goes-on (at-field f) ts h) (y .0 .0) (y .0 .1 .0) m e in
+    let q = list-fails-flat Flat ts RBrace eventFields (Parse.eventField ts) _ (a .row + 1 + 1 + 1) (a .start .node) (a .nodes .now) (l .s) (l .nodes) v
+      (goes-on (at-field f) ts h) n (y .0 .0) (y .0 .1 .0) m e in
     met-told _ _ _ _ _ _ _ _ (then-no _ _ _ _ (refused _ _ _ _ _ _ _ _ q refl))
-    (c .instead .ensures ∙ rw n)
+    (c .instead .ensures)
 
 pub fields-spec : {M : Type 1} → statement M
 fields-spec =
