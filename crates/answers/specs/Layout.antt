@@ -65,17 +65,18 @@ abbrev pub restartWords : Restart → List ℕ
 restartWords (restarts.At p) = words 0 p 0 0 0 0
 restartWords (restarts.Refused why) = outerWords why
 
-abbrev pub syntaxWords : Syntax → Cursor → List ℕ
-syntaxWords why p = words (syntaxNumber why) p (firstTold why) (secondTold why) 0 0
+-- the kind that was found stands last
+abbrev pub syntaxWords : Syntax → Cursor → ℕ → List ℕ
+syntaxWords why p found = words (syntaxNumber why) p (firstTold why) (secondTold why) 0 found
 
-abbrev pub reasonWords : Reason → Cursor → List ℕ
-reasonWords (reason.Outer why) p = words (outerNumber why) p 0 0 0 0
-reasonWords (reason.Lexical why) p = words (lexicalNumber why) p 0 0 0 0
-reasonWords (reason.Syntax why) p = syntaxWords why p
+abbrev pub reasonWords : Reason → Cursor → ℕ → List ℕ
+reasonWords (reason.Outer why) p found = words (outerNumber why) p 0 0 0 0
+reasonWords (reason.Lexical why) p found = words (lexicalNumber why) p 0 0 0 0
+reasonWords (reason.Syntax why) p found = syntaxWords why p found
 
 abbrev pub parsedWords : Parsed → List ℕ
 parsedWords (parsed.Nodes n) = words 0 nowhere 0 0 n 0
-parsedWords (parsed.Refused why p) = reasonWords why p
+parsedWords (parsed.Refused why p found) = reasonWords why p found
 
 -- ---- a table that is lent in the words in which it was told
 

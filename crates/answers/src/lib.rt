@@ -109,9 +109,9 @@ pub fn put_told(answer: &mut [u32; 8], told: Told)
     }
 }
 
-// A refusal of the grammar or of a check, with what it tells.
-fn put_syntax(answer: &mut [u32; 8], why: Syntax, at: Cursor)
-    ensures { λ _. ⌜ now (answer .exit) ≡ syntaxWords why at ⌝ }
+// A refusal of the grammar or of a check, with what it tells and the kind that was found.
+fn put_syntax(answer: &mut [u32; 8], why: Syntax, at: Cursor, found: u32)
+    ensures { λ _. ⌜ now (answer .exit) ≡ syntaxWords why at found ⌝ }
 {
     put(
         answer,
@@ -120,7 +120,7 @@ fn put_syntax(answer: &mut [u32; 8], why: Syntax, at: Cursor)
         first_told(why),
         second_told(why),
         0,
-        0,
+        found,
     );
 }
 
@@ -132,7 +132,7 @@ pub fn put_parsed(answer: &mut [u32; 8], parsed: Parsed)
         Parsed::Nodes(n) => {
             put(answer, 0, no_place(), 0, 0, n, 0);
         }
-        Parsed::Refused(why, at) => match why {
+        Parsed::Refused(why, at, found) => match why {
             Reason::Outer(x) => {
                 put(answer, outer_number(x), at, 0, 0, 0, 0);
             }
@@ -140,7 +140,7 @@ pub fn put_parsed(answer: &mut [u32; 8], parsed: Parsed)
                 put(answer, lexical_number(x), at, 0, 0, 0, 0);
             }
             Reason::Syntax(x) => {
-                put_syntax(answer, x, at);
+                put_syntax(answer, x, at, found);
             }
         },
     }

@@ -11,6 +11,7 @@ use rules::Parsed;
 use rules::Reason;
 use rules::Syntax;
 use rules::Table;
+use rules::fits;
 use rules::kind::EOF;
 use rules::kind::EVENT;
 use rules::kind::MAP;
@@ -55,8 +56,10 @@ fn program(text: &[u8], rows: &[u32], count: u32, nodes: &mut [u32]) -> Got
         row: 0,
         node: 0,
         place: 0,
-        variable: false,
         things: 0,
+        variable: false,
+        summed: false,
+        hanging: false,
     };
     loop {
         let at = s.row;
@@ -68,7 +71,7 @@ fn program(text: &[u8], rows: &[u32], count: u32, nodes: &mut [u32]) -> Got
                 s = parse_nodes::counted(t, s.place, s.things + 1);
             }
             Got::Refused(why, r) => {
-                return Got::Refused(why, r);
+                return Got::Refused(parse_nodes::instead(why, r, at, fits::TOPS), r);
             }
         }
     }
@@ -76,9 +79,9 @@ fn program(text: &[u8], rows: &[u32], count: u32, nodes: &mut [u32]) -> Got
 
 // A refusal of the call itself.
 fn outer(why: Outer) -> Parsed
-    ensures { λ r. ⌜ r ≡ parsed.Refused (reason.Outer why) startPlace ⌝ }
+    ensures { λ r. ⌜ r ≡ parsed.Refused (reason.Outer why) startPlace 0 ⌝ }
 {
-    Parsed::Refused(Reason::Outer(why), Cursor::start())
+    Parsed::Refused(Reason::Outer(why), Cursor::start(), 0)
 }
 
 // The program of a sound table with no refused ending, into enough room.
@@ -91,10 +94,14 @@ fn twice(text: &[u8], rows: &[u32], count: u32, nodes: &mut [u32]) -> Parsed
             program(text, rows, count, nodes);
             Parsed::Nodes(t.node)
         }
-        Got::Refused(why, r) => Parsed::Refused(
-            Reason::Syntax(why),
-            shape::row_place(shape::row_at(rows, r)),
-        ),
+        Got::Refused(why, r) => {
+            let row = shape::row_at(rows, r);
+            Parsed::Refused(
+                Reason::Syntax(why),
+                shape::row_place(row),
+                refusals::found_told(why, row.kind),
+            )
+        }
     }
 }
 
@@ -104,14 +111,14 @@ pub fn parse(text: &[u8], rows: &[u32], table: Table, nodes: &mut [u32]) -> Pars
 {
     match rows::judge(text, rows, table) {
         Judged::Refused(why, at) => {
-            return Parsed::Refused(Reason::Outer(why), at);
+            return Parsed::Refused(Reason::Outer(why), at, 0);
         }
         Judged::Fine => {}
     }
     let ending = table.ending;
     match ending {
         Ending::Refused(why, at) => {
-            return Parsed::Refused(Reason::Lexical(why), at);
+            return Parsed::Refused(Reason::Lexical(why), at, 0);
         }
         Ending::None => {}
     }

@@ -4,11 +4,11 @@ use parse_nodes::Got;
 use parse_nodes::Words;
 use rules::Syntax;
 use rules::fact;
+use rules::fits;
 use rules::kind;
 use rules::kind::BYTES;
 use rules::kind::COLON;
 use rules::kind::IDENTIFIER;
-use rules::kind::LBRACE;
 use rules::kind::LBRACKET;
 use rules::kind::NUMBER;
 use rules::kind::RBRACE;
@@ -18,10 +18,9 @@ use rules::kind::TYPE_I64;
 use rules::kind::TYPE_U32;
 use rules::node_kind;
 use rules::row;
-ghost use Prim.Native.Nat.{_+_, _<_};
 ghost use Rattle.rules.specs.Parse.{eventField, eventAt};
 ghost use Rattle.parse_nodes.specs.Post.{Answers, Asks, AsksOpen};
-ghost use Rattle.parse_events.specs.Shapes.{LengthFound, TypeFound, ShapeFound, AsksType, FieldsMet};
+ghost use Rattle.parse_events.specs.Shapes.{LengthFound, TypeFound, ShapeFound, AsksType, AsksFields, FieldsMet};
 
 // A field's facts and the row behind it.
 pub struct Shape {
@@ -42,9 +41,8 @@ fn length_at(rows: &[u32], count: u32, row: u32, form: u32, element: u32) -> Sha
     requires { ⌜ Asks (now rows) count row 0 0 ⌝ }
     ensures { λ r. ⌜ LengthFound (now (rows .entry)) count row form element r ⌝ }
 {
-    let k1 = parse_nodes::kind_at(rows, count, row);
-    if k1 != NUMBER {
-        return Shaped::Refused(Syntax::Wanted(NUMBER, k1), row);
+    if parse_nodes::kind_at(rows, count, row) != NUMBER {
+        return Shaped::Refused(parse_nodes::wanted(NUMBER), row);
     }
     let at = (row as usize) * row::WORDS;
     if rows[at + row::HIGH] != 0 {
@@ -52,14 +50,12 @@ fn length_at(rows: &[u32], count: u32, row: u32, form: u32, element: u32) -> Sha
     }
     let length = rows[at + row::LOW];
     let close = row + 1;
-    let k2 = parse_nodes::kind_at(rows, count, close);
-    if k2 != RBRACKET {
-        return Shaped::Refused(Syntax::Wanted(RBRACKET, k2), close);
+    if parse_nodes::kind_at(rows, count, close) != RBRACKET {
+        return Shaped::Refused(parse_nodes::wanted(RBRACKET), close);
     }
     let end = close + 1;
-    let k3 = parse_nodes::kind_at(rows, count, end);
-    if k3 != SEMICOLON {
-        return Shaped::Refused(Syntax::Wanted(SEMICOLON, k3), end);
+    if parse_nodes::kind_at(rows, count, end) != SEMICOLON {
+        return Shaped::Refused(parse_nodes::wanted(SEMICOLON), end);
     }
     Shaped::Done(Shape {
         row: end + 1,
@@ -86,7 +82,7 @@ fn typed_at(rows: &[u32], count: u32, row: u32, kind: u32) -> Shaped
         );
     }
     if k != SEMICOLON {
-        return Shaped::Refused(Syntax::Wanted(SEMICOLON, k), next);
+        return Shaped::Refused(parse_nodes::wrong(fits::FIELD_ENDS), next);
     }
     Shaped::Done(Shape {
         row: next + 1,
@@ -104,9 +100,8 @@ fn shape_at(rows: &[u32], count: u32, row: u32) -> Shaped
     let k = parse_nodes::kind_at(rows, count, row);
     if k == BYTES {
         let open = row + 1;
-        let found = parse_nodes::kind_at(rows, count, open);
-        if found != LBRACKET {
-            return Shaped::Refused(Syntax::Wanted(LBRACKET, found), open);
+        if parse_nodes::kind_at(rows, count, open) != LBRACKET {
+            return Shaped::Refused(parse_nodes::wanted(LBRACKET), open);
         }
         return length_at(rows, count, open + 1, fact::FORM_BYTES, 0);
     }
@@ -121,14 +116,12 @@ fn field(rows: &[u32], count: u32, nodes: &mut [u32], row: u32, node: u32) -> Go
     requires { ⌜ Asks (now rows) count row node 0 ⌝ }
     ensures { λ r. ⌜ Answers (λ ts. eventField ts row) (now (rows .entry)) count row node (now (nodes .entry)) (now (nodes .exit)) r ⌝ }
 {
-    let k1 = parse_nodes::kind_at(rows, count, row);
-    if k1 != IDENTIFIER {
-        return Got::Refused(Syntax::Wanted(IDENTIFIER, k1), row as usize);
+    if parse_nodes::kind_at(rows, count, row) != IDENTIFIER {
+        return Got::Refused(parse_nodes::wanted(IDENTIFIER), row as usize);
     }
     let colon = row + 1;
-    let k2 = parse_nodes::kind_at(rows, count, colon);
-    if k2 != COLON {
-        return Got::Refused(Syntax::Wanted(COLON, k2), colon as usize);
+    if parse_nodes::kind_at(rows, count, colon) != COLON {
+        return Got::Refused(parse_nodes::wanted(COLON), colon as usize);
     }
     match shape_at(rows, count, colon + 1) {
         Shaped::Done(f) => {
@@ -150,28 +143,23 @@ fn field(rows: &[u32], count: u32, nodes: &mut [u32], row: u32, node: u32) -> Go
                 row: f.row,
                 node: node + 1,
                 place: row,
-                variable: false,
                 things: 0,
+                variable: false,
+                summed: false,
+                hanging: false,
             })
         }
         Shaped::Refused(why, r) => Got::Refused(why, r as usize),
     }
 }
 
-// The fields of the event whose word is at the row, up to `}`, and the event's node.
-fn fields(rows: &[u32], count: u32, nodes: &mut [u32], row: u32, node: u32) -> Got
-    requires { ⌜ AsksOpen (now rows) count row node 0 × (row + 1 + 1 < count) ⌝ }
-    ensures { λ r. ⌜ FieldsMet (now (rows .entry)) count row node (now (nodes .entry)) (now (nodes .exit)) r ⌝ }
+// The fields of the event whose word is at the row, from the first on up to `}`, and the event's node.
+fn fields(rows: &[u32], count: u32, nodes: &mut [u32], row: u32, start: At) -> Got
+    requires { ⌜ AsksFields (now rows) count row start ⌝ }
+    ensures { λ r. ⌜ FieldsMet (now (rows .entry)) count row (start .node) (now (nodes .entry)) (now (nodes .exit)) r ⌝ }
 {
     let name = row + 1;
-    let first = name + 1 + 1;
-    let mut s = At {
-        row: first,
-        node,
-        place: first,
-        variable: false,
-        things: 0,
-    };
+    let mut s = start;
     loop {
         let at = s.row;
         if parse_nodes::kind_at(rows, count, at) == RBRACE {
@@ -181,8 +169,10 @@ fn fields(rows: &[u32], count: u32, nodes: &mut [u32], row: u32, node: u32) -> G
                 row: at + 1,
                 node: n + 1,
                 place: name,
-                variable: false,
                 things: 0,
+                variable: false,
+                summed: false,
+                hanging: false,
             });
         }
         match field(rows, count, nodes, at, s.node) {
@@ -190,7 +180,7 @@ fn fields(rows: &[u32], count: u32, nodes: &mut [u32], row: u32, node: u32) -> G
                 s = parse_nodes::counted(t, s.place, s.things + 1);
             }
             Got::Refused(why, r) => {
-                return Got::Refused(why, r);
+                return Got::Refused(parse_nodes::instead(why, r, at, fits::EVENT_FIELDS), r);
             }
         }
     }
@@ -201,15 +191,8 @@ pub fn event(rows: &[u32], count: u32, nodes: &mut [u32], row: u32, node: u32) -
     requires { ⌜ AsksOpen (now rows) count row node 0 ⌝ }
     ensures { λ r. ⌜ Answers (λ ts. eventAt ts row) (now (rows .entry)) count row node (now (nodes .entry)) (now (nodes .exit)) r ⌝ }
 {
-    let name = row + 1;
-    let k1 = parse_nodes::kind_at(rows, count, name);
-    if k1 != IDENTIFIER {
-        return Got::Refused(Syntax::Wanted(IDENTIFIER, k1), name as usize);
+    match parse_nodes::opened(rows, count, row, node) {
+        Got::Done(start) => fields(rows, count, nodes, row, start),
+        Got::Refused(why, r) => Got::Refused(why, r),
     }
-    let open = name + 1;
-    let k2 = parse_nodes::kind_at(rows, count, open);
-    if k2 != LBRACE {
-        return Got::Refused(Syntax::Wanted(LBRACE, k2), open as usize);
-    }
-    fields(rows, count, nodes, row, node)
 }

@@ -1,9 +1,10 @@
 // Expressions. The functions from `add` to `args` call each other in a circle, the rest of the nesting limit and the rows falling:
-// add = mul (('<<'|'>>') mul)* (('+'|'-') mul)*, mul = unary (('*'|'/'|'%') unary)*, unary = '*' unary | prim,
+// add = shift (('+'|'-') mul)*, shift = mul (('<<'|'>>') mul)* (one loop serves both), mul = unary (('*'|'/'|'%') unary)*, unary = '*' unary | prim,
 // prim = (Number | Identifier | '(' add ')') ('.' Identifier ['(' [add (',' add)*] ')'])*.
 use parse_nodes::At;
 use parse_nodes::Got;
 use rules::Syntax;
+use rules::fits;
 use rules::kind::COMMA;
 use rules::kind::DOT;
 use rules::kind::IDENTIFIER;
@@ -22,14 +23,14 @@ use rules::row::HIGH;
 use rules::row::LOW;
 use rules::row::WORDS;
 ghost use mathlib.Core.Path.{_≡_};
+ghost use mathlib.Core.Bool.{not, _&&_, _||_};
 ghost use Prim.Native.Nat.{_+_, _*_, _≤_, _<_};
 ghost use lib.ListN.{length};
 ghost use lib.Seq.{sets};
-ghost use Rattle.rules.specs.Nodes.{NodeField, binaryNode, node, nodeWords};
+ghost use Rattle.rules.specs.Nodes.{NodeField, binaryNode, node, nodeWords, missing};
 ghost use Rattle.rules.specs.Parse.{isAdd, isShift, isMul, inner, atom, prim, unary, mul, add, args, post};
-ghost use Rattle.parse_nodes.specs.Post.{kindWord, stateAt, Answers, Onward, Asks, AsksAt, AsksOpen};
+ghost use Rattle.parse_nodes.specs.Post.{kindWord, stateAt, joinedAt, Answers, Onward, Asks, AsksAt, AsksOpen};
 ghost use Rattle.parse_expr.specs.Calls.{CallEnd};
-ghost use Rattle.parse_expr.specs.Ladder.{goesOn};
 ghost use Rattle.parse_expr.specs.Lone.{isLone, Leaf};
 
 // Whether a row's kind is `+` or `-`, which stand side by side among the kinds.
@@ -80,8 +81,10 @@ fn call_end(nodes: &mut [u32], s: At, m: u32, count: u32, next: u32) -> Got
             row: next,
             node: m + 1,
             place: s.place,
-            variable: false,
             things: 0,
+            variable: false,
+            summed: false,
+            hanging: false,
         });
     }
     Got::Refused(Syntax::CallOnOther, (s.row + 1) as usize)
@@ -99,8 +102,10 @@ fn field_end(nodes: &mut [u32], s: At) -> At
         row: name + 1,
         node: n + 1,
         place: name,
-        variable: false,
         things: 0,
+        variable: false,
+        summed: false,
+        hanging: false,
     }
 }
 
@@ -131,14 +136,31 @@ fn leaf(rows: &[u32], count: u32, nodes: &mut [u32], row: u32, node: u32) -> At
     parse_nodes::variable(nodes, row, node)
 }
 
-// Whether an operand of `add` goes on behind an operator of kind k: behind a sign, or behind a shift if no sign was read yet.
-fn goes_on(k: u32, summed: bool) -> bool
-    ensures { λ r. ⌜ r ≡ goesOn k summed ⌝ }
+// Whether a row of a kind goes on with an expression: a sign, or a shift where no sign was read.
+fn joins(k: u32, summed: bool) -> bool
+    ensures { λ r. ⌜ r ≡ isAdd k || (isShift k && not summed) ⌝ }
 {
     is_add(k) | (is_shift(k) & !summed)
 }
 
-// An expression: operands of `mul`, first behind shifts and then behind signs. summed: a sign was read.
+// The state behind the operator k with its operands: the first ends at s, the second at t.
+fn joined(nodes: &mut [u32], s: At, t: At, k: u32) -> At
+    requires { ⌜ t .node ≤ 65537 ⌝ }
+    ensures { λ r. ⌜ (r ≡ joinedAt (t .row) (t .node + 1) (s .place) (isAdd k)) × (now (nodes .exit) ≡ sets (now (nodes .entry)) (8 * t .node) (nodeWords (node (binaryNode k) (s .place) missing 2))) ⌝ }
+{
+    let u = parse_nodes::shut(nodes, t, binary_node(k), s.place, 2);
+    At {
+        row: u.row,
+        node: u.node,
+        place: u.place,
+        things: 0,
+        variable: false,
+        summed: is_add(k),
+        hanging: false,
+    }
+}
+
+// An expression: operands of `mul` behind shifts, and from the first sign on behind signs alone.
 pub fn add(rows: &[u32], count: u32, nodes: &mut [u32], row: u32, node: u32, left: usize) -> Got
     requires { ⌜ Asks (now rows) count row node left ⌝ }
     ensures { λ r. ⌜ Answers (λ ts. add ts (inner ts left) row) (now (rows .entry)) count row node (now (nodes .entry)) (now (nodes .exit)) r ⌝ }
@@ -149,17 +171,15 @@ pub fn add(rows: &[u32], count: u32, nodes: &mut [u32], row: u32, node: u32, lef
             return Got::Refused(why, r);
         }
     };
-    let mut summed = false;
     loop {
         let at = s.row;
         let k = parse_nodes::kind_at(rows, count, at);
-        if !goes_on(k, summed) {
+        if !joins(k, s.summed) {
             return Got::Done(s);
         }
         match mul(rows, count, nodes, at + 1, s.node, left) {
             Got::Done(t) => {
-                s = parse_nodes::shut(nodes, t, binary_node(k), s.place, 2);
-                summed = is_add(k);
+                s = joined(nodes, s, t, k);
             }
             Got::Refused(why, r) => {
                 return Got::Refused(why, r);
@@ -190,7 +210,7 @@ fn mul(rows: &[u32], count: u32, nodes: &mut [u32], row: u32, node: u32, left: u
         }
         match unary(rows, count, nodes, at + 1, s.node, left) {
             Got::Done(t) => {
-                s = parse_nodes::shut(nodes, t, binary_node(k), s.place, 2);
+                s = joined(nodes, s, t, k);
             }
             Got::Refused(why, r) => {
                 return Got::Refused(why, r);
@@ -237,17 +257,19 @@ fn atom(rows: &[u32], count: u32, nodes: &mut [u32], row: u32, node: u32, left: 
         match add(rows, count, nodes, row + 1, node, left - 1) {
             Got::Done(t) => {
                 let j = t.row;
-                let found = parse_nodes::kind_at(rows, count, j);
-                if found == RPAREN {
+                if parse_nodes::kind_at(rows, count, j) == RPAREN {
                     return Got::Done(At {
                         row: j + 1,
                         node: t.node,
                         place: t.place,
-                        variable: t.variable,
                         things: 0,
+                        variable: t.variable,
+                        summed: false,
+                        hanging: false,
                     });
                 }
-                return Got::Refused(Syntax::Wanted(RPAREN, found), j as usize);
+                let why = parse_nodes::unended(rows, count, t, fits::RPAREN);
+                return Got::Refused(why, j as usize);
             }
             Got::Refused(why, r) => {
                 return Got::Refused(why, r);
@@ -257,7 +279,7 @@ fn atom(rows: &[u32], count: u32, nodes: &mut [u32], row: u32, node: u32, left: 
     if k == IDENTIFIER {
         return Got::Done(parse_nodes::variable(nodes, row, node));
     }
-    Got::Refused(Syntax::Wanted(IDENTIFIER, k), row as usize)
+    Got::Refused(parse_nodes::wrong(fits::OPERANDS), row as usize)
 }
 
 // An atom with its fields and calls.
@@ -294,9 +316,8 @@ fn post(rows: &[u32], count: u32, nodes: &mut [u32], s: At, left: usize) -> Got
 {
     let name = s.row + 1;
     let n = s.node;
-    let k = parse_nodes::kind_at(rows, count, name);
-    if k != IDENTIFIER {
-        return Got::Refused(Syntax::Wanted(IDENTIFIER, k), name as usize);
+    if parse_nodes::kind_at(rows, count, name) != IDENTIFIER {
+        return Got::Refused(parse_nodes::wanted(IDENTIFIER), name as usize);
     }
     let open = name + 1;
     if parse_nodes::kind_at(rows, count, open) != LPAREN {
@@ -308,9 +329,9 @@ fn post(rows: &[u32], count: u32, nodes: &mut [u32], s: At, left: usize) -> Got
     match args(rows, count, nodes, open, n, left) {
         Got::Done(a) => {
             let close = a.row;
-            let found = parse_nodes::kind_at(rows, count, close);
-            if found != RPAREN {
-                return Got::Refused(Syntax::Wanted(RPAREN, found), close as usize);
+            if parse_nodes::kind_at(rows, count, close) != RPAREN {
+                let why = parse_nodes::unended(rows, count, a, fits::ARGUMENT_ENDS);
+                return Got::Refused(why, close as usize);
             }
             call_end(nodes, s, a.node, a.things, close + 1)
         }
@@ -329,7 +350,10 @@ fn args(rows: &[u32], count: u32, nodes: &mut [u32], row: u32, node: u32, left: 
     let mut s = match add(rows, count, nodes, row + 1, node, left - 1) {
         Got::Done(t) => parse_nodes::counted(t, t.place, 1),
         Got::Refused(why, r) => {
-            return Got::Refused(why, r);
+            return Got::Refused(
+                parse_nodes::instead(why, r, row + 1, fits::FIRST_ARGUMENTS),
+                r,
+            );
         }
     };
     loop {

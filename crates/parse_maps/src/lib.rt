@@ -4,13 +4,13 @@ use parse_nodes::Got;
 use parse_nodes::Words;
 use rules::Syntax;
 use rules::fact;
+use rules::fits;
 use rules::kind;
 use rules::kind::COLON;
 use rules::kind::DOT;
 use rules::kind::EOF;
 use rules::kind::IDENTIFIER;
 use rules::kind::KEY;
-use rules::kind::LBRACE;
 use rules::kind::MAX;
 use rules::kind::NUMBER;
 use rules::kind::RBRACE;
@@ -93,9 +93,8 @@ fn shift_step(rows: &[u32], count: u32, s: Sum, kind: u32) -> Summed
     ensures { λ r. ⌜ ShiftFound (now (rows .entry)) count s r ⌝ }
 {
     let number = s.row + 1;
-    let k = parse_nodes::kind_at(rows, count, number);
-    if k != NUMBER {
-        return Summed::Refused(Syntax::Wanted(NUMBER, k), number);
+    if parse_nodes::kind_at(rows, count, number) != NUMBER {
+        return Summed::Refused(parse_nodes::wanted(NUMBER), number);
     }
     let c = bits_at(rows, number);
     if limit::MOST_SHIFT < c {
@@ -112,9 +111,8 @@ fn chain(rows: &[u32], count: u32, row: u32) -> Summed
     requires { ⌜ Asks (now rows) count row 0 0 ⌝ }
     ensures { λ r. ⌜ ChainFound (now (rows .entry)) count row r ⌝ }
 {
-    let k = parse_nodes::kind_at(rows, count, row);
-    if k != NUMBER {
-        return Summed::Refused(Syntax::Wanted(NUMBER, k), row);
+    if parse_nodes::kind_at(rows, count, row) != NUMBER {
+        return Summed::Refused(parse_nodes::wanted(NUMBER), row);
     }
     let mut s = Sum {
         row: row + 1,
@@ -144,9 +142,8 @@ fn max_field(rows: &[u32], count: u32, f: Facts) -> Found
     ensures { λ r. ⌜ RowsFound (now (rows .entry)) count f r ⌝ }
 {
     let colon = f.row + 1;
-    let k1 = parse_nodes::kind_at(rows, count, colon);
-    if k1 != COLON {
-        return Found::Refused(Syntax::Wanted(COLON, k1), colon);
+    if parse_nodes::kind_at(rows, count, colon) != COLON {
+        return Found::Refused(parse_nodes::wanted(COLON), colon);
     }
     match chain(rows, count, colon + 1) {
         Summed::Done(s) => {
@@ -157,9 +154,8 @@ fn max_field(rows: &[u32], count: u32, f: Facts) -> Found
             if limit::MOST_WORD < s.bits {
                 return Found::Refused(Syntax::OutOfRange, j - 1);
             }
-            let k2 = parse_nodes::kind_at(rows, count, j);
-            if k2 != SEMICOLON {
-                return Found::Refused(Syntax::Wanted(SEMICOLON, k2), j);
+            if parse_nodes::kind_at(rows, count, j) != SEMICOLON {
+                return Found::Refused(parse_nodes::wrong(fits::MAX_ENDS), j);
             }
             Found::Done(Facts {
                 row: j + 1,
@@ -179,9 +175,8 @@ fn typed_field(rows: &[u32], count: u32, f: Facts, kind: u32) -> Found
     ensures { λ r. ⌜ RowsFound (now (rows .entry)) count f r ⌝ }
 {
     let colon = f.row + 1;
-    let k1 = parse_nodes::kind_at(rows, count, colon);
-    if k1 != COLON {
-        return Found::Refused(Syntax::Wanted(COLON, k1), colon);
+    if parse_nodes::kind_at(rows, count, colon) != COLON {
+        return Found::Refused(parse_nodes::wanted(COLON), colon);
     }
     let at = colon + 1;
     let t = parse_nodes::kind_at(rows, count, at);
@@ -193,9 +188,8 @@ fn typed_field(rows: &[u32], count: u32, f: Facts, kind: u32) -> Found
     if !known {
         return Found::Refused(Syntax::NotType, end);
     }
-    let k2 = parse_nodes::kind_at(rows, count, end);
-    if k2 != SEMICOLON {
-        return Found::Refused(Syntax::Wanted(SEMICOLON, k2), end);
+    if parse_nodes::kind_at(rows, count, end) != SEMICOLON {
+        return Found::Refused(parse_nodes::wanted(SEMICOLON), end);
     }
     let number = t - kind::LAST_UNMADE;
     let next = end + 1;
@@ -245,19 +239,16 @@ fn type_field(text: &[u8], rows: &[u32], count: u32, f: Facts) -> Found
     ensures { λ r. ⌜ FieldFound (now (text .entry)) (now (rows .entry)) count f r ⌝ }
 {
     let colon = f.row + 1;
-    let k1 = parse_nodes::kind_at(rows, count, colon);
-    if k1 != COLON {
-        return Found::Refused(Syntax::Wanted(COLON, k1), colon);
+    if parse_nodes::kind_at(rows, count, colon) != COLON {
+        return Found::Refused(parse_nodes::wanted(COLON), colon);
     }
     let dot = colon + 1;
-    let k2 = parse_nodes::kind_at(rows, count, dot);
-    if k2 != DOT {
-        return Found::Refused(Syntax::Wanted(DOT, k2), dot);
+    if parse_nodes::kind_at(rows, count, dot) != DOT {
+        return Found::Refused(parse_nodes::wanted(DOT), dot);
     }
     let name = dot + 1;
-    let k3 = parse_nodes::kind_at(rows, count, name);
-    if k3 != IDENTIFIER {
-        return Found::Refused(Syntax::Wanted(IDENTIFIER, k3), name);
+    if parse_nodes::kind_at(rows, count, name) != IDENTIFIER {
+        return Found::Refused(parse_nodes::wanted(IDENTIFIER), name);
     }
     let words = (name as usize) * row::WORDS;
     let a = rows[words + row::START] as usize;
@@ -267,9 +258,8 @@ fn type_field(text: &[u8], rows: &[u32], count: u32, f: Facts) -> Found
     if number == 0 {
         return Found::Refused(Syntax::MapTypeUnknown, end);
     }
-    let k4 = parse_nodes::kind_at(rows, count, end);
-    if k4 != SEMICOLON {
-        return Found::Refused(Syntax::Wanted(SEMICOLON, k4), end);
+    if parse_nodes::kind_at(rows, count, end) != SEMICOLON {
+        return Found::Refused(parse_nodes::wanted(SEMICOLON), end);
     }
     Found::Done(Facts {
         row: end + 1,
@@ -321,7 +311,8 @@ fn fields(text: &[u8], rows: &[u32], count: u32, row: u32) -> Found
                 f = g;
             }
             Found::Refused(why, r) => {
-                return Found::Refused(why, r);
+                let told = parse_nodes::instead(why, r as usize, at, fits::MAP_FIELDS);
+                return Found::Refused(told, r);
             }
         }
     }
@@ -375,17 +366,14 @@ pub fn map(text: &[u8], rows: &[u32], count: u32, nodes: &mut [u32], row: u32, n
     requires { ⌜ AsksOpen (now rows) count row node 0 × Spans (now text) (now rows) count ⌝ }
     ensures { λ r. ⌜ MapMet (now (text .entry)) (now (rows .entry)) count row node (now (nodes .entry)) (now (nodes .exit)) r ⌝ }
 {
+    let first = match parse_nodes::opened(rows, count, row, node) {
+        Got::Done(s) => s.row,
+        Got::Refused(why, r) => {
+            return Got::Refused(why, r);
+        }
+    };
     let name = row + 1;
-    let k1 = parse_nodes::kind_at(rows, count, name);
-    if k1 != IDENTIFIER {
-        return Got::Refused(Syntax::Wanted(IDENTIFIER, k1), name as usize);
-    }
-    let open = name + 1;
-    let k2 = parse_nodes::kind_at(rows, count, open);
-    if k2 != LBRACE {
-        return Got::Refused(Syntax::Wanted(LBRACE, k2), open as usize);
-    }
-    match fields(text, rows, count, open + 1) {
+    match fields(text, rows, count, first) {
         Found::Done(f) => {
             let next = f.row + 1;
             let missing = lacks(f);
@@ -397,8 +385,10 @@ pub fn map(text: &[u8], rows: &[u32], count: u32, nodes: &mut [u32], row: u32, n
                 row: next,
                 node: node + 1,
                 place: name,
-                variable: false,
                 things: 0,
+                variable: false,
+                summed: false,
+                hanging: false,
             })
         }
         Found::Refused(why, r) => Got::Refused(why, r as usize),

@@ -5,3 +5,4 @@ pub mod Told
 pub mod Seen
 pub mod Turn
 pub mod Steps
+pub mod Fitting

@@ -7,7 +7,7 @@ use lib.Dec.{leb}
 use lib.ListN.{getD}
 use borrow.Author.Tests.{leb-true}
 use Rattle.rules.specs.Parse
-use Rattle.rules.specs.declared.Syntax.the-variants.{Wanted}
+use Rattle.rules.specs.Fits.{only, wrong}
 use Rattle.rules.specs.Kinds.{Identifier, Number}
 use Rattle.rules.specs.Tree.{Tok, spellingOf, bitsIn}
 use Rattle.rules.specs.Parse.{no, P, tokAt, kindAt, isType}
@@ -24,14 +24,14 @@ module _ (ts : List Tok) (ws : List ℕ) (n : ℕ) (tells : Tells ts ws n) (i x 
     pub want-met : x ≡ k → Parse.want ts k f i ≡ f (i + 1)
     want-met q = want-yes ts k f i (sym seen ∙ q)
 
-    pub want-unmet : (x ≡ k → ⊥) → Parse.want ts k f i ≡ no (Wanted k x) i
-    want-unmet h = want-no ts k f i (λ q. h (seen ∙ q)) ∙ ap (λ (y : ℕ). no (Wanted k y) i) (sym seen)
+    pub want-unmet : (x ≡ k → ⊥) → Parse.want ts k f i ≡ no (wrong (only k)) i
+    want-unmet h = want-no ts k f i (λ q. h (seen ∙ q))
 
   pub named-met : (f : List ℕ → P) → x ≡ Identifier → Parse.named ts f i ≡ f (spellingOf (tokAt ts i)) (i + 1)
   unfolding Parse.named
   named-met f q = want-met Identifier (f (spellingOf (tokAt ts i))) q
 
-  pub named-unmet : (f : List ℕ → P) → (x ≡ Identifier → ⊥) → Parse.named ts f i ≡ no (Wanted Identifier x) i
+  pub named-unmet : (f : List ℕ → P) → (x ≡ Identifier → ⊥) → Parse.named ts f i ≡ no (wrong (only Identifier)) i
   unfolding Parse.named
   named-unmet f h = want-unmet Identifier (f (spellingOf (tokAt ts i))) h
 
@@ -40,7 +40,7 @@ module _ (ts : List Tok) (ws : List ℕ) (n : ℕ) (tells : Tells ts ws n) (i x 
       let h : i < n = word-here ws n i Number (sym e ∙ q) refl in
       valued-yes ts f i (sym seen ∙ q) ∙ ap (λ (v : ℕ). f v (i + 1)) (tells-value ts ws n tells i h (sym (word-at ws n i h) ∙ sym e ∙ q))
 
-  pub valued-unmet : (f : ℕ → P) → (x ≡ Number → ⊥) → Parse.valued ts f i ≡ no (Wanted Number x) i
+  pub valued-unmet : (f : ℕ → P) → (x ≡ Number → ⊥) → Parse.valued ts f i ≡ no (wrong (only Number)) i
   unfolding Parse.valued
   valued-unmet f h = want-unmet Number (f (bitsIn (tokAt ts i))) h
 

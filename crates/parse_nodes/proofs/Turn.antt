@@ -46,7 +46,16 @@ came C ts (ok t j) i n m m′ r s a g h e =
     record {
       tree = t;
       is = ap (λ (k : ℕ). ok t k) (sym row);
-      stands = record { rows = row ∙ f .0; nodes = ap (λ (x : At). x .node) q; place = ap (λ (x : At). x .place) q; variable = ap (λ (x : At). x .variable) q; things = ap (λ (x : At). x .things) q; mem = h .1 };
+      stands = record {
+        rows = row ∙ f .0;
+        nodes = ap (λ (x : At). x .node) q;
+        place = ap (λ (x : At). x .place) q;
+        things = ap (λ (x : At). x .things) q;
+        variable = ap (λ (x : At). x .variable) q;
+        summed = ap (λ (x : At). x .summed) q;
+        hanging = ap (λ (x : At). x .hanging) q;
+        mem = h .1;
+      };
       inside = omega (arith, row, f .1);
       few = nodes-within-rows t;
       near = place-width i t;
@@ -70,10 +79,29 @@ refused (no why′ p′) i n m m′ r why p h e = cc (h, e)
 -- an answer, from what the parser says
 pub met-ok : (o : Out) (i n : ℕ) (t : Tree) (m m′ : List ℕ) (s : At) → o ≡ ok t (s .row) → Stands i n t m s m′ → Met o i n m m′ (Done s)
 met-ok o i n t m m′ s e h =
-    subst (λ (x : Out). Met x i n m m′ (Done s)) (sym e) (ap Done (λ j. record { row = s .row; node = h .nodes j; place = h .place j; variable = h .variable j; things = h .things j }), h .mem)
+    subst (λ (x : Out). Met x i n m m′ (Done s)) (sym e)
+    ( ap Done
+      (λ j. record {
+        row = s .row;
+        node = h .nodes j;
+        place = h .place j;
+        things = h .things j;
+        variable = h .variable j;
+        summed = h .summed j;
+        hanging = h .hanging j;
+      })
+    , h .mem )
 
 pub met-no : (o : Out) (i n : ℕ) (why : Syntax) (p : ℕ) (m m′ : List ℕ) → o ≡ no why p → Met o i n m m′ (Refused why p)
 met-no o i n why p m m′ e = subst (λ (x : Out). Met x i n m m′ (Refused why p)) (sym e) refl
+
+-- the same where the refusal is what a function gave
+pub met-told : (o : Out) (i n : ℕ) (why x : Syntax) (p : ℕ) (m m′ : List ℕ) → o ≡ no why p → x ≡ why → Met o i n m m′ (Refused x p)
+met-told o i n why x p m m′ e q = subst (λ (y : Syntax). Met o i n m m′ (Refused y p)) (sym q) (met-no o i n why p m m′ e)
+
+-- the same of another answer that is equal
+pub met-as : (o o′ : Out) (i n : ℕ) (m m′ : List ℕ) (r : Got) → o ≡ o′ → Met o′ i n m m′ r → Met o i n m m′ r
+met-as o o′ i n m m′ r e h = subst (λ (x : Out). Met x i n m m′ r) (sym e) h
 
 -- ---- a loop
 

@@ -1,6 +1,6 @@
 -- What the parser's functions promise: the parser's answer as a function, the state behind a tree, and node memory.
 use mathlib.Core.Path.{_≡_}
-use mathlib.Core.Bool.{false, cond}
+use mathlib.Core.Bool.{Bool, true, false, cond}
 use mathlib.Core.List.{List}
 use Prim.Native.Nat.{ℕ, _+_, _*_, _^_, _≤_, _<_}
 use lib.ListN.{length, getD}
@@ -8,7 +8,7 @@ use lib.Dec.{ltb}
 use lib.Seq.{sets}
 use Rattle.rules.specs.Rows.{atHigh, atLow, wordsPerRow}
 use Rattle.rules.specs.Kinds.{Number, Eof}
-use Rattle.rules.specs.Tree.{Tok, sign, kindOf, bitsIn, Tree, isVariable, count}
+use Rattle.rules.specs.Tree.{Tok, sign, kindOf, bitsIn, Tree, isVariable, isSum, hangs, count}
 use Rattle.rules.specs.Nodes.{width, size, placeOf, treeWords}
 use Rattle.rules.specs.Parse.{Out, ok, no}
 use Rattle.parse_nodes.specs.declared.At.{At}
@@ -25,17 +25,31 @@ pub record Tells (ts : List Tok) (ws : List ℕ) (n : ℕ) : Type 0 where
   pub kinds : (i : ℕ) → i < n → kindOf (getD ts i (sign Eof)) ≡ getD ws (i * wordsPerRow) 0
   pub values : (i : ℕ) → i < n → getD ws (i * wordsPerRow) 0 ≡ Number → bitsIn (getD ts i (sign Eof)) ≡ getD ws (i * wordsPerRow + atHigh) 0 * 2 ^ 32 + getD ws (i * wordsPerRow + atLow) 0
 
--- the state behind a list of so many things
-abbrev pub listAt : (row node place things : ℕ) → At
-listAt i n p k = record { row = i; node = n; place = p; variable = false; things = k }
-
--- the state behind what is neither a variable nor a list
+-- the state behind what is no variable, no sum, no list and no `if` without `else`
 abbrev pub stateAt : (row node place : ℕ) → At
-stateAt i n p = listAt i n p 0
+stateAt i n p = record { row = i; node = n; place = p; things = 0; variable = false; summed = false; hanging = false }
+
+-- the state behind a variable
+abbrev pub variableAt : (row node place : ℕ) → At
+variableAt i n p = record { row = i; node = n; place = p; things = 0; variable = true; summed = false; hanging = false }
+
+-- the state behind an operator with its operands, which is a sum or not
+abbrev pub joinedAt : (row node place : ℕ) → Bool → At
+joinedAt i n p b = record { row = i; node = n; place = p; things = 0; variable = false; summed = b; hanging = false }
+
+-- the state behind an `if` without `else`
+abbrev pub hangingAt : (row node place : ℕ) → At
+hangingAt i n p = record { row = i; node = n; place = p; things = 0; variable = false; summed = false; hanging = true }
+
+-- the state s as one behind a list of so many things, the last of which s stands behind
+abbrev pub countedAt : At → (place things : ℕ) → At
+countedAt s p k =
+    record { row = s .row; node = s .node; place = p; things = k; variable = false; summed = s .summed; hanging = s .hanging }
 
 -- the state behind the tree t, which was read from row i, its first node at n, up to row j
 abbrev pub behind : ℕ → ℕ → Tree → ℕ → At
-behind i n t j = record { row = j; node = n + size t; place = placeOf i t; variable = isVariable t; things = count t }
+behind i n t j =
+    record { row = j; node = n + size t; place = placeOf i t; things = count t; variable = isVariable t; summed = isSum t; hanging = hangs t }
 
 -- what a function that reads at row i with its first node at n answers, and what node memory is then
 abbrev pub Met : Out → ℕ → ℕ → List ℕ → List ℕ → Got → Type 0
@@ -75,8 +89,10 @@ pub record Stands (i n : ℕ) (t : Tree) (m : List ℕ) (s : At) (m′ : List �
   pub rows : s .row ≡ i + width t
   pub nodes : s .node ≡ n + size t
   pub place : s .place ≡ placeOf i t
-  pub variable : s .variable ≡ isVariable t
   pub things : s .things ≡ count t
+  pub variable : s .variable ≡ isVariable t
+  pub summed : s .summed ≡ isSum t
+  pub hanging : s .hanging ≡ hangs t
   pub mem : m′ ≡ sets m (8 * n) (treeWords i t)
 
 -- what a function that goes on from a state answers, whatever was read before

@@ -1,26 +1,35 @@
 // Where the parser stands, what it answers, and the nodes it writes. Nothing here reads the grammar.
 use rules::Syntax;
+use rules::fits;
+use rules::kind::DOT;
 use rules::kind::EOF;
+use rules::kind::IDENTIFIER;
+use rules::kind::LBRACE;
+use rules::limit;
 use rules::node;
 use rules::node::MISSING;
 use rules::node_kind;
 use rules::row;
 ghost use mathlib.Core.Path.{_≡_};
 ghost use mathlib.Core.Bool.{true};
-ghost use Prim.Native.Nat.{_+_, _*_, _≤_};
+ghost use Prim.Native.Nat.{_+_, _-_, _*_, _^_, _≤_, _<_};
 ghost use lib.ListN.{length, set};
 ghost use lib.Seq.{sets};
 ghost use Rattle.rules.specs.Nodes.{NodeVariable, NodeNumber, node, factNode, nodeWords, missing};
-ghost use Rattle.parse_nodes.specs.Post.{kindWord, stateAt, listAt};
+ghost use Rattle.rules.specs.Fits.{only, wrong, retold};
+ghost use Rattle.parse_nodes.specs.Post.{kindWord, stateAt, variableAt, countedAt, AsksOpen};
+ghost use Rattle.parse_nodes.specs.Fitting.{retoldAt, dottedWords, onwardWords, Header};
 
-// Where the parser stands: the next row, the next node, the place of what was read, whether that is a variable, and how many things
-// it has if it is a list.
+// Where the parser stands: the next row, the next node, the place of what was read and how many things it has if it is a list. Of what was
+// read, or of its last thing: whether it is a variable, a sum, an `if` without `else`.
 pub struct At {
     pub row: u32,
     pub node: u32,
     pub place: u32,
-    pub variable: bool,
     pub things: u32,
+    pub variable: bool,
+    pub summed: bool,
+    pub hanging: bool,
 }
 
 // What was read, or why not and the row where. That row is as wide as the last two fields of a state, so that both answers are passed on
@@ -141,8 +150,10 @@ pub fn shut(nodes: &mut [u32], t: At, kind: u32, place: u32, children: u32) -> A
         row: t.row,
         node: n + 1,
         place,
-        variable: false,
         things: 0,
+        variable: false,
+        summed: false,
+        hanging: false,
     }
 }
 
@@ -156,23 +167,27 @@ pub fn ended(nodes: &mut [u32], t: At, kind: u32, place: u32, children: u32) -> 
         row: s.row + 1,
         node: s.node,
         place: s.place,
-        variable: s.variable,
         things: s.things,
+        variable: s.variable,
+        summed: s.summed,
+        hanging: s.hanging,
     }
 }
 
 // The state behind a variable at a row.
 pub fn variable(nodes: &mut [u32], row: u32, n: u32) -> At
     requires { ⌜ (row ≤ 65537) × (n ≤ 65537) ⌝ }
-    ensures { λ r. ⌜ (r ≡ record { row = row + 1; node = n + 1; place = row; variable = true; things = 0 }) × (now (nodes .exit) ≡ sets (now (nodes .entry)) (8 * n) (nodeWords (node NodeVariable row row 0))) ⌝ }
+    ensures { λ r. ⌜ (r ≡ variableAt (row + 1) (n + 1) row) × (now (nodes .exit) ≡ sets (now (nodes .entry)) (8 * n) (nodeWords (node NodeVariable row row 0))) ⌝ }
 {
     close(nodes, n, node_kind::VARIABLE, row, row, 0);
     At {
         row: row + 1,
         node: n + 1,
         place: row,
-        variable: true,
         things: 0,
+        variable: true,
+        summed: false,
+        hanging: false,
     }
 }
 
@@ -199,20 +214,146 @@ pub fn number(nodes: &mut [u32], row: u32, n: u32, low: u32, high: u32) -> At
         row: row + 1,
         node: n + 1,
         place: row,
-        variable: false,
         things: 0,
+        variable: false,
+        summed: false,
+        hanging: false,
     }
 }
 
 // The state t as one behind a list of so many things, with another place.
 pub fn counted(t: At, place: u32, things: u32) -> At
-    ensures { λ r. ⌜ r ≡ listAt (t .row) (t .node) place things ⌝ }
+    ensures { λ r. ⌜ r ≡ countedAt t place things ⌝ }
 {
     At {
         row: t.row,
         node: t.node,
         place,
-        variable: false,
         things,
+        variable: false,
+        summed: t.summed,
+        hanging: t.hanging,
     }
+}
+
+// ---- refusals with what would have fitted
+
+// 21, where the kinds of a set would have fitted.
+pub fn wrong(set: u64) -> Syntax
+    ensures { λ r. ⌜ r ≡ wrong set ⌝ }
+{
+    Syntax::Wanted(
+        (set % limit::ABOVE_WORD) as u32,
+        (set / limit::ABOVE_WORD) as u32,
+    )
+}
+
+// 21, where one kind alone would have fitted.
+pub fn wanted(kind: u32) -> Syntax
+    requires { ⌜ kind ≤ 52 ⌝ }
+    ensures { λ r. ⌜ r ≡ wrong (only kind) ⌝ }
+{
+    wrong(1 << kind)
+}
+
+// A refusal, 21 with another set.
+fn retold(set: u64, why: Syntax) -> Syntax
+    ensures { λ r. ⌜ r ≡ retold set why ⌝ }
+{
+    match why {
+        Syntax::Wanted(_, _) => wrong(set),
+        Syntax::NotTopLevel => Syntax::NotTopLevel,
+        Syntax::NotMapField => Syntax::NotMapField,
+        Syntax::MapTypeUnknown => Syntax::MapTypeUnknown,
+        Syntax::NotType => Syntax::NotType,
+        Syntax::MaxNegative => Syntax::MaxNegative,
+        Syntax::OutOfRange => Syntax::OutOfRange,
+        Syntax::ShiftCount => Syntax::ShiftCount,
+        Syntax::MapLacks(field) => Syntax::MapLacks(field),
+        Syntax::NotEventType => Syntax::NotEventType,
+        Syntax::CallOnOther => Syntax::CallOnOther,
+        Syntax::TooDeep => Syntax::TooDeep,
+    }
+}
+
+// A refusal at a row, with the set that is told where the first row itself is refused with 21.
+pub fn instead(why: Syntax, at: usize, first: u32, set: u64) -> Syntax
+    ensures { λ r. ⌜ r ≡ retoldAt set first why at ⌝ }
+{
+    if at == first as usize {
+        return retold(set, why);
+    }
+    why
+}
+
+// The kind so many rows before one, or that of the first row where there are fewer.
+fn kind_before(rows: &[u32], count: u32, row: u32, back: u32) -> u32
+    requires { ⌜ (count * 8 ≤ length (now rows)) ⌝ }
+    ensures { λ r. ⌜ r ≡ kindWord (now (rows .entry)) count (row - back) ⌝ }
+{
+    if row < back {
+        return kind_at(rows, count, 0);
+    }
+    kind_at(rows, count, row - back)
+}
+
+// Whether the row in front of one is a name behind a dot.
+fn is_dotted(rows: &[u32], count: u32, row: u32) -> bool
+    requires { ⌜ (count * 8 ≤ length (now rows)) ⌝ }
+    ensures { λ r. ⌜ r ≡ dottedWords (now (rows .entry)) count row ⌝ }
+{
+    let name = kind_before(rows, count, row, 1);
+    let dot = kind_before(rows, count, row, 2);
+    (name == IDENTIFIER) & (dot == DOT)
+}
+
+// What goes on with the expression or arguments that s stands behind.
+fn onward(rows: &[u32], count: u32, s: At) -> u64
+    requires { ⌜ (count * 8 ≤ length (now rows)) ⌝ }
+    ensures { λ r. ⌜ r ≡ onwardWords (now (rows .entry)) count (s .summed) (s .row) ⌝ }
+{
+    let dotted = is_dotted(rows, count, s.row);
+    if s.summed {
+        if dotted {
+            return fits::ONS + fits::LPAREN;
+        }
+        return fits::ONS;
+    }
+    if dotted {
+        return fits::ONS + fits::SHIFTS + fits::LPAREN;
+    }
+    fits::ONS + fits::SHIFTS
+}
+
+// 21 behind an expression or arguments, which any of a set would have ended.
+pub fn unended(rows: &[u32], count: u32, s: At, ends: u64) -> Syntax
+    requires { ⌜ (count * 8 ≤ length (now rows)) × (ends < 2 ^ 53) ⌝ }
+    ensures { λ r. ⌜ r ≡ wrong (onwardWords (now (rows .entry)) count (s .summed) (s .row) + ends) ⌝ }
+{
+    wrong(onward(rows, count, s) + ends)
+}
+
+// The header of the declaration whose word is at the row, a name and `{`: the state at the first thing in its braces.
+pub fn opened(rows: &[u32], count: u32, row: u32, node: u32) -> Got
+    requires { ⌜ AsksOpen (now rows) count row node 0 ⌝ }
+    ensures { λ r. ⌜ Header (now (rows .entry)) count row node r ⌝ }
+{
+    let name = row + 1;
+    if kind_at(rows, count, name) != IDENTIFIER {
+        return Got::Refused(wanted(IDENTIFIER), name as usize);
+    }
+    let open = name + 1;
+    if kind_at(rows, count, open) != LBRACE {
+        return Got::Refused(wanted(LBRACE), open as usize);
+    }
+    let first = open + 1;
+    Got::Done(At {
+        row: first,
+        node,
+        place: first,
+        things: 0,
+        variable: false,
+        summed: false,
+        hanging: false,
+    })
 }

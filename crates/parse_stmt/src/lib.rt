@@ -2,6 +2,7 @@
 use parse_nodes::At;
 use parse_nodes::Got;
 use rules::Syntax;
+use rules::fits;
 use rules::kind::ELSE;
 use rules::kind::EQUALS;
 use rules::kind::GUARD;
@@ -19,16 +20,17 @@ use rules::kind::RPAREN;
 use rules::kind::SEMICOLON;
 use rules::node_kind;
 ghost use mathlib.Core.Path.{_≡_};
-ghost use mathlib.Core.Bool.{true};
+ghost use mathlib.Core.Bool.{true, cond};
 ghost use Prim.Native.Nat.{_+_, _*_, _≤_, _<_};
 ghost use lib.Dec.{eqb};
 ghost use lib.ListN.{length};
 ghost use lib.Seq.{sets};
 ghost use Rattle.rules.specs.Kinds.{KeywordElse};
+ghost use Rattle.rules.specs.Fits.{only, bodyThings};
 ghost use Rattle.rules.specs.Tree.{thenBody};
-ghost use Rattle.rules.specs.Nodes.{declNode, assignNode, node, nodeWords};
+ghost use Rattle.rules.specs.Nodes.{NodeIf, declNode, assignNode, node, nodeWords, missing};
 ghost use Rattle.rules.specs.Parse.{isDeclaring, isAssign, declaring, returning, branching, expression, stmtBy, assignBy, elseBy, stmt, body, kindAt};
-ghost use Rattle.parse_nodes.specs.Post.{stateAt, Answers, Onward, Asks, AsksAt, AsksOpen};
+ghost use Rattle.parse_nodes.specs.Post.{stateAt, hangingAt, Answers, Onward, Asks, AsksAt, AsksOpen};
 ghost use Rattle.parse_stmt.specs.Bodies.{HeadSays, BodyAnswers, AsksElse, Elsewise};
 
 // Whether a row's kind is reg, imm or heap.
@@ -84,8 +86,10 @@ fn named_end(nodes: &mut [u32], t: At, kind: u32, name: u32) -> At
         row: t.row + 1,
         node: n + 1,
         place: name,
-        variable: false,
         things: 0,
+        variable: false,
+        summed: false,
+        hanging: false,
     }
 }
 
@@ -95,21 +99,18 @@ fn declare(rows: &[u32], count: u32, nodes: &mut [u32], row: u32, node: u32, lef
     ensures { λ r. ⌜ Answers (λ ts. stmtBy ts left (body ts left) declaring row) (now (rows .entry)) count row node (now (nodes .entry)) (now (nodes .exit)) r ⌝ }
 {
     let name = row + 1;
-    let k1 = parse_nodes::kind_at(rows, count, name);
-    if k1 != IDENTIFIER {
-        return Got::Refused(Syntax::Wanted(IDENTIFIER, k1), name as usize);
+    if parse_nodes::kind_at(rows, count, name) != IDENTIFIER {
+        return Got::Refused(parse_nodes::wanted(IDENTIFIER), name as usize);
     }
     let sign = name + 1;
-    let k2 = parse_nodes::kind_at(rows, count, sign);
-    if k2 != EQUALS {
-        return Got::Refused(Syntax::Wanted(EQUALS, k2), sign as usize);
+    if parse_nodes::kind_at(rows, count, sign) != EQUALS {
+        return Got::Refused(parse_nodes::wanted(EQUALS), sign as usize);
     }
     match parse_expr::add(rows, count, nodes, sign + 1, node, left) {
         Got::Done(t) => {
             let j = t.row;
-            let k3 = parse_nodes::kind_at(rows, count, j);
-            if k3 != SEMICOLON {
-                return Got::Refused(Syntax::Wanted(SEMICOLON, k3), j as usize);
+            if parse_nodes::kind_at(rows, count, j) != SEMICOLON {
+                return Got::Refused(parse_nodes::unended(rows, count, t, fits::SEMICOLON), j as usize);
             }
             let kind = decl_node(parse_nodes::kind_at(rows, count, row));
             Got::Done(named_end(nodes, t, kind, name))
@@ -127,9 +128,8 @@ fn give(rows: &[u32], count: u32, nodes: &mut [u32], row: u32, node: u32, left: 
     match parse_expr::add(rows, count, nodes, place, node, left) {
         Got::Done(t) => {
             let j = t.row;
-            let k = parse_nodes::kind_at(rows, count, j);
-            if k != SEMICOLON {
-                return Got::Refused(Syntax::Wanted(SEMICOLON, k), j as usize);
+            if parse_nodes::kind_at(rows, count, j) != SEMICOLON {
+                return Got::Refused(parse_nodes::unended(rows, count, t, fits::SEMICOLON), j as usize);
             }
             Got::Done(parse_nodes::ended(nodes, t, node_kind::RETURN, place, 1))
         }
@@ -148,9 +148,8 @@ fn assigned(rows: &[u32], count: u32, nodes: &mut [u32], t: At, left: usize) -> 
     match parse_expr::add(rows, count, nodes, sign + 1, n, left) {
         Got::Done(u) => {
             let j = u.row;
-            let end = parse_nodes::kind_at(rows, count, j);
-            if end != SEMICOLON {
-                return Got::Refused(Syntax::Wanted(SEMICOLON, end), j as usize);
+            if parse_nodes::kind_at(rows, count, j) != SEMICOLON {
+                return Got::Refused(parse_nodes::unended(rows, count, u, fits::SEMICOLON), j as usize);
             }
             Got::Done(parse_nodes::ended(nodes, u, assign_node(k), t.place, 2))
         }
@@ -171,7 +170,7 @@ fn effect(rows: &[u32], count: u32, nodes: &mut [u32], row: u32, node: u32, left
                 return assigned(rows, count, nodes, t, left);
             }
             if k != SEMICOLON {
-                return Got::Refused(Syntax::Wanted(SEMICOLON, k), j as usize);
+                return Got::Refused(parse_nodes::unended(rows, count, t, fits::EFFECT_ENDS), j as usize);
             }
             Got::Done(parse_nodes::ended(nodes, t, node_kind::EXPRESSION, t.place, 1))
         }
@@ -191,29 +190,24 @@ fn head(rows: &[u32], count: u32, row: u32) -> Opened
     ensures { λ r. ⌜ HeadSays (now (rows .entry)) count row r ⌝ }
 {
     let guard = row + 1;
-    let k1 = parse_nodes::kind_at(rows, count, guard);
-    if k1 != GUARD {
-        return Opened::Refused(Syntax::Wanted(GUARD, k1), guard);
+    if parse_nodes::kind_at(rows, count, guard) != GUARD {
+        return Opened::Refused(parse_nodes::wanted(GUARD), guard);
     }
     let open = guard + 1;
-    let k2 = parse_nodes::kind_at(rows, count, open);
-    if k2 != LPAREN {
-        return Opened::Refused(Syntax::Wanted(LPAREN, k2), open);
+    if parse_nodes::kind_at(rows, count, open) != LPAREN {
+        return Opened::Refused(parse_nodes::wanted(LPAREN), open);
     }
     let name = open + 1;
-    let k3 = parse_nodes::kind_at(rows, count, name);
-    if k3 != IDENTIFIER {
-        return Opened::Refused(Syntax::Wanted(IDENTIFIER, k3), name);
+    if parse_nodes::kind_at(rows, count, name) != IDENTIFIER {
+        return Opened::Refused(parse_nodes::wanted(IDENTIFIER), name);
     }
     let close = name + 1;
-    let k4 = parse_nodes::kind_at(rows, count, close);
-    if k4 != RPAREN {
-        return Opened::Refused(Syntax::Wanted(RPAREN, k4), close);
+    if parse_nodes::kind_at(rows, count, close) != RPAREN {
+        return Opened::Refused(parse_nodes::wanted(RPAREN), close);
     }
     let brace = close + 1;
-    let k5 = parse_nodes::kind_at(rows, count, brace);
-    if k5 != LBRACE {
-        return Opened::Refused(Syntax::Wanted(LBRACE, k5), brace);
+    if parse_nodes::kind_at(rows, count, brace) != LBRACE {
+        return Opened::Refused(parse_nodes::wanted(LBRACE), brace);
     }
     Opened::Brace(brace)
 }
@@ -254,6 +248,23 @@ fn branch(rows: &[u32], count: u32, nodes: &mut [u32], row: u32, node: u32, left
     }
 }
 
+// The state behind an `if` without `else`, whose then body ends at t and whose guard is at `guard`.
+fn hanging_if(nodes: &mut [u32], t: At, guard: u32) -> At
+    requires { ⌜ t .node ≤ 65537 ⌝ }
+    ensures { λ r. ⌜ (r ≡ hangingAt (t .row) (t .node + 1) guard) × (now (nodes .exit) ≡ sets (now (nodes .entry)) (8 * t .node) (nodeWords (node NodeIf guard missing 2))) ⌝ }
+{
+    let s = parse_nodes::shut(nodes, t, node_kind::IF, guard, 2);
+    At {
+        row: s.row,
+        node: s.node,
+        place: s.place,
+        things: 0,
+        variable: false,
+        summed: false,
+        hanging: true,
+    }
+}
+
 // Behind a then body at t: an else body, if there is one, and the node of the `if` whose guard is at `guard`.
 fn otherwise(rows: &[u32], count: u32, nodes: &mut [u32], t: At, guard: u32, left: usize) -> Got
     requires { ⌜ AsksElse (now rows) count t left ⌝ }
@@ -262,17 +273,26 @@ fn otherwise(rows: &[u32], count: u32, nodes: &mut [u32], t: At, guard: u32, lef
     let j = t.row;
     let n = t.node;
     if parse_nodes::kind_at(rows, count, j) != ELSE {
-        return Got::Done(parse_nodes::shut(nodes, t, node_kind::IF, guard, 2));
+        return Got::Done(hanging_if(nodes, t, guard));
     }
     let brace = j + 1;
-    let k = parse_nodes::kind_at(rows, count, brace);
-    if k != LBRACE {
-        return Got::Refused(Syntax::Wanted(LBRACE, k), brace as usize);
+    if parse_nodes::kind_at(rows, count, brace) != LBRACE {
+        return Got::Refused(parse_nodes::wanted(LBRACE), brace as usize);
     }
     match body(rows, count, nodes, brace, n, left, node_kind::ELSE) {
         Got::Done(u) => Got::Done(parse_nodes::shut(nodes, u, node_kind::IF, guard, 3)),
         Got::Refused(why, r) => Got::Refused(why, r),
     }
+}
+
+// What would have fitted in place of a statement's first row, behind an `if` without `else` or not.
+fn things(hanging: bool) -> u64
+    ensures { λ r. ⌜ r ≡ bodyThings + cond hanging (only KeywordElse) 0 ⌝ }
+{
+    if hanging {
+        return fits::BODY_THINGS + fits::ELSE;
+    }
+    fits::BODY_THINGS
 }
 
 // The body whose brace is at the row: its statements, and its node, of a kind: then or else.
@@ -295,8 +315,10 @@ fn body(
         row: row + 1,
         node,
         place: row + 1,
-        variable: false,
         things: 0,
+        variable: false,
+        summed: false,
+        hanging: false,
     };
     loop {
         let at = s.row;
@@ -308,7 +330,7 @@ fn body(
                 s = parse_nodes::counted(t, s.place, s.things + 1);
             }
             Got::Refused(why, r) => {
-                return Got::Refused(why, r);
+                return Got::Refused(parse_nodes::instead(why, r, at, things(s.hanging)), r);
             }
         }
     }

@@ -4,8 +4,7 @@ use parse_nodes::Got;
 use parse_nodes::Words;
 use rules::Syntax;
 use rules::fact;
-use rules::kind::IDENTIFIER;
-use rules::kind::LBRACE;
+use rules::fits;
 use rules::kind::LICENSE;
 use rules::kind::RBRACE;
 use rules::kind::SECTION;
@@ -21,12 +20,14 @@ ghost use Prim.Native.Nat.{_+_, _-_, _*_, _≤_, _<_};
 ghost use lib.Dec.{eqb};
 ghost use lib.ListN.{length, take, drop};
 ghost use lib.Seq.{sets};
+ghost use Rattle.rules.specs.Kinds.{KeywordElse};
+ghost use Rattle.rules.specs.Fits.{only, unitThings};
 ghost use Rattle.rules.specs.Sets.{fromSection};
 ghost use Rattle.rules.specs.Tree.{sectionText};
 ghost use Rattle.rules.specs.Nodes.{NodeUnit, factNode, nodeWords};
-ghost use Rattle.parse_nodes.specs.Post.{stateAt, Asks, AsksOpen};
+ghost use Rattle.parse_nodes.specs.Post.{stateAt, AsksOpen};
 ghost use Rattle.parse_nodes.specs.Names.{Spans};
-ghost use Rattle.parse_units.specs.Contents.{unset, firstOf, spelt, AsksItem, AsksString, AsksText, AsksQuoted, Texted, ItemMet, ItemsMet, UnitMet};
+ghost use Rattle.parse_units.specs.Contents.{unset, firstOf, spelt, AsksItem, AsksItems, AsksString, AsksText, AsksQuoted, Texted, ItemMet, ItemsMet, UnitMet};
 
 const QUOTE: u8 = b'"';
 
@@ -89,8 +90,10 @@ fn with_text(text: &[u8], rows: &[u32], nodes: &mut [u32], u: Contents, word: u3
         row: string + 1 + 1,
         node: n + 1,
         place: here.place,
-        variable: false,
         things: here.things + 1,
+        variable: false,
+        summed: false,
+        hanging: false,
     };
     if word == LICENSE {
         parse_nodes::close(nodes, n, node_kind::LICENSE, string, string, 0);
@@ -122,14 +125,12 @@ fn text_item(
 {
     let here = u.at;
     let string = here.row + 1;
-    let k1 = parse_nodes::kind_at(rows, count, string);
-    if k1 != STRING {
-        return Went::Refused(Syntax::Wanted(STRING, k1), string as usize);
+    if parse_nodes::kind_at(rows, count, string) != STRING {
+        return Went::Refused(parse_nodes::wanted(STRING), string as usize);
     }
     let end = string + 1;
-    let k2 = parse_nodes::kind_at(rows, count, end);
-    if k2 != SEMICOLON {
-        return Went::Refused(Syntax::Wanted(SEMICOLON, k2), end as usize);
+    if parse_nodes::kind_at(rows, count, end) != SEMICOLON {
+        return Went::Refused(parse_nodes::wanted(SEMICOLON), end as usize);
     }
     Went::Done(with_text(text, rows, nodes, u, word))
 }
@@ -158,18 +159,21 @@ fn item(text: &[u8], rows: &[u32], count: u32, nodes: &mut [u32], u: Contents) -
     }
 }
 
-// The contents from the row on, up to `}`, which is not taken.
-fn items(text: &[u8], rows: &[u32], count: u32, nodes: &mut [u32], row: u32, node: u32) -> Went
-    requires { ⌜ Asks (now rows) count row node 64 × Spans (now text) (now rows) count ⌝ }
-    ensures { λ r. ⌜ ItemsMet (now (text .entry)) (now (rows .entry)) count row node (now (nodes .entry)) (now (nodes .exit)) r ⌝ }
+// What would have fitted in place of a thing's first row, behind an `if` without `else` or not.
+fn things(hanging: bool) -> u64
+    ensures { λ r. ⌜ r ≡ unitThings + cond hanging (only KeywordElse) 0 ⌝ }
 {
-    let start = At {
-        row,
-        node,
-        place: row,
-        variable: false,
-        things: 0,
-    };
+    if hanging {
+        return fits::UNIT_THINGS + fits::ELSE;
+    }
+    fits::UNIT_THINGS
+}
+
+// The contents from the first thing on, up to `}`, which is not taken.
+fn items(text: &[u8], rows: &[u32], count: u32, nodes: &mut [u32], start: At) -> Went
+    requires { ⌜ AsksItems (now text) (now rows) count start ⌝ }
+    ensures { λ r. ⌜ ItemsMet (now (text .entry)) (now (rows .entry)) count (start .row) (start .node) (now (nodes .entry)) (now (nodes .exit)) r ⌝ }
+{
     let mut u = Contents {
         at: start,
         kind: NO_SECTION,
@@ -185,7 +189,8 @@ fn items(text: &[u8], rows: &[u32], count: u32, nodes: &mut [u32], row: u32, nod
                 u = v;
             }
             Went::Refused(why, r) => {
-                return Went::Refused(why, r);
+                let told = parse_nodes::instead(why, r, here.row, things(here.hanging));
+                return Went::Refused(told, r);
             }
         }
     }
@@ -226,8 +231,10 @@ fn unit_node(nodes: &mut [u32], row: u32, u: Contents) -> At
         row: here.row + 1,
         node: n + 1,
         place: row,
-        variable: false,
         things: 0,
+        variable: false,
+        summed: false,
+        hanging: false,
     }
 }
 
@@ -236,17 +243,13 @@ pub fn unit(text: &[u8], rows: &[u32], count: u32, nodes: &mut [u32], row: u32, 
     requires { ⌜ AsksOpen (now rows) count row node 64 × Spans (now text) (now rows) count ⌝ }
     ensures { λ r. ⌜ UnitMet (now (text .entry)) (now (rows .entry)) count row node (now (nodes .entry)) (now (nodes .exit)) r ⌝ }
 {
-    let name = row + 1;
-    let k1 = parse_nodes::kind_at(rows, count, name);
-    if k1 != IDENTIFIER {
-        return Got::Refused(Syntax::Wanted(IDENTIFIER, k1), name as usize);
-    }
-    let open = name + 1;
-    let k2 = parse_nodes::kind_at(rows, count, open);
-    if k2 != LBRACE {
-        return Got::Refused(Syntax::Wanted(LBRACE, k2), open as usize);
-    }
-    match items(text, rows, count, nodes, open + 1, node) {
+    let start = match parse_nodes::opened(rows, count, row, node) {
+        Got::Done(s) => s,
+        Got::Refused(why, r) => {
+            return Got::Refused(why, r);
+        }
+    };
+    match items(text, rows, count, nodes, start) {
         Went::Done(u) => Got::Done(unit_node(nodes, row, u)),
         Went::Refused(why, r) => Got::Refused(why, r),
     }

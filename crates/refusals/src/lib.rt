@@ -1,10 +1,13 @@
-// The number of each refusal, and the two words that it tells besides.
+// The number of each refusal, and what it tells besides.
 use rules::Lexical;
 use rules::Outer;
 use rules::Reason;
 use rules::Syntax;
+use rules::fits;
+use rules::limit;
 ghost use mathlib.Core.Path.{_≡_};
-ghost use Rattle.rules.specs.Refusals.{outerNumber, lexicalNumber, syntaxNumber, reasonNumber, firstTold, secondTold};
+ghost use Prim.Native.Nat.{_/_, _%_, _^_};
+ghost use Rattle.rules.specs.Refusals.{outerNumber, lexicalNumber, syntaxNumber, reasonNumber, firstTold, secondTold, foundTold};
 
 // The number of a refusal of the call itself, 1 to 7.
 pub fn outer_number(why: Outer) -> u32
@@ -67,41 +70,74 @@ pub fn reason_number(why: Reason) -> u32
     }
 }
 
-// The kind that was wanted, or the field that a map lacks.
+// A set's kinds 0 to 31, and those from 32 on.
+fn low(set: u64) -> u32
+    ensures { λ r. ⌜ r ≡ set % 2 ^ 32 ⌝ }
+{
+    (set % limit::ABOVE_WORD) as u32
+}
+
+fn high(set: u64) -> u32
+    ensures { λ r. ⌜ r ≡ set / 2 ^ 32 ⌝ }
+{
+    (set / limit::ABOVE_WORD) as u32
+}
+
+// The kinds 0 to 31 that would have fitted, or the field that a map lacks.
 pub fn first_told(why: Syntax) -> u32
     ensures { λ r. ⌜ r ≡ firstTold why ⌝ }
 {
     match why {
-        Syntax::Wanted(wanted, _) => wanted,
+        Syntax::Wanted(first, _) => first,
         Syntax::MapLacks(field) => field,
-        Syntax::NotTopLevel => 0,
-        Syntax::NotMapField => 0,
+        Syntax::NotTopLevel => low(fits::TOPS),
+        Syntax::NotMapField => low(fits::MAP_FIELDS),
+        Syntax::NotType => low(fits::TYPES),
+        Syntax::NotEventType => low(fits::EVENT_TYPES),
         Syntax::MapTypeUnknown => 0,
-        Syntax::NotType => 0,
         Syntax::MaxNegative => 0,
         Syntax::OutOfRange => 0,
         Syntax::ShiftCount => 0,
-        Syntax::NotEventType => 0,
         Syntax::CallOnOther => 0,
         Syntax::TooDeep => 0,
     }
 }
 
-// The kind that was found.
+// The kinds from 32 on that would have fitted.
 pub fn second_told(why: Syntax) -> u32
     ensures { λ r. ⌜ r ≡ secondTold why ⌝ }
 {
     match why {
-        Syntax::Wanted(_, found) => found,
+        Syntax::Wanted(_, second) => second,
+        Syntax::NotTopLevel => high(fits::TOPS),
+        Syntax::NotMapField => high(fits::MAP_FIELDS),
+        Syntax::NotType => high(fits::TYPES),
+        Syntax::NotEventType => high(fits::EVENT_TYPES),
         Syntax::MapLacks(_) => 0,
-        Syntax::NotTopLevel => 0,
-        Syntax::NotMapField => 0,
         Syntax::MapTypeUnknown => 0,
-        Syntax::NotType => 0,
         Syntax::MaxNegative => 0,
         Syntax::OutOfRange => 0,
         Syntax::ShiftCount => 0,
+        Syntax::CallOnOther => 0,
+        Syntax::TooDeep => 0,
+    }
+}
+
+// The kind that 21 found at a row of a kind, 0 for any other refusal.
+pub fn found_told(why: Syntax, kind: u32) -> u32
+    ensures { λ r. ⌜ r ≡ foundTold why kind ⌝ }
+{
+    match why {
+        Syntax::Wanted(_, _) => kind,
+        Syntax::NotTopLevel => 0,
+        Syntax::NotMapField => 0,
+        Syntax::NotType => 0,
         Syntax::NotEventType => 0,
+        Syntax::MapLacks(_) => 0,
+        Syntax::MapTypeUnknown => 0,
+        Syntax::MaxNegative => 0,
+        Syntax::OutOfRange => 0,
+        Syntax::ShiftCount => 0,
         Syntax::CallOnOther => 0,
         Syntax::TooDeep => 0,
     }

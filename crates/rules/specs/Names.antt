@@ -6,6 +6,7 @@ use Prim.Native.Nat.{ℕ, _-_, _^_}
 use lib.ListN.{getD}
 use Rattle.rules.specs.Text.{mostBytes}
 use Rattle.rules.specs.Kinds.{TypeU32, TypeU64, TypeI32, TypeI64}
+use Rattle.rules.specs.Fits.{operands, statements, texts, ons, shifts, assigns, firstArguments, bodyThings, unitThings, eventFields, tops, mapFields, types, eventTypes}
 use Rattle.rules.specs.Rows.{Row, rowWords, wordsPerRow}
 use Rattle.rules.specs.Lex.{largest}
 use Rattle.rules.specs.Edit.{judging}
@@ -25,6 +26,11 @@ abbrev pub limits : List ℕ
 limits =
     mostBytes ∷ mostBytes ∷ mostBytes ∷ judging ∷ mostOpen ∷ mostShift ∷ most32 ∷ (2 ^ 32) ∷ largest ∷ (2 ^ 63) ∷ (2 ^ 64 - 1)
     ∷ missing ∷ wordsPerNode ∷ wordsPerRow ∷ []
+
+-- the pieces of sets
+abbrev pub pieces : List ℕ
+pieces =
+    operands ∷ statements ∷ texts ∷ ons ∷ shifts ∷ assigns ∷ firstArguments ∷ bodyThings ∷ unitThings ∷ eventFields ∷ tops ∷ mapFields ∷ types ∷ eventTypes ∷ []
 
 -- the words at so many indices
 unfoldable pub wordsAt : List ℕ → List ℕ → List ℕ

@@ -1,5 +1,5 @@
 -- "Refusal numbers": the number of each refusal, and what it tells besides.
-use Prim.Native.Nat.{ℕ, _+_, _/_, _%_, _^_}
+use Prim.Native.Nat.{ℕ, _/_, _%_, _^_}
 use Rattle.rules.specs.declared.Lexical.{Lexical}
 use Rattle.rules.specs.declared.Lexical.the-variants.{NoRowBegins, LoneSign, NoHexDigit, OpenComment, OpenString, BadEscape, NumberTooLarge}
 use Rattle.rules.specs.declared.Outer.{Outer}
@@ -8,7 +8,7 @@ use Rattle.rules.specs.declared.Syntax.{Syntax}
 use Rattle.rules.specs.declared.Syntax.the-variants.{Wanted, NotTopLevel, NotMapField, MapTypeUnknown, NotType, MaxNegative, OutOfRange, ShiftCount, MapLacks, NotEventType, CallOnOther, TooDeep}
 use Rattle.rules.specs.declared.Reason.{Reason}
 use Rattle.rules.specs.declared.Reason.the-variants as reason
-use Rattle.rules.specs.Fits.{setTold}
+use Rattle.rules.specs.Fits.{tops, mapFields, types, eventTypes}
 
 abbrev pub outerNumber : Outer → ℕ
 outerNumber TextTooLong = 1
@@ -42,27 +42,35 @@ syntaxNumber NotEventType = 30
 syntaxNumber CallOnOther = 31
 syntaxNumber TooDeep = 32
 
--- the field of 29
-abbrev pub fieldTold : Syntax → ℕ
-fieldTold (Wanted low high) = 0
-fieldTold NotTopLevel = 0
-fieldTold NotMapField = 0
-fieldTold MapTypeUnknown = 0
-fieldTold NotType = 0
-fieldTold MaxNegative = 0
-fieldTold OutOfRange = 0
-fieldTold ShiftCount = 0
-fieldTold (MapLacks field) = field
-fieldTold NotEventType = 0
-fieldTold CallOnOther = 0
-fieldTold TooDeep = 0
-
--- the set of 21, 22, 23, 25 and 30, kinds 0 to 31 and from 32 on; the first word has the field of 29
+-- of the kinds that would have fitted, in 21, 22, 23, 25 and 30, those from 0 to 31; the field of 29
 abbrev pub firstTold : Syntax → ℕ
-firstTold why = setTold why % 2 ^ 32 + fieldTold why
+firstTold (Wanted first second) = first
+firstTold NotTopLevel = tops % 2 ^ 32
+firstTold NotMapField = mapFields % 2 ^ 32
+firstTold MapTypeUnknown = 0
+firstTold NotType = types % 2 ^ 32
+firstTold MaxNegative = 0
+firstTold OutOfRange = 0
+firstTold ShiftCount = 0
+firstTold (MapLacks field) = field
+firstTold NotEventType = eventTypes % 2 ^ 32
+firstTold CallOnOther = 0
+firstTold TooDeep = 0
 
+-- and those from 32 on
 abbrev pub secondTold : Syntax → ℕ
-secondTold why = setTold why / 2 ^ 32
+secondTold (Wanted first second) = second
+secondTold NotTopLevel = tops / 2 ^ 32
+secondTold NotMapField = mapFields / 2 ^ 32
+secondTold MapTypeUnknown = 0
+secondTold NotType = types / 2 ^ 32
+secondTold MaxNegative = 0
+secondTold OutOfRange = 0
+secondTold ShiftCount = 0
+secondTold (MapLacks field) = 0
+secondTold NotEventType = eventTypes / 2 ^ 32
+secondTold CallOnOther = 0
+secondTold TooDeep = 0
 
 -- the kind that 21 found, at a row of kind k
 abbrev pub foundTold : Syntax → ℕ → ℕ

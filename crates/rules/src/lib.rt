@@ -1,5 +1,6 @@
 // The plain data that the definitions and the code share: places, refusals, endings, tables and answers, and the names of numbers.
 pub mod fact;
+pub mod fits;
 pub mod kind;
 pub mod limit;
 pub mod node;

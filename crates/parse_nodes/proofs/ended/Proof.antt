@@ -18,7 +18,7 @@ same-length c = search needs
 
 returns : tie.Need-returns
 returns c =
-    (ap (λ (x : At). record { row = x .row + 1; node = x .node; place = x .place; variable = x .variable; things = x .things }) (c .before .before .before .shut .ensures .0), c .before .before .before .shut .ensures .1)
+    (ap (λ (x : At). record { row = x .row + 1; node = x .node; place = x .place; things = x .things; variable = x .variable; summed = x .summed; hanging = x .hanging }) (c .before .before .before .shut .ensures .0), c .before .before .before .shut .ensures .1)
 
 pub ended-spec : {M : Type 1} → statement M
 ended-spec = tie.close (tie.spec shut-requires add-t9 same-length returns)
