@@ -20,7 +20,7 @@ use Rattle.rules.specs.Grammar.{Is, Add, Mul, Unary, Basic, i-num, i-var, i-gro
 use Rattle.theory_grammar.proofs.Laws.{either-kind, three-kinds, is-wide}
 use Rattle.theory_grammar.proofs.Cases.{then-ok, then-no, or-ok, inner-none, inner-whole, args-is, arg-step, prim-is, mul-is, shift-is, add-is}
 use Rattle.theory_grammar.proofs.Runs.{all-ok}
-use Rattle.theory_grammar.proofs.Sound.{Reads, post-sound, inner-sound}
+use Rattle.theory_grammar.proofs.Sound.{Reads, add-sound, mul-sound, unary-sound, atom-sound, post-sound, inner-sound}
 use Rattle.theory_grammar.proofs.Ends.{On, ends-post}
 use Rattle.parse_nodes.specs.Post.{joinedAt, countedAt, Met, Stands}
 use Rattle.parse_nodes.specs.Fitting.{retoldAt}
@@ -29,6 +29,25 @@ use Rattle.parse_nodes.specs.declared.Got.{Got}
 use Rattle.parse_nodes.specs.declared.Got.the-variants.{Done, Refused}
 use Rattle.parse_nodes.proofs.Turn.{same-len, Any, Came, came-reads, refused, met-ok, met-no, Turn, start, ends, fails, again}
 use Rattle.parse_expr.proofs.Trees.{stands-bin, stands-one, stands-more}
+
+-- ---- what a call gave
+
+module _ {ts : List Tok} {d i n : ℕ} {m : List ℕ} {s : At} {m′ : List ℕ} {r : Got} where
+  pub add-came : Met (Parse.add ts (Parse.inner ts d) i) i n m m′ r → r ≡ Done s
+      → Came (Reads ts Add d i) ts (Parse.add ts (Parse.inner ts d) i) i n m s m′
+  add-came h e = came-reads ts Add d _ i n m m′ r s (add-sound ts d (Parse.inner ts d) (inner-sound ts d) i) h e
+
+  pub mul-came : Met (Parse.mul ts (Parse.inner ts d) i) i n m m′ r → r ≡ Done s
+      → Came (Reads ts Mul d i) ts (Parse.mul ts (Parse.inner ts d) i) i n m s m′
+  mul-came h e = came-reads ts Mul d _ i n m m′ r s (mul-sound ts d (Parse.inner ts d) (inner-sound ts d) i) h e
+
+  pub unary-came : Met (Parse.unary ts (Parse.inner ts d) i) i n m m′ r → r ≡ Done s
+      → Came (Reads ts Unary d i) ts (Parse.unary ts (Parse.inner ts d) i) i n m s m′
+  unary-came h e = came-reads ts Unary d _ i n m m′ r s (unary-sound ts d (Parse.inner ts d) (inner-sound ts d) i) h e
+
+  pub atom-came : Met (Parse.atom ts (Parse.inner ts d) i) i n m m′ r → r ≡ Done s
+      → Came (Reads ts Basic d i) ts (Parse.atom ts (Parse.inner ts d) i) i n m s m′
+  atom-came h e = came-reads ts Basic d _ i n m m′ r s (atom-sound ts d (Parse.inner ts d) (inner-sound ts d) i) h e
 
 -- What was read from row i on fits: no more nodes than rows, no more things than rows, all inside the table, memory as long as it was.
 pub record Fit (ts : List Tok) (i n : ℕ) (m : List ℕ) (s : At) (m′ : List ℕ) : Type 0 where

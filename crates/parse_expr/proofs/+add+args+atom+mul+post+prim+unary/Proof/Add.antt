@@ -15,7 +15,7 @@ use Rattle.parse_nodes.specs.Post.{Tells}
 use Rattle.parse_nodes.specs.declared.At.{At}
 use Rattle.parse_nodes.proofs.Rows.{tells-some, tells-kind, word-test}
 use Rattle.parse_nodes.proofs.Turn.{Came, came-reads, refused, met-no}
-use Rattle.parse_expr.proofs.Loops.{joins, came-fit, Sums, sums-start, sums-refused, sums-fit, sums-done, sums-fails, sums-again}
+use Rattle.parse_expr.proofs.Loops.{joins, came-fit, mul-came, Sums, sums-start, sums-refused, sums-fit, sums-done, sums-fails, sums-again}
 use Rattle.parse_expr.proofs.add.Reads as add
 use Rattle.parse_expr.proofs.mul.Reads as mul
 use Rattle.parse_expr.proofs.joined.Reads as joined-reads
@@ -102,11 +102,126 @@ module _ (t : ℕ) where
   begin : (c : lts.After-known-told (cs t) (add-at t) add.Post Inv-loop μ-loop) (ts : List Tok) → Told ts (entry (first-done c))
       → (let a = entry (first-done c) .args in
          Sums ts (a .left) (a .row) (a .node) (a .nodes .now) (c .before .t .given .0 .0) (first-done c .mul .last .1 .1 .0))
-  begin c ts tl = ?
+  begin c ts tl = sums-start (mul-came (first-done c .mul .ensures ts tl) (c .before .t .given .1))
 
   turn : (c : Looping) (ts : List Tok) → Told ts (at-loop c)
       → (let a = at-loop c .args in Sums ts (a .left) (a .row) (a .node) (a .nodes .now) (c .loop .s) (c .loop .nodes))
   turn c ts tl = c .loop .inv ts tl (at-loop c .args .nodes .now) (begin (c .before) ts tl)
 
+  -- the row's kind, and what the loop's test says of it
+  kind-is : (c : lts.After-kind-at (cs t) (add-at t) add.Post Inv-loop μ-loop) (ts : List Tok) → Told ts (at-loop (c .before))
+      → c .kind-at .result ≡ kindAt ts (c .before .loop .s .row)
+  kind-is c ts tl = c .kind-at .ensures ∙ tells-kind ts _ _ tl (c .before .loop .s .row)
+
+  goes-on : (c : Going) (ts : List Tok) → Told ts (at-loop (turning c))
+      → joins (kindAt ts (turning c .loop .s .row)) (turning c .loop .s .summed) ≡ true
+  goes-on c ts tl =
+      ap (λ (k : ℕ). joins k (turning c .loop .s .summed)) (sym (kind-is (c .before .before) ts tl))
+      ∙ sym (c .before .joins .ensures) ∙ not-false _ (c .if1 .left)
+
+  in-row : (c : Going) → turning c .loop .s .row < at-loop (turning c) .args .count
+  in-row c =
+      word-test _ _ _ (λ k. joins k (turning c .loop .s .summed)) refl
+      (ap (λ (k : ℕ). joins k (turning c .loop .s .summed)) (sym (c .before .before .kind-at .ensures))
+      ∙ sym (c .before .joins .ensures) ∙ not-false _ (c .if1 .left))
+
+  -- what the call in the loop gave
+  got : (c : Joining) (ts : List Tok) → Told ts (at-second (second-done c))
+      → (let a = at-second (second-done c) .args in
+         let l = turning (going (second-done c)) .loop in
+         Came (Reads ts Mul (a .left) (l .s .row + 1)) ts (Parse.mul ts (Parse.inner ts (a .left)) (l .s .row + 1))
+         (l .s .row + 1) (l .s .node) (l .nodes) (c .t2 .given .0 .0) (second-done c .mul2 .last .1 .1 .0))
+  got c ts tl = mul-came (second-done c .mul2 .ensures ts tl) (c .t2 .given .1)
+
+  -- ---- the needs
+
   pub mul-requires : lts.Need-mul-requires (cs t) (add-at t) add.Post Inv-loop μ-loop
   mul-requires c κs = search needs
+
+  pub enum-known-t : lts.Need-enum-known-t (cs t) (add-at t) add.Post Inv-loop μ-loop
+  enum-known-t c = search needs
+
+  pub enum-known-why : lts.Need-enum-known-why (cs t) (add-at t) add.Post Inv-loop μ-loop
+  enum-known-why c = search needs
+
+  pub same-length : lts.Need-same-length (cs t) (add-at t) add.Post Inv-loop μ-loop
+  same-length c = search needs
+
+  pub returns : lts.Need-returns (cs t) (add-at t) add.Post Inv-loop μ-loop
+  returns c = λ ts tl.
+      let f = first-refused c in
+      let a = entry f .args in
+      let w = c .before .why .given in
+      met-no _ (a .row) (a .node) (w .0 .0) (w .0 .1 .0) (a .nodes .now) (f .mul .last .1 .1 .0)
+      (sums-refused ts (a .left) (a .row) (w .0 .0) (w .0 .1 .0)
+      (refused _ (a .row) (a .node) (a .nodes .now) (f .mul .last .1 .1 .0) (f .mul .result) (w .0 .0) (w .0 .1 .0) (f .mul .ensures ts tl) (w .1)))
+
+  pub loop-holds : lts.Need-loop-holds (cs t) (add-at t) add.Post Inv-loop μ-loop
+  loop-holds c = λ ts tl m h. h
+
+  pub kind-at-requires : lts.Need-kind-at-requires (cs t) (add-at t) add.Post Inv-loop μ-loop
+  kind-at-requires c κs = at-loop c .pre .1 .lent
+
+  pub joins-requires : lts.Need-joins-requires (cs t) (add-at t) add.Post Inv-loop μ-loop
+  joins-requires c κs = search needs
+
+  pub same-length-2 : lts.Need-same-length-2 (cs t) (add-at t) add.Post Inv-loop μ-loop
+  same-length-2 c = sums-fit (turn (c .before .before .before) _ (tells-some _ _)) .long
+
+  pub returns-2 : lts.Need-returns-2 (cs t) (add-at t) add.Post Inv-loop μ-loop
+  returns-2 c = λ ts tl.
+      let l = c .before .before .before in
+      sums-done (turn l ts tl)
+      (ap (λ (k : ℕ). joins k (l .loop .s .summed)) (sym (kind-is (c .before .before) ts tl))
+      ∙ sym (c .before .joins .ensures) ∙ not-true _ (c .if1 .taken))
+
+  pub add-mul : lts.Need-add-mul (cs t) (add-at t) add.Post Inv-loop μ-loop
+  add-mul c = omega (arith, in-row (c .before), at-loop (turning (c .before)) .pre .1)
+
+  pub mul-requires-2 : lts.Need-mul-requires-2 (cs t) (add-at t) add.Post Inv-loop μ-loop
+  mul-requires-2 c κs =
+      let w = sums-fit (turn (turning (c .before)) _ (tells-some _ _)) in
+      let h = in-row (c .before) in
+      omega (arith, w .few, at-loop (turning (c .before)) .pre)
+
+  pub enum-known-t-2 : lts.Need-enum-known-t-2 (cs t) (add-at t) add.Post Inv-loop μ-loop
+  enum-known-t-2 c = search needs
+
+  pub joined-requires : lts.Need-joined-requires (cs t) (add-at t) add.Post Inv-loop μ-loop
+  joined-requires c κs =
+      let e = at-second (second-done (c .before .before)) in
+      let l = tells-some (e .args .rows .now) (e .args .count) in
+      let w = sums-fit (turn (turning (going (second-done (c .before .before)))) _ l) in
+      let v = came-fit (got (c .before .before) _ l) in
+      omega (arith, w .few, v .few, v .inside, l .long, e .pre .1)
+
+  pub loop-less : lts.Need-loop-less (cs t) (add-at t) add.Post Inv-loop μ-loop
+  loop-less c =
+      let j = c .before .before in
+      let h = in-row (going (second-done (joining j))) in
+      let v = got (joining j) _ (tells-some _ _) in
+      let r = ap (λ (x : At). x .row) (j .joined .ensures .0) in
+      omega (arith, v .stands .rows)
+
+  pub loop-again : lts.Need-loop-again (cs t) (add-at t) add.Post Inv-loop μ-loop
+  loop-again c = λ ts tl m h.
+      let j = c .before .before in
+      let g = going (second-done (joining j)) in
+      sums-again (turning g .loop .inv ts tl m h) (goes-on g ts tl) (kind-is (g .before .before) ts tl) (got (joining j) ts tl)
+      (j .joined .ensures .0) (j .joined .ensures .1)
+
+  pub enum-known-why-2 : lts.Need-enum-known-why-2 (cs t) (add-at t) add.Post Inv-loop μ-loop
+  enum-known-why-2 c = search needs
+
+  pub same-length-3 : lts.Need-same-length-3 (cs t) (add-at t) add.Post Inv-loop μ-loop
+  same-length-3 c =
+      let f = second-refused c in
+      f .mul2 .kept .1 .1 .0 ∙ sums-fit (turn (turning (going f)) _ (tells-some _ _)) .long
+
+  pub returns-3 : lts.Need-returns-3 (cs t) (add-at t) add.Post Inv-loop μ-loop
+  returns-3 c = λ ts tl.
+      let f = second-refused c in
+      let l = turning (going f) .loop in
+      let w = c .before .why2 .given in
+      sums-fails (turn (turning (going f)) ts tl) (goes-on (going f) ts tl) (w .0 .0) (w .0 .1 .0) (f .mul2 .last .1 .1 .0)
+      (refused _ (l .s .row + 1) (l .s .node) (l .nodes) (f .mul2 .last .1 .1 .0) (f .mul2 .result) (w .0 .0) (w .0 .1 .0) (f .mul2 .ensures ts tl) (w .1))
