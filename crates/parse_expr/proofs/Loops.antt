@@ -21,13 +21,13 @@ use Rattle.theory_grammar.proofs.Laws.{either-kind, three-kinds, is-wide}
 use Rattle.theory_grammar.proofs.Cases.{then-ok, then-no, or-ok, inner-none, inner-whole, args-is, arg-step, prim-is, mul-is, shift-is, add-is}
 use Rattle.theory_grammar.proofs.Runs.{all-ok}
 use Rattle.theory_grammar.proofs.Sound.{Reads, add-sound, mul-sound, unary-sound, atom-sound, post-sound, inner-sound}
-use Rattle.theory_grammar.proofs.Ends.{On, ends-post}
+use Rattle.theory_grammar.proofs.Ends.{Ends, On, ends-args, ends-post}
 use Rattle.parse_nodes.specs.Post.{joinedAt, countedAt, Met, Stands}
 use Rattle.parse_nodes.specs.Fitting.{retoldAt}
 use Rattle.parse_nodes.specs.declared.At.{At}
 use Rattle.parse_nodes.specs.declared.Got.{Got}
 use Rattle.parse_nodes.specs.declared.Got.the-variants.{Done, Refused}
-use Rattle.parse_nodes.proofs.Turn.{same-len, Any, Came, came-reads, refused, met-ok, met-no, Turn, start, ends, fails, again}
+use Rattle.parse_nodes.proofs.Turn.{same-len, Any, Came, came-ends, came-reads, refused, met-ok, met-no, Turn, start, ends, fails, again}
 use Rattle.parse_expr.proofs.Trees.{stands-bin, stands-one, stands-more}
 
 -- ---- what a call gave
@@ -48,6 +48,12 @@ module _ {ts : List Tok} {d i n : ℕ} {m : List ℕ} {s : At} {m′ : List ℕ}
   pub atom-came : Met (Parse.atom ts (Parse.inner ts d) i) i n m m′ r → r ≡ Done s
       → Came (Reads ts Basic d i) ts (Parse.atom ts (Parse.inner ts d) i) i n m s m′
   atom-came h e = came-reads ts Basic d _ i n m m′ r s (atom-sound ts d (Parse.inner ts d) (inner-sound ts d) i) h e
+
+-- arguments, behind the parenthesis at row o
+pub args-came : {ts : List Tok} {n : ℕ} {m : List ℕ} {s : At} {m′ : List ℕ} {r : Got} (d o : ℕ) → o < length ts
+    → Met (Parse.args ts (Parse.inner ts d) o) (o + 1) n m m′ r → r ≡ Done s
+    → Came (Ends ts (o + 1)) ts (Parse.args ts (Parse.inner ts d) o) (o + 1) n m s m′
+args-came {ts} {n} {m} {s} {m′} {r} d o l h e = came-ends ts _ (o + 1) n m m′ r s (ends-args ts d o l) h e
 
 -- What was read from row i on fits: no more nodes than rows, no more things than rows, all inside the table, memory as long as it was.
 pub record Fit (ts : List Tok) (i n : ℕ) (m : List ℕ) (s : At) (m′ : List ℕ) : Type 0 where
