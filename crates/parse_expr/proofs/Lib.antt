@@ -1,4 +1,4 @@
 -- What the proofs of the circle share.
 pub mod Trees
 pub mod Lone
-pub mod Ladder
+pub mod Loops

@@ -18,6 +18,7 @@ use rules::kind::SHL;
 use rules::kind::SHR;
 use rules::kind::SLASH;
 use rules::kind::STAR;
+use rules::node::MISSING;
 use rules::node_kind;
 use rules::row::HIGH;
 use rules::row::LOW;
@@ -148,11 +149,12 @@ fn joined(nodes: &mut [u32], s: At, t: At, k: u32) -> At
     requires { ⌜ t .node ≤ 65537 ⌝ }
     ensures { λ r. ⌜ (r ≡ joinedAt (t .row) (t .node + 1) (s .place) (isAdd k)) × (now (nodes .exit) ≡ sets (now (nodes .entry)) (8 * t .node) (nodeWords (node (binaryNode k) (s .place) missing 2))) ⌝ }
 {
-    let u = parse_nodes::shut(nodes, t, binary_node(k), s.place, 2);
+    let n = t.node;
+    parse_nodes::close(nodes, n, binary_node(k), s.place, MISSING, 2);
     At {
-        row: u.row,
-        node: u.node,
-        place: u.place,
+        row: t.row,
+        node: n + 1,
+        place: s.place,
         things: 0,
         variable: false,
         summed: is_add(k),

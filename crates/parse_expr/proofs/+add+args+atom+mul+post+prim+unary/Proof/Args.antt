@@ -3,194 +3,241 @@ use Prim.Native.Nat.{ℕ, _+_, _-_, _<_}
 use mathlib.Core.Path.{_≡_, refl, sym, ap, _∙_}
 use mathlib.Core.List.{List}
 use native.Mathlib.Omega.{arith}
-use lib.Dec.{eqb}
 use borrow.Author.Needs.{needs}
-use borrow.Author.Tests.{eq-eqb, ne-eqb}
+use Rattle.rules.specs.declared.Syntax.{Syntax}
 use Rattle.rules.specs.declared.Syntax.the-variants.{TooDeep}
 use Rattle.rules.specs.Kinds.{Comma}
-use Rattle.rules.specs.Tree.{Tok, one, more, count}
-use Rattle.rules.specs.Nodes.{width}
+use Rattle.rules.specs.Tree.{Tok}
 use Rattle.rules.specs.Parse
-use Rattle.rules.specs.Parse.{ok, kindAt, whole}
+use Rattle.rules.specs.Parse.{no, kindAt}
 use Rattle.rules.specs.Grammar.{Add}
-use Rattle.theory_grammar.proofs.Laws.{is-wide}
-use Rattle.theory_grammar.proofs.Cases.{then-ok, then-no, inner-none, inner-whole, args-is, arg-step}
-use Rattle.theory_grammar.proofs.Sound.{Reads, add-sound, inner-sound}
+use Rattle.theory_grammar.proofs.Sound.{Reads}
 use Rattle.parse_nodes.specs.Post.{Tells}
 use Rattle.parse_nodes.specs.declared.At.{At}
-use Rattle.parse_nodes.proofs.Rows.{tokens, tells-some, tells-kind, word-here}
-use Rattle.parse_nodes.proofs.Turn.{same-len, Any, Came, came-reads, refused, met-no, Turn, start, done, fails, again}
-use Rattle.parse_expr.proofs.Trees.{stands-one, stands-more}
+use Rattle.parse_nodes.proofs.Rows.{tells-some, tells-kind, word-here}
+use Rattle.parse_nodes.proofs.Turn.{Came, refused, met-no}
+use Rattle.parse_expr.proofs.Loops.{add-came, args-deep, args-refused, Argued, argued-start, argued-fit, argued-done, argued-fails, argued-again}
 use Rattle.parse_expr.proofs.add.Reads as add
 use Rattle.parse_expr.proofs.args.Reads as args
 use Rattle.parse_nodes.proofs.counted.Reads as counted-reads
+use Rattle.parse_nodes.proofs.instead.Reads as instead-reads
 use Rattle.parse_nodes.proofs.kind_at.Reads as kind-at-reads
 use Rattle.parse_expr.proofs.+add+args+atom+mul+post+prim+unary.Lts-args as lts
 use Rattle.parse_expr.proofs.+add+args+atom+mul+post+prim+unary.Proof.Measures.{add-below, args-at}
 
 abbrev pub cs : ℕ → lts.Claims
-cs t = (add-below t, add.Post, counted-reads.Asked, counted-reads.Learnt, kind-at-reads.Asked, kind-at-reads.Learnt)
+cs t = (add-below t, add.Post, counted-reads.Asked, counted-reads.Learnt, instead-reads.Asked, instead-reads.Learnt, kind-at-reads.Asked, kind-at-reads.Learnt)
 
--- what the loop has read, and has to read, with the node memory m at the function's entry
-abbrev Loop : List Tok → ℕ → ℕ → ℕ → List ℕ → At → List ℕ → Type 0
-Loop ts o n d m s m′ =
-    Turn Any ts (λ r. eqb (kindAt ts r) Comma) (Parse.argStep ts (Parse.inner ts d)) (Parse.args ts (Parse.inner ts d) o) (o + 1) n m s m′
-
+-- what holds where the loop begins holds at each turn
 abbrev pub Inv-loop : lts.InvT-loop
 Inv-loop rows count nodes₀ row node left s₀ nodes s =
-    (ts : List Tok) → Tells ts rows count → (m : List ℕ) → Loop ts row node left m s₀ nodes₀ → Loop ts row node left m s nodes
+    (ts : List Tok) → Tells ts rows count → (m : List ℕ) → Argued ts left row node m s₀ nodes₀ → Argued ts left row node m s nodes
 
 abbrev pub μ-loop : lts.MeasureT-loop
 μ-loop rows count nodes₀ row node left s₀ nodes s = count - s .row
 
--- what the first call gave, and so what holds where the loop begins
-begin : (t : ℕ) (c : lts.After-counted (cs t) (args-at t) args.Post Inv-loop μ-loop) (ts : List Tok) → Tells ts (c .before .before .before .before .before .before .before .before .before .before .before .args .rows .now) (c .before .before .before .before .before .before .before .before .before .before .before .args .count)
-    → Loop ts (c .before .before .before .before .before .before .before .before .before .before .before .args .row) (c .before .before .before .before .before .before .before .before .before .before .before .args .node) (c .before .before .before .before .before .before .before .before .before .before .before .args .left) (c .before .before .before .before .before .before .before .before .before .before .before .args .nodes .now) (c .counted .result) (c .before .before .before .before .before .before .add .last .1 .1 .0)
-unfolding count width
-begin t c ts tl =
-    let a = c .before .before .before .before .before .before .before .before .before .before .before .args in
-    let w = came-reads ts Add (a .left - 1) (Parse.add ts (Parse.inner ts (a .left - 1)) (a .row + 1)) (a .row + 1) (a .node) (a .nodes .now) (c .before .before .before .before .before .before .add .last .1 .1 .0) (c .before .before .before .before .before .before .add .result) (c .before .before .t .given .0 .0)
-    (add-sound ts (a .left - 1) (Parse.inner ts (a .left - 1)) (inner-sound ts (a .left - 1)) (a .row + 1)) (c .before .before .before .before .before .before .add .ensures ts tl) (c .before .before .t .given .1) in
-    let r : c .counted .result .row ≡ c .before .before .t .given .0 .0 .row = ap (λ (x : At). x .row) (c .counted .ensures) in
-    start Any ts _ _ _ (a .row + 1) (a .node) (a .nodes .now) (c .counted .result) (c .before .before .before .before .before .before .add .last .1 .1 .0) (one (w .tree))
-    (args-is ts (Parse.inner ts (a .left)) (a .row)
-    ∙ then-ok _ _ (w .tree) (c .counted .result .row) (inner-whole ts (a .row) (a .left) (c .before .before .before .before .before .before .before .before .if1 .left) ∙ w .is ∙ ap (λ (x : ℕ). ok (w .tree) x) (sym r)))
-    (stands-one (a .row + 1) (a .node) (a .nodes .now) (c .before .before .before .before .before .before .add .last .1 .1 .0) (c .before .before .t .given .0 .0) (w .tree) (c .counted .result) (a .nodes .now) (w .stands) (c .counted .ensures))
-    (omega (arith, r, w .inside)) (is-wide (w .known .is)) tt
+module _ (t : ℕ) where
+  -- ---- the places on the way, each as it is seen from a later one
 
-turn : (t : ℕ) (c : lts.At-loop (cs t) (args-at t) args.Post Inv-loop μ-loop) (ts : List Tok) → Tells ts (c .before .before .before .before .before .before .before .before .before .before .before .before .args .rows .now) (c .before .before .before .before .before .before .before .before .before .before .before .before .args .count)
-    → Loop ts (c .before .before .before .before .before .before .before .before .before .before .before .before .args .row) (c .before .before .before .before .before .before .before .before .before .before .before .before .args .node) (c .before .before .before .before .before .before .before .before .before .before .before .before .args .left) (c .before .before .before .before .before .before .before .before .before .before .before .before .args .nodes .now) (c .loop .s) (c .loop .nodes)
-turn t c ts tl = c .loop .inv ts tl (c .before .before .before .before .before .before .before .before .before .before .before .before .args .nodes .now) (begin t (c .before) ts tl)
+  abbrev Entry : Type 0
+  Entry = lts.Start (cs t) (args-at t) args.Post Inv-loop μ-loop
 
-some : (t : ℕ) (c : lts.At-loop (cs t) (args-at t) args.Post Inv-loop μ-loop)
-    → Loop (tokens (c .before .before .before .before .before .before .before .before .before .before .before .before .args .rows .now) (c .before .before .before .before .before .before .before .before .before .before .before .before .args .count)) (c .before .before .before .before .before .before .before .before .before .before .before .before .args .row) (c .before .before .before .before .before .before .before .before .before .before .before .before .args .node) (c .before .before .before .before .before .before .before .before .before .before .before .before .args .left) (c .before .before .before .before .before .before .before .before .before .before .before .before .args .nodes .now) (c .loop .s) (c .loop .nodes)
-some t c = turn t c _ (tells-some (c .before .before .before .before .before .before .before .before .before .before .before .before .args .rows .now) (c .before .before .before .before .before .before .before .before .before .before .before .before .args .count))
+  abbrev Nesting : Type 0
+  Nesting = lts.Else1 (cs t) (args-at t) args.Post Inv-loop μ-loop
 
--- the row's kind
-kind-is : (t : ℕ) (c : lts.After-kind-at (cs t) (args-at t) args.Post Inv-loop μ-loop) (ts : List Tok) → Tells ts (c .before .before .before .before .before .before .before .before .before .before .before .before .before .args .rows .now) (c .before .before .before .before .before .before .before .before .before .before .before .before .before .args .count) → c .kind-at .result ≡ kindAt ts (c .before .loop .s .row)
-kind-is t c ts tl = c .kind-at .ensures ∙ tells-kind ts (c .before .before .before .before .before .before .before .before .before .before .before .before .before .args .rows .now) (c .before .before .before .before .before .before .before .before .before .before .before .before .before .args .count) tl (c .before .loop .s .row)
+  abbrev First : Type 0
+  First = lts.After-add (cs t) (args-at t) args.Post Inv-loop μ-loop
 
-is-comma : (t : ℕ) (c : lts.Else2 (cs t) (args-at t) args.Post Inv-loop μ-loop) (ts : List Tok) → Tells ts (c .before .before .before .before .before .before .before .before .before .before .before .before .before .before .args .rows .now) (c .before .before .before .before .before .before .before .before .before .before .before .before .before .before .args .count) → kindAt ts (c .before .before .loop .s .row) ≡ Comma
-is-comma t c ts tl = sym (kind-is t (c .before) ts tl) ∙ c .if2 .left
+  abbrev Looping : Type 0
+  Looping = lts.At-loop (cs t) (args-at t) args.Post Inv-loop μ-loop
 
-comma-here : (t : ℕ) (c : lts.Else2 (cs t) (args-at t) args.Post Inv-loop μ-loop) → c .before .before .loop .s .row < c .before .before .before .before .before .before .before .before .before .before .before .before .before .before .args .count
-comma-here t c = word-here (c .before .before .before .before .before .before .before .before .before .before .before .before .before .before .args .rows .now) (c .before .before .before .before .before .before .before .before .before .before .before .before .before .before .args .count) (c .before .before .loop .s .row) Comma (sym (c .before .kind-at .ensures) ∙ c .if2 .left) refl
+  abbrev Going : Type 0
+  Going = lts.Else2 (cs t) (args-at t) args.Post Inv-loop μ-loop
 
--- what the call in the loop gave
-got : (t : ℕ) (c : lts.After-t2 (cs t) (args-at t) args.Post Inv-loop μ-loop) (ts : List Tok) → Tells ts (c .before .before .before .before .before .before .before .before .before .before .before .before .before .before .before .before .before .before .before .before .args .rows .now) (c .before .before .before .before .before .before .before .before .before .before .before .before .before .before .before .before .before .before .before .before .args .count)
-    → Came (Reads ts Add (c .before .before .before .before .before .before .before .before .before .before .before .before .before .before .before .before .before .before .before .before .args .left - 1) (c .before .before .before .before .before .before .before .before .loop .s .row + 1)) ts (Parse.add ts (Parse.inner ts (c .before .before .before .before .before .before .before .before .before .before .before .before .before .before .before .before .before .before .before .before .args .left - 1)) (c .before .before .before .before .before .before .before .before .loop .s .row + 1)) (c .before .before .before .before .before .before .before .before .loop .s .row + 1) (c .before .before .before .before .before .before .before .before .loop .s .node) (c .before .before .before .before .before .before .before .before .loop .nodes) (c .t2 .given .0 .0) (c .before .before .before .before .add2 .last .1 .1 .0)
-got t c ts tl =
-    let a = c .before .before .before .before .before .before .before .before .before .before .before .before .before .before .before .before .before .before .before .before .args in
-    came-reads ts Add (a .left - 1) (Parse.add ts (Parse.inner ts (a .left - 1)) (c .before .before .before .before .before .before .before .before .loop .s .row + 1)) (c .before .before .before .before .before .before .before .before .loop .s .row + 1) (c .before .before .before .before .before .before .before .before .loop .s .node) (c .before .before .before .before .before .before .before .before .loop .nodes) (c .before .before .before .before .add2 .last .1 .1 .0) (c .before .before .before .before .add2 .result) (c .t2 .given .0 .0)
-    (add-sound ts (a .left - 1) (Parse.inner ts (a .left - 1)) (inner-sound ts (a .left - 1)) (c .before .before .before .before .before .before .before .before .loop .s .row + 1)) (c .before .before .before .before .add2 .ensures ts tl) (c .t2 .given .1)
+  abbrev Second : Type 0
+  Second = lts.After-add2 (cs t) (args-at t) args.Post Inv-loop μ-loop
 
-pub returns : (t : ℕ) → lts.Need-returns (cs t) (args-at t) args.Post Inv-loop μ-loop
-returns t c = λ ts tl.
-    let a = c .before .before .before .args in
-    met-no _ (a .row + 1) (a .node) TooDeep (a .row) (a .nodes .now) (a .nodes .now)
-    (args-is ts (Parse.inner ts (a .left)) (a .row) ∙ then-no _ _ TooDeep (a .row) (inner-none ts whole (a .row) (a .left) (c .if1 .taken)))
+  abbrev Joining : Type 0
+  Joining = lts.After-t2 (cs t) (args-at t) args.Post Inv-loop μ-loop
 
-pub add-add : (t : ℕ) → lts.Need-add-add (cs t) (args-at t) args.Post Inv-loop μ-loop
-add-add t c = omega (arith, c .before .before .before .before .pre .1)
+  -- the entry from where nesting is left, and that from behind the first call
+  abbrev entry : Nesting → Entry
+  entry c = c .before .before .before
 
-pub sub-add : (t : ℕ) → lts.Need-sub-add (cs t) (args-at t) args.Post Inv-loop μ-loop
-sub-add t c = search needs
+  abbrev nesting : First → Nesting
+  nesting c = c .before .before
 
-pub add-requires : (t : ℕ) → lts.Need-add-requires (cs t) (args-at t) args.Post Inv-loop μ-loop
-add-requires t c κs = omega (arith, c .before .before .before .before .pre, c .before .if1 .left)
+  -- the first call, from behind its state and from behind its refusal
+  abbrev first-done : lts.After-known-told (cs t) (args-at t) args.Post Inv-loop μ-loop → First
+  first-done c = c .before .before .before .before .before
 
-pub enum-known-t : (t : ℕ) → lts.Need-enum-known-t (cs t) (args-at t) args.Post Inv-loop μ-loop
-enum-known-t t c = search needs
+  abbrev first-refused : lts.After-known-told2 (cs t) (args-at t) args.Post Inv-loop μ-loop → First
+  first-refused c = c .before .before .before .before .before
 
-pub counted-requires : (t : ℕ) → lts.Need-counted-requires (cs t) (args-at t) args.Post Inv-loop μ-loop
-counted-requires t c κs = search needs
+  -- the first call and the entry from the loop, the turn of the loop from behind its test, the test from behind the second call
+  abbrev looping : Looping → First
+  looping c = first-done (c .before .before)
 
-pub enum-known-why : (t : ℕ) → lts.Need-enum-known-why (cs t) (args-at t) args.Post Inv-loop μ-loop
-enum-known-why t c = search needs
+  abbrev at-loop : Looping → Entry
+  at-loop c = entry (nesting (looping c))
 
-pub same-length : (t : ℕ) → lts.Need-same-length (cs t) (args-at t) args.Post Inv-loop μ-loop
-same-length t c = search needs
+  abbrev turning : Going → Looping
+  turning c = c .before .before
 
-pub returns-2 : (t : ℕ) → lts.Need-returns-2 (cs t) (args-at t) args.Post Inv-loop μ-loop
-returns-2 t c = λ ts tl.
-    let a = c .before .before .before .before .before .before .before .before .before .before .args in
-    met-no (Parse.args ts (Parse.inner ts (a .left)) (a .row)) (a .row + 1) (a .node) (c .before .why .given .0 .0) (c .before .why .given .0 .1 .0) (a .nodes .now) (c .before .before .before .before .before .add .last .1 .1 .0)
-    (args-is ts (Parse.inner ts (a .left)) (a .row) ∙ then-no _ _ (c .before .why .given .0 .0) (c .before .why .given .0 .1 .0) (inner-whole ts (a .row) (a .left) (c .before .before .before .before .before .before .before .if1 .left)
-    ∙ refused _ (a .row + 1) (a .node) (a .nodes .now) (c .before .before .before .before .before .add .last .1 .1 .0) (c .before .before .before .before .before .add .result) (c .before .why .given .0 .0) (c .before .why .given .0 .1 .0) (c .before .before .before .before .before .add .ensures ts tl) (c .before .why .given .1)))
+  abbrev going : Second → Going
+  going c = c .before .before
 
-pub loop-holds : (t : ℕ) → lts.Need-loop-holds (cs t) (args-at t) args.Post Inv-loop μ-loop
-loop-holds t c = λ ts tl m h. h
+  abbrev at-second : Second → Entry
+  at-second c = at-loop (turning (going c))
 
-pub kind-at-requires : (t : ℕ) → lts.Need-kind-at-requires (cs t) (args-at t) args.Post Inv-loop μ-loop
-kind-at-requires t c κs = c .before .before .before .before .before .before .before .before .before .before .before .before .pre .1 .lent
+  -- the second call, from behind its state and from behind its refusal
+  abbrev second-done : Joining → Second
+  second-done c = c .before .before .before .before
 
-pub same-length-2 : (t : ℕ) → lts.Need-same-length-2 (cs t) (args-at t) args.Post Inv-loop μ-loop
-same-length-2 t c = same-len _ _ _ _ _ _ (some t (c .before .before) .stands)
+  abbrev second-refused : lts.After-known-told4 (cs t) (args-at t) args.Post Inv-loop μ-loop → Second
+  second-refused c = c .before .before .before .before .before
 
-pub returns-3 : (t : ℕ) → lts.Need-returns-3 (cs t) (args-at t) args.Post Inv-loop μ-loop
-returns-3 t c = λ ts tl.
-    let a = c .before .before .before .before .before .before .before .before .before .before .before .before .before .before .args in
-    done Any ts _ _ _ (a .row + 1) (a .node) (a .nodes .now) (c .before .before .loop .s) (c .before .before .loop .nodes) (turn t (c .before .before) ts tl)
-    (ne-eqb (kindAt ts (c .before .before .loop .s .row)) Comma (λ e. c .if2 .taken (kind-is t (c .before) ts tl ∙ e)))
+  abbrev Told : List Tok → Entry → Type 0
+  Told ts e = Tells ts (e .args .rows .now) (e .args .count)
 
-pub add-add-2 : (t : ℕ) → lts.Need-add-add-2 (cs t) (args-at t) args.Post Inv-loop μ-loop
-add-add-2 t c = omega (arith, comma-here t (c .before), c .before .before .before .before .before .before .before .before .before .before .before .before .before .before .before .pre .1)
+  -- ---- what holds there
 
-pub sub-add-2 : (t : ℕ) → lts.Need-sub-add-2 (cs t) (args-at t) args.Post Inv-loop μ-loop
-sub-add-2 t c = search needs
+  turn : (c : Looping) (ts : List Tok) → Told ts (at-loop c)
+      → (let a = at-loop c .args in Argued ts (a .left) (a .row) (a .node) (a .nodes .now) (c .loop .s) (c .loop .nodes))
+  turn c ts tl =
+      c .loop .inv ts tl (at-loop c .args .nodes .now)
+      (argued-start (nesting (looping c) .if1 .left) (add-came (looping c .add .ensures ts tl) (c .before .before .before .t .given .1))
+      (c .before .counted .ensures))
 
-pub add-requires-2 : (t : ℕ) → lts.Need-add-requires-2 (cs t) (args-at t) args.Post Inv-loop μ-loop
-add-requires-2 t c κs =
-    let w = some t (c .before .before .before) in
-    let h = comma-here t (c .before) in
-    omega (arith, w .few, w .stands, c .before .before .before .before .before .before .before .before .before .before .before .before .before .before .before .pre, c .before .before .before .before .before .before .before .before .before .before .before .before .if1 .left)
+  kind-is : (c : lts.After-kind-at (cs t) (args-at t) args.Post Inv-loop μ-loop) (ts : List Tok) → Told ts (at-loop (c .before))
+      → c .kind-at .result ≡ kindAt ts (c .before .loop .s .row)
+  kind-is c ts tl = c .kind-at .ensures ∙ tells-kind ts _ _ tl (c .before .loop .s .row)
 
-pub enum-known-t-2 : (t : ℕ) → lts.Need-enum-known-t-2 (cs t) (args-at t) args.Post Inv-loop μ-loop
-enum-known-t-2 t c = search needs
+  is-comma : (c : Going) (ts : List Tok) → Told ts (at-loop (turning c)) → kindAt ts (turning c .loop .s .row) ≡ Comma
+  is-comma c ts tl = sym (kind-is (c .before) ts tl) ∙ c .if2 .left
 
-pub add-counted : (t : ℕ) → lts.Need-add-counted (cs t) (args-at t) args.Post Inv-loop μ-loop
-add-counted t c =
-    let w = some t (c .before .before .before .before .before .before .before .before .before .before) in
-    let l = tells-some (c .before .before .before .before .before .before .before .before .before .before .before .before .before .before .before .before .before .before .before .before .before .before .args .rows .now) (c .before .before .before .before .before .before .before .before .before .before .before .before .before .before .before .before .before .before .before .before .before .before .args .count) .long in
-    omega (arith, w .inside, w .counts, w .stands, c .before .before .before .before .before .before .before .before .before .before .before .before .before .before .before .before .before .before .before .before .before .before .pre .1)
+  in-row : (c : Going) → turning c .loop .s .row < at-loop (turning c) .args .count
+  in-row c = word-here _ _ _ Comma (sym (c .before .kind-at .ensures) ∙ c .if2 .left) refl
 
-pub counted-requires-2 : (t : ℕ) → lts.Need-counted-requires-2 (cs t) (args-at t) args.Post Inv-loop μ-loop
-counted-requires-2 t c κs = search needs
+  -- what the call in the loop gave
+  got : (c : Joining) (ts : List Tok) → Told ts (at-second (second-done c))
+      → (let a = at-second (second-done c) .args in
+         let l = turning (going (second-done c)) .loop in
+         Came (Reads ts Add (a .left - 1) (l .s .row + 1)) ts (Parse.add ts (Parse.inner ts (a .left - 1)) (l .s .row + 1))
+         (l .s .row + 1) (l .s .node) (l .nodes) (c .t2 .given .0 .0) (second-done c .add2 .last .1 .1 .0))
+  got c ts tl = add-came (second-done c .add2 .ensures ts tl) (c .t2 .given .1)
 
-pub loop-less : (t : ℕ) → lts.Need-loop-less (cs t) (args-at t) args.Post Inv-loop μ-loop
-loop-less t c =
-    let h = comma-here t (c .before .before .before .before .before .before .before .before .before) in
-    let v = got t (c .before .before .before) (tokens (c .before .before .before .before .before .before .before .before .before .before .before .before .before .before .before .before .before .before .before .before .before .before .before .args .rows .now) (c .before .before .before .before .before .before .before .before .before .before .before .before .before .before .before .before .before .before .before .before .before .before .before .args .count)) (tells-some (c .before .before .before .before .before .before .before .before .before .before .before .before .before .before .before .before .before .before .before .before .before .before .before .args .rows .now) (c .before .before .before .before .before .before .before .before .before .before .before .before .before .before .before .before .before .before .before .before .before .before .before .args .count)) in
-    let r = ap (λ (x : At). x .row) (c .counted2 .ensures) in
-    omega (arith, v .stands .rows)
+  -- ---- the needs
 
-pub loop-again : (t : ℕ) → lts.Need-loop-again (cs t) (args-at t) args.Post Inv-loop μ-loop
-unfolding count width
-loop-again t c = λ ts tl m h.
-    let a = c .before .before .before .before .before .before .before .before .before .before .before .before .before .before .before .before .before .before .before .before .before .before .before .args in
-    let w = c .before .before .before .before .before .before .before .before .before .before .before .loop .inv ts tl m h in
-    let v = got t (c .before .before .before) ts tl in
-    let r : c .counted2 .result .row ≡ c .before .before .before .t2 .given .0 .0 .row = ap (λ (x : At). x .row) (c .counted2 .ensures) in
-    again Any ts (λ r. eqb (kindAt ts r) Comma) (Parse.argStep ts (Parse.inner ts (a .left))) (Parse.args ts (Parse.inner ts (a .left)) (a .row)) (a .row + 1) (a .node) m (c .before .before .before .before .before .before .before .before .before .before .before .loop .s) (c .before .before .before .before .before .before .before .before .before .before .before .loop .nodes) w
-    (eq-eqb (kindAt ts (c .before .before .before .before .before .before .before .before .before .before .before .loop .s .row)) Comma (is-comma t (c .before .before .before .before .before .before .before .before .before) ts tl))
-    Any (more (w .tree) (v .tree)) (c .counted2 .result) (c .before .before .before .before .before .before .before .add2 .last .1 .1 .0)
-    (arg-step ts (Parse.inner ts (a .left)) (w .tree) (c .before .before .before .before .before .before .before .before .before .before .before .loop .s .row) ∙ then-ok _ _ (v .tree) (c .before .before .before .t2 .given .0 .0 .row) (inner-whole ts (c .before .before .before .before .before .before .before .before .before .before .before .loop .s .row) (a .left) (c .before .before .before .before .before .before .before .before .before .before .before .before .before .before .before .before .before .before .before .before .if1 .left) ∙ v .is)
-    ∙ ap (λ (x : ℕ). ok (more (w .tree) (v .tree)) x) (sym r))
-    (stands-more (a .row + 1) (a .node) m (c .before .before .before .before .before .before .before .before .before .before .before .loop .nodes) (c .before .before .before .before .before .before .before .before .before .before .before .loop .s) (w .tree) (c .before .before .before .t2 .given .0 .0) (c .before .before .before .before .before .before .before .add2 .last .1 .1 .0) (v .tree) (c .counted2 .result) m (w .stands) (v .stands) (c .counted2 .ensures))
-    (omega (arith, r, v .stands .rows)) (omega (arith, r, v .inside)) (omega (arith, w .counts)) tt
+  pub returns : lts.Need-returns (cs t) (args-at t) args.Post Inv-loop μ-loop
+  returns c = λ ts tl.
+      let a = c .before .before .before .args in
+      met-no _ (a .row + 1) (a .node) TooDeep (a .row) (a .nodes .now) (a .nodes .now) (args-deep ts (a .left) (a .row) (c .if1 .taken))
 
-pub enum-known-why-2 : (t : ℕ) → lts.Need-enum-known-why-2 (cs t) (args-at t) args.Post Inv-loop μ-loop
-enum-known-why-2 t c = search needs
+  pub add-add : lts.Need-add-add (cs t) (args-at t) args.Post Inv-loop μ-loop
+  add-add c = omega (arith, entry (c .before) .pre .1)
 
-pub same-length-3 : (t : ℕ) → lts.Need-same-length-3 (cs t) (args-at t) args.Post Inv-loop μ-loop
-same-length-3 t c = c .before .before .before .before .before .add2 .kept .1 .1 .0 ∙ same-len _ _ _ _ _ _ (some t (c .before .before .before .before .before .before .before .before .before) .stands)
+  pub sub-add : lts.Need-sub-add (cs t) (args-at t) args.Post Inv-loop μ-loop
+  sub-add c = search needs
 
-pub returns-4 : (t : ℕ) → lts.Need-returns-4 (cs t) (args-at t) args.Post Inv-loop μ-loop
-returns-4 t c = λ ts tl.
-    let a = c .before .before .before .before .before .before .before .before .before .before .before .before .before .before .before .before .before .before .before .before .before .args in
-    let w = turn t (c .before .before .before .before .before .before .before .before .before) ts tl in
-    fails Any ts (λ r. eqb (kindAt ts r) Comma) (Parse.argStep ts (Parse.inner ts (a .left))) (Parse.args ts (Parse.inner ts (a .left)) (a .row)) (a .row + 1) (a .node) (a .nodes .now) (c .before .before .before .before .before .before .before .before .before .loop .s) (c .before .before .before .before .before .before .before .before .before .loop .nodes) w
-    (eq-eqb (kindAt ts (c .before .before .before .before .before .before .before .before .before .loop .s .row)) Comma (is-comma t (c .before .before .before .before .before .before .before) ts tl))
-    (c .before .why2 .given .0 .0) (c .before .why2 .given .0 .1 .0) (c .before .before .before .before .before .add2 .last .1 .1 .0)
-    (arg-step ts (Parse.inner ts (a .left)) (w .tree) (c .before .before .before .before .before .before .before .before .before .loop .s .row) ∙ then-no _ _ (c .before .why2 .given .0 .0) (c .before .why2 .given .0 .1 .0) (inner-whole ts (c .before .before .before .before .before .before .before .before .before .loop .s .row) (a .left) (c .before .before .before .before .before .before .before .before .before .before .before .before .before .before .before .before .before .before .if1 .left)
-    ∙ refused _ (c .before .before .before .before .before .before .before .before .before .loop .s .row + 1) (c .before .before .before .before .before .before .before .before .before .loop .s .node) (c .before .before .before .before .before .before .before .before .before .loop .nodes) (c .before .before .before .before .before .add2 .last .1 .1 .0) (c .before .before .before .before .before .add2 .result) (c .before .why2 .given .0 .0) (c .before .why2 .given .0 .1 .0) (c .before .before .before .before .before .add2 .ensures ts tl) (c .before .why2 .given .1)))
+  pub add-requires : lts.Need-add-requires (cs t) (args-at t) args.Post Inv-loop μ-loop
+  add-requires c κs = omega (arith, entry (c .before) .pre, c .before .if1 .left)
+
+  pub enum-known-t : lts.Need-enum-known-t (cs t) (args-at t) args.Post Inv-loop μ-loop
+  enum-known-t c = search needs
+
+  pub counted-requires : lts.Need-counted-requires (cs t) (args-at t) args.Post Inv-loop μ-loop
+  counted-requires c κs = search needs
+
+  pub enum-known-why : lts.Need-enum-known-why (cs t) (args-at t) args.Post Inv-loop μ-loop
+  enum-known-why c = search needs
+
+  pub add-instead : lts.Need-add-instead (cs t) (args-at t) args.Post Inv-loop μ-loop
+  add-instead c = omega (arith, entry (nesting (first-refused c)) .pre .1)
+
+  pub instead-requires : lts.Need-instead-requires (cs t) (args-at t) args.Post Inv-loop μ-loop
+  instead-requires c κs = search needs
+
+  pub same-length : lts.Need-same-length (cs t) (args-at t) args.Post Inv-loop μ-loop
+  same-length c = search needs
+
+  pub returns-2 : lts.Need-returns-2 (cs t) (args-at t) args.Post Inv-loop μ-loop
+  returns-2 c = λ ts tl.
+      let f = first-refused (c .before) in
+      let a = entry (nesting f) .args in
+      let w = c .before .before .why .given in
+      let q : ℕ = w .0 .1 .0 in
+      met-no _ (a .row + 1) (a .node) (c .instead .result) q (a .nodes .now) (f .add .last .1 .1 .0)
+      (args-refused ts (a .left) (a .row) (nesting f .if1 .left) (w .0 .0) q
+      (refused _ (a .row + 1) (a .node) (a .nodes .now) (f .add .last .1 .1 .0) (f .add .result) (w .0 .0) q (f .add .ensures ts tl) (w .1))
+      ∙ ap (λ (x : Syntax). no x q) (sym (c .instead .ensures)))
+
+  pub loop-holds : lts.Need-loop-holds (cs t) (args-at t) args.Post Inv-loop μ-loop
+  loop-holds c = λ ts tl m h. h
+
+  pub kind-at-requires : lts.Need-kind-at-requires (cs t) (args-at t) args.Post Inv-loop μ-loop
+  kind-at-requires c κs = at-loop c .pre .1 .lent
+
+  pub same-length-2 : lts.Need-same-length-2 (cs t) (args-at t) args.Post Inv-loop μ-loop
+  same-length-2 c = argued-fit (turn (c .before .before) _ (tells-some _ _)) .long
+
+  pub returns-3 : lts.Need-returns-3 (cs t) (args-at t) args.Post Inv-loop μ-loop
+  returns-3 c = λ ts tl. argued-done (turn (c .before .before) ts tl) (λ e. c .if2 .taken (kind-is (c .before) ts tl ∙ e))
+
+  pub add-add-2 : lts.Need-add-add-2 (cs t) (args-at t) args.Post Inv-loop μ-loop
+  add-add-2 c = omega (arith, in-row (c .before), at-loop (turning (c .before)) .pre .1)
+
+  pub sub-add-2 : lts.Need-sub-add-2 (cs t) (args-at t) args.Post Inv-loop μ-loop
+  sub-add-2 c = omega (arith, nesting (looping (turning (c .before))) .if1 .left)
+
+  pub add-requires-2 : lts.Need-add-requires-2 (cs t) (args-at t) args.Post Inv-loop μ-loop
+  add-requires-2 c κs =
+      let l = turning (c .before) in
+      let w = argued-fit (turn l _ (tells-some _ _)) in
+      let h = in-row (c .before) in
+      omega (arith, w .few, at-loop l .pre, nesting (looping l) .if1 .left)
+
+  pub enum-known-t-2 : lts.Need-enum-known-t-2 (cs t) (args-at t) args.Post Inv-loop μ-loop
+  enum-known-t-2 c = search needs
+
+  pub add-counted : lts.Need-add-counted (cs t) (args-at t) args.Post Inv-loop μ-loop
+  add-counted c =
+      let p = second-done (c .before .before) in
+      let e = at-second p in
+      let l = tells-some (e .args .rows .now) (e .args .count) in
+      let w = argued-fit (turn (turning (going p)) _ l) in
+      omega (arith, w .counts, w .inside, l .long, e .pre .1)
+
+  pub counted-requires-2 : lts.Need-counted-requires-2 (cs t) (args-at t) args.Post Inv-loop μ-loop
+  counted-requires-2 c κs = search needs
+
+  pub loop-less : lts.Need-loop-less (cs t) (args-at t) args.Post Inv-loop μ-loop
+  loop-less c =
+      let j = c .before .before .before in
+      let h = in-row (going (second-done j)) in
+      let v = got j _ (tells-some _ _) in
+      let r = ap (λ (x : At). x .row) (c .counted2 .ensures) in
+      omega (arith, v .stands .rows)
+
+  pub loop-again : lts.Need-loop-again (cs t) (args-at t) args.Post Inv-loop μ-loop
+  loop-again c = λ ts tl m h.
+      let j = c .before .before .before in
+      let g = going (second-done j) in
+      argued-again (turning g .loop .inv ts tl m h) (is-comma g ts tl) (nesting (looping (turning g)) .if1 .left) (got j ts tl) (c .counted2 .ensures)
+
+  pub enum-known-why-2 : lts.Need-enum-known-why-2 (cs t) (args-at t) args.Post Inv-loop μ-loop
+  enum-known-why-2 c = search needs
+
+  pub same-length-3 : lts.Need-same-length-3 (cs t) (args-at t) args.Post Inv-loop μ-loop
+  same-length-3 c =
+      let f = second-refused c in
+      f .add2 .kept .1 .1 .0 ∙ argued-fit (turn (turning (going f)) _ (tells-some _ _)) .long
+
+  pub returns-4 : lts.Need-returns-4 (cs t) (args-at t) args.Post Inv-loop μ-loop
+  returns-4 c = λ ts tl.
+      let f = second-refused c in
+      let g = going f in
+      let l = turning g .loop in
+      let w = c .before .why2 .given in
+      argued-fails (turn (turning g) ts tl) (is-comma g ts tl) (nesting (looping (turning g)) .if1 .left) (w .0 .0) (w .0 .1 .0) (f .add2 .last .1 .1 .0)
+      (refused _ (l .s .row + 1) (l .s .node) (l .nodes) (f .add2 .last .1 .1 .0) (f .add2 .result) (w .0 .0) (w .0 .1 .0) (f .add2 .ensures ts tl) (w .1))

@@ -1,194 +1,250 @@
--- `mul` of the circle: operands and the operators between them.
+-- `mul` of the circle: a lone variable or number, or operands and the operators between them.
 use Prim.Native.Nat.{ℕ, _+_, _-_, _<_}
 use mathlib.Core.Path.{_≡_, refl, sym, ap, _∙_}
-use mathlib.Core.Bool.{true}
+use mathlib.Core.Bool.{Bool, true}
 use mathlib.Core.List.{List}
 use native.Mathlib.Omega.{arith}
 use borrow.Author.Needs.{needs}
 use borrow.Author.Tests.{not-true, not-false}
 use Rattle.rules.specs.Tree.{Tok}
-use Rattle.rules.specs.Nodes.{binaryNode}
 use Rattle.rules.specs.Parse
 use Rattle.rules.specs.Parse.{kindAt, isMul}
 use Rattle.rules.specs.Grammar.{Unary}
-use Rattle.theory_grammar.proofs.Cases.{then-ok, then-no, mul-is}
-use Rattle.theory_grammar.proofs.Sound.{Reads, unary-sound, inner-sound}
+use Rattle.theory_grammar.proofs.Sound.{Reads, mul-sound, inner-sound}
 use Rattle.parse_nodes.specs.Post.{Tells}
 use Rattle.parse_nodes.specs.declared.At.{At}
-use Rattle.parse_nodes.proofs.Rows.{tokens, tells-some, tells-kind, word-test}
-use Rattle.parse_nodes.proofs.Turn.{same-len, Came, came-reads, refused, met-no, Any, Turn, start, done}
-use Rattle.parse_expr.specs.Lone.{isLone}
-use Rattle.parse_expr.proofs.Trees.{bin-again, bin-fails}
+use Rattle.parse_nodes.proofs.Rows.{tells-some, tells-kind, word-test}
+use Rattle.parse_nodes.proofs.Turn.{Came, came-reads, refused, met-no}
 use Rattle.parse_expr.proofs.Lone.{met-lone}
+use Rattle.parse_expr.proofs.Loops.{came-fit, unary-came, Products, products-start, products-refused, level-fit, level-done, level-fails, level-again}
 use Rattle.parse_expr.proofs.mul.Reads as mul
 use Rattle.parse_expr.proofs.unary.Reads as unary
-use Rattle.parse_expr.proofs.binary_node.Reads as binary-node-reads
 use Rattle.parse_expr.proofs.is_lone.Reads as is-lone-reads
 use Rattle.parse_expr.proofs.is_mul.Reads as is-mul-reads
 use Rattle.parse_expr.proofs.leaf.Reads as leaf-reads
+use Rattle.parse_expr.proofs.joined.Reads as joined-reads
 use Rattle.parse_nodes.proofs.kind_at.Reads as kind-at-reads
-use Rattle.parse_nodes.proofs.shut.Reads as shut-reads
 use Rattle.parse_expr.proofs.+add+args+atom+mul+post+prim+unary.Lts-mul as lts
 use Rattle.parse_expr.proofs.+add+args+atom+mul+post+prim+unary.Proof.Measures.{mul-at, unary-below}
 
 abbrev pub cs : ℕ → lts.Claims
-cs t = (is-lone-reads.Asked, is-lone-reads.Learnt, leaf-reads.Asked, leaf-reads.Learnt, unary-below t, unary.Post, kind-at-reads.Asked, kind-at-reads.Learnt, is-mul-reads.Asked, is-mul-reads.Learnt, binary-node-reads.Asked, binary-node-reads.Learnt, shut-reads.Asked, shut-reads.Learnt)
+cs t =
+    ( is-lone-reads.Asked, is-lone-reads.Learnt, leaf-reads.Asked, leaf-reads.Learnt, unary-below t, unary.Post, kind-at-reads.Asked, kind-at-reads.Learnt
+    , is-mul-reads.Asked, is-mul-reads.Learnt, joined-reads.Asked, joined-reads.Learnt )
 
--- what the loop has read, and has to read, with the node memory m at the function's entry
-abbrev Loop : List Tok → ℕ → ℕ → ℕ → List ℕ → At → List ℕ → Type 0
-Loop ts i n d m s m′ =
-    Turn Any ts (λ r. isMul (kindAt ts r)) (Parse.binStep ts (Parse.inner ts d) (Parse.unary ts (Parse.inner ts d))) (Parse.mul ts (Parse.inner ts d) i) i n m s m′
-
+-- what holds where the loop begins holds at each turn
 abbrev pub Inv-loop : lts.InvT-loop
 Inv-loop rows count nodes₀ row node left s₀ nodes s =
-    (ts : List Tok) → Tells ts rows count → (m : List ℕ) → Loop ts row node left m s₀ nodes₀ → Loop ts row node left m s nodes
+    (ts : List Tok) → Tells ts rows count → (m : List ℕ) → Products ts left row node m s₀ nodes₀ → Products ts left row node m s nodes
 
 abbrev pub μ-loop : lts.MeasureT-loop
 μ-loop rows count nodes₀ row node left s₀ nodes s = count - s .row
 
--- what the first call gave, and so what holds where the loop begins
-begin : (t : ℕ) (c : lts.After-known-told (cs t) (mul-at t) mul.Post Inv-loop μ-loop) (ts : List Tok) → Tells ts (c .before .before .before .before .before .before .before .before .before .before .before .args .rows .now) (c .before .before .before .before .before .before .before .before .before .before .before .args .count)
-    → Loop ts (c .before .before .before .before .before .before .before .before .before .before .before .args .row) (c .before .before .before .before .before .before .before .before .before .before .before .args .node) (c .before .before .before .before .before .before .before .before .before .before .before .args .left) (c .before .before .before .before .before .before .before .before .before .before .before .args .nodes .now) (c .before .t .given .0 .0) (c .before .before .before .before .before .unary .last .1 .1 .0)
-begin t c ts tl =
-    let a = c .before .before .before .before .before .before .before .before .before .before .before .args in
-    let w = came-reads ts Unary (a .left) (Parse.unary ts (Parse.inner ts (a .left)) (a .row)) (a .row) (a .node) (a .nodes .now) (c .before .before .before .before .before .unary .last .1 .1 .0) (c .before .before .before .before .before .unary .result) (c .before .t .given .0 .0)
-    (unary-sound ts (a .left) (Parse.inner ts (a .left)) (inner-sound ts (a .left)) (a .row)) (c .before .before .before .before .before .unary .ensures ts tl) (c .before .t .given .1) in
-    start Any ts _ _ _ (a .row) (a .node) (a .nodes .now) (c .before .t .given .0 .0) (c .before .before .before .before .before .unary .last .1 .1 .0) (w .tree)
-    (mul-is ts (Parse.inner ts (a .left)) (a .row) ∙ then-ok _ _ (w .tree) (c .before .t .given .0 .0 .row) (w .is)) (w .stands) (w .inside) (w .counts) tt
+module _ (t : ℕ) where
+  -- ---- the places on the way, each as it is seen from a later one
 
-turn : (t : ℕ) (c : lts.At-loop (cs t) (mul-at t) mul.Post Inv-loop μ-loop) (ts : List Tok) → Tells ts (c .before .before .before .before .before .before .before .before .before .before .before .before .args .rows .now) (c .before .before .before .before .before .before .before .before .before .before .before .before .args .count)
-    → Loop ts (c .before .before .before .before .before .before .before .before .before .before .before .before .args .row) (c .before .before .before .before .before .before .before .before .before .before .before .before .args .node) (c .before .before .before .before .before .before .before .before .before .before .before .before .args .left) (c .before .before .before .before .before .before .before .before .before .before .before .before .args .nodes .now) (c .loop .s) (c .loop .nodes)
-turn t c ts tl = c .loop .inv ts tl (c .before .before .before .before .before .before .before .before .before .before .before .before .args .nodes .now) (begin t (c .before) ts tl)
+  abbrev Entry : Type 0
+  Entry = lts.Start (cs t) (mul-at t) mul.Post Inv-loop μ-loop
 
-some : (t : ℕ) (c : lts.At-loop (cs t) (mul-at t) mul.Post Inv-loop μ-loop)
-    → Loop (tokens (c .before .before .before .before .before .before .before .before .before .before .before .before .args .rows .now) (c .before .before .before .before .before .before .before .before .before .before .before .before .args .count)) (c .before .before .before .before .before .before .before .before .before .before .before .before .args .row) (c .before .before .before .before .before .before .before .before .before .before .before .before .args .node) (c .before .before .before .before .before .before .before .before .before .before .before .before .args .left) (c .before .before .before .before .before .before .before .before .before .before .before .before .args .nodes .now) (c .loop .s) (c .loop .nodes)
-some t c = turn t c _ (tells-some (c .before .before .before .before .before .before .before .before .before .before .before .before .args .rows .now) (c .before .before .before .before .before .before .before .before .before .before .before .before .args .count))
+  abbrev First : Type 0
+  First = lts.After-unary (cs t) (mul-at t) mul.Post Inv-loop μ-loop
 
--- the row's kind, and what the loop's test says of it
-kind-is : (t : ℕ) (c : lts.After-kind-at (cs t) (mul-at t) mul.Post Inv-loop μ-loop) (ts : List Tok) → Tells ts (c .before .before .before .before .before .before .before .before .before .before .before .before .before .args .rows .now) (c .before .before .before .before .before .before .before .before .before .before .before .before .before .args .count)
-    → c .kind-at .result ≡ kindAt ts (c .before .loop .s .row)
-kind-is t c ts tl = c .kind-at .ensures ∙ tells-kind ts (c .before .before .before .before .before .before .before .before .before .before .before .before .before .args .rows .now) (c .before .before .before .before .before .before .before .before .before .before .before .before .before .args .count) tl (c .before .loop .s .row)
+  abbrev Looping : Type 0
+  Looping = lts.At-loop (cs t) (mul-at t) mul.Post Inv-loop μ-loop
 
-is-op : (t : ℕ) (c : lts.Else2 (cs t) (mul-at t) mul.Post Inv-loop μ-loop) (ts : List Tok) → Tells ts (c .before .before .before .before .before .before .before .before .before .before .before .before .before .before .before .args .rows .now) (c .before .before .before .before .before .before .before .before .before .before .before .before .before .before .before .args .count)
-    → isMul (kindAt ts (c .before .before .before .loop .s .row)) ≡ true
-is-op t c ts tl = ap isMul (sym (kind-is t (c .before .before) ts tl)) ∙ sym (c .before .is-mul .ensures) ∙ not-false _ (c .if2 .left)
+  abbrev Going : Type 0
+  Going = lts.Else2 (cs t) (mul-at t) mul.Post Inv-loop μ-loop
 
-in-row : (t : ℕ) (c : lts.Else2 (cs t) (mul-at t) mul.Post Inv-loop μ-loop) → c .before .before .before .loop .s .row < c .before .before .before .before .before .before .before .before .before .before .before .before .before .before .before .args .count
-in-row t c =
-    word-test (c .before .before .before .before .before .before .before .before .before .before .before .before .before .before .before .args .rows .now) (c .before .before .before .before .before .before .before .before .before .before .before .before .before .before .before .args .count) (c .before .before .before .loop .s .row) isMul refl
-    (ap isMul (sym (c .before .before .kind-at .ensures)) ∙ sym (c .before .is-mul .ensures) ∙ not-false _ (c .if2 .left))
+  abbrev Second : Type 0
+  Second = lts.After-unary2 (cs t) (mul-at t) mul.Post Inv-loop μ-loop
 
--- what the call in the loop gave
-got : (t : ℕ) (c : lts.After-t2 (cs t) (mul-at t) mul.Post Inv-loop μ-loop) (ts : List Tok) → Tells ts (c .before .before .before .before .before .before .before .before .before .before .before .before .before .before .before .before .before .before .before .before .before .args .rows .now) (c .before .before .before .before .before .before .before .before .before .before .before .before .before .before .before .before .before .before .before .before .before .args .count)
-    → Came (Reads ts Unary (c .before .before .before .before .before .before .before .before .before .before .before .before .before .before .before .before .before .before .before .before .before .args .left) (c .before .before .before .before .before .before .before .before .before .loop .s .row + 1)) ts (Parse.unary ts (Parse.inner ts (c .before .before .before .before .before .before .before .before .before .before .before .before .before .before .before .before .before .before .before .before .before .args .left)) (c .before .before .before .before .before .before .before .before .before .loop .s .row + 1)) (c .before .before .before .before .before .before .before .before .before .loop .s .row + 1) (c .before .before .before .before .before .before .before .before .before .loop .s .node) (c .before .before .before .before .before .before .before .before .before .loop .nodes) (c .t2 .given .0 .0) (c .before .before .before .before .unary2 .last .1 .1 .0)
-got t c ts tl =
-    let a = c .before .before .before .before .before .before .before .before .before .before .before .before .before .before .before .before .before .before .before .before .before .args in
-    came-reads ts Unary (a .left) (Parse.unary ts (Parse.inner ts (a .left)) (c .before .before .before .before .before .before .before .before .before .loop .s .row + 1)) (c .before .before .before .before .before .before .before .before .before .loop .s .row + 1) (c .before .before .before .before .before .before .before .before .before .loop .s .node) (c .before .before .before .before .before .before .before .before .before .loop .nodes) (c .before .before .before .before .unary2 .last .1 .1 .0) (c .before .before .before .before .unary2 .result) (c .t2 .given .0 .0)
-    (unary-sound ts (a .left) (Parse.inner ts (a .left)) (inner-sound ts (a .left)) (c .before .before .before .before .before .before .before .before .before .loop .s .row + 1)) (c .before .before .before .before .unary2 .ensures ts tl) (c .t2 .given .1)
+  abbrev Joining : Type 0
+  Joining = lts.After-t2 (cs t) (mul-at t) mul.Post Inv-loop μ-loop
 
-some-got : (t : ℕ) (c : lts.After-t2 (cs t) (mul-at t) mul.Post Inv-loop μ-loop)
-    → Came (Reads (tokens (c .before .before .before .before .before .before .before .before .before .before .before .before .before .before .before .before .before .before .before .before .before .args .rows .now) (c .before .before .before .before .before .before .before .before .before .before .before .before .before .before .before .before .before .before .before .before .before .args .count)) Unary (c .before .before .before .before .before .before .before .before .before .before .before .before .before .before .before .before .before .before .before .before .before .args .left) (c .before .before .before .before .before .before .before .before .before .loop .s .row + 1)) (tokens (c .before .before .before .before .before .before .before .before .before .before .before .before .before .before .before .before .before .before .before .before .before .args .rows .now) (c .before .before .before .before .before .before .before .before .before .before .before .before .before .before .before .before .before .before .before .before .before .args .count)) (Parse.unary (tokens (c .before .before .before .before .before .before .before .before .before .before .before .before .before .before .before .before .before .before .before .before .before .args .rows .now) (c .before .before .before .before .before .before .before .before .before .before .before .before .before .before .before .before .before .before .before .before .before .args .count)) (Parse.inner (tokens (c .before .before .before .before .before .before .before .before .before .before .before .before .before .before .before .before .before .before .before .before .before .args .rows .now) (c .before .before .before .before .before .before .before .before .before .before .before .before .before .before .before .before .before .before .before .before .before .args .count)) (c .before .before .before .before .before .before .before .before .before .before .before .before .before .before .before .before .before .before .before .before .before .args .left)) (c .before .before .before .before .before .before .before .before .before .loop .s .row + 1)) (c .before .before .before .before .before .before .before .before .before .loop .s .row + 1) (c .before .before .before .before .before .before .before .before .before .loop .s .node) (c .before .before .before .before .before .before .before .before .before .loop .nodes) (c .t2 .given .0 .0) (c .before .before .before .before .unary2 .last .1 .1 .0)
-some-got t c = got t c _ (tells-some (c .before .before .before .before .before .before .before .before .before .before .before .before .before .before .before .before .before .before .before .before .before .args .rows .now) (c .before .before .before .before .before .before .before .before .before .before .before .before .before .before .before .before .before .before .before .before .before .args .count))
+  abbrev Joined : Type 0
+  Joined = lts.After-joined (cs t) (mul-at t) mul.Post Inv-loop μ-loop
 
-pub is-lone-requires : (t : ℕ) → lts.Need-is-lone-requires (cs t) (mul-at t) mul.Post Inv-loop μ-loop
-is-lone-requires t c κs = omega (arith, c .before .before .pre .1)
+  -- the entry, from behind the first call
+  abbrev entry : First → Entry
+  entry c = c .before .before .before .before .before .before
 
-pub leaf-requires : (t : ℕ) → lts.Need-leaf-requires (cs t) (mul-at t) mul.Post Inv-loop μ-loop
-leaf-requires t c κs = omega (arith, c .before .before .before .before .before .pre .1)
+  -- the entry, from behind a lone operand
+  abbrev at-leaf : lts.After-leaf (cs t) (mul-at t) mul.Post Inv-loop μ-loop → Entry
+  at-leaf c = c .before .before .before .before .before .before
 
-pub same-length : (t : ℕ) → lts.Need-same-length (cs t) (mul-at t) mul.Post Inv-loop μ-loop
-same-length t c = search needs
+  -- the first call, from behind its state and from behind its refusal
+  abbrev first-done : lts.After-known-told (cs t) (mul-at t) mul.Post Inv-loop μ-loop → First
+  first-done c = c .before .before .before .before .before
 
-pub returns : (t : ℕ) → lts.Need-returns (cs t) (mul-at t) mul.Post Inv-loop μ-loop
-returns t c = λ ts tl.
-    let a = c .before .before .before .before .before .before .before .before .args in
-    let r = c .before .before .leaf in
-    let k = tells-kind ts (a .rows .now) (a .count) tl in
-    let e : isLone (kindAt ts (a .row)) (kindAt ts (a .row + 1)) ≡ true =
-    rw (← k (a .row), ← k (a .row + 1)) (sym (c .before .before .before .before .before .is-lone .ensures) ∙ c .before .before .before .before .if1 .taken) in
-    met-lone ts (Parse.inner ts (a .left)) (a .row) (a .node) (a .nodes .now) (r .last .1 .1 .0) (r .result) e (r .ensures ts tl)
+  abbrev first-refused : lts.After-known-told2 (cs t) (mul-at t) mul.Post Inv-loop μ-loop → First
+  first-refused c = c .before .before .before .before .before
 
-pub unary-requires : (t : ℕ) → lts.Need-unary-requires (cs t) (mul-at t) mul.Post Inv-loop μ-loop
-unary-requires t c κs = search needs
+  -- the entry from the loop, the turn of the loop from behind its test, the test from behind the second call
+  abbrev at-loop : Looping → Entry
+  at-loop c = entry (first-done (c .before))
 
-pub enum-known-t : (t : ℕ) → lts.Need-enum-known-t (cs t) (mul-at t) mul.Post Inv-loop μ-loop
-enum-known-t t c = search needs
+  abbrev turning : Going → Looping
+  turning c = c .before .before .before
 
-pub enum-known-why : (t : ℕ) → lts.Need-enum-known-why (cs t) (mul-at t) mul.Post Inv-loop μ-loop
-enum-known-why t c = search needs
+  abbrev going : Second → Going
+  going c = c .before .before
 
-pub same-length-2 : (t : ℕ) → lts.Need-same-length-2 (cs t) (mul-at t) mul.Post Inv-loop μ-loop
-same-length-2 t c = search needs
+  abbrev at-second : Second → Entry
+  at-second c = at-loop (turning (going c))
 
-pub returns-2 : (t : ℕ) → lts.Need-returns-2 (cs t) (mul-at t) mul.Post Inv-loop μ-loop
-returns-2 t c = λ ts tl.
-    let a = c .before .before .before .before .before .before .before .before .before .before .before .args in
-    met-no (Parse.mul ts (Parse.inner ts (a .left)) (a .row)) (a .row) (a .node) (c .before .why .given .0 .0) (c .before .why .given .0 .1 .0) (a .nodes .now) (c .before .before .before .before .before .unary .last .1 .1 .0)
-    (mul-is ts (Parse.inner ts (a .left)) (a .row) ∙ then-no (Parse.unary ts (Parse.inner ts (a .left)) (a .row)) _ (c .before .why .given .0 .0) (c .before .why .given .0 .1 .0)
-    (refused _ (a .row) (a .node) (a .nodes .now) (c .before .before .before .before .before .unary .last .1 .1 .0) (c .before .before .before .before .before .unary .result) (c .before .why .given .0 .0) (c .before .why .given .0 .1 .0) (c .before .before .before .before .before .unary .ensures ts tl) (c .before .why .given .1)))
+  -- the second call, from behind its state and from behind its refusal
+  abbrev second-done : Joining → Second
+  second-done c = c .before .before .before .before
 
-pub loop-holds : (t : ℕ) → lts.Need-loop-holds (cs t) (mul-at t) mul.Post Inv-loop μ-loop
-loop-holds t c = λ ts tl m h. h
+  abbrev second-refused : lts.After-known-told4 (cs t) (mul-at t) mul.Post Inv-loop μ-loop → Second
+  second-refused c = c .before .before .before .before .before
 
-pub kind-at-requires : (t : ℕ) → lts.Need-kind-at-requires (cs t) (mul-at t) mul.Post Inv-loop μ-loop
-kind-at-requires t c κs = c .before .before .before .before .before .before .before .before .before .before .before .before .pre .1 .lent
+  abbrev joining : Joined → Joining
+  joining c = c .before .before .before
 
-pub is-mul-requires : (t : ℕ) → lts.Need-is-mul-requires (cs t) (mul-at t) mul.Post Inv-loop μ-loop
-is-mul-requires t c κs = search needs
+  abbrev Told : List Tok → Entry → Type 0
+  Told ts e = Tells ts (e .args .rows .now) (e .args .count)
 
-pub same-length-3 : (t : ℕ) → lts.Need-same-length-3 (cs t) (mul-at t) mul.Post Inv-loop μ-loop
-same-length-3 t c = same-len _ _ _ _ _ _ (some t (c .before .before .before) .stands)
+  -- ---- what holds there
 
-pub returns-3 : (t : ℕ) → lts.Need-returns-3 (cs t) (mul-at t) mul.Post Inv-loop μ-loop
-returns-3 t c = λ ts tl.
-    let a = c .before .before .before .before .before .before .before .before .before .before .before .before .before .before .before .args in
-    done Any ts _ _ _ (a .row) (a .node) (a .nodes .now) (c .before .before .before .loop .s) (c .before .before .before .loop .nodes) (turn t (c .before .before .before) ts tl)
-    (ap isMul (sym (kind-is t (c .before .before) ts tl)) ∙ sym (c .before .is-mul .ensures) ∙ not-true _ (c .if2 .taken))
+  -- what the first call gave, and so what holds where the loop begins and at each turn
+  begin : (c : lts.After-known-told (cs t) (mul-at t) mul.Post Inv-loop μ-loop) (ts : List Tok) → Told ts (entry (first-done c))
+      → (let a = entry (first-done c) .args in
+         Products ts (a .left) (a .row) (a .node) (a .nodes .now) (c .before .t .given .0 .0) (first-done c .unary .last .1 .1 .0))
+  begin c ts tl = products-start (unary-came (first-done c .unary .ensures ts tl) (c .before .t .given .1))
 
-pub add-unary : (t : ℕ) → lts.Need-add-unary (cs t) (mul-at t) mul.Post Inv-loop μ-loop
-add-unary t c = omega (arith, in-row t (c .before), c .before .before .before .before .before .before .before .before .before .before .before .before .before .before .before .before .pre .1)
+  turn : (c : Looping) (ts : List Tok) → Told ts (at-loop c)
+      → (let a = at-loop c .args in Products ts (a .left) (a .row) (a .node) (a .nodes .now) (c .loop .s) (c .loop .nodes))
+  turn c ts tl = c .loop .inv ts tl (at-loop c .args .nodes .now) (begin (c .before) ts tl)
 
-pub unary-requires-2 : (t : ℕ) → lts.Need-unary-requires-2 (cs t) (mul-at t) mul.Post Inv-loop μ-loop
-unary-requires-2 t c κs =
-    let w = some t (c .before .before .before .before) in
-    let h = in-row t (c .before) in
-    omega (arith, w .few, w .stands, c .before .before .before .before .before .before .before .before .before .before .before .before .before .before .before .before .pre)
+  -- the row's kind, and what the loop's test says of it
+  kind-is : (c : lts.After-kind-at (cs t) (mul-at t) mul.Post Inv-loop μ-loop) (ts : List Tok) → Told ts (at-loop (c .before))
+      → c .kind-at .result ≡ kindAt ts (c .before .loop .s .row)
+  kind-is c ts tl = c .kind-at .ensures ∙ tells-kind ts _ _ tl (c .before .loop .s .row)
 
-pub enum-known-t-2 : (t : ℕ) → lts.Need-enum-known-t-2 (cs t) (mul-at t) mul.Post Inv-loop μ-loop
-enum-known-t-2 t c = search needs
+  goes-on : (c : Going) (ts : List Tok) → Told ts (at-loop (turning c))
+      → isMul (kindAt ts (turning c .loop .s .row)) ≡ true
+  goes-on c ts tl = ap isMul (sym (kind-is (c .before .before) ts tl)) ∙ sym (c .before .is-mul .ensures) ∙ not-false _ (c .if2 .left)
 
-pub binary-node-requires : (t : ℕ) → lts.Need-binary-node-requires (cs t) (mul-at t) mul.Post Inv-loop μ-loop
-binary-node-requires t c κs = search needs
+  in-row : (c : Going) → turning c .loop .s .row < at-loop (turning c) .args .count
+  in-row c =
+      word-test _ _ _ isMul refl
+      (ap isMul (sym (c .before .before .kind-at .ensures)) ∙ sym (c .before .is-mul .ensures) ∙ not-false _ (c .if2 .left))
 
-pub shut-requires : (t : ℕ) → lts.Need-shut-requires (cs t) (mul-at t) mul.Post Inv-loop μ-loop
-shut-requires t c κs =
-    let w = some t (c .before .before .before .before .before .before .before .before .before .before .before .before) in
-    let v = some-got t (c .before .before .before) in
-    let l = tells-some (c .before .before .before .before .before .before .before .before .before .before .before .before .before .before .before .before .before .before .before .before .before .before .before .before .args .rows .now) (c .before .before .before .before .before .before .before .before .before .before .before .before .before .before .before .before .before .before .before .before .before .before .before .before .args .count) .long in
-    omega (arith, w .stands, w .near, w .few, w .inside, v .stands, v .few, v .inside, c .before .before .before .before .before .before .before .before .before .before .before .before .before .before .before .before .before .before .before .before .before .before .before .before .pre .1)
+  -- what the call in the loop gave
+  got : (c : Joining) (ts : List Tok) → Told ts (at-second (second-done c))
+      → (let a = at-second (second-done c) .args in
+         let l = turning (going (second-done c)) .loop in
+         Came (Reads ts Unary (a .left) (l .s .row + 1)) ts (Parse.unary ts (Parse.inner ts (a .left)) (l .s .row + 1))
+         (l .s .row + 1) (l .s .node) (l .nodes) (c .t2 .given .0 .0) (second-done c .unary2 .last .1 .1 .0))
+  got c ts tl = unary-came (second-done c .unary2 .ensures ts tl) (c .t2 .given .1)
 
-pub loop-less : (t : ℕ) → lts.Need-loop-less (cs t) (mul-at t) mul.Post Inv-loop μ-loop
-loop-less t c =
-    let v = some-got t (c .before .before .before .before .before .before) in
-    let h = in-row t (c .before .before .before .before .before .before .before .before .before .before .before .before) in
-    let r = ap (λ (x : At). x .row) (c .before .before .shut .ensures .0) in
-    omega (arith, v .stands .rows)
+  -- ---- the needs
 
-pub loop-again : (t : ℕ) → lts.Need-loop-again (cs t) (mul-at t) mul.Post Inv-loop μ-loop
-loop-again t c = λ ts tl m h.
-    let a = c .before .before .before .before .before .before .before .before .before .before .before .before .before .before .before .before .before .before .before .before .before .before .before .before .before .before .before .args in
-    bin-again ts (Parse.inner ts (a .left)) isMul (Parse.unary ts (Parse.inner ts (a .left))) (Parse.mul ts (Parse.inner ts (a .left)) (a .row)) (a .row) (a .node) m (c .before .before .before .before .before .before .before .before .before .before .before .before .before .before .before .loop .s) (c .before .before .before .before .before .before .before .before .before .before .before .before .before .before .before .loop .nodes) (c .before .before .before .before .before .before .before .before .before .before .before .before .before .before .before .loop .inv ts tl m h) (is-op t (c .before .before .before .before .before .before .before .before .before .before .before .before) ts tl)
-    _ (c .before .before .before .binary-node .result) (c .before .before .before .before .before .before .t2 .given .0 .0) (c .before .before .before .before .before .before .before .before .before .before .unary2 .last .1 .1 .0) (c .before .before .shut .result) (c .before .before .shut .last .0) (c .before .before .before .binary-node .ensures ∙ ap binaryNode (kind-is t (c .before .before .before .before .before .before .before .before .before .before .before .before .before .before) ts tl)) (got t (c .before .before .before .before .before .before) ts tl) (c .before .before .shut .ensures .0) (c .before .before .shut .ensures .1)
+  pub is-lone-requires : lts.Need-is-lone-requires (cs t) (mul-at t) mul.Post Inv-loop μ-loop
+  is-lone-requires c κs = omega (arith, c .before .before .pre .1)
 
-pub enum-known-why-2 : (t : ℕ) → lts.Need-enum-known-why-2 (cs t) (mul-at t) mul.Post Inv-loop μ-loop
-enum-known-why-2 t c = search needs
+  pub leaf-requires : lts.Need-leaf-requires (cs t) (mul-at t) mul.Post Inv-loop μ-loop
+  leaf-requires c κs = omega (arith, c .before .before .before .before .before .pre .1)
 
-pub same-length-4 : (t : ℕ) → lts.Need-same-length-4 (cs t) (mul-at t) mul.Post Inv-loop μ-loop
-same-length-4 t c = c .before .before .before .before .before .unary2 .kept .1 .1 .0 ∙ same-len _ _ _ _ _ _ (some t (c .before .before .before .before .before .before .before .before .before .before) .stands)
+  pub same-length : lts.Need-same-length (cs t) (mul-at t) mul.Post Inv-loop μ-loop
+  same-length c = search needs
 
-pub returns-4 : (t : ℕ) → lts.Need-returns-4 (cs t) (mul-at t) mul.Post Inv-loop μ-loop
-returns-4 t c = λ ts tl.
-    let a = c .before .before .before .before .before .before .before .before .before .before .before .before .before .before .before .before .before .before .before .before .before .before .args in
-    bin-fails ts (Parse.inner ts (a .left)) isMul (Parse.unary ts (Parse.inner ts (a .left))) (Parse.mul ts (Parse.inner ts (a .left)) (a .row)) (a .row) (a .node) (a .nodes .now) (c .before .before .before .before .before .before .before .before .before .before .loop .s) (c .before .before .before .before .before .before .before .before .before .before .loop .nodes) (turn t (c .before .before .before .before .before .before .before .before .before .before) ts tl) (is-op t (c .before .before .before .before .before .before .before) ts tl)
-    (c .before .why2 .given .0 .0) (c .before .why2 .given .0 .1 .0) (c .before .before .before .before .before .unary2 .last .1 .1 .0)
-    (refused _ (c .before .before .before .before .before .before .before .before .before .before .loop .s .row + 1) (c .before .before .before .before .before .before .before .before .before .before .loop .s .node) (c .before .before .before .before .before .before .before .before .before .before .loop .nodes) (c .before .before .before .before .before .unary2 .last .1 .1 .0) (c .before .before .before .before .before .unary2 .result) (c .before .why2 .given .0 .0) (c .before .why2 .given .0 .1 .0) (c .before .before .before .before .before .unary2 .ensures ts tl) (c .before .why2 .given .1))
+  pub returns : lts.Need-returns (cs t) (mul-at t) mul.Post Inv-loop μ-loop
+  returns c = λ ts tl.
+      let l = c .before .before in
+      let a = at-leaf l .args in
+      let o = l .before .before in
+      met-lone ts (Parse.inner ts (a .left)) (a .row) (a .node) (a .nodes .now) (l .leaf .last .1 .1 .0) (l .leaf .result)
+      (rw (← tells-kind ts _ _ tl (a .row), ← tells-kind ts _ _ tl (a .row + 1)) (sym (o .before .is-lone .ensures) ∙ o .if1 .taken))
+      (l .leaf .ensures ts tl)
+
+  pub unary-requires : lts.Need-unary-requires (cs t) (mul-at t) mul.Post Inv-loop μ-loop
+  unary-requires c κs = search needs
+
+  pub enum-known-t : lts.Need-enum-known-t (cs t) (mul-at t) mul.Post Inv-loop μ-loop
+  enum-known-t c = search needs
+
+  pub enum-known-why : lts.Need-enum-known-why (cs t) (mul-at t) mul.Post Inv-loop μ-loop
+  enum-known-why c = search needs
+
+  pub same-length-2 : lts.Need-same-length-2 (cs t) (mul-at t) mul.Post Inv-loop μ-loop
+  same-length-2 c = search needs
+
+  pub returns-2 : lts.Need-returns-2 (cs t) (mul-at t) mul.Post Inv-loop μ-loop
+  returns-2 c = λ ts tl.
+      let f = first-refused c in
+      let a = entry f .args in
+      let w = c .before .why .given in
+      met-no _ (a .row) (a .node) (w .0 .0) (w .0 .1 .0) (a .nodes .now) (f .unary .last .1 .1 .0)
+      (products-refused ts (a .left) (a .row) (w .0 .0) (w .0 .1 .0)
+      (refused _ (a .row) (a .node) (a .nodes .now) (f .unary .last .1 .1 .0) (f .unary .result) (w .0 .0) (w .0 .1 .0) (f .unary .ensures ts tl) (w .1)))
+
+  pub loop-holds : lts.Need-loop-holds (cs t) (mul-at t) mul.Post Inv-loop μ-loop
+  loop-holds c = λ ts tl m h. h
+
+  pub kind-at-requires : lts.Need-kind-at-requires (cs t) (mul-at t) mul.Post Inv-loop μ-loop
+  kind-at-requires c κs = at-loop c .pre .1 .lent
+
+  pub is-mul-requires : lts.Need-is-mul-requires (cs t) (mul-at t) mul.Post Inv-loop μ-loop
+  is-mul-requires c κs = search needs
+
+  pub same-length-3 : lts.Need-same-length-3 (cs t) (mul-at t) mul.Post Inv-loop μ-loop
+  same-length-3 c = level-fit (turn (c .before .before .before) _ (tells-some _ _)) .long
+
+  pub returns-3 : lts.Need-returns-3 (cs t) (mul-at t) mul.Post Inv-loop μ-loop
+  returns-3 c = λ ts tl.
+      let l = c .before .before .before in
+      level-done (turn l ts tl)
+      (ap isMul (sym (kind-is (c .before .before) ts tl)) ∙ sym (c .before .is-mul .ensures) ∙ not-true _ (c .if2 .taken))
+
+  pub add-unary : lts.Need-add-unary (cs t) (mul-at t) mul.Post Inv-loop μ-loop
+  add-unary c = omega (arith, in-row (c .before), at-loop (turning (c .before)) .pre .1)
+
+  pub unary-requires-2 : lts.Need-unary-requires-2 (cs t) (mul-at t) mul.Post Inv-loop μ-loop
+  unary-requires-2 c κs =
+      let w = level-fit (turn (turning (c .before)) _ (tells-some _ _)) in
+      let h = in-row (c .before) in
+      omega (arith, w .few, at-loop (turning (c .before)) .pre)
+
+  pub enum-known-t-2 : lts.Need-enum-known-t-2 (cs t) (mul-at t) mul.Post Inv-loop μ-loop
+  enum-known-t-2 c = search needs
+
+  pub joined-requires : lts.Need-joined-requires (cs t) (mul-at t) mul.Post Inv-loop μ-loop
+  joined-requires c κs =
+      let e = at-second (second-done (c .before .before)) in
+      let l = tells-some (e .args .rows .now) (e .args .count) in
+      let w = level-fit (turn (turning (going (second-done (c .before .before)))) _ l) in
+      let v = came-fit (got (c .before .before) _ l) in
+      omega (arith, w .few, v .few, v .inside, l .long, e .pre .1)
+
+  pub loop-less : lts.Need-loop-less (cs t) (mul-at t) mul.Post Inv-loop μ-loop
+  loop-less c =
+      let j = c .before .before in
+      let h = in-row (going (second-done (joining j))) in
+      let v = got (joining j) _ (tells-some _ _) in
+      let r = ap (λ (x : At). x .row) (j .joined .ensures .0) in
+      omega (arith, v .stands .rows)
+
+  pub loop-again : lts.Need-loop-again (cs t) (mul-at t) mul.Post Inv-loop μ-loop
+  loop-again c = λ ts tl m h.
+      let j = c .before .before in
+      let g = going (second-done (joining j)) in
+      level-again (turning g .loop .inv ts tl m h) (goes-on g ts tl) (kind-is (g .before .before) ts tl) (got (joining j) ts tl)
+      (j .joined .ensures .0) (j .joined .ensures .1)
+
+  pub enum-known-why-2 : lts.Need-enum-known-why-2 (cs t) (mul-at t) mul.Post Inv-loop μ-loop
+  enum-known-why-2 c = search needs
+
+  pub same-length-4 : lts.Need-same-length-4 (cs t) (mul-at t) mul.Post Inv-loop μ-loop
+  same-length-4 c =
+      let f = second-refused c in
+      f .unary2 .kept .1 .1 .0 ∙ level-fit (turn (turning (going f)) _ (tells-some _ _)) .long
+
+  pub returns-4 : lts.Need-returns-4 (cs t) (mul-at t) mul.Post Inv-loop μ-loop
+  returns-4 c = λ ts tl.
+      let f = second-refused c in
+      let l = turning (going f) .loop in
+      let w = c .before .why2 .given in
+      level-fails (turn (turning (going f)) ts tl) (goes-on (going f) ts tl) (w .0 .0) (w .0 .1 .0) (f .unary2 .last .1 .1 .0)
+      (refused _ (l .s .row + 1) (l .s .node) (l .nodes) (f .unary2 .last .1 .1 .0) (f .unary2 .result) (w .0 .0) (w .0 .1 .0) (f .unary2 .ensures ts tl) (w .1))

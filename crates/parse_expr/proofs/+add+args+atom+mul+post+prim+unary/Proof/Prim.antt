@@ -1,24 +1,18 @@
 -- `prim` of the circle: an atom, and the fields and calls behind it.
-use Prim.Native.Nat.{ℕ, _-_, _<_}
+use Prim.Native.Nat.{ℕ, _+_, _-_, _<_}
 use mathlib.Core.Path.{_≡_, refl, sym, _∙_}
 use mathlib.Core.List.{List}
 use native.Mathlib.Omega.{arith}
-use lib.Dec.{eqb}
 use borrow.Author.Needs.{needs}
-use borrow.Author.Tests.{eq-eqb, ne-eqb}
 use Rattle.rules.specs.Kinds.{Dot}
 use Rattle.rules.specs.Tree.{Tok}
 use Rattle.rules.specs.Parse
 use Rattle.rules.specs.Parse.{kindAt}
-use Rattle.rules.specs.Grammar.{Basic}
-use Rattle.theory_grammar.proofs.Cases.{then-ok, then-no, prim-is}
-use Rattle.theory_grammar.proofs.Runs.{all-ok}
-use Rattle.theory_grammar.proofs.Ends.{On, ends-post}
-use Rattle.theory_grammar.proofs.Sound.{Reads, atom-sound, post-sound, inner-sound}
+use Rattle.theory_grammar.proofs.Cases.{then-no, prim-is}
 use Rattle.parse_nodes.specs.Post.{Tells}
-use Rattle.parse_nodes.specs.declared.At.{At}
-use Rattle.parse_nodes.proofs.Rows.{tokens, tells-some, tells-kind, word-here}
-use Rattle.parse_nodes.proofs.Turn.{same-len, Came, came-reads, refused, met-no, Turn, start, done, fails, again}
+use Rattle.parse_nodes.proofs.Rows.{tells-some, tells-kind, word-here}
+use Rattle.parse_nodes.proofs.Turn.{refused, met-no}
+use Rattle.parse_expr.proofs.Loops.{atom-came, Dotted, dotted-start, dotted-fit, dotted-done, dotted-fails, dotted-on, dotted-again}
 use Rattle.parse_expr.proofs.atom.Reads as atom
 use Rattle.parse_expr.proofs.post.Reads as post
 use Rattle.parse_expr.proofs.prim.Reads as prim
@@ -29,135 +23,159 @@ use Rattle.parse_expr.proofs.+add+args+atom+mul+post+prim+unary.Proof.M
 abbrev pub cs : ℕ → lts.Claims
 cs t = (atom-below t, atom.Post, kind-at-reads.Asked, kind-at-reads.Learnt, post-below t, post.Post)
 
--- what the loop has read, and has to read, with the node memory m at the function's entry
-abbrev Loop : List Tok → ℕ → ℕ → ℕ → List ℕ → At → List ℕ → Type 0
-Loop ts i n d m s m′ =
-    Turn (λ u. Reads ts Basic d i u (s .row)) ts (λ r. eqb (kindAt ts r) Dot) (Parse.post ts (Parse.inner ts d)) (Parse.prim ts (Parse.inner ts d) i) i n m s m′
-
+-- what holds where the loop begins holds at each turn
 abbrev pub Inv-loop : lts.InvT-loop
 Inv-loop rows count nodes₀ row node left s₀ nodes s =
-    (ts : List Tok) → Tells ts rows count → (m : List ℕ) → Loop ts row node left m s₀ nodes₀ → Loop ts row node left m s nodes
+    (ts : List Tok) → Tells ts rows count → (m : List ℕ) → Dotted ts left row node m s₀ nodes₀ → Dotted ts left row node m s nodes
 
 abbrev pub μ-loop : lts.MeasureT-loop
 μ-loop rows count nodes₀ row node left s₀ nodes s = count - s .row
 
--- what the first call gave, and so what holds where the loop begins
-begin : (t : ℕ) (c : lts.After-known-told (cs t) (prim-at t) prim.Post Inv-loop μ-loop) (ts : List Tok) → Tells ts (c .before .before .before .before .before .before .before .before .before .args .rows .now) (c .before .before .before .before .before .before .before .before .before .args .count)
-    → Loop ts (c .before .before .before .before .before .before .before .before .before .args .row) (c .before .before .before .before .before .before .before .before .before .args .node) (c .before .before .before .before .before .before .before .before .before .args .left) (c .before .before .before .before .before .before .before .before .before .args .nodes .now) (c .before .t .given .0 .0) (c .before .before .before .before .before .atom .last .1 .1 .0)
-begin t c ts tl =
-    let a = c .before .before .before .before .before .before .before .before .before .args in
-    let w = came-reads ts Basic (a .left) (Parse.atom ts (Parse.inner ts (a .left)) (a .row)) (a .row) (a .node) (a .nodes .now) (c .before .before .before .before .before .atom .last .1 .1 .0) (c .before .before .before .before .before .atom .result) (c .before .t .given .0 .0)
-    (atom-sound ts (a .left) (Parse.inner ts (a .left)) (inner-sound ts (a .left)) (a .row)) (c .before .before .before .before .before .atom .ensures ts tl) (c .before .t .given .1) in
-    start (λ u. Reads ts Basic (a .left) (a .row) u (c .before .t .given .0 .0 .row)) ts _ _ _ (a .row) (a .node) (a .nodes .now) (c .before .t .given .0 .0) (c .before .before .before .before .before .atom .last .1 .1 .0) (w .tree)
-    (prim-is ts (Parse.inner ts (a .left)) (a .row) ∙ then-ok _ _ (w .tree) (c .before .t .given .0 .0 .row) (w .is)) (w .stands) (w .inside) (w .counts) (w .known)
+module _ (t : ℕ) where
+  -- ---- the places on the way, each as it is seen from a later one
 
-turn : (t : ℕ) (c : lts.At-loop (cs t) (prim-at t) prim.Post Inv-loop μ-loop) (ts : List Tok) → Tells ts (c .before .before .before .before .before .before .before .before .before .before .args .rows .now) (c .before .before .before .before .before .before .before .before .before .before .args .count)
-    → Loop ts (c .before .before .before .before .before .before .before .before .before .before .args .row) (c .before .before .before .before .before .before .before .before .before .before .args .node) (c .before .before .before .before .before .before .before .before .before .before .args .left) (c .before .before .before .before .before .before .before .before .before .before .args .nodes .now) (c .loop .s) (c .loop .nodes)
-turn t c ts tl = c .loop .inv ts tl (c .before .before .before .before .before .before .before .before .before .before .args .nodes .now) (begin t (c .before) ts tl)
+  abbrev Entry : Type 0
+  Entry = lts.Start (cs t) (prim-at t) prim.Post Inv-loop μ-loop
 
-some : (t : ℕ) (c : lts.At-loop (cs t) (prim-at t) prim.Post Inv-loop μ-loop)
-    → Loop (tokens (c .before .before .before .before .before .before .before .before .before .before .args .rows .now) (c .before .before .before .before .before .before .before .before .before .before .args .count)) (c .before .before .before .before .before .before .before .before .before .before .args .row) (c .before .before .before .before .before .before .before .before .before .before .args .node) (c .before .before .before .before .before .before .before .before .before .before .args .left) (c .before .before .before .before .before .before .before .before .before .before .args .nodes .now) (c .loop .s) (c .loop .nodes)
-some t c = turn t c _ (tells-some (c .before .before .before .before .before .before .before .before .before .before .args .rows .now) (c .before .before .before .before .before .before .before .before .before .before .args .count))
+  abbrev First : Type 0
+  First = lts.After-atom (cs t) (prim-at t) prim.Post Inv-loop μ-loop
 
--- the row's kind
-kind-is : (t : ℕ) (c : lts.After-kind-at (cs t) (prim-at t) prim.Post Inv-loop μ-loop) (ts : List Tok) → Tells ts (c .before .before .before .before .before .before .before .before .before .before .before .args .rows .now) (c .before .before .before .before .before .before .before .before .before .before .before .args .count) → c .kind-at .result ≡ kindAt ts (c .before .loop .s .row)
-kind-is t c ts tl = c .kind-at .ensures ∙ tells-kind ts (c .before .before .before .before .before .before .before .before .before .before .before .args .rows .now) (c .before .before .before .before .before .before .before .before .before .before .before .args .count) tl (c .before .loop .s .row)
+  abbrev Looping : Type 0
+  Looping = lts.At-loop (cs t) (prim-at t) prim.Post Inv-loop μ-loop
 
-is-dot : (t : ℕ) (c : lts.Else1 (cs t) (prim-at t) prim.Post Inv-loop μ-loop) (ts : List Tok) → Tells ts (c .before .before .before .before .before .before .before .before .before .before .before .before .args .rows .now) (c .before .before .before .before .before .before .before .before .before .before .before .before .args .count) → kindAt ts (c .before .before .loop .s .row) ≡ Dot
-is-dot t c ts tl = sym (kind-is t (c .before) ts tl) ∙ c .if1 .left
+  abbrev Going : Type 0
+  Going = lts.Else1 (cs t) (prim-at t) prim.Post Inv-loop μ-loop
 
-dot-here : (t : ℕ) (c : lts.Else1 (cs t) (prim-at t) prim.Post Inv-loop μ-loop) → c .before .before .loop .s .row < c .before .before .before .before .before .before .before .before .before .before .before .before .args .count
-dot-here t c = word-here (c .before .before .before .before .before .before .before .before .before .before .before .before .args .rows .now) (c .before .before .before .before .before .before .before .before .before .before .before .before .args .count) (c .before .before .loop .s .row) Dot (sym (c .before .kind-at .ensures) ∙ c .if1 .left) refl
+  abbrev Second : Type 0
+  Second = lts.After-post (cs t) (prim-at t) prim.Post Inv-loop μ-loop
 
--- what the call in the loop gave, over any memory m that the loop can have begun with
-got : (t : ℕ) (c : lts.After-t2 (cs t) (prim-at t) prim.Post Inv-loop μ-loop) (ts : List Tok) → Tells ts (c .before .before .before .before .before .before .before .before .before .before .before .before .before .before .before .before .before .before .args .rows .now) (c .before .before .before .before .before .before .before .before .before .before .before .before .before .before .before .before .before .before .args .count) → (m : List ℕ)
-    → (w : Loop ts (c .before .before .before .before .before .before .before .before .before .before .before .before .before .before .before .before .before .before .args .row) (c .before .before .before .before .before .before .before .before .before .before .before .before .before .before .before .before .before .before .args .node) (c .before .before .before .before .before .before .before .before .before .before .before .before .before .before .before .before .before .before .args .left) m (c .before .before .before .before .before .before .before .before .loop .s) (c .before .before .before .before .before .before .before .before .loop .nodes))
-    → Came (Reads ts Basic (c .before .before .before .before .before .before .before .before .before .before .before .before .before .before .before .before .before .before .args .left) (c .before .before .before .before .before .before .before .before .before .before .before .before .before .before .before .before .before .before .args .row)) ts (Parse.post ts (Parse.inner ts (c .before .before .before .before .before .before .before .before .before .before .before .before .before .before .before .before .before .before .args .left)) (w .tree) (c .before .before .before .before .before .before .before .before .loop .s .row)) (c .before .before .before .before .before .before .before .before .before .before .before .before .before .before .before .before .before .before .args .row) (c .before .before .before .before .before .before .before .before .before .before .before .before .before .before .before .before .before .before .args .node) m (c .t2 .given .0 .0) (c .before .before .before .before .post .last .1 .1 .0)
-got t c ts tl m w =
-    let a = c .before .before .before .before .before .before .before .before .before .before .before .before .before .before .before .before .before .before .args in
-    came-reads ts Basic (a .left) (Parse.post ts (Parse.inner ts (a .left)) (w .tree) (c .before .before .before .before .before .before .before .before .loop .s .row)) (a .row) (a .node) m (c .before .before .before .before .post .last .1 .1 .0) (c .before .before .before .before .post .result) (c .t2 .given .0 .0)
-    (post-sound ts (a .left) (Parse.inner ts (a .left)) (inner-sound ts (a .left)) (a .row) (w .tree) (c .before .before .before .before .before .before .before .before .loop .s .row) (w .known) (eq-eqb (kindAt ts (c .before .before .before .before .before .before .before .before .loop .s .row)) Dot (is-dot t (c .before .before .before .before .before .before) ts tl)))
-    (c .before .before .before .before .post .ensures ts tl (a .row) (a .node) (w .tree) m (w .stands)) (c .t2 .given .1)
+  -- the entry, from behind the atom
+  abbrev entry : First → Entry
+  entry c = c .before .before .before .before
 
--- and that it went on
-up : (t : ℕ) (c : lts.After-t2 (cs t) (prim-at t) prim.Post Inv-loop μ-loop) (ts : List Tok) → Tells ts (c .before .before .before .before .before .before .before .before .before .before .before .before .before .before .before .before .before .before .args .rows .now) (c .before .before .before .before .before .before .before .before .before .before .before .before .before .before .before .before .before .before .args .count) → (m : List ℕ)
-    → Loop ts (c .before .before .before .before .before .before .before .before .before .before .before .before .before .before .before .before .before .before .args .row) (c .before .before .before .before .before .before .before .before .before .before .before .before .before .before .before .before .before .before .args .node) (c .before .before .before .before .before .before .before .before .before .before .before .before .before .before .before .before .before .before .args .left) m (c .before .before .before .before .before .before .before .before .loop .s) (c .before .before .before .before .before .before .before .before .loop .nodes) → c .before .before .before .before .before .before .before .before .loop .s .row < c .t2 .given .0 .0 .row
-up t c ts tl m w =
-    let a = c .before .before .before .before .before .before .before .before .before .before .before .before .before .before .before .before .before .before .args in
-    let v = got t c ts tl m w in
-    all-ok (On ts (a .row) (c .before .before .before .before .before .before .before .before .loop .s .row)) (Parse.post ts (Parse.inner ts (a .left)) (w .tree) (c .before .before .before .before .before .before .before .before .loop .s .row)) (v .tree) (c .t2 .given .0 .0 .row)
-    (ends-post ts (a .left) (a .row) (w .tree) (c .before .before .before .before .before .before .before .before .loop .s .row) (w .stands .rows)) (v .is) .3
+  -- the atom, from behind its state and from behind its refusal
+  abbrev first-done : lts.After-known-told (cs t) (prim-at t) prim.Post Inv-loop μ-loop → First
+  first-done c = c .before .before .before .before .before
 
-pub atom-requires : (t : ℕ) → lts.Need-atom-requires (cs t) (prim-at t) prim.Post Inv-loop μ-loop
-atom-requires t c κs = search needs
+  abbrev first-refused : lts.After-known-told2 (cs t) (prim-at t) prim.Post Inv-loop μ-loop → First
+  first-refused c = c .before .before .before .before .before
 
-pub enum-known-t : (t : ℕ) → lts.Need-enum-known-t (cs t) (prim-at t) prim.Post Inv-loop μ-loop
-enum-known-t t c = search needs
+  -- the entry from the loop, the turn of the loop from behind its test, the test from behind the call of `post`
+  abbrev at-loop : Looping → Entry
+  at-loop c = entry (first-done (c .before))
 
-pub enum-known-why : (t : ℕ) → lts.Need-enum-known-why (cs t) (prim-at t) prim.Post Inv-loop μ-loop
-enum-known-why t c = search needs
+  abbrev turning : Going → Looping
+  turning c = c .before .before
 
-pub same-length : (t : ℕ) → lts.Need-same-length (cs t) (prim-at t) prim.Post Inv-loop μ-loop
-same-length t c = search needs
+  abbrev going : Second → Going
+  going c = c .before .before
 
-pub returns : (t : ℕ) → lts.Need-returns (cs t) (prim-at t) prim.Post Inv-loop μ-loop
-returns t c = λ ts tl.
-    let a = c .before .before .before .before .before .before .before .before .before .args in
-    met-no (Parse.prim ts (Parse.inner ts (a .left)) (a .row)) (a .row) (a .node) (c .before .why .given .0 .0) (c .before .why .given .0 .1 .0) (a .nodes .now) (c .before .before .before .before .before .atom .last .1 .1 .0)
-    (prim-is ts (Parse.inner ts (a .left)) (a .row) ∙ then-no (Parse.atom ts (Parse.inner ts (a .left)) (a .row)) _ (c .before .why .given .0 .0) (c .before .why .given .0 .1 .0)
-    (refused _ (a .row) (a .node) (a .nodes .now) (c .before .before .before .before .before .atom .last .1 .1 .0) (c .before .before .before .before .before .atom .result) (c .before .why .given .0 .0) (c .before .why .given .0 .1 .0) (c .before .before .before .before .before .atom .ensures ts tl) (c .before .why .given .1)))
+  abbrev at-second : Second → Entry
+  at-second c = at-loop (turning (going c))
 
-pub loop-holds : (t : ℕ) → lts.Need-loop-holds (cs t) (prim-at t) prim.Post Inv-loop μ-loop
-loop-holds t c = λ ts tl m h. h
+  -- that call, from behind its state and from behind its refusal
+  abbrev second-done : lts.After-known-told3 (cs t) (prim-at t) prim.Post Inv-loop μ-loop → Second
+  second-done c = c .before .before .before .before .before
 
-pub kind-at-requires : (t : ℕ) → lts.Need-kind-at-requires (cs t) (prim-at t) prim.Post Inv-loop μ-loop
-kind-at-requires t c κs = c .before .before .before .before .before .before .before .before .before .before .pre .1 .lent
+  abbrev second-refused : lts.After-known-told4 (cs t) (prim-at t) prim.Post Inv-loop μ-loop → Second
+  second-refused c = c .before .before .before .before .before
 
-pub same-length-2 : (t : ℕ) → lts.Need-same-length-2 (cs t) (prim-at t) prim.Post Inv-loop μ-loop
-same-length-2 t c = same-len _ _ _ _ _ _ (some t (c .before .before) .stands)
+  abbrev Told : List Tok → Entry → Type 0
+  Told ts e = Tells ts (e .args .rows .now) (e .args .count)
 
-pub returns-2 : (t : ℕ) → lts.Need-returns-2 (cs t) (prim-at t) prim.Post Inv-loop μ-loop
-returns-2 t c = λ ts tl.
-    let a = c .before .before .before .before .before .before .before .before .before .before .before .before .args in
-    done _ ts _ _ _ (a .row) (a .node) (a .nodes .now) (c .before .before .loop .s) (c .before .before .loop .nodes) (turn t (c .before .before) ts tl)
-    (ne-eqb (kindAt ts (c .before .before .loop .s .row)) Dot (λ e. c .if1 .taken (kind-is t (c .before) ts tl ∙ e)))
+  abbrev Turned : List Tok → List ℕ → Looping → Type 0
+  Turned ts m c = let a = at-loop c .args in Dotted ts (a .left) (a .row) (a .node) m (c .loop .s) (c .loop .nodes)
 
-pub post-requires : (t : ℕ) → lts.Need-post-requires (cs t) (prim-at t) prim.Post Inv-loop μ-loop
-post-requires t c κs =
-    let w = some t (c .before .before .before) in
-    let h = dot-here t (c .before) in
-    omega (arith, w .few, w .near, w .stands, c .before .before .before .before .before .before .before .before .before .before .before .before .before .pre)
+  -- ---- what holds there
 
-pub enum-known-t-2 : (t : ℕ) → lts.Need-enum-known-t-2 (cs t) (prim-at t) prim.Post Inv-loop μ-loop
-enum-known-t-2 t c = search needs
+  turn : (c : Looping) (ts : List Tok) → Told ts (at-loop c) → Turned ts (at-loop c .args .nodes .now) c
+  turn c ts tl =
+      c .loop .inv ts tl (at-loop c .args .nodes .now)
+      (dotted-start (atom-came (first-done (c .before) .atom .ensures ts tl) (c .before .before .t .given .1)))
 
-pub loop-less : (t : ℕ) → lts.Need-loop-less (cs t) (prim-at t) prim.Post Inv-loop μ-loop
-loop-less t c =
-    let w = some t (c .before .before .before .before .before .before .before .before .before) in
-    let h = dot-here t (c .before .before .before .before .before .before .before) in
-    let u = up t (c .before) (tokens (c .before .before .before .before .before .before .before .before .before .before .before .before .before .before .before .before .before .before .before .args .rows .now) (c .before .before .before .before .before .before .before .before .before .before .before .before .before .before .before .before .before .before .before .args .count)) (tells-some (c .before .before .before .before .before .before .before .before .before .before .before .before .before .before .before .before .before .before .before .args .rows .now) (c .before .before .before .before .before .before .before .before .before .before .before .before .before .before .before .before .before .before .before .args .count)) (c .before .before .before .before .before .before .before .before .before .before .before .before .before .before .before .before .before .before .before .args .nodes .now) w in
-    omega arith
+  kind-is : (c : lts.After-kind-at (cs t) (prim-at t) prim.Post Inv-loop μ-loop) (ts : List Tok) → Told ts (at-loop (c .before))
+      → c .kind-at .result ≡ kindAt ts (c .before .loop .s .row)
+  kind-is c ts tl = c .kind-at .ensures ∙ tells-kind ts _ _ tl (c .before .loop .s .row)
 
-pub loop-again : (t : ℕ) → lts.Need-loop-again (cs t) (prim-at t) prim.Post Inv-loop μ-loop
-loop-again t c = λ ts tl m h.
-    let a = c .before .before .before .before .before .before .before .before .before .before .before .before .before .before .before .before .before .before .before .args in
-    let w = c .before .before .before .before .before .before .before .before .before .loop .inv ts tl m h in
-    let v = got t (c .before) ts tl m w in
-    again _ ts (λ r. eqb (kindAt ts r) Dot) (Parse.post ts (Parse.inner ts (a .left))) (Parse.prim ts (Parse.inner ts (a .left)) (a .row)) (a .row) (a .node) m (c .before .before .before .before .before .before .before .before .before .loop .s) (c .before .before .before .before .before .before .before .before .before .loop .nodes) w
-    (eq-eqb (kindAt ts (c .before .before .before .before .before .before .before .before .before .loop .s .row)) Dot (is-dot t (c .before .before .before .before .before .before .before) ts tl)) (λ u. Reads ts Basic (a .left) (a .row) u (c .before .t2 .given .0 .0 .row))
-    (v .tree) (c .before .t2 .given .0 .0) (c .before .before .before .before .before .post .last .1 .1 .0) (v .is) (v .stands) (up t (c .before) ts tl m w) (v .inside) (v .counts) (v .known)
+  is-dot : (c : Going) (ts : List Tok) → Told ts (at-loop (turning c)) → kindAt ts (turning c .loop .s .row) ≡ Dot
+  is-dot c ts tl = sym (kind-is (c .before) ts tl) ∙ c .if1 .left
 
-pub enum-known-why-2 : (t : ℕ) → lts.Need-enum-known-why-2 (cs t) (prim-at t) prim.Post Inv-loop μ-loop
-enum-known-why-2 t c = search needs
+  in-row : (c : Going) → turning c .loop .s .row < at-loop (turning c) .args .count
+  in-row c = word-here _ _ _ Dot (sym (c .before .kind-at .ensures) ∙ c .if1 .left) refl
 
-pub same-length-3 : (t : ℕ) → lts.Need-same-length-3 (cs t) (prim-at t) prim.Post Inv-loop μ-loop
-same-length-3 t c = c .before .before .before .before .before .post .kept .1 .1 .0 ∙ same-len _ _ _ _ _ _ (some t (c .before .before .before .before .before .before .before .before .before) .stands)
+  -- ---- the needs
 
-pub returns-3 : (t : ℕ) → lts.Need-returns-3 (cs t) (prim-at t) prim.Post Inv-loop μ-loop
-returns-3 t c = λ ts tl.
-    let a = c .before .before .before .before .before .before .before .before .before .before .before .before .before .before .before .before .before .before .before .args in
-    let w = turn t (c .before .before .before .before .before .before .before .before .before) ts tl in
-    fails _ ts (λ r. eqb (kindAt ts r) Dot) (Parse.post ts (Parse.inner ts (a .left))) (Parse.prim ts (Parse.inner ts (a .left)) (a .row)) (a .row) (a .node) (a .nodes .now) (c .before .before .before .before .before .before .before .before .before .loop .s) (c .before .before .before .before .before .before .before .before .before .loop .nodes) w
-    (eq-eqb (kindAt ts (c .before .before .before .before .before .before .before .before .before .loop .s .row)) Dot (is-dot t (c .before .before .before .before .before .before .before) ts tl))
-    (c .before .why2 .given .0 .0) (c .before .why2 .given .0 .1 .0) (c .before .before .before .before .before .post .last .1 .1 .0)
-    (refused _ (a .row) (a .node) (a .nodes .now) (c .before .before .before .before .before .post .last .1 .1 .0) (c .before .before .before .before .before .post .result) (c .before .why2 .given .0 .0) (c .before .why2 .given .0 .1 .0) (c .before .before .before .before .before .post .ensures ts tl (a .row) (a .node) (w .tree) (a .nodes .now) (w .stands)) (c .before .why2 .given .1))
+  pub atom-requires : lts.Need-atom-requires (cs t) (prim-at t) prim.Post Inv-loop μ-loop
+  atom-requires c κs = search needs
+
+  pub enum-known-t : lts.Need-enum-known-t (cs t) (prim-at t) prim.Post Inv-loop μ-loop
+  enum-known-t c = search needs
+
+  pub enum-known-why : lts.Need-enum-known-why (cs t) (prim-at t) prim.Post Inv-loop μ-loop
+  enum-known-why c = search needs
+
+  pub same-length : lts.Need-same-length (cs t) (prim-at t) prim.Post Inv-loop μ-loop
+  same-length c = search needs
+
+  pub returns : lts.Need-returns (cs t) (prim-at t) prim.Post Inv-loop μ-loop
+  returns c = λ ts tl.
+      let f = first-refused c in
+      let a = entry f .args in
+      let w = c .before .why .given in
+      met-no _ (a .row) (a .node) (w .0 .0) (w .0 .1 .0) (a .nodes .now) (f .atom .last .1 .1 .0)
+      (prim-is ts (Parse.inner ts (a .left)) (a .row) ∙ then-no _ _ (w .0 .0) (w .0 .1 .0)
+      (refused _ (a .row) (a .node) (a .nodes .now) (f .atom .last .1 .1 .0) (f .atom .result) (w .0 .0) (w .0 .1 .0) (f .atom .ensures ts tl) (w .1)))
+
+  pub loop-holds : lts.Need-loop-holds (cs t) (prim-at t) prim.Post Inv-loop μ-loop
+  loop-holds c = λ ts tl m h. h
+
+  pub kind-at-requires : lts.Need-kind-at-requires (cs t) (prim-at t) prim.Post Inv-loop μ-loop
+  kind-at-requires c κs = at-loop c .pre .1 .lent
+
+  pub same-length-2 : lts.Need-same-length-2 (cs t) (prim-at t) prim.Post Inv-loop μ-loop
+  same-length-2 c = dotted-fit (turn (c .before .before) _ (tells-some _ _)) .long
+
+  pub returns-2 : lts.Need-returns-2 (cs t) (prim-at t) prim.Post Inv-loop μ-loop
+  returns-2 c = λ ts tl. dotted-done (turn (c .before .before) ts tl) (λ e. c .if1 .taken (kind-is (c .before) ts tl ∙ e))
+
+  pub post-requires : lts.Need-post-requires (cs t) (prim-at t) prim.Post Inv-loop μ-loop
+  post-requires c κs =
+      let w = dotted-fit (turn (turning (c .before)) _ (tells-some _ _)) in
+      let h = in-row (c .before) in
+      omega (arith, w .few, at-loop (turning (c .before)) .pre)
+
+  pub enum-known-t-2 : lts.Need-enum-known-t-2 (cs t) (prim-at t) prim.Post Inv-loop μ-loop
+  enum-known-t-2 c = search needs
+
+  pub loop-less : lts.Need-loop-less (cs t) (prim-at t) prim.Post Inv-loop μ-loop
+  loop-less c =
+      let p = second-done c in
+      let a = at-second p .args in
+      let l = tells-some (a .rows .now) (a .count) in
+      let h = in-row (going p) in
+      let u = dotted-on (turn (turning (going p)) _ l) (is-dot (going p) _ l) (p .post .last .1 .1 .0) (p .post .result)
+      (λ u st. p .post .ensures _ l (a .row) (a .node) u (a .nodes .now) st) (c .before .t2 .given .0 .0) (c .before .t2 .given .1) in
+      omega arith
+
+  pub loop-again : lts.Need-loop-again (cs t) (prim-at t) prim.Post Inv-loop μ-loop
+  loop-again c = λ ts tl m h.
+      let p = second-done c in
+      let a = at-second p .args in
+      dotted-again (turning (going p) .loop .inv ts tl m h) (is-dot (going p) ts tl) (p .post .last .1 .1 .0) (p .post .result)
+      (λ u st. p .post .ensures ts tl (a .row) (a .node) u m st) (c .before .t2 .given .0 .0) (c .before .t2 .given .1)
+
+  pub enum-known-why-2 : lts.Need-enum-known-why-2 (cs t) (prim-at t) prim.Post Inv-loop μ-loop
+  enum-known-why-2 c = search needs
+
+  pub same-length-3 : lts.Need-same-length-3 (cs t) (prim-at t) prim.Post Inv-loop μ-loop
+  same-length-3 c =
+      let p = second-refused c in
+      p .post .kept .1 .1 .0 ∙ dotted-fit (turn (turning (going p)) _ (tells-some _ _)) .long
+
+  pub returns-3 : lts.Need-returns-3 (cs t) (prim-at t) prim.Post Inv-loop μ-loop
+  returns-3 c = λ ts tl.
+      let p = second-refused c in
+      let a = at-second p .args in
+      let w = c .before .why2 .given in
+      dotted-fails (turn (turning (going p)) ts tl) (is-dot (going p) ts tl) (p .post .last .1 .1 .0) (p .post .result)
+      (λ u st. p .post .ensures ts tl (a .row) (a .node) u (a .nodes .now) st) (w .0 .0) (w .0 .1 .0) (w .1)
