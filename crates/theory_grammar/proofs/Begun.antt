@@ -1,5 +1,5 @@
--- What was read of a tree up to a row, completed by the least that closes it. Where the checks count, a map gets the fields that it lacks, a
--- `max` is shifted to 0, and of a call on no variable only its dot and name are taken.
+-- What was read of a tree up to a row, completed by the least that closes it. Where the checks count, a map gets the fields that it lacks,
+-- a `max` is shifted to 0, and of a call on no variable only its dot and name are taken.
 use mathlib.Core.Path.{_≡_, refl, sym, ap, _∙_, subst}
 use mathlib.Core.Bool.{Bool, true, false, not, _&&_, _||_, true≢false}
 use mathlib.Core.List.{List, [], _∷_, _++_, append-assoc, append-nil}
@@ -12,21 +12,18 @@ use lib.ListN.{length}
 use Rattle.rules.specs.declared.Syntax.{Syntax}
 use Rattle.rules.specs.declared.Syntax.the-variants.{CallOnOther}
 use Rattle.rules.specs.Kinds.{kindIn, sameBytes, KeywordKey, KeywordValue, KeywordElse, KeywordGuard, LBrace, RBrace, LParen, RParen, Dot, Semicolon, Equals, Shl, Identifier, StringLiteral, Number, Eof}
-use Rattle.rules.specs.Tree.{Tok, sign, name, value, Tree, none, num, field, one, thenBody, seq, mapType, typed, limit, first, shifted, mapDecl, program, yield, mapTypes, mapTypeNumber, shiftBits, maxBits, typeOf, typedBy, limitOf, lacking}
+use Rattle.rules.specs.Tree.{Tok, sign, Tree, num, thenBody, seq, mapType, typed, limit, first, shifted, mapDecl, yield, mapTypes, mapTypeNumber, shiftBits, maxBits, typeOf, typedBy, limitOf, lacking}
 use Rattle.rules.specs.Parse
-use Rattle.rules.specs.Parse.{Out, ok, no, P, then, isAssign, isText, most32, StmtLead, declaring, returning, branching, expression, stmtLead, nothing, whole, kindAt}
+use Rattle.rules.specs.Parse.{Out, ok, P, then, isAssign, isText, most32, StmtLead, declaring, returning, branching, expression, stmtLead, kindAt}
 use Rattle.rules.specs.Fits.{has, setTold}
 use Rattle.rules.specs.Grammar.{Nt, Add, Shift, Mul, Unary, Basic, Args, Stmt, Stmts, Item, Items, Chain, MapField, MapFields, EventField, EventFields, Decl, Decls, Program, Is, i-num, i-var, i-group, i-field, i-bare, i-call, i-one, i-more, i-prim, i-star, i-unary, i-mul, i-lone, i-shift, i-up, i-add, i-decl, i-ret, i-plain, i-assign, i-if, i-if-else, i-no-stmts, i-stmts, i-stmt, i-text, i-no-items, i-items, i-first, i-shifted, i-type, i-typed, i-limit, i-no-fields, i-fields, i-plain-field, i-bytes-field, i-array-field, i-no-event-fields, i-event-fields, i-unit, i-map, i-event, i-no-decls, i-decls, i-program}
-use Rattle.theory_grammar.specs.Lost.{isMisfit, isCheck, lost, LostAt, own, around, nesting}
+use Rattle.theory_grammar.specs.Lost.{isMisfit, isCheck, lost, LostAt, own, around}
 use Rattle.theory_grammar.proofs.Laws.{here}
 use Rattle.theory_grammar.proofs.Runs.{Run, isMark, row, _▸_, All, all-any, then-all, map-all, want-all, end-in-all, end-all, need-all, named-all, quoted-all}
 use Rattle.theory_grammar.proofs.Sound.{BodyUnder, body-sound}
 use Rattle.theory_grammar.proofs.Grow.{heads, heads-more}
 
 -- ---- a program is one with the checks left aside, and within a deeper nesting
-
-pub aside : {b : Bool} → false ≡ true → b ≡ true
-aside e = absurd (true≢false (sym e))
 
 -- the nesting d, or where it may be one deeper (x)
 abbrev pub over : Bool → ℕ → ℕ
@@ -97,10 +94,6 @@ module _ {b : Bool} {N : Nt} {t : Tree} (x : Bool) (d d′ : ℕ) (e : d ≡ suc
   pub inside-it : Is b N (over x d) t → Is b N (suc (over x d′)) t
   inside-it h = inward x d′ (subst (λ (n : ℕ). Is b N (over x n) t) e h)
 
--- the least expression
-pub nought : {b : Bool} {d : ℕ} → Is b Add d (num 0)
-nought = i-up (i-lone (i-unary (i-prim i-num)))
-
 -- ---- what closes a map
 
 -- a chain, shifted until nothing is left of its value
@@ -136,7 +129,8 @@ i-hash = i-type (λ _. refl)
 pub i-filled : {b : Bool} {d : ℕ} {w : List ℕ} {l : Tree} → Is b MapFields d l → Is b Decl d (mapDecl w (filled l))
 unfolding typeOf typedBy limitOf maxBits lacking mapTypeNumber mapTypes kindIn sameBytes
 i-filled h =
-    i-map (i-fields (i-fields (i-fields (i-fields h i-hash) (i-typed refl refl)) (i-typed refl refl)) (i-limit i-first (λ _. refl))) (λ _. refl)
+    i-map (i-fields (i-fields (i-fields (i-fields h i-hash) (i-typed refl refl)) (i-typed refl refl)) (i-limit i-first (λ _. refl)))
+    (λ _. refl)
 
 -- ---- what was read of a tree
 
@@ -172,14 +166,16 @@ pub record Open (b x : Bool) (ts : List Tok) (N : Nt) (d i s k : ℕ) : Type 0 w
   pub run : Run ts i read s
   pub next : x ≡ true → heads k (rest ++ closedBy N) ≡ true
 
-pub fitting : {b x : Bool} {ts : List Tok} {N : Nt} {d i s : ℕ} {xs : List Tok} (k : ℕ) (t : Tree) → Is b N (over x d) t → (zs : List Tok) → yield t ≡ xs ++ zs
+pub fitting : {b x : Bool} {ts : List Tok} {N : Nt} {d i s : ℕ} {xs : List Tok} (k : ℕ) (t : Tree) → Is b N (over x d) t → (zs : List Tok)
+    → yield t ≡ xs ++ zs
     → Run ts i xs s → heads k (zs ++ closedBy N) ≡ true → Open b x ts N d i s k
 fitting {xs = xs} k t h zs e r n = record { tree = t; is = h; read = xs; rest = zs; spells = e; run = r; next = λ _. n }
 
 -- whatever comes next
 pub opened : {b : Bool} {ts : List Tok} {N : Nt} {d i s : ℕ} {xs : List Tok} (t : Tree) → Is b N d t → (zs : List Tok) → yield t ≡ xs ++ zs
     → Run ts i xs s → Open b false ts N d i s 0
-opened {xs = xs} t h zs e r = record { tree = t; is = h; read = xs; rest = zs; spells = e; run = r; next = λ q. absurd (true≢false (sym q)) }
+opened {xs = xs} t h zs e r =
+    record { tree = t; is = h; read = xs; rest = zs; spells = e; run = r; next = λ q. absurd (true≢false (sym q)) }
 
 pub any-next : {b : Bool} {ts : List Tok} {N : Nt} {d i s k n : ℕ} → Open b false ts N d i s k → Open b false ts N d i s n
 any-next o = record {
@@ -193,7 +189,8 @@ any-next o = record {
 }
 
 -- what was read of a part of a tree, behind rows that were read and in front of the tokens zs, is read of the tree
-enclosed : {b x : Bool} {ts : List Tok} {M N : Nt} {d d′ i j k s : ℕ} {xs : List Tok} (F : Tree → Tree) → ((u : Tree) → Is b M (over x d′) u → Is b N (over x d) (F u))
+enclosed : {b x : Bool} {ts : List Tok} {M N : Nt} {d d′ i j k s : ℕ} {xs : List Tok} (F : Tree → Tree)
+    → ((u : Tree) → Is b M (over x d′) u → Is b N (over x d) (F u))
     → (zs : List Tok) → (x ≡ true → (l : List Tok) → heads k (l ++ closedBy M) ≡ true → heads k (l ++ zs) ≡ true)
     → ((u : Tree) → yield (F u) ≡ xs ++ (yield u ++ zs)) → Run ts i xs j → Open b x ts M d′ j s k → Open b x ts N d i s k
 enclosed {N = N} {k = k} {xs = xs} F made zs f e q o = record {
@@ -201,13 +198,16 @@ enclosed {N = N} {k = k} {xs = xs} F made zs f e q o = record {
   is = made (o .tree) (o .is);
   read = xs ++ o .read;
   rest = o .rest ++ zs;
-  spells = e (o .tree) ∙ ap (λ (l : List Tok). xs ++ (l ++ zs)) (o .spells) ∙ ap (λ (l : List Tok). xs ++ l) (append-assoc (o .read) (o .rest) zs)
+  spells =
+      e (o .tree) ∙ ap (λ (l : List Tok). xs ++ (l ++ zs)) (o .spells) ∙ ap (λ (l : List Tok). xs ++ l)
+      (append-assoc (o .read) (o .rest) zs)
       ∙ sym (append-assoc xs (o .read) (o .rest ++ zs));
   run = q ▸ o .run;
   next = λ x. heads-more k (o .rest ++ zs) (closedBy N) (f x (o .rest) (o .next x));
 }
 
--- Where a refusal arises: in code, in the fields of maps and events, or around these. In code no check is told but 31, in fields never that.
+-- Where a refusal arises: in code, in the fields of maps and events, or around these. In code no check is told but 31, in fields never
+-- that.
 pub data Where : Type 0 where
   code fields top : Where
 
@@ -220,8 +220,9 @@ Arises top why = Unit {0}
 abbrev pub Due : Syntax → ℕ → Type 0
 Due why k = isMisfit why ≡ true → has (setTold why) k ≡ true
 
--- A refusal at row r of what was read from row i on: the row that is lost, a kind that is told, and for each of these a tree that begins with
--- the rows up to the lost one and then one of that kind. Of 31 the lost row dooms (D): whatever stands behind it, there is a refusal.
+-- A refusal at row r of what was read from row i on: the row that is lost, some kind that is told, and for each such kind a tree that
+-- begins with the rows up to the lost one and then one of that kind. Of 31 the lost row dooms (D): whatever stands behind it, there is a
+-- refusal.
 pub record Halt (c : Where) (D : ℕ → Type 0) (ts : List Tok) (N : Nt) (d i : ℕ) (why : Syntax) (r : ℕ) : Type 0 where
   pub row : ℕ
   pub at : LostAt ts why r row
@@ -234,7 +235,8 @@ pub record Halt (c : Where) (D : ℕ → Type 0) (ts : List Tok) (N : Nt) (d i :
 module _ {ts : List Tok} {c : Where} {D D′ : ℕ → Type 0} {M N : Nt} {d d′ i : ℕ} {why : Syntax} {r : ℕ} (F : Tree → Tree)
     (made : (u : Tree) → Is (isCheck why) M (over (isMisfit why) d′) u → Is (isCheck why) N (over (isMisfit why) d) (F u))
     (doom : why ≡ CallOnOther → (s : ℕ) → D s → D′ s) where
-  halted : {j : ℕ} → ((k s : ℕ) → Open (isCheck why) (isMisfit why) ts M d′ j s k → Open (isCheck why) (isMisfit why) ts N d i s k) → Halt c D ts M d′ j why r
+  halted : {j : ℕ} → ((k s : ℕ) → Open (isCheck why) (isMisfit why) ts M d′ j s k → Open (isCheck why) (isMisfit why) ts N d i s k)
+      → Halt c D ts M d′ j why r
       → Halt c D′ ts N d i why r
   halted f h = record {
     row = h .row;
@@ -250,10 +252,12 @@ module _ {ts : List Tok} {c : Where} {D D′ : ℕ → Type 0} {M N : Nt} {d d�
   pub wrap : {j : ℕ} {xs : List Tok} (zs : List Tok) → closedBy M ≡ [] → ((u : Tree) → yield (F u) ≡ xs ++ (yield u ++ zs)) → Run ts i xs j
       → Halt c D ts M d′ j why r → Halt c D′ ts N d i why r
   wrap zs z e q h =
-      halted (λ k s. enclosed F made zs (λ x l n. heads-more k l zs (subst (λ (l : List Tok). heads k l ≡ true) (append-nil l) (rw z at n))) e q) h
+      halted (λ k s. enclosed F made zs (λ x l n. heads-more k l zs
+      (subst (λ (l : List Tok). heads k l ≡ true) (append-nil l) (rw z at n))) e q) h
 
   -- a list, in front of what stands behind it
-  pub shut : {j : ℕ} {xs : List Tok} (zs : List Tok) → (isMisfit why ≡ true → closedBy M ≡ zs) → ((u : Tree) → yield (F u) ≡ xs ++ (yield u ++ zs)) → Run ts i xs j
+  pub shut : {j : ℕ} {xs : List Tok} (zs : List Tok) → (isMisfit why ≡ true → closedBy M ≡ zs)
+      → ((u : Tree) → yield (F u) ≡ xs ++ (yield u ++ zs)) → Run ts i xs j
       → Halt c D ts M d′ j why r → Halt c D′ ts N d i why r
   shut zs z e q h = halted (λ k s. enclosed F made zs (λ x l n. subst (λ (y : List Tok). heads k (l ++ y) ≡ true) (z x) n) e q) h
 
@@ -273,16 +277,19 @@ module _ {ts : List Tok} {c : Where} {D D′ : ℕ → Type 0} {M N : Nt} {d d�
       }
 
 -- the same tree, for a wider part of the parser
-pub widen : {ts : List Tok} {c : Where} {D D′ : ℕ → Type 0} {N : Nt} {d i : ℕ} {why : Syntax} {r : ℕ} → ((s : ℕ) → D s → D′ s) → Halt c D ts N d i why r
+pub widen : {ts : List Tok} {c : Where} {D D′ : ℕ → Type 0} {N : Nt} {d i : ℕ} {why : Syntax} {r : ℕ} → ((s : ℕ) → D s → D′ s)
+    → Halt c D ts N d i why r
     → Halt c D′ ts N d i why r
 widen f h = recast (λ u. u) (λ u q. q) (λ _. f) refl (λ u. refl) h
 
 -- wherever it arises
-pub loosely : {c : Where} {D : ℕ → Type 0} {ts : List Tok} {N : Nt} {d i : ℕ} {why : Syntax} {r : ℕ} → Halt c D ts N d i why r → Halt top D ts N d i why r
+pub loosely : {c : Where} {D : ℕ → Type 0} {ts : List Tok} {N : Nt} {d i : ℕ} {why : Syntax} {r : ℕ} → Halt c D ts N d i why r
+    → Halt top D ts N d i why r
 loosely h = record { row = h .row; at = h .at; arises = tt; wish = h .wish; due = h .due; begun = h .begun; dooms = h .dooms }
 
 -- the lost row is not in front of what was read
-pub not-before : {c : Where} {D : ℕ → Type 0} {ts : List Tok} {N : Nt} {d i : ℕ} (why : Syntax) (r : ℕ) → Halt c D ts N d i why r → i ≤ lost ts why r
+pub not-before : {c : Where} {D : ℕ → Type 0} {ts : List Tok} {N : Nt} {d i : ℕ} (why : Syntax) (r : ℕ) → Halt c D ts N d i why r
+    → i ≤ lost ts why r
 not-before {ts = ts} {i = i} why r h = go (h .at)
   where
     go : LostAt ts why r (h .row) → i ≤ lost ts why r
@@ -335,12 +342,15 @@ module _ (ts : List Tok) where
   body-starts : (d j : ℕ) → All (λ u k. Start ts k) (Parse.need ts LBrace (Parse.body ts d) j)
   body-starts d j =
       need-all ts (λ u k. Start ts k) LBrace (Parse.body ts d) j
-      (λ e. map-all (BodyUnder ts d j) (λ u k. Start ts k) (Parse.body ts d j) (body-sound ts d j (here ts j LBrace e refl)) (λ l k b. body-end d j l k b))
+      (λ e. map-all (BodyUnder ts d j) (λ u k. Start ts k) (Parse.body ts d j) (body-sound ts d j (here ts j LBrace e refl))
+      (λ l k b. body-end d j l k b))
 
-  else-starts : (d : ℕ) (c : Bool) (w : List ℕ) (b : Tree) (k : ℕ) → Start ts k → All (λ u j. Start ts j) (Parse.elseBy ts d (Parse.body ts d) c w b k)
+  else-starts : (d : ℕ) (c : Bool) (w : List ℕ) (b : Tree) (k : ℕ) → Start ts k
+      → All (λ u j. Start ts j) (Parse.elseBy ts d (Parse.body ts d) c w b k)
   unfolding Parse.elseBy
   else-starts d true w b k s =
-      then-all (λ u j. Start ts j) (λ u j. Start ts j) (Parse.need ts LBrace (Parse.body ts d) (k + 1)) _ (body-starts d (k + 1)) (λ e r x. x)
+      then-all (λ u j. Start ts j) (λ u j. Start ts j) (Parse.need ts LBrace (Parse.body ts d) (k + 1)) _ (body-starts d (k + 1))
+      (λ e r x. x)
   else-starts d false w b k s = s
 
   assign-starts : (d : ℕ) (c : Bool) (e : Tree) (j : ℕ) → All (λ u k. Start ts k) (Parse.assignBy ts d (Parse.body ts d) c e j)
@@ -357,7 +367,8 @@ module _ (ts : List Tok) where
   stmt-starts-by d branching i =
       want-all ts (λ u k. Start ts k) KeywordGuard _ (i + 1) (λ e. want-all ts (λ u k. Start ts k) LParen _ (i + 1 + 1) (λ f.
       named-all ts (λ u k. Start ts k) _ (i + 1 + 1 + 1) (λ h. want-all ts (λ u k. Start ts k) RParen _ (i + 1 + 1 + 1 + 1) (λ c.
-      then-all (λ u k. Start ts k) (λ u k. Start ts k) (Parse.need ts LBrace (Parse.body ts d) (i + 1 + 1 + 1 + 1 + 1)) _ (body-starts d (i + 1 + 1 + 1 + 1 + 1))
+      then-all (λ u k. Start ts k) (λ u k. Start ts k) (Parse.need ts LBrace (Parse.body ts d) (i + 1 + 1 + 1 + 1 + 1)) _
+      (body-starts d (i + 1 + 1 + 1 + 1 + 1))
       (λ b k s. else-starts d (eqb (kindAt ts k) KeywordElse) _ (thenBody b) k s)))))
   stmt-starts-by d expression i = then-starts (Parse.expr ts d i) _ (λ e j. assign-starts d (isAssign (kindAt ts j)) e j)
 

@@ -16,8 +16,7 @@ use Rattle.theory_grammar.proofs.FitsTold.{fits-told, found-unfit}
 
 -- with each kind that is told some program goes on
 pub told-fits : (ts : List Tok) (why : Syntax) (r : ℕ) → Proper ts → Parse.parse ts ≡ no why r → isMisfit why ≡ true → (k : ℕ)
-    → has (setTold why) k ≡ true
-    → Fitting ts (lost ts why r) k
+    → has (setTold why) k ≡ true → Fitting ts (lost ts why r) k
 unfolding isMisfit
 told-fits ts why r p e m k t = go (some-goes-on ts why r p e) (some-goes-on ts why r p e .at)
   where

@@ -1,9 +1,9 @@
--- What goes on with an expression: for each kind that may stand behind it, a longer expression whose rows are its own, one of that kind, and
--- more. And what begins a thing of each sort.
+-- What goes on with an expression: for each kind that may stand behind it, a longer expression whose rows are its own, one of that kind,
+-- and more. And what begins a thing of each sort.
 use mathlib.Core.Path.{_≡_, refl, sym, ap, _∙_, subst}
-use mathlib.Core.Bool.{Bool, true, false, not, _&&_, true≢false}
+use mathlib.Core.Bool.{Bool, true, false, true≢false}
 use mathlib.Core.List.{List, [], _∷_, _++_, append-assoc, append-nil}
-use Prim.Native.Nat.{ℕ, zero, suc, _+_, _-_, _≤_, _<_}
+use Prim.Native.Nat.{ℕ, suc, _+_, _-_, _<_}
 use native.Mathlib.Omega.{arith}
 use lib.Dec.{eqb}
 use lib.ListN.{length, drop, length-append}
@@ -22,7 +22,8 @@ use Rattle.theory_grammar.proofs.Members.{Each, done, _and_, coversOnwa
 
 -- ---- tokens that begin with a kind
 
-abbrev pub isOf : ℕ → Tok → Bool
+-- a token of a kind: `kindOf`, which computes
+abbrev isOf : ℕ → Tok → Bool
 isOf k (sign c) = eqb c k
 isOf k (name w) = eqb Identifier k
 isOf k (string w) = eqb StringLiteral k
@@ -69,7 +70,8 @@ last-grown {r = r} F made xs spells g = record {
   tree = F (g .tree);
   is = made (g .tree) (g .is);
   rest = g .rest;
-  spells = spells (g .tree) ∙ ap (λ (l : List Tok). xs ++ l) (g .spells) ∙ sym (append-assoc xs (yield r) (g .rest)) ∙ ap (λ (l : List Tok). l ++ g .rest) (sym (spells r));
+  spells = spells (g .tree) ∙ ap (λ (l : List Tok). xs ++ l) (g .spells) ∙ sym (append-assoc xs (yield r) (g .rest)) ∙ ap
+      (λ (l : List Tok). l ++ g .rest) (sym (spells r));
   next = g .next;
 }
 
@@ -93,7 +95,8 @@ module _ (ts : List Tok) (proper : Proper ts) where
     next = omega (arith, r .next, length-append xs ys);
     inside = r .inside;
     clear = λ n a b. r .clear n (omega arith) b;
-    same = λ p. sym (drop-drop (length xs) i ts) ∙ ap (drop (length xs)) (r .same p ∙ append-assoc xs ys (drop s ts)) ∙ drop-append-seam xs (ys ++ drop s ts);
+    same = λ p. sym (drop-drop (length xs) i ts) ∙ ap (drop (length xs)) (r .same p ∙ append-assoc xs ys (drop s ts)) ∙ drop-append-seam xs
+        (ys ++ drop s ts);
   }
 
   -- ---- the last name of an expression
@@ -108,7 +111,8 @@ module _ (ts : List Tok) (proper : Proper ts) where
   part : {s : ℕ} {t r : Tree} (xs : List Tok) (k : ℕ) → yield t ≡ xs ++ (sign k ∷ yield r) → eqb k Dot ≡ false → Behind t s → Behind r s
   unfolding kindOf
   part {s} {t} {r} xs k e n b =
-      let x : Run ts (b .first + length xs) (sign k ∷ yield r) s = run-behind xs (subst (λ (l : List Tok). Run ts (b .first) l s) e (b .run)) in
+      let x : Run ts (b .first + length xs) (sign k ∷ yield r) s =
+      run-behind xs (subst (λ (l : List Tok). Run ts (b .first) l s) e (b .run)) in
       record {
         first = b .first + length xs + 1;
         run = run-behind (sign k ∷ []) x;
@@ -116,11 +120,13 @@ module _ (ts : List Tok) (proper : Proper ts) where
       }
 
   -- behind a row that is no name
-  no-name : {s : ℕ} {t : Tree} (xs : List Tok) (x : Tok) → yield t ≡ xs ++ (x ∷ []) → eqb (kindOf x) Identifier ≡ false → Behind t s → dotName ts s ≡ true → ⊥
+  no-name : {s : ℕ} {t : Tree} (xs : List Tok) (x : Tok) → yield t ≡ xs ++ (x ∷ []) → eqb (kindOf x) Identifier ≡ false → Behind t s
+      → dotName ts s ≡ true → ⊥
   no-name {s} {t} xs x e n b d =
       let y : Run ts (b .first + length xs) (x ∷ []) s = run-behind xs (subst (λ (l : List Tok). Run ts (b .first) l s) e (b .run)) in
       let z : kindAt ts (s - 1) ≡ kindOf x = ap (λ (j : ℕ). kindAt ts j) (omega (arith, y .next)) ∙ ap kindOf (run-first y) in
-      true≢false (sym (both-true (eqb (kindAt ts (s - 1)) Identifier) (eqb (kindAt ts (s - 2)) Dot) d .0) ∙ ap (λ (j : ℕ). eqb j Identifier) z ∙ n)
+      true≢false (sym (both-true (eqb (kindAt ts (s - 1)) Identifier) (eqb (kindAt ts (s - 2)) Dot) d .0) ∙ ap
+      (λ (j : ℕ). eqb j Identifier) z ∙ n)
 
   -- behind a name alone
   no-dot : {s : ℕ} {t : Tree} (x : Tok) → yield t ≡ x ∷ [] → Behind t s → dotName ts s ≡ true → ⊥
@@ -135,7 +141,8 @@ module _ (ts : List Tok) (proper : Proper ts) where
       dotted : {t : Tree} → Latch t Dot
       calling : {t : Tree} → dotName ts s ≡ true → Behind t s → Latch t LParen
 
-    latch-part : {k : ℕ} {t r : Tree} (xs : List Tok) (c : ℕ) → yield t ≡ xs ++ (sign c ∷ yield r) → eqb c Dot ≡ false → Latch t k → Latch r k
+    latch-part : {k : ℕ} {t r : Tree} (xs : List Tok) (c : ℕ) → yield t ≡ xs ++ (sign c ∷ yield r) → eqb c Dot ≡ false → Latch t k
+        → Latch r k
     latch-part xs c e n dotted = dotted
     latch-part xs c e n (calling d b) = calling d (part xs c e n b)
 
@@ -153,7 +160,8 @@ module _ (ts : List Tok) (proper : Proper ts) where
       next = refl;
     }
     basic-on (i-bare {t = t} {w = w} h q) (calling d b) =
-        absurd (no-name (yield t ++ (sign Dot ∷ name w ∷ sign LParen ∷ [])) (sign RParen) (sym (append-assoc (yield t) (sign Dot ∷ name w ∷ sign LParen ∷ []) (sign RParen ∷ []))) refl b d)
+        absurd (no-name (yield t ++ (sign Dot ∷ name w ∷ sign LParen ∷ [])) (sign RParen)
+        (sym (append-assoc (yield t) (sign Dot ∷ name w ∷ sign LParen ∷ []) (sign RParen ∷ []))) refl b d)
     basic-on (i-call {t = t} {a = a} {w = w} h q g) (calling d b) =
         absurd (no-name (yield t ++ (sign Dot ∷ name w ∷ sign LParen ∷ yield a)) (sign RParen)
         (sym (append-assoc (yield t) (sign Dot ∷ name w ∷ sign LParen ∷ yield a) (sign RParen ∷ []))) refl b d)
@@ -179,7 +187,8 @@ module _ (ts : List Tok) (proper : Proper ts) where
     unfolding yield
     mul-on (i-unary h) (at-last l) = last-grown (λ u. u) (λ u q. i-unary q) [] (λ u. refl) (unary-on h l)
     mul-on (i-mul {k = c} {l = l} {r = r} g b h) (at-last o) =
-        last-grown (λ u. bin c l u) (λ u q. i-mul g b q) (yield l ++ (sign c ∷ [])) (λ u. sym (append-assoc (yield l) (sign c ∷ []) (yield u)))
+        last-grown (λ u. bin c l u) (λ u q. i-mul g b q) (yield l ++ (sign c ∷ []))
+        (λ u. sym (append-assoc (yield l) (sign c ∷ []) (yield u)))
         (unary-on h (latch-part (yield l) c refl (joins-apart isMul refl c b) o))
     mul-on {k = k} {t = t} h (times m) = joined t k (i-mul h m (i-prim i-num)) (self k)
 
@@ -187,7 +196,8 @@ module _ (ts : List Tok) (proper : Proper ts) where
     unfolding yield
     shift-on (i-lone h) o = last-grown (λ u. u) (λ u q. i-lone q) [] (λ u. refl) (mul-on h o)
     shift-on (i-shift {k = c} {l = l} {r = r} g b h) o =
-        last-grown (λ u. bin c l u) (λ u q. i-shift g b q) (yield l ++ (sign c ∷ [])) (λ u. sym (append-assoc (yield l) (sign c ∷ []) (yield u)))
+        last-grown (λ u. bin c l u) (λ u q. i-shift g b q) (yield l ++ (sign c ∷ []))
+        (λ u. sym (append-assoc (yield l) (sign c ∷ []) (yield u)))
         (mul-on h (mul-part (yield l) c refl (joins-apart isShift refl c b) o))
 
     -- what goes on with an expression, or with the last of some arguments
@@ -200,7 +210,8 @@ module _ (ts : List Tok) (proper : Proper ts) where
     unfolding yield isSum
     add-on (i-up h) (multiplied o) = last-grown (λ u. u) (λ u q. i-up q) [] (λ u. refl) (shift-on h o)
     add-on (i-add {k = c} {l = l} {r = r} g b h) (multiplied o) =
-        last-grown (λ u. bin c l u) (λ u q. i-add g b q) (yield l ++ (sign c ∷ [])) (λ u. sym (append-assoc (yield l) (sign c ∷ []) (yield u)))
+        last-grown (λ u. bin c l u) (λ u q. i-add g b q) (yield l ++ (sign c ∷ []))
+        (λ u. sym (append-assoc (yield l) (sign c ∷ []) (yield u)))
         (mul-on h (mul-part (yield l) c refl (joins-apart isAdd refl c b) o))
     add-on {k = k} {t = t} (i-up h) (shifting b n) = joined t k (i-up (i-shift h b (i-unary (i-prim i-num)))) (self k)
     add-on (i-add g b h) (shifting c n) = absurd (true≢false (sym b ∙ n))
@@ -222,13 +233,15 @@ module _ (ts : List Tok) (proper : Proper ts) where
     unfolding yield isSum
     args-on (i-one h) o = last-grown one (λ u q. i-one q) [] (λ u. refl) (add-on h (on-last on-one refl o))
     args-on (i-more {a = a} {t = t} g h) o =
-        last-grown (λ u. more a u) (λ u q. i-more g q) (yield a ++ (sign Comma ∷ [])) (λ u. sym (append-assoc (yield a) (sign Comma ∷ []) (yield u)))
+        last-grown (λ u. more a u) (λ u q. i-more g q) (yield a ++ (sign Comma ∷ []))
+        (λ u. sym (append-assoc (yield a) (sign Comma ∷ []) (yield u)))
         (add-on h (on-last (mul-part (yield a) Comma refl refl) refl o))
 
     -- ---- the set that is told behind an expression
 
     module _ (t : Tree) (S : ℕ) where
-      -- What holds of each kind that goes on with t, which ends in front of row s, and of those that may stand behind it holds of the whole set.
+      -- What holds of each kind that goes on with t, which ends in front of row s, and of those that may stand behind it holds of the whole
+      -- set.
       pub onward-each : (C : ℕ → Type 0) (ks : List ℕ) → coversOnward S ks ≡ true → Behind t s → ((k : ℕ) → On t k → C k) → Each C ks
           → (k : ℕ) → has (Parse.onward ts t s + S) k ≡ true → C k
       unfolding Parse.onward
@@ -236,11 +249,13 @@ module _ (ts : List Tok) (proper : Proper ts) where
           each-onward C S ks e
           (f Dot (multiplied (at-last dotted)) and f Star (multiplied (times refl)) and f Slash (multiplied (times refl))
           and f Percent (multiplied (times refl)) and f Plus (added refl) and f Minus (added refl) and done)
-          (isSum t) (dotName ts s) (λ n. f Shr (shifting refl n) and f Shl (shifting refl n) and done) (λ d. f LParen (multiplied (at-last (calling d b)))) ends
+          (isSum t) (dotName ts s) (λ n. f Shr (shifting refl n) and f Shl (shifting refl n) and done)
+          (λ d. f LParen (multiplied (at-last (calling d b)))) ends
 
-      pub onward-ends : (k : ℕ) → endsOnward S k ≡ true → has (Parse.onward ts t s + S) k ≡ true
-      unfolding Parse.onward
-      onward-ends k e = ends-onward S k e (isSum t) (dotName ts s)
+-- and it has each kind that may stand behind every expression
+pub onward-ends : (ts : List Tok) (s : ℕ) (t : Tree) (S k : ℕ) → endsOnward S k ≡ true → has (Parse.onward ts t s + S) k ≡ true
+unfolding Parse.onward
+onward-ends ts s t S k e = ends-onward S k e (isSum t) (dotName ts s)
 
 -- ---- what begins a thing
 
@@ -253,13 +268,13 @@ pub record Begins (N : Nt) (d k : ℕ) : Type 0 where
 begins : {N : Nt} {d k : ℕ} (t : Tree) → Is false N d t → heads k (yield t) ≡ true → Begins N d k
 begins t h e = record { tree = t; is = h; next = e }
 
--- checks aside
-unchecked : {b : Bool} → false ≡ true → b ≡ true
-unchecked e = absurd (true≢false (sym e))
+-- a check that is left aside
+pub aside : {b : Bool} → false ≡ true → b ≡ true
+aside e = absurd (true≢false (sym e))
 
 -- the least expression
-nil : {d : ℕ} → Is false Add d (num 0)
-nil = i-up (i-lone (i-unary (i-prim i-num)))
+pub nought : {b : Bool} {d : ℕ} → Is b Add d (num 0)
+nought = i-up (i-lone (i-unary (i-prim i-num)))
 
 abbrev pub operandKinds : List ℕ
 operandKinds = LParen ∷ Star ∷ Identifier ∷ Number ∷ []
@@ -284,19 +299,22 @@ each-as f (_and_ {k = k} c h) = f k c and each-as f h
 pub unary-begins : (d : ℕ) → Each (Begins Unary (suc d)) operandKinds
 unfolding yield
 unary-begins d =
-    begins (group (num 0)) (i-prim (i-group nil)) refl and begins (star (num 0)) (i-star (i-prim i-num)) refl and begins (var []) (i-prim i-var) refl
+    begins (group (num 0)) (i-prim (i-group nought)) refl and begins (star (num 0)) (i-star (i-prim i-num)) refl and begins (var [])
+    (i-prim i-var) refl
     and begins (num 0) (i-prim i-num) refl and done
 
 pub stmt-begins : (d : ℕ) → Each (Begins Stmt (suc d)) stmtKinds
 unfolding yield
 stmt-begins d =
-    begins (ret (num 0)) (i-ret nil) refl and begins (decl KeywordReg [] (num 0)) (i-decl refl nil) refl and begins (decl KeywordImm [] (num 0)) (i-decl refl nil) refl
-    and begins (decl KeywordHeap [] (num 0)) (i-decl refl nil) refl and begins (guard [] (thenBody none) none) (i-if i-no-stmts) refl
+    begins (ret (num 0)) (i-ret nought) refl and begins (decl KeywordReg [] (num 0)) (i-decl refl nought) refl and begins
+    (decl KeywordImm [] (num 0)) (i-decl refl nought) refl
+    and begins (decl KeywordHeap [] (num 0)) (i-decl refl nought) refl and begins (guard [] (thenBody none) none) (i-if i-no-stmts) refl
     and each-as (λ k b. as-stmt k b) (unary-begins d)
   where
     as-stmt : (k : ℕ) → Begins Unary (suc d) k → Begins Stmt (suc d) k
     as-stmt k b =
-        begins (plain (b .tree)) (i-plain (i-up (i-lone (i-unary (b .is))))) (heads-more k (yield (b .tree)) (sign Semicolon ∷ []) (b .next))
+        begins (plain (b .tree)) (i-plain (i-up (i-lone (i-unary (b .is)))))
+        (heads-more k (yield (b .tree)) (sign Semicolon ∷ []) (b .next))
 
 pub item-begins : (d : ℕ) → Each (Begins Item (suc d)) itemKinds
 unfolding yield
@@ -307,8 +325,8 @@ item-begins d =
 pub map-field-begins : (d : ℕ) → Each (Begins MapField d) mapFieldKinds
 unfolding yield
 map-field-begins d =
-    begins (mapType []) (i-type unchecked) refl and begins (typed KeywordKey TypeU32) (i-typed refl refl) refl
-    and begins (typed KeywordValue TypeU32) (i-typed refl refl) refl and begins (limit (first 0)) (i-limit i-first unchecked) refl and done
+    begins (mapType []) (i-type aside) refl and begins (typed KeywordKey TypeU32) (i-typed refl refl) refl
+    and begins (typed KeywordValue TypeU32) (i-typed refl refl) refl and begins (limit (first 0)) (i-limit i-first aside) refl and done
 
 pub event-field-begins : (d : ℕ) → Each (Begins EventField d) (Identifier ∷ [])
 unfolding yield
@@ -317,7 +335,7 @@ event-field-begins d = begins (plainField [] TypeU32) (i-plain-field refl) refl 
 pub decl-begins : (d : ℕ) → Each (Begins Decl d) declKinds
 unfolding yield
 decl-begins d =
-    begins (unit [] none) (i-unit i-no-items) refl and begins (mapDecl [] none) (i-map i-no-fields unchecked) refl
+    begins (unit [] none) (i-unit i-no-items) refl and begins (mapDecl [] none) (i-map i-no-fields aside) refl
     and begins (event [] none) (i-event i-no-event-fields) refl and done
 
 -- ---- `else`, behind a list that ends in an `if` without it
@@ -329,7 +347,9 @@ with-else w b h = record {
   tree = guard w (thenBody b) (elseBody none);
   is = i-if-else h i-no-stmts;
   rest = sign KeywordElse ∷ sign LBrace ∷ sign RBrace ∷ [];
-  spells = ap (λ (l : List Tok). sign KeywordIf ∷ sign KeywordGuard ∷ sign LParen ∷ name w ∷ sign RParen ∷ (l ++ (sign KeywordElse ∷ sign LBrace ∷ sign RBrace ∷ [])))
+  spells =
+      ap (λ (l : List Tok). sign KeywordIf ∷ sign KeywordGuard ∷ sign LParen ∷ name w ∷ sign
+      RParen ∷ (l ++ (sign KeywordElse ∷ sign LBrace ∷ sign RBrace ∷ [])))
       (sym (append-nil (yield (thenBody b))));
   next = refl;
 }

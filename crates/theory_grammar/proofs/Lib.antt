@@ -16,6 +16,11 @@ pub mod Held
 pub mod AgainExpr
 pub mod AgainProgram
 pub mod Begun
+pub mod Halts
+pub mod GoesOnExpr
+pub mod GoesOnList
+pub mod GoesOnStmt
+pub mod GoesOnFields
 pub mod GoesOn
 pub mod FitsTold
 pub mod Fitting

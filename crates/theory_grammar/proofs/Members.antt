@@ -2,13 +2,13 @@
 use mathlib.Core.Path.{_≡_, refl, sym, ap, _∙_, subst}
 use mathlib.Core.Bool.{Bool, true, false, not, cond, _&&_, _||_, true≢false}
 use mathlib.Core.List.{List, [], _∷_, _++_}
-use Prim.Native.Nat.{ℕ, zero, suc, _+_, _-_, _*_, _/_, _%_, _^_, _≤_, _<_}
+use Prim.Native.Nat.{ℕ, suc, _+_, _-_, _/_, _%_, _^_, _≤_, _<_}
 use native.Mathlib.Nat.{div-eq-of-lt, div-self, div-add-mod', mul-div-cancel, pow-suc}
 use native.Mathlib.Omega.{arith}
 use lib.Arith.{digits-mod}
 use lib.Dec.{eqb, ltb}
 use lib.Pow.{pow-pos, pow-mono, pow-lt, pow-add}
-use borrow.Author.Tests.{eqb-true, eqb-false, ltb-true, ltb-false}
+use borrow.Author.Tests.{eqb-true, ltb-true, ltb-false}
 use Rattle.laws.specs.Tests.{allBelow}
 use Rattle.laws.proofs.Tests.{both-true, below}
 use Rattle.rules.specs.declared.Syntax.{Syntax}
@@ -109,7 +109,8 @@ unfolding setTold
 told-wrong s = omega (arith, div-add-mod' s (2 ^ 32))
 
 -- what holds of a refusal, and if it is 21 of 21 with another set, holds of it with that set
-pub retold-as : (C : Syntax → Type 0) (s : ℕ) (why : Syntax) → C why → ((low high : ℕ) → why ≡ Wanted low high → C (wrong s)) → C (retold s why)
+pub retold-as : (C : Syntax → Type 0) (s : ℕ) (why : Syntax) → C why → ((low high : ℕ) → why ≡ Wanted low high → C (wrong s))
+    → C (retold s why)
 unfolding retold
 retold-as C s (Wanted low high) h w = w low high refl
 retold-as C s NotTopLevel h w = h
@@ -133,7 +134,8 @@ listSet s b = s + cond b (only KeywordElse) 0
 -- The set is of the kind that ends the list and of the kinds ks; `else` is none of them.
 abbrev pub listed : ℕ → ℕ → List ℕ → Bool
 listed s stop ks =
-    (covers (listSet s false) (stop ∷ ks) && covers (listSet s true) (KeywordElse ∷ stop ∷ ks)) && (bit (listSet s false) stop && bit (listSet s true) stop)
+    (covers (listSet s false) (stop ∷ ks) && covers (listSet s true) (KeywordElse ∷ stop ∷ ks)) && (bit (listSet s false) stop && bit
+    (listSet s true) stop)
 
 module _ (s stop : ℕ) (ks : List ℕ) (e : listed s stop ks ≡ true) where
   abbrev covering : Bool
@@ -142,13 +144,16 @@ module _ (s stop : ℕ) (ks : List ℕ) (e : listed s stop ks ≡ true) where
   abbrev ending : Bool
   ending = bit (listSet s false) stop && bit (listSet s true) stop
 
-  pub each-listed : (C : ℕ → Type 0) (b : Bool) → (b ≡ true → C KeywordElse) → C stop → Each C ks → (k : ℕ) → has (listSet s b) k ≡ true → C k
+  pub each-listed : (C : ℕ → Type 0) (b : Bool) → (b ≡ true → C KeywordElse) → C stop → Each C ks → (k : ℕ) → has (listSet s b) k ≡ true
+      → C k
   each-listed C true c t h =
       each C (listSet s true) (KeywordElse ∷ stop ∷ ks)
-      (both-true (covers (listSet s false) (stop ∷ ks)) (covers (listSet s true) (KeywordElse ∷ stop ∷ ks)) (both-true covering ending e .0) .1) (c refl and t and h)
+      (both-true (covers (listSet s false) (stop ∷ ks)) (covers (listSet s true) (KeywordElse ∷ stop ∷ ks))
+      (both-true covering ending e .0) .1) (c refl and t and h)
   each-listed C false c t h =
       each C (listSet s false) (stop ∷ ks)
-      (both-true (covers (listSet s false) (stop ∷ ks)) (covers (listSet s true) (KeywordElse ∷ stop ∷ ks)) (both-true covering ending e .0) .0) (t and h)
+      (both-true (covers (listSet s false) (stop ∷ ks)) (covers (listSet s true) (KeywordElse ∷ stop ∷ ks))
+      (both-true covering ending e .0) .0) (t and h)
 
   pub listed-stop : (b : Bool) → has (listSet s b) stop ≡ true
   unfolding has
@@ -182,10 +187,12 @@ coversOnward s ks = coversBy true s ks && coversBy false s ks
 
 -- and in each of them a kind is among what may stand behind
 abbrev pub endsOnward : ℕ → ℕ → Bool
-endsOnward s k = (bit (onwardSet true true s) k && bit (onwardSet true false s) k) && (bit (onwardSet false true s) k && bit (onwardSet false false s) k)
+endsOnward s k =
+    (bit (onwardSet true true s) k && bit (onwardSet true false s) k) && (bit (onwardSet false true s) k && bit (onwardSet false false s) k)
 
 -- what holds of a test of two choices in all four cases
-four-cases : (T : Bool → Bool → Bool) → (T true true && T true false) && (T false true && T false false) ≡ true → (b c : Bool) → T b c ≡ true
+four-cases : (T : Bool → Bool → Bool) → (T true true && T true false) && (T false true && T false false) ≡ true → (b c : Bool)
+    → T b c ≡ true
 four-cases T e b c = go b c (both-true (T true true && T true false) (T false true && T false false) e)
   where
     go : (b c : Bool) → (T true true && T true false ≡ true) × (T false true && T false false ≡ true) → T b c ≡ true
@@ -204,7 +211,8 @@ module _ (C : ℕ → Type 0) (s : ℕ) (ks : List ℕ) (e : coversOnward s ks �
   pub each-onward : Each C joins → (b c : Bool) → (b ≡ false → Each C (Shr ∷ Shl ∷ []))
       → (c ≡ true → C LParen) → Each C ks → (k : ℕ) → has (onwardSet b c s) k ≡ true → C k
   each-onward on b c shift call ends =
-      each C (onwardSet b c s) (onwardKinds b c ks) (four-cases (λ b c. covers (onwardSet b c s) (onwardKinds b c ks)) e b c) (go b c shift call)
+      each C (onwardSet b c s) (onwardKinds b c ks) (four-cases (λ b c. covers (onwardSet b c s) (onwardKinds b c ks)) e b c)
+      (go b c shift call)
     where
       opens : (c : Bool) → (c ≡ true → C LParen) → Each C (openKinds c ks)
       opens true h = h refl and ends
