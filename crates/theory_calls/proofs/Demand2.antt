@@ -105,7 +105,8 @@ module _ (t ws : List ℕ) (table : Table) (new : List ℕ) where
     fine : judged t ws table ≡ verdict.Fine
     fine = judged-well t ws table (text-fine t (k .fits) (k .good)) (scanned-well-formed s) (ap (λ (x : Table). x .length) (s .told))
 
-    stopped : (why : Lexical) (at : Cursor) → readEnding (scan t) ≡ ending.Refused why at → Refused new tells leaves (reason.Lexical why) at 0
+    stopped : (why : Lexical) (at : Cursor) → readEnding (scan t) ≡ ending.Refused why at
+        → Refused new tells leaves (reason.Lexical why) at 0
     unfolding parseTold parseLeaves endingTold endingLeaves
     stopped why at e = record { told = rw (parseTold, fine, s .told, e); left = rw (parseLeaves, fine, s .told, e) }
 
@@ -155,7 +156,9 @@ module _ (t ws : List ℕ) (table : Table) (new : List ℕ) where
           → Refused new tells leaves (reason.Syntax why) (rowPlace (row-of why k q .row)) (foundTold why (row-of why k q .row .kind))
       unfolding outTold outLeaves placeOfRow
       refused why k q = record {
-        told = told-is (no why k) q ∙ ap (λ (y : Row). parsed.Refused (reason.Syntax why) (rowPlace y) (foundTold why (y .kind))) (row-of why k q .same);
+        told =
+            told-is (no why k) q ∙ ap (λ (y : Row). parsed.Refused (reason.Syntax why) (rowPlace y) (foundTold why (y .kind)))
+            (row-of why k q .same);
         left = left-is (no why k) q;
       }
 
@@ -196,8 +199,8 @@ module _ (t ws : List ℕ) (table : Table) (new : List ℕ) where
 -- 4. The text scans fully, and there is room for fewer nodes than it has rows. It tells 5, at 0.
 -- 5. There is room, and a tree of the grammar, within the checks and with at most 64 constructs open, has the scan's tokens for its own: one
 --    tree and no other. It tells how many nodes the tree has, writes them, and leaves the words behind them.
--- 6. There is room, and no such tree. It tells a refusal of 21 to 32, at the row to which reading order leads; for 21, 22, 23, 25 and 30 with exactly
---    the kinds that would have fitted, and for 21 with the kind of that row.
+-- 6. There is room, and no such tree. It tells a refusal of 21 to 32, at the row to which reading order leads: 21, 22, 23, 25 and 30 with
+--    exactly the kinds that would have fitted, and 21 with the kind of that row.
 --
 -- But for the fifth case it leaves every word.
 pub demand-2 : (t ws : List ℕ) (table : Table) (new : List ℕ) → Lent t ws table
@@ -216,7 +219,8 @@ pub demand-2-tight : (t ws : List ℕ) (table : Table) (new : List ℕ) (r : Par
     → (r ≡ parseTold t ws table (nodeRoom new)) × (m ≡ parseLeaves t ws table new)
 demand-2-tight t ws table new r m g x = by x
   where
-    like : {why : Reason} {at : Cursor} {found : ℕ} → Refused new r m why at found → Refused new (tells t ws table new) (leaves t ws table new) why at found
+    like : {why : Reason} {at : Cursor} {found : ℕ} → Refused new r m why at found
+        → Refused new (tells t ws table new) (leaves t ws table new) why at found
         → (r ≡ tells t ws table new) × (m ≡ leaves t ws table new)
     like a b = (a .told ∙ sym (b .told), a .left ∙ sym (b .left))
 
@@ -234,5 +238,6 @@ demand-2-tight t ws table new r m g x = by x
         let s : Scanned t ws table = g .scanned (f .readable) in
         let x : RowAt (rowsOf t) ws (k .before) = row-of t ws table new f s why (k .before) (k .reads) in
         let e : x .row ≡ row = same-head (x .stands) (k .stands) in
-        like a (subst (λ (z : Row). Refused new (tells t ws table new) (leaves t ws table new) (reason.Syntax why) (rowPlace z) (foundTold why (z .kind))) e
+        like a (subst (λ (z : Row). Refused new (tells t ws table new) (leaves t ws table new) (reason.Syntax why) (rowPlace z)
+        (foundTold why (z .kind))) e
         (refused t ws table new f s h why (k .before) (k .reads)))

@@ -78,7 +78,8 @@ retold-lost ts s CallOnOther r = refl
 retold-lost ts s TooDeep r = refl
 
 -- what holds of a refusal, retold or not, holds of what `or` makes of it
-pub or-no : (C : Syntax → ℕ → Type 0) (s i : ℕ) (why : Syntax) (r : ℕ) → C (retold s why) r → C why r → C (cond (eqb r i) (retold s why) why) r
+pub or-no : (C : Syntax → ℕ → Type 0) (s i : ℕ) (why : Syntax) (r : ℕ) → C (retold s why) r → C why r
+    → C (cond (eqb r i) (retold s why) why) r
 or-no C s i why r a b = go (eqb r i)
   where
     go : (c : Bool) → C (cond c (retold s why) why) r
@@ -171,7 +172,8 @@ module _ (ts : List Tok) where
   -- ---- loops and lists
 
   pub list-is : (stop also : ℕ) (p : P) (j : ℕ)
-      → Parse.listTo ts stop also p j ≡ many (λ r. not (eqb (kindAt ts r) stop)) (Parse.listStep ts also p) (suc (length ts)) (not (eqb (kindAt ts j) stop)) none j
+      → Parse.listTo ts stop also p j ≡ many (λ r. not (eqb (kindAt ts r) stop)) (Parse.listStep ts also p) (suc (length ts))
+      (not (eqb (kindAt ts j) stop)) none j
   unfolding Parse.listTo Parse.loop
   list-is stop also p j = refl
 
@@ -181,7 +183,8 @@ module _ (ts : List Tok) where
   list-step s p l j = refl
 
   pub braced-is : (also : ℕ) (p : P) (f : List ℕ → Tree → P) (i : ℕ)
-      → Parse.braced ts also p f i ≡ Parse.named ts (λ w. Parse.want ts LBrace (λ j. then (Parse.listTo ts RBrace also p j) (λ l k. f w l (k + 1)))) (i + 1)
+      → Parse.braced ts also p f i ≡ Parse.named ts
+      (λ w. Parse.want ts LBrace (λ j. then (Parse.listTo ts RBrace also p j) (λ l k. f w l (k + 1)))) (i + 1)
   unfolding Parse.braced
   braced-is also p f i = refl
 
@@ -237,7 +240,8 @@ module _ (ts : List Tok) where
       unary-else h = rw (ne-eqb (kindAt ts i) Star h)
 
       pub args-is : Parse.args ts g i
-          ≡ then (or firstArguments (i + 1) (g whole i)) (λ t k. many (λ r. eqb (kindAt ts r) Comma) (Parse.argStep ts g) (suc (length ts)) (eqb (kindAt ts k) Comma) (one t) k)
+          ≡ then (or firstArguments (i + 1) (g whole i))
+          (λ t k. many (λ r. eqb (kindAt ts r) Comma) (Parse.argStep ts g) (suc (length ts)) (eqb (kindAt ts k) Comma) (one t) k)
       unfolding Parse.args Parse.loop
       args-is = refl
 
@@ -310,7 +314,8 @@ module _ (ts : List Tok) where
     bodies-is w j = refl
 
     pub assign-yes : (e : Tree) (j : ℕ) → isAssign (kindAt ts j) ≡ true
-        → Parse.assignBy ts d p (isAssign (kindAt ts j)) e j ≡ then (Parse.expr ts d (j + 1)) (λ r k. Parse.end ts Semicolon r (ok (assign (kindAt ts j) e r)) k)
+        → Parse.assignBy ts d p (isAssign (kindAt ts j)) e j ≡ then (Parse.expr ts d (j + 1))
+        (λ r k. Parse.end ts Semicolon r (ok (assign (kindAt ts j) e r)) k)
     unfolding Parse.assignBy
     assign-yes e j b = rw b
 
@@ -321,7 +326,8 @@ module _ (ts : List Tok) where
 
     module _ (i : ℕ) where
       pub stmt-declaring : isDeclaring (kindAt ts i) ≡ true → Parse.stmt ts d p i
-          ≡ Parse.named ts (λ w. Parse.want ts Equals (λ j. then (Parse.expr ts d j) (λ e k. Parse.end ts Semicolon e (ok (decl (kindAt ts i) w e)) k))) (i + 1)
+          ≡ Parse.named ts (λ w. Parse.want ts Equals
+          (λ j. then (Parse.expr ts d j) (λ e k. Parse.end ts Semicolon e (ok (decl (kindAt ts i) w e)) k))) (i + 1)
       unfolding Parse.stmt Parse.stmtBy Parse.stmtLead
       stmt-declaring b = rw b
 
@@ -359,7 +365,8 @@ module _ (ts : List Tok) where
       lead-expression a b c = rw (a, ne-eqb (kindAt ts i) KeywordReturn b, ne-eqb (kindAt ts i) KeywordIf c)
 
       pub declaring-is : Parse.stmtBy ts d p declaring i
-          ≡ Parse.named ts (λ w. Parse.want ts Equals (λ j. then (Parse.expr ts d j) (λ e k. Parse.end ts Semicolon e (ok (decl (kindAt ts i) w e)) k))) (i + 1)
+          ≡ Parse.named ts (λ w. Parse.want ts Equals
+          (λ j. then (Parse.expr ts d j) (λ e k. Parse.end ts Semicolon e (ok (decl (kindAt ts i) w e)) k))) (i + 1)
       unfolding Parse.stmtBy
       declaring-is = refl
 
@@ -381,7 +388,8 @@ module _ (ts : List Tok) where
   body-none o d e = rw e
 
   pub body-some : (o d : ℕ) → (d ≡ 0 → ⊥)
-      → Parse.body ts d o ≡ then (Parse.listTo ts RBrace bodyThings (Parse.stmt ts (d - 1) (Parse.body ts (d - 1))) (o + 1)) (λ l j. ok l (j + 1))
+      → Parse.body ts d o ≡ then (Parse.listTo ts RBrace bodyThings (Parse.stmt ts (d - 1) (Parse.body ts (d - 1))) (o + 1))
+      (λ l j. ok l (j + 1))
   unfolding Parse.body
   body-some o zero h = absurd (h refl)
   body-some o (suc d) h = rw sub-one
@@ -454,7 +462,8 @@ module _ (ts : List Tok) where
     limit-large a b = rw (a, b)
 
     pub limit-fine : leb (2 ^ 63) (maxBits c) ≡ false → leb (maxBits c) most32 ≡ true
-        → Parse.limitBy ts (leb (2 ^ 63) (maxBits c)) (not (leb (maxBits c) most32)) c k ≡ Parse.wantIn ts (only Semicolon + shifts) Semicolon (ok (limit c)) k
+        → Parse.limitBy ts (leb (2 ^ 63) (maxBits c)) (not (leb (maxBits c) most32)) c k ≡ Parse.wantIn ts
+        (only Semicolon + shifts) Semicolon (ok (limit c)) k
     unfolding Parse.limitBy
     limit-fine a b = rw (a, b)
 
@@ -489,7 +498,8 @@ module _ (ts : List Tok) where
   map-end-lacks w l k (suc f) h = refl
 
   pub map-is : (i : ℕ) → Parse.mapAt ts i
-      ≡ Parse.braced ts mapFields (Parse.mapField ts) (λ w l k. Parse.mapEnd ts (lacking (typeOf l) (typedBy KeywordKey l) (typedBy KeywordValue l) (limitOf l)) w l k) i
+      ≡ Parse.braced ts mapFields (Parse.mapField ts)
+      (λ w l k. Parse.mapEnd ts (lacking (typeOf l) (typedBy KeywordKey l) (typedBy KeywordValue l) (limitOf l)) w l k) i
   unfolding Parse.mapAt
   map-is i = refl
 
@@ -515,7 +525,8 @@ module _ (ts : List Tok) where
     array-yes e = rw e
 
     pub array-no : (kindAt ts (j + 1) ≡ LBracket → ⊥)
-        → Parse.arrayBy ts (eqb (kindAt ts (j + 1)) LBracket) w j ≡ Parse.wantIn ts (only Semicolon + only LBracket) Semicolon (ok (plainField w (kindAt ts j))) (j + 1)
+        → Parse.arrayBy ts (eqb (kindAt ts (j + 1)) LBracket) w j ≡ Parse.wantIn ts (only Semicolon + only LBracket) Semicolon
+        (ok (plainField w (kindAt ts j))) (j + 1)
     unfolding Parse.arrayBy
     array-no h = rw (ne-eqb (kindAt ts (j + 1)) LBracket h)
 

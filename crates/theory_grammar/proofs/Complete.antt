@@ -65,7 +65,8 @@ or-nested : (s i : ℕ) (o : Out) → Nested o → Nested (or s i o)
 unfolding or
 or-nested s i (ok t j) c = absurd c
 or-nested s i (no why r) c =
-    Cases.or-no (λ x n. (isMisfit x ≡ false) × (isCheck x ≡ false)) s i why r (Cases.retold-misfit s why ∙ c .0, Cases.retold-check s why ∙ c .1) c
+    Cases.or-no (λ x n. (isMisfit x ≡ false) × (isCheck x ≡ false)) s i why r
+    (Cases.retold-misfit s why ∙ c .0, Cases.retold-check s why ∙ c .1) c
 
 not-strict : (b : Bool) → (b ≡ true → ⊥) → b ≡ false
 not-strict true h = absurd (h refl)
@@ -335,7 +336,8 @@ module _ (strict close : Bool) (ts : List Tok) where
 
   -- a list of things p up to a row of kind `stop` has come to l
   abbrev ListReach : ℕ → ℕ → P → ℕ → Tree → Type 0
-  ListReach stop also p i l = Reach strict close ts (Parse.listTo ts stop also p i) (λ r. not (eqb (kindAt ts r) stop)) (Parse.listStep ts also p) l (i + width l)
+  ListReach stop also p i l =
+      Reach strict close ts (Parse.listTo ts stop also p i) (λ r. not (eqb (kindAt ts r) stop)) (Parse.listStep ts also p) l (i + width l)
 
   -- what the parser does, with d constructs left, at the rows of a tree of each nonterminal, if what follows them is ys
   abbrev At : Nt → ℕ → Tree → ℕ → Type 0
@@ -428,7 +430,8 @@ module _ (strict close : Bool) (ts : List Tok) where
         let e1 : From ts (i + 1) (yield t ++ (sign RParen ∷ ys)) = regroup (tail-of e) (append-assoc (yield t) (sign RParen ∷ []) ys) in
         reach-loop
         (then-run _
-        (Cases.atom-paren ts (G d) i (sign-kind e) ▹ then-run _ (c i _ e1 (refl, refl, refl, refl, refl)) (end-run t _ (after t e1) (λ _. up-to (omega arith))))
+        (Cases.atom-paren ts (G d) i (sign-kind e) ▹ then-run _ (c i _ e1 (refl, refl, refl, refl, refl))
+        (end-run t _ (after t e1) (λ _. up-to (omega arith))))
         (gives refl))
 
     run-field : (w : List ℕ) → Claim Basic d t → Claim Basic d (field t w)
@@ -460,7 +463,8 @@ module _ (strict close : Bool) (ts : List Tok) where
     unfolding yield width Parse.args
     run-one c i ys e s o q =
         reach-loop
-        (then-run _ (or-run _ _ (leads (c o ys (subst (λ (n : ℕ). From ts n (yield t ++ ys)) (sym q) e) s) (up-to (ap (λ (n : ℕ). n + width t) q)))) (gives refl))
+        (then-run _ (or-run _ _ (leads (c o ys (subst (λ (n : ℕ). From ts n (yield t ++ ys)) (sym q) e) s)
+        (up-to (ap (λ (n : ℕ). n + width t) q)))) (gives refl))
 
     run-prim : Claim Basic d t → ((ys : List Tok) → isBasic (front (yield t ++ ys)) ≡ true) → Claim Unary d t
     run-prim c lead i ys e s =
@@ -545,7 +549,8 @@ module _ (strict close : Bool) (ts : List Tok) where
     unfolding Parse.listTo width
     list-nil i = reach-at (omega arith) (reach-loop (gives refl))
 
-    list-snoc : (i : ℕ) (l s : Tree) (ys : List Tok) → From ts i ((yield l ++ yield s) ++ ys) → (From ts i (yield l ++ (yield s ++ ys)) → ListReach stop also p i l)
+    list-snoc : (i : ℕ) (l s : Tree) (ys : List Tok) → From ts i ((yield l ++ yield s) ++ ys)
+        → (From ts i (yield l ++ (yield s ++ ys)) → ListReach stop also p i l)
         → (From ts (i + width l) (yield s ++ ys) → Gives strict close (p (i + width l)) (ok s (i + width l + width s))) → eqb (front (yield s ++ ys)) stop ≡ false
         → 1 ≤ width s
         → ListReach stop also p i (seq l s)
@@ -555,14 +560,16 @@ module _ (strict close : Bool) (ts : List Tok) where
         let a : From ts (i + width l) (yield s ++ ys) = after l e1 in
         let h : i + width l < length ts = omega (arith, length-drop (i + width l) ts, ap length (a .are), length-append (yield s) ys, yield-width s) in
         reach-at (omega arith)
-        (reach-next (c e1) (ap not (ap (λ (x : ℕ). eqb x stop) (kind-of a) ∙ lead)) h (then-run _ (or-run _ _ (v a)) (gives refl)) (omega arith))
+        (reach-next (c e1) (ap not (ap (λ (x : ℕ). eqb x stop) (kind-of a) ∙ lead)) h (then-run _ (or-run _ _ (v a)) (gives refl))
+        (omega arith))
 
     list-ends : (i : ℕ) (l : Tree) (ys : List Tok) → From ts i (yield l ++ (sign stop ∷ ys)) → ListReach stop also p i l
         → Gives strict close (Parse.listTo ts stop also p i) (ok l (i + width l))
     list-ends i l ys e c = reach-end c (ap not (eq-eqb _ stop (sign-kind (after l e))))
 
   -- name `{` contents `}`, behind a keyword
-  braced-ends : (also : ℕ) (p : P) (f : List ℕ → Tree → P) (i k : ℕ) (w : List ℕ) (l : Tree) (ys : List Tok) → From ts i ((sign k ∷ name w ∷ sign LBrace ∷ (yield l ++ (sign RBrace ∷ []))) ++ ys)
+  braced-ends : (also : ℕ) (p : P) (f : List ℕ → Tree → P) (i k : ℕ) (w : List ℕ) (l : Tree) (ys : List Tok)
+      → From ts i ((sign k ∷ name w ∷ sign LBrace ∷ (yield l ++ (sign RBrace ∷ []))) ++ ys)
       → ((j : ℕ) → From ts j (yield l ++ (sign RBrace ∷ ys)) → ListReach RBrace also p j l)
       → Gives strict close (Parse.braced ts also p f i) (f w l (i + (3 + width l + 1)))
   unfolding Parse.braced
@@ -586,7 +593,8 @@ module _ (strict close : Bool) (ts : List Tok) where
   run-ret d t c i ys e s =
       let e1 : From ts i (sign KeywordReturn ∷ (yield t ++ (sign Semicolon ∷ ys))) = regroup e (simp append-assoc) in
       Cases.stmt-returning ts d (Parse.body ts d) i (sign-kind e1)
-      ▹ then-run _ (expr-ends d t c (i + 1) _ (tail-of e1) (refl, refl, refl, refl, refl)) (end-run t _ (after t (tail-of e1)) (λ _. up-to (omega arith)))
+      ▹ then-run _ (expr-ends d t c (i + 1) _ (tail-of e1) (refl, refl, refl, refl, refl))
+      (end-run t _ (after t (tail-of e1)) (λ _. up-to (omega arith)))
 
   -- a statement that begins with an expression
   expression-first : (d : ℕ) (t : Tree) (i : ℕ) (ys : List Tok) → From ts i (yield t ++ ys) → isStart (front (yield t ++ ys)) ≡ true
@@ -616,13 +624,15 @@ module _ (strict close : Bool) (ts : List Tok) where
       ▹ then-run _ (expr-ends d t c i _ e1 (assign-stops k b))
       (Cases.assign-yes ts d (Parse.body ts d) t (i + width t) (ap isAssign (sign-kind a) ∙ b)
       ▹ then-run _ (expr-ends d u v (i + width t + 1) _ (tail-of a) (refl, refl, refl, refl, refl))
-      (end-run u _ (after u (tail-of a)) (λ _. ap (λ (x : ℕ). ok (assign x t u) (i + width t + 1 + width u + 1)) (sign-kind a) ▹ up-to (omega arith))))
+      (end-run u _ (after u (tail-of a))
+      (λ _. ap (λ (x : ℕ). ok (assign x t u) (i + width t + 1 + width u + 1)) (sign-kind a) ▹ up-to (omega arith))))
 
   body-at : (n d : ℕ) (l : Tree) → Fits (suc n) d → ((d : ℕ) → Fits n d → Claim Stmts d l) → BodyAt d l
   unfolding Parse.body front kindOf
   body-at n zero l f c o ys e = too-deep n o f refl
   body-at n (suc d) l f c o ys e =
-      then-run _ (list-ends RBrace bodyThings (Parse.stmt ts d (Parse.body ts d)) (o + 1) l ys (tail-of e) (c d (fits-under n d f) (o + 1) _ (tail-of e) refl)) (gives refl)
+      then-run _ (list-ends RBrace bodyThings (Parse.stmt ts d (Parse.body ts d)) (o + 1) l ys (tail-of e)
+      (c d (fits-under n d f) (o + 1) _ (tail-of e) refl)) (gives refl)
 
   -- behind `if guard ( name )`
   guard-run : (d : ℕ) (w : List ℕ) (i : ℕ) (ys : List Tok) (o : Out)
@@ -667,7 +677,8 @@ module _ (strict close : Bool) (ts : List Tok) where
   run-unit : (d : ℕ) (w : List ℕ) (l : Tree) → Claim Items d l → Claim Decl d (unit w l)
   unfolding yield width front kindOf Parse.unitAt
   run-unit d w l c i ys e s q =
-      Cases.top-unit ts i (sign-kind e) ▹ braced-ends unitThings (Parse.item ts) (λ w l k. ok (unit w l) k) i KeywordUnit w l ys e (λ j a. c j _ a refl q)
+      Cases.top-unit ts i (sign-kind e) ▹ braced-ends unitThings (Parse.item ts) (λ w l k. ok (unit w l) k) i KeywordUnit w l ys e
+      (λ j a. c j _ a refl q)
 
   -- ---- maps
 
@@ -779,7 +790,8 @@ module _ (strict close : Bool) (ts : List Tok) where
   run-event : (d : ℕ) (w : List ℕ) (l : Tree) → Claim EventFields d l → Claim Decl d (event w l)
   unfolding yield width front kindOf Parse.eventAt
   run-event d w l c i ys e s q =
-      Cases.top-event ts i (sign-kind e) ▹ braced-ends eventFields (Parse.eventField ts) (λ w l k. ok (event w l) k) i KeywordEvent w l ys e (λ j a. c j _ a tt)
+      Cases.top-event ts i (sign-kind e) ▹ braced-ends eventFields (Parse.eventField ts) (λ w l k. ok (event w l) k) i KeywordEvent w l ys e
+      (λ j a. c j _ a tt)
 
   -- ---- programs
 
@@ -838,13 +850,15 @@ module _ (strict close : Bool) (ts : List Tok) where
   run (i-if-else {d = n} {w} {b} {e} h v) d f = run-if-else d w b e (body-at n d b f (run h)) (body-at n d e f (run v))
   run i-no-stmts d f = λ i ys e s. list-nil RBrace bodyThings (Parse.stmt ts d (Parse.body ts d)) i
   run (i-stmts {l = l} {s = t} h v) d f = λ i ys e s.
-      list-snoc RBrace bodyThings (Parse.stmt ts d (Parse.body ts d)) i l t ys e (λ a. run h d f i (yield t ++ ys) a (opens v ys .1)) (λ a. run v d f (i + width l) ys a s)
+      list-snoc RBrace bodyThings (Parse.stmt ts d (Parse.body ts d)) i l t ys e (λ a. run h d f i (yield t ++ ys) a (opens v ys .1))
+      (λ a. run v d f (i + width l) ys a s)
       (opens v ys .0) (is-wide v)
   run (i-stmt {s = t} h) d f = run-stmt d t (run h d f) (λ ys. opens h ys .2)
   run (i-text {k = k} {w} b) d f = run-text d k w b
   run i-no-items d f = λ i ys e s q. list-nil RBrace unitThings (Parse.item ts) i
   run (i-items {l = l} {s = t} h v) d f = λ i ys e s q.
-      list-snoc RBrace unitThings (Parse.item ts) i l t ys e (λ a. run h d f i (yield t ++ ys) a (opens v ys .1) q) (λ a. run v d f (i + width l) ys a s q) (opens v ys .0)
+      list-snoc RBrace unitThings (Parse.item ts) i l t ys e (λ a. run h d f i (yield t ++ ys) a (opens v ys .1) q)
+      (λ a. run v d f (i + width l) ys a s q) (opens v ys .0)
       (is-wide v)
   run (i-first {v = v}) d f = run-first d v
   run (i-shifted {k = k} {v} {c} h b q) d f = run-shifted d k v c b q (run h d f)
@@ -853,19 +867,22 @@ module _ (strict close : Bool) (ts : List Tok) where
   run (i-limit {c = c} h q) d f = run-limit d c q (run h d f)
   run i-no-fields d f = λ i ys e s. list-nil RBrace mapFields (Parse.mapField ts) i
   run (i-fields {l = l} {s = t} h v) d f = λ i ys e s.
-      list-snoc RBrace mapFields (Parse.mapField ts) i l t ys e (λ a. run h d f i (yield t ++ ys) a tt) (λ a. run v d f (i + width l) ys a s) (opens v ys) (is-wide v)
+      list-snoc RBrace mapFields (Parse.mapField ts) i l t ys e (λ a. run h d f i (yield t ++ ys) a tt)
+      (λ a. run v d f (i + width l) ys a s) (opens v ys) (is-wide v)
   run (i-plain-field {t = t} {w} b) d f = run-plain-field d w t b
   run (i-bytes-field {v = v} {w} q) d f = run-bytes-field d w v q
   run (i-array-field {t = t} {v} {w} b q) d f = run-array-field d w t v b q
   run i-no-event-fields d f = λ i ys e s. list-nil RBrace eventFields (Parse.eventField ts) i
   run (i-event-fields {l = l} {s = t} h v) d f = λ i ys e s.
-      list-snoc RBrace eventFields (Parse.eventField ts) i l t ys e (λ a. run h d f i (yield t ++ ys) a tt) (λ a. run v d f (i + width l) ys a s) (opens v ys) (is-wide v)
+      list-snoc RBrace eventFields (Parse.eventField ts) i l t ys e (λ a. run h d f i (yield t ++ ys) a tt)
+      (λ a. run v d f (i + width l) ys a s) (opens v ys) (is-wide v)
   run (i-unit {w = w} {l} h) d f = run-unit d w l (run h d f)
   run (i-map {w = w} {l} h q) d f = run-map d w l q (run h d f)
   run (i-event {w = w} {l} h) d f = run-event d w l (run h d f)
   run i-no-decls d f = λ i ys e s q. list-nil Eof tops (Parse.top ts) i
   run (i-decls {l = l} {s = t} h v) d f = λ i ys e s q.
-      list-snoc Eof tops (Parse.top ts) i l t ys e (λ a. run h d f i (yield t ++ ys) a tt q) (λ a. run v d f (i + width l) ys a s q) (opens v ys) (is-wide v)
+      list-snoc Eof tops (Parse.top ts) i l t ys e (λ a. run h d f i (yield t ++ ys) a tt q) (λ a. run v d f (i + width l) ys a s q)
+      (opens v ys) (is-wide v)
   run (i-program {l = l} h) d f = run-program d l (run h d f)
 
 -- ---- the theorems

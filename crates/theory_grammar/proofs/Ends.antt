@@ -96,10 +96,12 @@ module _ (ts : List Tok) (d : ℕ) where
   ends-body o h =
       map-all (BodyUnder ts d o) (λ l j. (j ≡ o + (1 + width l + 1)) × (j ≤ length ts) × (count l ≤ width l)) (Parse.body ts d o) (body-sound ts d o h) (λ l j u. body-ends ts d o l j u)
 
-  pub ends-stmts : (i : ℕ) → i ≤ length ts → All (λ l j. Ends ts i l j × (kindAt ts j ≡ RBrace)) (Parse.listTo ts RBrace bodyThings (Parse.stmt ts d (Parse.body ts d)) i)
+  pub ends-stmts : (i : ℕ) → i ≤ length ts
+      → All (λ l j. Ends ts i l j × (kindAt ts j ≡ RBrace)) (Parse.listTo ts RBrace bodyThings (Parse.stmt ts d (Parse.body ts d)) i)
   ends-stmts i h =
       list-ends ts Stmts d i RBrace (Parse.listTo ts RBrace bodyThings (Parse.stmt ts d (Parse.body ts d)) i)
-      (list-sound ts Stmts Stmt d i-no-stmts (λ l s a b. i-stmts a b) (omega arith) RBrace bodyThings (Parse.stmt ts d (Parse.body ts d)) (stmt-sound ts d) i h)
+      (list-sound ts Stmts Stmt d i-no-stmts (λ l s a b. i-stmts a b) (omega arith) RBrace bodyThings (Parse.stmt ts d (Parse.body ts d))
+      (stmt-sound ts d) i h)
 
 -- ---- units, maps, events and programs
 
@@ -132,20 +134,25 @@ module _ (ts : List Tok) where
   wide-top i = reads-wide ts Decl 64 i (Parse.top ts i) (omega arith) (top-sound ts i)
 
   -- lists, up to the row that stops them
-  pub ends-items : (i : ℕ) → i ≤ length ts → All (λ l j. Ends ts i l j × (kindAt ts j ≡ RBrace)) (Parse.listTo ts RBrace unitThings (Parse.item ts) i)
+  pub ends-items : (i : ℕ) → i ≤ length ts
+      → All (λ l j. Ends ts i l j × (kindAt ts j ≡ RBrace)) (Parse.listTo ts RBrace unitThings (Parse.item ts) i)
   ends-items i h =
       list-ends ts Items 64 i RBrace (Parse.listTo ts RBrace unitThings (Parse.item ts) i)
       (list-sound ts Items Item 64 i-no-items (λ l s a b. i-items a b) (omega arith) RBrace unitThings (Parse.item ts) (item-sound ts) i h)
 
-  pub ends-map-fields : (i : ℕ) → i ≤ length ts → All (λ l j. Ends ts i l j × (kindAt ts j ≡ RBrace)) (Parse.listTo ts RBrace mapFields (Parse.mapField ts) i)
+  pub ends-map-fields : (i : ℕ) → i ≤ length ts
+      → All (λ l j. Ends ts i l j × (kindAt ts j ≡ RBrace)) (Parse.listTo ts RBrace mapFields (Parse.mapField ts) i)
   ends-map-fields i h =
       list-ends ts MapFields 64 i RBrace (Parse.listTo ts RBrace mapFields (Parse.mapField ts) i)
-      (list-sound ts MapFields MapField 64 i-no-fields (λ l s a b. i-fields a b) (omega arith) RBrace mapFields (Parse.mapField ts) (map-field-sound ts) i h)
+      (list-sound ts MapFields MapField 64 i-no-fields (λ l s a b. i-fields a b) (omega arith) RBrace mapFields (Parse.mapField ts)
+      (map-field-sound ts) i h)
 
-  pub ends-event-fields : (i : ℕ) → i ≤ length ts → All (λ l j. Ends ts i l j × (kindAt ts j ≡ RBrace)) (Parse.listTo ts RBrace eventFields (Parse.eventField ts) i)
+  pub ends-event-fields : (i : ℕ) → i ≤ length ts
+      → All (λ l j. Ends ts i l j × (kindAt ts j ≡ RBrace)) (Parse.listTo ts RBrace eventFields (Parse.eventField ts) i)
   ends-event-fields i h =
       list-ends ts EventFields 64 i RBrace (Parse.listTo ts RBrace eventFields (Parse.eventField ts) i)
-      (list-sound ts EventFields EventField 64 i-no-event-fields (λ l s a b. i-event-fields a b) (omega arith) RBrace eventFields (Parse.eventField ts) (event-field-sound ts) i h)
+      (list-sound ts EventFields EventField 64 i-no-event-fields (λ l s a b. i-event-fields a b) (omega arith) RBrace eventFields
+      (Parse.eventField ts) (event-field-sound ts) i h)
 
   -- a program, where the table has an Eof: its rows are in the table
   pub ends-parse : (e : ℕ) → e < length ts → kindAt ts e ≡ Eof → All (λ t j. (j ≡ width t) × (j ≤ length ts)) (Parse.parse ts)

@@ -38,13 +38,13 @@ misfit-no-check NotEventType m c = true≢false (sym c)
 misfit-no-check CallOnOther m c = true≢false (sym m)
 misfit-no-check TooDeep m c = true≢false (sym m)
 
--- the tokens of a program are no misfit, of whatever nesting it is and with the checks aside
-pub program-fits : (n : ℕ) (t : Tree) → Is false Program n t → Misfit (Parse.parse (yield t)) → ⊥
-program-fits n t h m =
-    go (Parse.parse (yield t)) m (program-given (yield t) false false n t [] (sym (append-nil (yield t))) h
+-- the tokens of a program are no misfit, of whatever nesting it is, the checks among its rules or not
+pub program-fits : {strict : Bool} (n : ℕ) (t : Tree) → Is strict Program n t → Misfit (Parse.parse (yield t)) → ⊥
+program-fits {strict} n t h m =
+    go (Parse.parse (yield t)) m (program-given (yield t) strict false n t [] (sym (append-nil (yield t))) h
     (λ e. absurd (true≢false (sym e))))
   where
-    go : (o : Out) → Misfit o → Gives false false o (ok t (width t)) → ⊥
+    go : (o : Out) → Misfit o → Gives strict false o (ok t (width t)) → ⊥
     go (ok u j) m g = m
     go (no why r) m (gives e) = let z : _≡_ {A = ℕ} 0 1 = cc in omega arith
     go (no why r) m (checked s c) = misfit-no-check why m c

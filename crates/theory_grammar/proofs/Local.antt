@@ -55,7 +55,8 @@ want-dead : (why : Syntax) (ts : List Tok) (k : ℕ) (f : P) (i : ℕ) → Dead 
 unfolding Parse.want
 want-dead why ts k f i h = want-in-dead why ts (only k) k f i h
 
-end-in-dead : (why : Syntax) (ts : List Tok) (s k : ℕ) (t : Tree) (f : P) (i : ℕ) → Dead why (f (i + 1)) → Dead why (Parse.endIn ts s k t f i)
+end-in-dead : (why : Syntax) (ts : List Tok) (s k : ℕ) (t : Tree) (f : P) (i : ℕ) → Dead why (f (i + 1))
+    → Dead why (Parse.endIn ts s k t f i)
 unfolding Parse.endIn
 end-in-dead why ts s k t f i h = want-in-dead why ts (Parse.onward ts t i + s) k f i h
 
@@ -74,7 +75,8 @@ module _ (ts : List Tok) (g : Sort → P) (t : Tree) (w : List ℕ) (m : ℕ) (o
   unfolding Parse.callBy isCheck
   call-dead true k = called-dead none (k + 1 + 1)
   call-dead false k =
-      then-dead CallOnOther (Parse.args ts g k) _ refl (λ a r. end-in-dead CallOnOther ts _ RParen a (Parse.called ts t w a m) r (called-dead a (r + 1)))
+      then-dead CallOnOther (Parse.args ts g k) _ refl
+      (λ a r. end-in-dead CallOnOther ts _ RParen a (Parse.called ts t w a m) r (called-dead a (r + 1)))
 
 -- a body where none is left
 no-body : (ts : List Tok) (w : List ℕ) (j : ℕ)
@@ -220,10 +222,12 @@ module _ (ts : List Tok) (n : ℕ) where
   or-local s q (ok t j) o′ (both l d) = absurd d
   or-local s q (ok t j) o′ (late p) = absurd p
   or-local s q (no why r) o′ (same l e u) = same l (ap (or s q) e) tt
-  or-local s q (no why r) o′ (behind b u) = behind (or-no (λ x k. n ≤ lost ts x k) s q why r (omega (arith, b, retold-lost ts s why r)) b) tt
+  or-local s q (no why r) o′ (behind b u) =
+      behind (or-no (λ x k. n ≤ lost ts x k) s q why r (omega (arith, b, retold-lost ts s why r)) b) tt
   or-local s q (no why r) o′ (both l d) =
       both l (or-no (λ x k. (isMisfit x ≡ false) × Dead x (or s q o′)) s q why r
-      (retold-misfit s why ∙ d .0, dead-as (retold s why) why (or s q o′) (retold-check s why) (or-dead why s q o′ (d .1))) (d .0, or-dead why s q o′ (d .1)))
+      (retold-misfit s why ∙ d .0, dead-as (retold s why) why (or s q o′) (retold-check s why) (or-dead why s q o′ (d .1)))
+      (d .0, or-dead why s q o′ (d .1)))
     where
       dead-as : (x y : Syntax) (a : Out) → isCheck x ≡ isCheck y → Dead y a → Dead x a
       dead-as x y (ok t j) e d = d
@@ -412,7 +416,8 @@ module _ (ts ts′ : List Tok) (n : ℕ) (agreed : Alike ts ts′ n) where
     pick-local s s′ k i m a a′ q h =
         look i m kindOf (λ x. pick (eqb x k) a (no (wrong s) i)) (λ x. pick (eqb x k) a′ (no (wrong s′) i)) (λ x e. go (eqb x k) x refl e)
       where
-        go : (b : Bool) (x : ℕ) → eqb x k ≡ b → kindAt ts i ≡ x → LocalBut ts n L i m (pick b a (no (wrong s) i)) (pick b a′ (no (wrong s′) i))
+        go : (b : Bool) (x : ℕ) → eqb x k ≡ b → kindAt ts i ≡ x
+            → LocalBut ts n L i m (pick b a (no (wrong s) i)) (pick b a′ (no (wrong s′) i))
         go true x y e = h (e ∙ eqb-true x k y)
         go false x y e = wanted s s′ i m q
 
@@ -444,7 +449,8 @@ module _ (ts ts′ : List Tok) (n : ℕ) (agreed : Alike ts ts′ n) where
     want-local k f f′ i m h = want-known k f f′ i m (λ e. h)
 
     need-local : (k : ℕ) (f f′ : P) (i m : ℕ) → LocalBut ts n L i m (f i) (f′ i) → LocalBut ts n L i m (Parse.need ts k f i) (Parse.need ts′ k f′ i)
-    need-local k f f′ i m h = along ts n (need-pick ts k f i) (need-pick ts′ k f′ i) (pick-local (only k) (only k) k i m (f i) (f′ i) (λ _. refl) (λ e. h))
+    need-local k f f′ i m h =
+        along ts n (need-pick ts k f i) (need-pick ts′ k f′ i) (pick-local (only k) (only k) k i m (f i) (f′ i) (λ _. refl) (λ e. h))
 
     -- a name, which what is read behind it may rest on alone
     named-at : (f f′ : List ℕ → P) (i m : ℕ) → ((w : List ℕ) → kindAt ts i ≡ Identifier → LocalBut ts n L i m (f w (i + 1)) (f′ w (i + 1)))
@@ -474,11 +480,14 @@ module _ (ts ts′ : List Tok) (n : ℕ) (agreed : Alike ts ts′ n) where
     want-ok : (k : ℕ) (t : Tree) (i m : ℕ) → m ≤ i + 1 → LocalBut ts n L i m (Parse.want ts k (ok t) i) (Parse.want ts′ k (ok t) i)
     want-ok k t i m h = want-local k (ok t) (ok t) i m (ok-local ts n (i + 1) m t (i + 1) (omega arith) h)
 
-    want-in-ok : (s k : ℕ) (t : Tree) (i m : ℕ) → m ≤ i + 1 → LocalBut ts n L i m (Parse.wantIn ts s k (ok t) i) (Parse.wantIn ts′ s k (ok t) i)
+    want-in-ok : (s k : ℕ) (t : Tree) (i m : ℕ) → m ≤ i + 1
+        → LocalBut ts n L i m (Parse.wantIn ts s k (ok t) i) (Parse.wantIn ts′ s k (ok t) i)
     want-in-ok s k t i m h =
-        want-in-at s s k (ok t) (ok t) i m (λ _. refl) (λ e. ease ts n (omega arith) (omega arith) (ok-local ts n (i + 1) m t (i + 1) (omega arith) h))
+        want-in-at s s k (ok t) (ok t) i m (λ _. refl)
+        (λ e. ease ts n (omega arith) (omega arith) (ok-local ts n (i + 1) m t (i + 1) (omega arith) h))
 
-    end-in-ok : (s k : ℕ) (e t : Tree) (i m : ℕ) → m ≤ i + 1 → LocalBut ts n L i m (Parse.endIn ts s k e (ok t) i) (Parse.endIn ts′ s k e (ok t) i)
+    end-in-ok : (s k : ℕ) (e t : Tree) (i m : ℕ) → m ≤ i + 1
+        → LocalBut ts n L i m (Parse.endIn ts s k e (ok t) i) (Parse.endIn ts′ s k e (ok t) i)
     end-in-ok s k e t i m h = end-in-local s k e (ok t) (ok t) i m (ok-local ts n (i + 1) m t (i + 1) (omega arith) h)
 
     end-ok : (k : ℕ) (e t : Tree) (i m : ℕ) → m ≤ i + 1 → LocalBut ts n L i m (Parse.end ts k e (ok t) i) (Parse.end ts′ k e (ok t) i)
@@ -541,7 +550,8 @@ module _ (ts ts′ : List Tok) (n : ℕ) (agreed : Alike ts ts′ n) where
     call-by true t w m k q d h = ease ts n (omega arith) (omega arith) (called-local t w none m (k + 1 + 1) q (omega arith))
     call-by false t w m k q d h =
         then-local ts n (Parse.args ts g k) (Parse.args ts′ g′ k) _ _ (sure ts n (args-local k d))
-        (λ a r l. end-in-local _ RParen a (Parse.called ts t w a m) (Parse.called ts′ t w a m) r q (called-local t w a m (r + 1) q (omega arith)))
+        (λ a r l. end-in-local _ RParen a (Parse.called ts t w a m) (Parse.called ts′ t w a m) r q
+        (called-local t w a m (r + 1) q (omega arith)))
 
     open-by : (b : Bool) (t : Tree) (w : List ℕ) (m q : ℕ) → kindAt ts m ≡ Identifier → eqb (kindAt ts (m + 1)) LParen ≡ b → q ≤ m + 1
         → Local ts n (m + 1) q (Parse.openBy ts g b t w m (m + 1)) (Parse.openBy ts′ g′ b t w m (m + 1))
@@ -634,7 +644,8 @@ module _ (ts ts′ : List Tok) (n : ℕ) (agreed : Alike ts ts′ n) where
   unfolding Parse.braced
   braced-local also p p′ f f′ s i h =
       ease ts n (omega arith) (omega arith) (named-local _ _ (i + 1) (i + 1) (λ w. want-local LBrace _ _ (i + 1 + 1) (i + 1)
-      (then-local ts n (Parse.listTo ts RBrace also p (i + 1 + 1 + 1)) (Parse.listTo ts′ RBrace also p′ (i + 1 + 1 + 1)) _ _ (list-local RBrace also p p′ s (i + 1 + 1 + 1))
+      (then-local ts n (Parse.listTo ts RBrace also p (i + 1 + 1 + 1)) (Parse.listTo ts′ RBrace also p′ (i + 1 + 1 + 1)) _ _
+      (list-local RBrace also p p′ s (i + 1 + 1 + 1))
       (λ l k m. h w l k (omega arith)))))
 
   -- ---- statements, over what is read behind a brace
@@ -703,8 +714,10 @@ module _ (ts ts′ : List Tok) (n : ℕ) (agreed : Alike ts ts′ n) where
     unfolding Parse.stmtBy
     stmt-by declaring i =
         look i (i + 1) kindOf
-        (λ x. Parse.named ts (λ w. Parse.want ts Equals (λ j. then (Parse.expr ts d j) (λ e k. Parse.end ts Semicolon e (ok (decl x w e)) k))) (i + 1))
-        (λ x. Parse.named ts′ (λ w. Parse.want ts′ Equals (λ j. then (Parse.expr ts′ d j) (λ e k. Parse.end ts′ Semicolon e (ok (decl x w e)) k))) (i + 1))
+        (λ x. Parse.named ts (λ w. Parse.want ts Equals
+        (λ j. then (Parse.expr ts d j) (λ e k. Parse.end ts Semicolon e (ok (decl x w e)) k))) (i + 1))
+        (λ x. Parse.named ts′ (λ w. Parse.want ts′ Equals
+        (λ j. then (Parse.expr ts′ d j) (λ e k. Parse.end ts′ Semicolon e (ok (decl x w e)) k))) (i + 1))
         (λ x e. ease ts n (omega arith) (omega arith) (named-local _ _ (i + 1) (i + 1) (λ w. want-local Equals _ _ (i + 1 + 1) (i + 1)
         (then-local ts n (Parse.expr ts d (i + 1 + 1 + 1)) (Parse.expr ts′ d (i + 1 + 1 + 1)) _ _ (expr-local d (i + 1 + 1 + 1))
         (λ t k l. end-ok Semicolon t (decl x w t) k (i + 1) (omega arith))))))
@@ -730,7 +743,8 @@ module _ (ts ts′ : List Tok) (n : ℕ) (agreed : Alike ts ts′ n) where
   body-over d branch o =
       then-local ts n (Parse.listTo ts RBrace bodyThings (Parse.stmt ts d (Parse.body ts d)) (o + 1))
       (Parse.listTo ts′ RBrace bodyThings (Parse.stmt ts′ d (Parse.body ts′ d)) (o + 1)) _ _
-      (list-local RBrace bodyThings (Parse.stmt ts d (Parse.body ts d)) (Parse.stmt ts′ d (Parse.body ts′ d)) (stmt-over d (Parse.body ts d) (Parse.body ts′ d) branch) (o + 1))
+      (list-local RBrace bodyThings (Parse.stmt ts d (Parse.body ts d)) (Parse.stmt ts′ d (Parse.body ts′ d))
+      (stmt-over d (Parse.body ts d) (Parse.body ts′ d) branch) (o + 1))
       (λ l j m. ok-local ts n j (o + 1) l (j + 1) (omega arith) (omega arith))
 
   pub branch-local : (d i : ℕ) → Local ts n i (i + 1) (Parse.stmtBy ts d (Parse.body ts d) branching i) (Parse.stmtBy ts′ d (Parse.body ts′ d) branching i)
@@ -755,7 +769,9 @@ module _ (ts ts′ : List Tok) (n : ℕ) (agreed : Alike ts ts′ n) where
 
   unit-local : (i : ℕ) → Local ts n i (i + 1) (Parse.unitAt ts i) (Parse.unitAt ts′ i)
   unfolding Parse.unitAt
-  unit-local i = braced-local unitThings (Parse.item ts) (Parse.item ts′) _ _ item-local i (λ w l k h. ok-local ts n k (i + 1) _ (k + 1) (omega arith) (omega arith))
+  unit-local i =
+      braced-local unitThings (Parse.item ts) (Parse.item ts′) _ _ item-local i
+      (λ w l k h. ok-local ts n k (i + 1) _ (k + 1) (omega arith) (omega arith))
 
   -- ---- maps
 
@@ -858,7 +874,8 @@ module _ (ts ts′ : List Tok) (n : ℕ) (agreed : Alike ts ts′ n) where
       (λ x. Parse.lengthAt ts′ (λ v. arrayField w x v) (j + 1 + 1))
       (λ x e. ease ts n (omega arith) (omega arith) (length-local _ (j + 1 + 1) q (omega arith)))
   array-by false w j q h =
-      look-back j (j + 1) q (omega arith) kindOf (λ x. Parse.wantIn ts (only Semicolon + only LBracket) Semicolon (ok (plainField w x)) (j + 1))
+      look-back j (j + 1) q (omega arith) kindOf
+      (λ x. Parse.wantIn ts (only Semicolon + only LBracket) Semicolon (ok (plainField w x)) (j + 1))
       (λ x. Parse.wantIn ts′ (only Semicolon + only LBracket) Semicolon (ok (plainField w x)) (j + 1))
       (λ x e. want-in-ok (only Semicolon + only LBracket) Semicolon (plainField w x) (j + 1) q (omega arith))
 
@@ -880,7 +897,9 @@ module _ (ts ts′ : List Tok) (n : ℕ) (agreed : Alike ts ts′ n) where
 
   event-local : (i : ℕ) → Local ts n i (i + 1) (Parse.eventAt ts i) (Parse.eventAt ts′ i)
   unfolding Parse.eventAt
-  event-local i = braced-local eventFields (Parse.eventField ts) (Parse.eventField ts′) _ _ event-field-local i (λ w l k h. ok-local ts n k (i + 1) _ (k + 1) (omega arith) (omega arith))
+  event-local i =
+      braced-local eventFields (Parse.eventField ts) (Parse.eventField ts′) _ _ event-field-local i
+      (λ w l k h. ok-local ts n k (i + 1) _ (k + 1) (omega arith) (omega arith))
 
   -- ---- programs
 
@@ -898,7 +917,8 @@ module _ (ts ts′ : List Tok) (n : ℕ) (agreed : Alike ts ts′ n) where
   parse-local : Local ts n 0 0 (Parse.parse ts) (Parse.parse ts′)
   unfolding Parse.parse
   parse-local =
-      then-local ts n (Parse.listTo ts Eof tops (Parse.top ts) 0) (Parse.listTo ts′ Eof tops (Parse.top ts′) 0) _ _ (list-local Eof tops (Parse.top ts) (Parse.top ts′) top-local 0)
+      then-local ts n (Parse.listTo ts Eof tops (Parse.top ts) 0) (Parse.listTo ts′ Eof tops (Parse.top ts′) 0) _ _
+      (list-local Eof tops (Parse.top ts) (Parse.top ts′) top-local 0)
       (λ l j h. ok-local ts n j 0 _ (j + 1) (omega arith) (omega arith))
 
 -- ---- what is read of a table is read of one that has the rows up to its end alike

@@ -67,30 +67,44 @@ module _ (ts : List Tok) where
   -- things p of the nonterminal M, up to a row of kind `stop`
   module _ (Ns M : Nt) (d : ℕ) (nil : Is true Ns d none) (join : (l s : Tree) → Is true Ns d l → Is true M d s → Is true Ns d (seq l s)) (wide : 1 ≤ fewest M)
       (stop also : ℕ) (p : P) (p-sound : (i : ℕ) → All (Reads ts M d i) (p i)) where
-    list-runs : (i : ℕ) → i ≤ length ts → Runs (λ r. not (eqb (kindAt ts r) stop)) (Parse.listStep ts also p) none i (Parse.listTo ts stop also p i)
+    list-runs : (i : ℕ) → i ≤ length ts
+        → Runs (λ r. not (eqb (kindAt ts r) stop)) (Parse.listStep ts also p) none i (Parse.listTo ts stop also p i)
     unfolding Parse.listTo yield
     list-runs i h =
         loop-runs ts (Reads ts Ns d i) (λ r. not (eqb (kindAt ts r) stop)) (Parse.listStep ts also p) (λ l j r. r .inside)
         (λ l j r b. list-next ts Ns M d nil join wide stop also p p-sound i l j r) none i (reads nil (run-none ts i h))
 
   pub stmts-run : (d i : ℕ) → i ≤ length ts
-      → Runs (λ r. not (eqb (kindAt ts r) RBrace)) (Parse.listStep ts bodyThings (Parse.stmt ts d (Parse.body ts d))) none i (Parse.listTo ts RBrace bodyThings (Parse.stmt ts d (Parse.body ts d)) i)
-  stmts-run d i h = list-runs Stmts Stmt d i-no-stmts (λ l s a b. i-stmts a b) (omega arith) RBrace bodyThings (Parse.stmt ts d (Parse.body ts d)) (stmt-sound ts d) i h
+      → Runs (λ r. not (eqb (kindAt ts r) RBrace)) (Parse.listStep ts bodyThings (Parse.stmt ts d (Parse.body ts d))) none i
+      (Parse.listTo ts RBrace bodyThings (Parse.stmt ts d (Parse.body ts d)) i)
+  stmts-run d i h =
+      list-runs Stmts Stmt d i-no-stmts (λ l s a b. i-stmts a b) (omega arith) RBrace bodyThings (Parse.stmt ts d (Parse.body ts d))
+      (stmt-sound ts d) i h
 
-  pub items-run : (i : ℕ) → i ≤ length ts → Runs (λ r. not (eqb (kindAt ts r) RBrace)) (Parse.listStep ts unitThings (Parse.item ts)) none i (Parse.listTo ts RBrace unitThings (Parse.item ts) i)
-  items-run i h = list-runs Items Item 64 i-no-items (λ l s a b. i-items a b) (omega arith) RBrace unitThings (Parse.item ts) (item-sound ts) i h
+  pub items-run : (i : ℕ) → i ≤ length ts
+      → Runs (λ r. not (eqb (kindAt ts r) RBrace)) (Parse.listStep ts unitThings (Parse.item ts)) none i
+      (Parse.listTo ts RBrace unitThings (Parse.item ts) i)
+  items-run i h =
+      list-runs Items Item 64 i-no-items (λ l s a b. i-items a b) (omega arith) RBrace unitThings (Parse.item ts) (item-sound ts) i h
 
   pub map-fields-run : (i : ℕ) → i ≤ length ts
-      → Runs (λ r. not (eqb (kindAt ts r) RBrace)) (Parse.listStep ts mapFields (Parse.mapField ts)) none i (Parse.listTo ts RBrace mapFields (Parse.mapField ts) i)
-  map-fields-run i h = list-runs MapFields MapField 64 i-no-fields (λ l s a b. i-fields a b) (omega arith) RBrace mapFields (Parse.mapField ts) (map-field-sound ts) i h
+      → Runs (λ r. not (eqb (kindAt ts r) RBrace)) (Parse.listStep ts mapFields (Parse.mapField ts)) none i
+      (Parse.listTo ts RBrace mapFields (Parse.mapField ts) i)
+  map-fields-run i h =
+      list-runs MapFields MapField 64 i-no-fields (λ l s a b. i-fields a b) (omega arith) RBrace mapFields (Parse.mapField ts)
+      (map-field-sound ts) i h
 
   pub event-fields-run : (i : ℕ) → i ≤ length ts
-      → Runs (λ r. not (eqb (kindAt ts r) RBrace)) (Parse.listStep ts eventFields (Parse.eventField ts)) none i (Parse.listTo ts RBrace eventFields (Parse.eventField ts) i)
+      → Runs (λ r. not (eqb (kindAt ts r) RBrace)) (Parse.listStep ts eventFields (Parse.eventField ts)) none i
+      (Parse.listTo ts RBrace eventFields (Parse.eventField ts) i)
   event-fields-run i h =
-      list-runs EventFields EventField 64 i-no-event-fields (λ l s a b. i-event-fields a b) (omega arith) RBrace eventFields (Parse.eventField ts) (event-field-sound ts) i h
+      list-runs EventFields EventField 64 i-no-event-fields (λ l s a b. i-event-fields a b) (omega arith) RBrace eventFields
+      (Parse.eventField ts) (event-field-sound ts) i h
 
-  pub decls-run : Runs (λ r. not (eqb (kindAt ts r) Eof)) (Parse.listStep ts tops (Parse.top ts)) none 0 (Parse.listTo ts Eof tops (Parse.top ts) 0)
-  decls-run = list-runs Decls Decl 64 i-no-decls (λ l s a b. i-decls a b) (omega arith) Eof tops (Parse.top ts) (top-sound ts) 0 (omega arith)
+  pub decls-run : Runs (λ r. not (eqb (kindAt ts r) Eof)) (Parse.listStep ts tops (Parse.top ts)) none 0
+      (Parse.listTo ts Eof tops (Parse.top ts) 0)
+  decls-run =
+      list-runs Decls Decl 64 i-no-decls (λ l s a b. i-decls a b) (omega arith) Eof tops (Parse.top ts) (top-sound ts) 0 (omega arith)
 
   -- fields and calls behind an atom
   pub posts-run : (d i : ℕ) (t : Tree) (j : ℕ) → Parse.atom ts (Parse.inner ts d) i ≡ ok t j

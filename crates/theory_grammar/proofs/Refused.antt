@@ -72,7 +72,8 @@ module _ (ts : List Tok) (e : ℕ) (eof : kindAt ts e ≡ Eof) (short : e < leng
   unfolding Parse.loop
   loop-within test step s t j h = many-within e test step s (suc (length ts)) (test j) t j refl h
 
-  want-in-within : (s k : ℕ) (f : P) (i : ℕ) → eqb k Eof ≡ false → i ≤ e → (i + 1 ≤ e → Within e (f (i + 1))) → Within e (Parse.wantIn ts s k f i)
+  want-in-within : (s k : ℕ) (f : P) (i : ℕ) → eqb k Eof ≡ false → i ≤ e → (i + 1 ≤ e → Within e (f (i + 1)))
+      → Within e (Parse.wantIn ts s k f i)
   unfolding Parse.wantIn Parse.wantBy
   want-in-within s k f i b h q = go (eqb (kindAt ts i) k) refl
     where
@@ -89,7 +90,8 @@ module _ (ts : List Tok) (e : ℕ) (eof : kindAt ts e ≡ Eof) (short : e < leng
   unfolding Parse.endIn
   end-in-within s k t f i b h q = want-in-within (Parse.onward ts t i + s) k f i b h q
 
-  end-within : (k : ℕ) (t : Tree) (f : P) (i : ℕ) → eqb k Eof ≡ false → i ≤ e → (i + 1 ≤ e → Within e (f (i + 1))) → Within e (Parse.end ts k t f i)
+  end-within : (k : ℕ) (t : Tree) (f : P) (i : ℕ) → eqb k Eof ≡ false → i ≤ e → (i + 1 ≤ e → Within e (f (i + 1)))
+      → Within e (Parse.end ts k t f i)
   unfolding Parse.end
   end-within k t f i b h q = end-in-within (only k) k t f i b h q
 
@@ -128,7 +130,9 @@ module _ (ts : List Tok) (e : ℕ) (eof : kindAt ts e ≡ Eof) (short : e < leng
     unfolding Parse.atomBy
     atom-by number i f h = onward i Number f refl h
     atom-by identifier i f h = onward i Identifier f refl h
-    atom-by paren i f h = then-within e (g whole i) _ (under whole i (onward i LParen f refl h)) (λ t j l. end-within RParen t (ok (group t)) j refl l (λ n. n))
+    atom-by paren i f h =
+        then-within e (g whole i) _ (under whole i (onward i LParen f refl h))
+        (λ t j l. end-within RParen t (ok (group t)) j refl l (λ n. n))
     atom-by other i f h = h
 
     atom-within : (i : ℕ) → i ≤ e → Within e (Parse.atom ts g i)
@@ -146,7 +150,8 @@ module _ (ts : List Tok) (e : ℕ) (eof : kindAt ts e ≡ Eof) (short : e < leng
     unfolding Parse.callBy
     call-by true t w m k p h b = called-within t w none m (k + 1 + 1) p (onward (k + 1) RParen (eqb-true (kindAt ts (k + 1)) RParen b) refl h)
     call-by false t w m k p h b =
-        then-within e (Parse.args ts g k) _ (args-within k h) (λ a r l. end-in-within _ RParen a (Parse.called ts t w a m) r refl l (λ n. called-within t w a m (r + 1) p n))
+        then-within e (Parse.args ts g k) _ (args-within k h)
+        (λ a r l. end-in-within _ RParen a (Parse.called ts t w a m) r refl l (λ n. called-within t w a m (r + 1) p n))
 
     open-by : (b : Bool) (t : Tree) (w : List ℕ) (m k : ℕ) → m ≤ e → k ≤ e → eqb (kindAt ts k) LParen ≡ b → Within e (Parse.openBy ts g b t w m k)
     unfolding Parse.openBy
@@ -207,20 +212,27 @@ module _ (ts : List Tok) (e : ℕ) (eof : kindAt ts e ≡ Eof) (short : e < leng
   list-within : (stop also : ℕ) (p : P) → ((i : ℕ) → i ≤ e → Within e (p i)) → (j : ℕ) → j ≤ e → Within e (Parse.listTo ts stop also p j)
   unfolding Parse.listTo Parse.listStep
   list-within stop also p s j h =
-      loop-within (λ r. not (eqb (kindAt ts r) stop)) (Parse.listStep ts also p) (λ l k m b. then-within e (or (also + Parse.elseBehind ts l) k (p k)) _ (or-within e _ k (p k) (s k m)) (λ t r n. n)) none j h
+      loop-within (λ r. not (eqb (kindAt ts r) stop)) (Parse.listStep ts also p)
+      (λ l k m b. then-within e (or (also + Parse.elseBehind ts l) k (p k)) _ (or-within e _ k (p k) (s k m)) (λ t r n. n)) none j h
 
   -- the same in braces, with the brace taken
-  closed-within : (also : ℕ) (p : P) → ((i : ℕ) → i ≤ e → Within e (p i)) → ((i : ℕ) → i ≤ length ts → All (λ l j. Ends ts i l j × (kindAt ts j ≡ RBrace)) (Parse.listTo ts RBrace also p i))
-      → (f : Tree → P) → ((l : Tree) (k : ℕ) → k ≤ e → Within e (f l k)) → (j : ℕ) → j ≤ e → Within e (then (Parse.listTo ts RBrace also p j) (λ l k. f l (k + 1)))
+  closed-within : (also : ℕ) (p : P) → ((i : ℕ) → i ≤ e → Within e (p i))
+      → ((i : ℕ) → i ≤ length ts → All (λ l j. Ends ts i l j × (kindAt ts j ≡ RBrace)) (Parse.listTo ts RBrace also p i))
+      → (f : Tree → P) → ((l : Tree) (k : ℕ) → k ≤ e → Within e (f l k)) → (j : ℕ) → j ≤ e
+      → Within e (then (Parse.listTo ts RBrace also p j) (λ l k. f l (k + 1)))
   closed-within also p s ends f t j h =
-      then-known e (λ l k. Ends ts j l k × (kindAt ts k ≡ RBrace)) (Parse.listTo ts RBrace also p j) _ (ends j (omega arith)) (list-within RBrace also p s j h)
+      then-known e (λ l k. Ends ts j l k × (kindAt ts k ≡ RBrace)) (Parse.listTo ts RBrace also p j) _ (ends j (omega arith))
+      (list-within RBrace also p s j h)
       (λ l k c m. t l (k + 1) (onward k RBrace (c .1) refl m))
 
-  braced-within : (also : ℕ) (p : P) → ((i : ℕ) → i ≤ e → Within e (p i)) → ((i : ℕ) → i ≤ length ts → All (λ l j. Ends ts i l j × (kindAt ts j ≡ RBrace)) (Parse.listTo ts RBrace also p i))
-      → (f : List ℕ → Tree → P) → ((w : List ℕ) (l : Tree) (k : ℕ) → k ≤ e → Within e (f w l k)) → (i : ℕ) → i + 1 ≤ e → Within e (Parse.braced ts also p f i)
+  braced-within : (also : ℕ) (p : P) → ((i : ℕ) → i ≤ e → Within e (p i))
+      → ((i : ℕ) → i ≤ length ts → All (λ l j. Ends ts i l j × (kindAt ts j ≡ RBrace)) (Parse.listTo ts RBrace also p i))
+      → (f : List ℕ → Tree → P) → ((w : List ℕ) (l : Tree) (k : ℕ) → k ≤ e → Within e (f w l k)) → (i : ℕ) → i + 1 ≤ e
+      → Within e (Parse.braced ts also p f i)
   unfolding Parse.braced
   braced-within also p s ends f t i h =
-      named-within _ (i + 1) h (λ w m. want-within LBrace _ (i + 1 + 1) refl m (λ n. closed-within also p s ends (f w) (t w) (i + 1 + 1 + 1) n))
+      named-within _ (i + 1) h (λ w m. want-within LBrace _ (i + 1 + 1) refl m
+      (λ n. closed-within also p s ends (f w) (t w) (i + 1 + 1 + 1) n))
 
   -- ---- statements, over what is read behind a brace
 
@@ -240,16 +252,19 @@ module _ (ts : List Tok) (e : ℕ) (eof : kindAt ts e ≡ Eof) (short : e < leng
     assign-by : (c : Bool) (t : Tree) (j : ℕ) → j ≤ e → isAssign (kindAt ts j) ≡ c → Within e (Parse.assignBy ts d p c t j)
     unfolding Parse.assignBy
     assign-by true t j h c =
-        then-within e (Parse.expr ts d (j + 1)) _ (expr-within d (j + 1) (mark-onward j (assign-mark (kindAt ts j) c) h)) (λ u k l. end-within Semicolon u _ k refl l (λ n. n))
+        then-within e (Parse.expr ts d (j + 1)) _ (expr-within d (j + 1) (mark-onward j (assign-mark (kindAt ts j) c) h))
+        (λ u k l. end-within Semicolon u _ k refl l (λ n. n))
     assign-by false t j h c = end-in-within _ Semicolon t _ j refl h (λ n. n)
 
     stmt-by : (l : StmtLead) (i : ℕ) → StmtIs (kindAt ts i) l → i ≤ e → Within e (Parse.stmtBy ts d p l i)
     unfolding Parse.stmtBy
     stmt-by declaring i b h =
         named-within _ (i + 1) (mark-onward i (declaring-mark (kindAt ts i) b) h) (λ w m. want-within Equals _ (i + 1 + 1) refl m (λ n.
-        then-within e (Parse.expr ts d (i + 1 + 1 + 1)) _ (expr-within d (i + 1 + 1 + 1) n) (λ t k l. end-within Semicolon t _ k refl l (λ r. r))))
+        then-within e (Parse.expr ts d (i + 1 + 1 + 1)) _ (expr-within d (i + 1 + 1 + 1) n)
+        (λ t k l. end-within Semicolon t _ k refl l (λ r. r))))
     stmt-by returning i b h =
-        then-within e (Parse.expr ts d (i + 1)) _ (expr-within d (i + 1) (onward i KeywordReturn b refl h)) (λ t k l. end-within Semicolon t _ k refl l (λ r. r))
+        then-within e (Parse.expr ts d (i + 1)) _ (expr-within d (i + 1) (onward i KeywordReturn b refl h))
+        (λ t k l. end-within Semicolon t _ k refl l (λ r. r))
     stmt-by branching i b h =
         want-within KeywordGuard _ (i + 1) refl (onward i KeywordIf b refl h) (λ m. want-within LParen _ (i + 1 + 1) refl m (λ n.
         named-within _ (i + 1 + 1 + 1) n (λ w r. want-within RParen _ (i + 1 + 1 + 1 + 1) refl r (λ q. bodies-within w (i + 1 + 1 + 1 + 1 + 1) q))))
@@ -262,7 +277,9 @@ module _ (ts : List Tok) (e : ℕ) (eof : kindAt ts e ≡ Eof) (short : e < leng
   body-within : (d o : ℕ) → o + 1 ≤ e → Within e (Parse.body ts d o)
   unfolding Parse.body
   body-within zero o h = omega arith
-  body-within (suc d) o h = closed-within bodyThings (Parse.stmt ts d (Parse.body ts d)) (stmt-over d (Parse.body ts d) (body-within d)) (ends-stmts ts d) (λ l k. ok l k) (λ l k m. m) (o + 1) h
+  body-within (suc d) o h =
+      closed-within bodyThings (Parse.stmt ts d (Parse.body ts d)) (stmt-over d (Parse.body ts d) (body-within d)) (ends-stmts ts d)
+      (λ l k. ok l k) (λ l k m. m) (o + 1) h
 
   pub stmt-within : (d i : ℕ) → i ≤ e → Within e (Parse.stmt ts d (Parse.body ts d) i)
   stmt-within d i h = stmt-over d (Parse.body ts d) (body-within d) i h

@@ -130,7 +130,8 @@ module _ (ts : List Tok) where
     pub args-sound : (o : ℕ) → o < length ts → All (Under ts Args d o) (Parse.args ts g o)
     unfolding Parse.args
     args-sound o h =
-        then-all (Under ts Add d o) (Under ts Args d o) (or firstArguments (o + 1) (g whole o)) _ (or-all (Under ts Add d o) firstArguments (o + 1) (g whole o) (under whole o h))
+        then-all (Under ts Add d o) (Under ts Args d o) (or firstArguments (o + 1) (g whole o)) _
+        (or-all (Under ts Add d o) firstArguments (o + 1) (g whole o) (under whole o h))
         (λ t k u. loop-all ts (Under ts Args d o) (λ r. eqb (kindAt ts r) Comma) (Parse.argStep ts g) (arg-step o) (one t) k (ones d o t k u))
 
     called-sound : (C : Tree → ℕ → Type 0) (t : Tree) (w : List ℕ) (a : Tree) (m k : ℕ) → (isVariable t ≡ true → C (call t w a) k)
@@ -229,7 +230,8 @@ module _ (ts : List Tok) where
 
   module _ (Ns M : Nt) (d : ℕ) (nil : Is true Ns d none) (join : (l s : Tree) → Is true Ns d l → Is true M d s → Is true Ns d (seq l s)) (wide : 1 ≤ fewest M)
       (stop also : ℕ) (p : P) (p-sound : (i : ℕ) → All (Reads ts M d i) (p i)) where
-    pub list-next : (i : ℕ) (l : Tree) (j : ℕ) → Reads ts Ns d i l j → All (λ u k. Reads ts Ns d i u k × (j < k)) (Parse.listStep ts also p l j)
+    pub list-next : (i : ℕ) (l : Tree) (j : ℕ) → Reads ts Ns d i l j
+        → All (λ u k. Reads ts Ns d i u k × (j < k)) (Parse.listStep ts also p l j)
     unfolding Parse.listStep yield
     list-next i l j r =
         then-all (Reads ts M d j) (λ u k. Reads ts Ns d i u k × (j < k)) (or (also + Parse.elseBehind ts l) j (p j)) _
@@ -241,7 +243,8 @@ module _ (ts : List Tok) where
     list-sound i h =
         map-all (λ l j. Reads ts Ns d i l j × (not (eqb (kindAt ts j) stop) ≡ false)) (λ l j. Reads ts Ns d i l j × (kindAt ts j ≡ stop))
         (Parse.loop ts (λ r. not (eqb (kindAt ts r) stop)) (Parse.listStep ts also p) none i)
-        (loop-ends ts (Reads ts Ns d i) (λ r. not (eqb (kindAt ts r) stop)) (Parse.listStep ts also p) (λ l j r. r .inside) (λ l j r b. list-next i l j r) none i (reads nil (run-none ts i h)))
+        (loop-ends ts (Reads ts Ns d i) (λ r. not (eqb (kindAt ts r) stop)) (Parse.listStep ts also p) (λ l j r. r .inside)
+        (λ l j r b. list-next i l j r) none i (reads nil (run-none ts i h)))
         (λ l j r. (r .0, eqb-true (kindAt ts j) stop (not-false (eqb (kindAt ts j) stop) (r .1))))
 
   -- ---- statements, over what is read behind a brace
@@ -296,7 +299,8 @@ module _ (ts : List Tok) where
         (λ u k v. end-all ts (Reads ts Stmt d i) Semicolon u (ok (assign (kindAt ts j) e u)) k
         (λ f. reads (i-assign c (r .is) (v .is)) (run-of r ▸ row ts j (kindAt ts j) refl (assign-mark (kindAt ts j) c) ▸ run-of v ▸ row ts k Semicolon f refl)))
     assign-by false i e j c r =
-        end-in-all ts (Reads ts Stmt d i) _ Semicolon e (ok (plain e)) j (λ f. reads (i-plain (r .is)) (run-of r ▸ row ts j Semicolon f refl))
+        end-in-all ts (Reads ts Stmt d i) _ Semicolon e (ok (plain e)) j
+        (λ f. reads (i-plain (r .is)) (run-of r ▸ row ts j Semicolon f refl))
 
     stmt-by : (l : StmtLead) (i : ℕ) → StmtIs (kindAt ts i) l → All (Reads ts Stmt d i) (Parse.stmtBy ts d p l i)
     unfolding Parse.stmtBy yield
@@ -326,8 +330,10 @@ module _ (ts : List Tok) where
   unfolding Parse.body
   body-sound zero o h = tt
   body-sound (suc d) o h =
-      then-all (λ l j. Reads ts Stmts d (o + 1) l j × (kindAt ts j ≡ RBrace)) (Body ts d o) (Parse.listTo ts RBrace bodyThings (Parse.stmt ts d (Parse.body ts d)) (o + 1)) _
-      (list-sound Stmts Stmt d i-no-stmts (λ l s a b. i-stmts a b) (omega arith) RBrace bodyThings (Parse.stmt ts d (Parse.body ts d)) (stmt-over d (Parse.body ts d) (body-sound d)) (o + 1) (omega arith))
+      then-all (λ l j. Reads ts Stmts d (o + 1) l j × (kindAt ts j ≡ RBrace)) (Body ts d o)
+      (Parse.listTo ts RBrace bodyThings (Parse.stmt ts d (Parse.body ts d)) (o + 1)) _
+      (list-sound Stmts Stmt d i-no-stmts (λ l s a b. i-stmts a b) (omega arith) RBrace bodyThings (Parse.stmt ts d (Parse.body ts d))
+      (stmt-over d (Parse.body ts d) (body-sound d)) (o + 1) (omega arith))
       (λ l j r. record { last = j; reads = r .0; brace = r .1; next = refl })
 
   pub stmt-sound : (d i : ℕ) → All (Reads ts Stmt d i) (Parse.stmt ts d (Parse.body ts d) i)
@@ -365,7 +371,8 @@ module _ (ts : List Tok) where
   pub unit-sound : (i : ℕ) → kindAt ts i ≡ KeywordUnit → All (Reads ts Decl 64 i) (Parse.unitAt ts i)
   unfolding Parse.unitAt yield
   unit-sound i e =
-      braced-sound Items Item 64 i-no-items (λ l s a b. i-items a b) (omega arith) unitThings (Parse.item ts) item-sound (Reads ts Decl 64 i) i _
+      braced-sound Items Item 64 i-no-items (λ l s a b. i-items a b) (omega arith) unitThings (Parse.item ts) item-sound
+      (Reads ts Decl 64 i) i _
       (λ w l j h r. reads (i-unit h) (row ts i KeywordUnit e refl ▸ r))
 
   -- ---- maps
@@ -443,7 +450,8 @@ module _ (ts : List Tok) where
   pub map-sound : (i : ℕ) → kindAt ts i ≡ KeywordMap → All (Reads ts Decl 64 i) (Parse.mapAt ts i)
   unfolding Parse.mapAt
   map-sound i e =
-      braced-sound MapFields MapField 64 i-no-fields (λ l s a b. i-fields a b) (omega arith) mapFields (Parse.mapField ts) map-field-sound (Reads ts Decl 64 i) i _
+      braced-sound MapFields MapField 64 i-no-fields (λ l s a b. i-fields a b) (omega arith) mapFields (Parse.mapField ts) map-field-sound
+      (Reads ts Decl 64 i) i _
       (λ w l j h r. map-end (lacking (typeOf l) (typedBy KeywordKey l) (typedBy KeywordValue l) (limitOf l)) i w l j h (row ts i KeywordMap e refl ▸ r) refl)
 
   -- ---- events
@@ -474,7 +482,8 @@ module _ (ts : List Tok) where
         ▸ row ts (i + 1 + 1 + 1) LBracket (eqb-true (kindAt ts (i + 1 + 1 + 1)) LBracket c) refl ▸ value-row ts (i + 1 + 1 + 1 + 1) n
         ▸ row ts (i + 1 + 1 + 1 + 1 + 1) RBracket x refl ▸ row ts (i + 1 + 1 + 1 + 1 + 1 + 1) Semicolon s refl))
     array-by false t c =
-        want-in-all ts (Reads ts EventField 64 i) _ Semicolon (ok (plainField (spellingOf (tokAt ts i)) (kindAt ts (i + 1 + 1)))) (i + 1 + 1 + 1) (λ s.
+        want-in-all ts (Reads ts EventField 64 i) _ Semicolon (ok (plainField (spellingOf (tokAt ts i)) (kindAt ts (i + 1 + 1))))
+        (i + 1 + 1 + 1) (λ s.
         reads (i-plain-field t)
         (name-row ts i e ▸ row ts (i + 1) Colon f refl ▸ row ts (i + 1 + 1) (kindAt ts (i + 1 + 1)) refl (type-mark (kindAt ts (i + 1 + 1)) t) ▸ row ts (i + 1 + 1 + 1) Semicolon s refl))
 
@@ -498,7 +507,8 @@ module _ (ts : List Tok) where
   pub event-sound : (i : ℕ) → kindAt ts i ≡ KeywordEvent → All (Reads ts Decl 64 i) (Parse.eventAt ts i)
   unfolding Parse.eventAt yield
   event-sound i e =
-      braced-sound EventFields EventField 64 i-no-event-fields (λ l s a b. i-event-fields a b) (omega arith) eventFields (Parse.eventField ts) event-field-sound (Reads ts Decl 64 i) i _
+      braced-sound EventFields EventField 64 i-no-event-fields (λ l s a b. i-event-fields a b) (omega arith) eventFields
+      (Parse.eventField ts) event-field-sound (Reads ts Decl 64 i) i _
       (λ w l j h r. reads (i-event h) (row ts i KeywordEvent e refl ▸ r))
 
   -- ---- programs
@@ -522,7 +532,8 @@ module _ (ts : List Tok) where
   pub accepted-is : All (λ t j. Is true Program 64 t) (Parse.parse ts)
   unfolding Parse.parse
   accepted-is =
-      then-all (λ l j. Reads ts Decls 64 0 l j × (kindAt ts j ≡ Eof)) (λ t j. Is true Program 64 t) (Parse.listTo ts Eof tops (Parse.top ts) 0) _ decls-sound (λ l j r. i-program (r .0 .is))
+      then-all (λ l j. Reads ts Decls 64 0 l j × (kindAt ts j ≡ Eof)) (λ t j. Is true Program 64 t)
+      (Parse.listTo ts Eof tops (Parse.top ts) 0) _ decls-sound (λ l j r. i-program (r .0 .is))
 
   -- the same, with the ending row, where the table has an Eof
   module _ (e : ℕ) (inside : e < length ts) (eof : kindAt ts e ≡ Eof) where
@@ -550,7 +561,8 @@ module _ (ts : List Tok) where
     pub program-sound : All (Accepts ts) (Parse.parse ts)
     unfolding Parse.parse
     program-sound =
-        then-all (λ l j. Reads ts Decls 64 0 l j × (kindAt ts j ≡ Eof)) (Accepts ts) (Parse.listTo ts Eof tops (Parse.top ts) 0) _ decls-sound (λ l j r. whole-program l j (r .0) (r .1))
+        then-all (λ l j. Reads ts Decls 64 0 l j × (kindAt ts j ≡ Eof)) (Accepts ts)
+        (Parse.listTo ts Eof tops (Parse.top ts) 0) _ decls-sound (λ l j r. whole-program l j (r .0) (r .1))
 
     -- The theorem: what is accepted is a program, and the rows are its tokens, and then what stands behind the Eof.
     pub parse-sound : (t : Tree) (j : ℕ) → Proper ts → Parse.parse ts ≡ ok t j → Is true Program 64 t × (ts ≡ yield t ++ drop j ts)

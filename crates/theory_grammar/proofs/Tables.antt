@@ -129,6 +129,7 @@ module _ (t ws : List ℕ) (tbl : Table) (good : wellFormed ws tbl ≡ true) (fi
   refuses-first why r e = refused-first (tokens t (rowsIn (tbl .count) ws)) why r (table-whole .proper) e
 
   -- The theorem: what is refused with 21, 22, 23, 25 or 30 tells exactly the kinds that would have fitted.
-  pub tells-exactly : (why : Syntax) (r : ℕ) → reading t ws tbl ≡ no why r → isMisfit why ≡ true → ToldExactly (tokens t (rowsIn (tbl .count) ws)) why r
+  pub tells-exactly : (why : Syntax) (r : ℕ) → reading t ws tbl ≡ no why r → isMisfit why ≡ true
+      → ToldExactly (tokens t (rowsIn (tbl .count) ws)) why r
   unfolding reading
   tells-exactly why r e m = told-exactly (tokens t (rowsIn (tbl .count) ws)) why r (table-whole .proper) e m
