@@ -37,7 +37,8 @@ pub struct Store {
     pub told: [u32; 8],
 }
 
-/// Reading a file that came of the stored one, into so many words, and the eight words that are expected of it. Where they tell a table, it is the stored one.
+/// Reading a file that came of the stored one, into so many words, and the eight words that are expected of it. Where they tell a
+/// table, it is the stored one.
 #[derive(Debug, Clone, PartialEq, Eq)]
 pub struct Load {
     pub damage: Damage,

@@ -1,4 +1,5 @@
-//! Files that came of a stored table and are spoilt: bytes changed, blocks swapped, cut off, doubled, and block 0 made to say something else.
+//! Files that came of a stored table and are spoilt: bytes changed, blocks swapped, cut off, doubled, and block 0 made to say something
+//! else.
 
 use crate::generate::random::Random;
 use crate::model::file::{seal, BLOCK};

@@ -1,4 +1,5 @@
-//! The stored tables written down: numbers behind letters; of a file the bytes that are not zero, and of a damaged one those that are other.
+//! The stored tables written down: numbers behind letters; of a file the bytes that are not zero, and of a damaged one those that are
+//! other.
 
 use super::Case;
 
