@@ -1,6 +1,6 @@
 -- Laws of numbers where they stand in bytes, of one more byte, word or row, and of bytes written one behind the other.
 use mathlib.Core.Path.{_≡_, refl, sym, ap, _∙_}
-use mathlib.Core.Bool.{Bool, true, false, _&&_, and-false}
+use mathlib.Core.Bool.{Bool, true, false, not, _&&_, _||_, true≢false, and-false, and-comm, and-assoc}
 use mathlib.Core.List.{List, [], _∷_, _++_, append-assoc, append-nil}
 use Prim.Native.Nat.{ℕ, zero, suc, _+_, _-_, _*_, _/_, _%_, _≤_, _<_, max}
 use native.Mathlib.Nat.{not-suc-le-zero, le-of-suc-le-suc}
@@ -8,10 +8,14 @@ use native.Mathlib.Numerals.{add-one}
 use native.Mathlib.Omega.{arith}
 use lib.ListN.{length, take, drop, getD, set, replicate, length-append, length-take, length-drop, length-replicate, replicate-append-replicate, take-append-drop, drop-of-length-le}
 use lib.Seq.{take-suc, drop-cons, drop-drop, getD-drop, sets-eq, set-at, take-at, drop-at, length-take-le, drop-append-add}
-use lib.Dec.{eqb}
-use borrow.Author.Tests.{eqb-true, eq-eqb, ne-eqb}
-use Rattle.laws.proofs.Tests.{same-bool, both-true, true-both}
-use Rattle.rules.specs.Rows.{Row, rowIn}
+use lib.Dec.{eqb, leb}
+use borrow.Author.Tests.{eqb-true, eq-eqb, ne-eqb, lt-leb, not-true}
+use Rattle.laws.proofs.Tests.{false-by, same-bool, both-true, true-both}
+use Rattle.rules.specs.Kinds.{Eof}
+use Rattle.rules.specs.Rows.{Row, rowIn, isEof, rowFits, follows}
+use Rattle.rows.specs.Shape.{sane}
+use Rattle.rows.proofs.Inside.{sound as inside, plain-kind}
+use Rattle.rows.proofs.Shapes.{made-le, fits-sane}
 use Rattle.file_rules.specs.Bytes.{little, number, numberAt, bytesOf, wordsIn}
 use Rattle.file_rules.specs.Blocks.{sumFrom, check, checked, block, zeros, sound}
 use Rattle.file_blocks.specs.Standing.{rowFrom, rowsFrom, standsOn, stand}
@@ -131,15 +135,35 @@ rows-more n i s h =
     let f : 4 + 32 * i + 32 ≡ 4 + 32 * (i + 1) = omega arith in
     rw (e, drop-drop, f)
 
--- row i, read as q, behind the last
-module _ (n i : ℕ) (s : List ℕ) (last q : Row) (h : i < n) (e : q ≡ rowFrom (drop (4 + 32 * i) s)) where
-  pub stand-not : standsOn last q ≡ false → stand last (rowsFrom (n - i) (drop (4 + 32 * i) s)) ≡ false
-  unfolding stand
-  stand-not f = rw (rows-more n i s h, ← e, f)
+-- ---- a row behind another
 
-  pub stand-more : standsOn last q ≡ true → stand last (rowsFrom (n - i) (drop (4 + 32 * i) s)) ≡ stand q (rowsFrom (n - (i + 1)) (drop (4 + 32 * (i + 1)) s))
+module _ (r q : Row) where
+  pub stands-on-plain : q .kind < Eof → (rowFits q && follows r q) ≡ standsOn r q
+  unfolding standsOn isEof
+  stands-on-plain h = rw (ne-eqb (q .kind) Eof (λ e. omega arith))
+
+  pub stands-on-out : (leb Eof (q .kind) || not (sane q)) ≡ true → standsOn r q ≡ false
+  unfolding standsOn
+  stands-on-out h = false-by (standsOn r q) out
+    where
+      out : standsOn r q ≡ true → ⊥
+      out s =
+          let a = both-true (not (isEof q)) (rowFits q && follows r q) s in
+          let f = both-true (rowFits q) (follows r q) (a .1) .0 in
+          let k = made-le (q .kind) (inside q f .made) in
+          let l : q .kind < Eof = omega (arith, plain-kind q (not-true (isEof q) (a .0))) in
+          true≢false (sym h ∙ rw (lt-leb Eof (q .kind) l, fits-sane q f))
+
+-- row i, read as q, behind the last, where the rows in front are judged
+module _ (n i : ℕ) (s : List ℕ) (last q : Row) (good : Bool) (h : i < n) (e : q ≡ rowFrom (drop (4 + 32 * i) s)) where
+  pub stand-not : standsOn last q ≡ false → (good && stand last (rowsFrom (n - i) (drop (4 + 32 * i) s))) ≡ false
   unfolding stand
-  stand-more f = rw (rows-more n i s h, ← e, f)
+  stand-not f = rw (rows-more n i s h, ← e, f) (and-false good)
+
+  pub stand-more : (p : Bool) → p ≡ standsOn last q
+      → ((p && good) && stand q (rowsFrom (n - (i + 1)) (drop (4 + 32 * (i + 1)) s))) ≡ (good && stand last (rowsFrom (n - i) (drop (4 + 32 * i) s)))
+  unfolding stand
+  stand-more p f = rw (rows-more n i s h, ← e, ← f, and-comm p good) (and-assoc good p _)
 
 -- ---- one word more
 

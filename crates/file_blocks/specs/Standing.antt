@@ -17,7 +17,7 @@ rowsFrom (suc n) s = rowFrom s ∷ rowsFrom n (drop rowBytes s)
 
 -- a row fits behind another, and is not Eof
 unfoldable pub standsOn : Row → Row → Bool
-standsOn r q = (not (isEof q) && rowFits q) && follows r q
+standsOn r q = not (isEof q) && (rowFits q && follows r q)
 
 -- and so do rows, each behind the one before it
 unfoldable pub stand : Row → List Row → Bool

@@ -8,11 +8,10 @@ ghost use mathlib.Core.Path.{_≡_};
 ghost use mathlib.Core.List.{_++_};
 ghost use Prim.Native.Nat.{_+_, _-_, _*_, _≤_, max};
 ghost use lib.ListN.{length, take, drop, replicate};
-ghost use Rattle.rules.specs.Rows.{rowFits};
 ghost use Rattle.rows.specs.Shape.{LengthTable, asRow};
 ghost use Rattle.file_rules.specs.Bytes.{little, numberAt, bytesOf, wordsIn};
 ghost use Rattle.file_rules.specs.Blocks.{check, block, zeros, sound};
-ghost use Rattle.file_blocks.specs.Standing.{rowFrom, rowsFrom, standsOn, stand};
+ghost use Rattle.file_blocks.specs.Standing.{rowFrom, rowsFrom, stand};
 
 // ---- numbers
 
@@ -143,30 +142,30 @@ pub fn row_in(bytes: &[u8], i: usize) -> Row
     row_at(bytes, form::CONTENT + form::ROW * i)
 }
 
-// Whether row q fits behind row r, and is not Eof.
-fn stands_on(lengths: &[u32; kind::KINDS], r: Row, q: Row) -> bool
-    requires { ⌜ LengthTable (now lengths) ⌝ }
-    ensures { λ b. ⌜ b ≡ standsOn (asRow r) (asRow q) ⌝ }
-{
-    ((q.kind != kind::EOF) & shape::row_fits(lengths, q)) & shape::row_follows(r, q)
-}
-
 // Whether the first n rows of a block fit behind a row and one behind the other, none of them Eof.
-pub fn rows_stand(lengths: &[u32; kind::KINDS], bytes: &[u8], n: usize, before: Row) -> bool
-    requires { ⌜ (4 + 32 * n ≤ length (now bytes)) × LengthTable (now lengths) ⌝ }
+pub fn rows_stand(
+    least: &[u32; kind::KINDS],
+    most: &[u32; kind::KINDS],
+    bytes: &[u8],
+    n: usize,
+    before: Row,
+) -> bool
+    requires { ⌜ (4 + 32 * n ≤ length (now bytes)) × LengthTable (now least) (now most) ⌝ }
     ensures { λ r. ⌜ r ≡ stand (asRow before) (rowsFrom n (drop 4 (now (bytes .entry)))) ⌝ }
 {
     let mut last = before;
+    let mut good = true;
     let mut i = 0;
     while i < n {
         let r = row_in(bytes, i);
-        if !stands_on(lengths, last, r) {
+        if (kind::EOF <= r.kind) | !shape::row_sane(r) {
             return false;
         }
+        good = shape::row_stands(least, most, last, r) & good;
         last = r;
         i += 1;
     }
-    true
+    good
 }
 
 // The first n words of a block's content into the first lent words.

@@ -1,6 +1,6 @@
 -- Laws of the loop over blocks: the blocks and rows in front are judged, and those that are left give the whole answer.
 use mathlib.Core.Path.{_≡_, refl, sym, ap, _∙_}
-use mathlib.Core.Bool.{Bool, true, false, _&&_, and-true}
+use mathlib.Core.Bool.{Bool, true, false, _&&_, and-true, and-assoc}
 use mathlib.Core.List.{List, [], _∷_, _++_}
 use Prim.Native.Nat.{ℕ, zero, suc, _+_, _-_, _*_, _^_, _≤_, _<_, min}
 use native.Mathlib.Numerals.{add-one}
@@ -24,10 +24,6 @@ left-body file left at = bodyFrom 32 (blocksFor 32 left) left (drop at file)
 -- how many of the blocks from k on are sound before one is not
 pub left-sound : List ℕ → ℕ → ℕ → ℕ → ℕ
 left-sound file left k at = soundFrom 32 (blocksFor 32 left) k left (drop at file)
-
-and-three : (a b c : Bool) → ((a && b) && c) ≡ (a && (b && c))
-and-three true b c = refl
-and-three false b c = refl
 
 pub record Judging (file : List ℕ) (count plain : ℕ) (last : Row) (stands : Bool) (left more k at : ℕ) : Type 0 where
   pub place : at ≡ 512 * k
@@ -121,5 +117,5 @@ module _ (file : List ℕ) (count plain : ℕ) (frame : Framed count file) where
           blocks = rw behind (omega (arith, g .blocks, next));
           fewer = omega (arith, g .fewer, some-rows, more-rows);
           sounds = sounds-next e;
-          rows = rw (now-is, then-is, more-rows, behind) (and-three stands _ _ ∙ rw rows-split at (g .rows));
+          rows = rw (now-is, then-is, more-rows, behind) (and-assoc stands _ _ ∙ rw rows-split at (g .rows));
         }

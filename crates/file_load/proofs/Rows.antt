@@ -1,6 +1,6 @@
 -- Laws of rows in the bytes of a file: where each stands, those of a block in front of the others, and whether they stand.
 use mathlib.Core.Path.{_≡_, refl, sym, ap, _∙_}
-use mathlib.Core.Bool.{Bool, true, false, not, _&&_}
+use mathlib.Core.Bool.{Bool, true, false, not, _&&_, _||_, and-true, and-comm, and-assoc}
 use mathlib.Core.List.{List, [], _∷_, _++_, append-assoc, append-nil}
 use Prim.Native.Nat.{ℕ, zero, suc, _+_, _-_, _*_, _/_, _%_, _≤_, _<_, min}
 use native.Mathlib.Nat.{not-suc-le-zero, le-of-suc-le-suc}
@@ -8,17 +8,19 @@ use native.Mathlib.Numerals.{add-one}
 use native.Mathlib.Omega.{arith}
 use lib.ListN.{length, take, drop, getD, length-append, length-take, length-drop, take-append-drop, List·getD-append}
 use lib.Seq.{take-at, drop-at, drop-drop, drop-append-le, drop-append-add}
-use lib.Dec.{ltb}
-use borrow.Author.Tests.{ltb-true, ltb-false}
-use Rattle.rules.specs.Rows.{Row, rowIn, rowNo, rowsIn, isEof, rowFits, follows}
+use lib.Dec.{ltb, leb}
+use borrow.Author.Tests.{ltb-true, ltb-false, leb-false}
+use Rattle.rules.specs.Kinds.{Eof}
+use Rattle.rules.specs.Rows.{Row, rowIn, rowNo, rowsIn}
 use Rattle.laws.specs.Tests.{allBelow}
+use Rattle.laws.proofs.Tests.{neither}
 use Rattle.laws.proofs.Rows.{rows-snoc}
-use Rattle.rows.specs.Shape.{stands}
-use Rattle.rows.proofs.Tables.{Leads, leads-first, leads-next, stands-led}
+use Rattle.rows.specs.Shape.{sane, rowBefore, stands}
+use Rattle.rows.proofs.Tables.{before-first, before-on, stands-plain, stands-out}
 use Rattle.file_rules.specs.Bytes.{number, numberAt, wordsIn}
 use Rattle.file_rules.specs.Blocks.{contentOf, blocksFor, bodyFrom}
 use Rattle.file_blocks.specs.Standing.{rowFrom, rowsFrom, standsOn, stand}
-use Rattle.file_blocks.proofs.Laws.{row-words}
+use Rattle.file_blocks.proofs.Laws.{row-words, stands-on-plain, stands-on-out}
 use Rattle.theory_files.proofs.Numbers.{words-length, words-front, words-drop, words-append}
 use Rattle.theory_files.proofs.Said.{part-front}
 use Rattle.theory_files.proofs.Many.{blocks-next, blocks-zero}
@@ -115,14 +117,10 @@ pub last-row : (n : ℕ) (r : Row) (b : List ℕ) → (n ≡ 0 → ⊥) → last
 last-row zero r b h = absurd (h refl)
 last-row (suc n) r b h = let e : suc n - 1 ≡ n = omega arith in last-more n r (drop 4 b) ∙ rw (drop-drop, e)
 
-and-assoc : (a b c : Bool) → (a && (b && c)) ≡ ((a && b) && c)
-and-assoc true b c = refl
-and-assoc false b c = refl
-
 pub stand-append : (r : Row) (xs ys : List Row) → stand r (xs ++ ys) ≡ (stand r xs && stand (lastOf r xs) ys)
 unfolding stand lastOf
 stand-append r [] ys = refl
-stand-append r (q ∷ xs) ys = rw (stand-append q xs ys) (and-assoc (standsOn r q) (stand q xs) (stand (lastOf q xs) ys))
+stand-append r (q ∷ xs) ys = rw (stand-append q xs ys) (sym (and-assoc (standsOn r q) (stand q xs) (stand (lastOf q xs) ys)))
 
 -- ---- what stands, row by row
 
@@ -131,21 +129,22 @@ unfolding lastOf
 last-snoc r q [] = refl
 last-snoc r q (x ∷ xs) = last-snoc x q xs
 
-leads-last : (ws : List ℕ) (n : ℕ) → Leads ws n (lastOf (rowIn []) (rowsIn n ws))
+last-before : (ws : List ℕ) (n : ℕ) → lastOf (rowIn []) (rowsIn n ws) ≡ rowBefore ws n
 unfolding lastOf rowsIn
-leads-last ws zero = leads-first ws
-leads-last ws (suc n) =
-    rw (rows-snoc n ws, last-snoc (rowIn []) (rowNo ws n) (rowsIn n ws)) (rw add-one at (leads-next ws n (rowNo ws n) refl))
+last-before ws zero = sym (before-first ws 0 refl)
+last-before ws (suc n) =
+    rw (rows-snoc n ws, last-snoc (rowIn []) (rowNo ws n) (rowsIn n ws)) (sym (rw add-one at (before-on ws n)))
 
-and-swap : (a b : Bool) → (a && (b && true)) ≡ (b && a)
-and-swap true true = refl
-and-swap true false = refl
-and-swap false true = refl
-and-swap false false = refl
+-- a row on the row before it stands where it is
+stands-by : (ws : List ℕ) (n : ℕ) (out : Bool) → (leb Eof (rowNo ws n .kind) || not (sane (rowNo ws n))) ≡ out
+    → standsOn (rowBefore ws n) (rowNo ws n) ≡ stands ws n
+stands-by ws n true e = stands-on-out (rowBefore ws n) (rowNo ws n) e ∙ sym (stands-out ws n (rowNo ws n) refl e)
+stands-by ws n false e =
+    let h = leb-false Eof (rowNo ws n .kind) (neither (leb Eof (rowNo ws n .kind)) (not (sane (rowNo ws n))) e .0) in
+    sym (stands-on-plain (rowBefore ws n) (rowNo ws n) h) ∙ stands-plain ws n (rowNo ws n) refl h
 
 stands-last : (ws : List ℕ) (n : ℕ) → standsOn (lastOf (rowIn []) (rowsIn n ws)) (rowNo ws n) ≡ stands ws n
-unfolding standsOn
-stands-last ws n = stands-led ws n (rowNo ws n) refl (lastOf (rowIn []) (rowsIn n ws)) (leads-last ws n)
+stands-last ws n = rw (last-before ws n) (stands-by ws n _ refl)
 
 pub stand-below : (ws : List ℕ) (n : ℕ) → stand (rowIn []) (rowsIn n ws) ≡ allBelow (stands ws) n
 unfolding stand rowsIn
@@ -153,7 +152,7 @@ stand-below ws zero = refl
 stand-below ws (suc n) =
     let e = stands-last ws n in
     ap (stand (rowIn [])) (rows-snoc n ws) ∙ stand-append (rowIn []) (rowsIn n ws) (rowNo ws n ∷ [])
-    ∙ rw (stand-below ws n, e) (and-swap (allBelow (stands ws) n) (stands ws n))
+    ∙ rw (stand-below ws n, e, and-true (stands ws n)) (and-comm (allBelow (stands ws) n) (stands ws n))
 
 -- ---- a block in front of the others
 

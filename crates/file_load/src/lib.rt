@@ -31,7 +31,7 @@ ghost use Prim.Native.Nat.{_+_, _*_, _≤_, _<_};
 ghost use lib.ListN.{length, drop};
 ghost use Rattle.rules.specs.Rows.{wellFormed};
 ghost use Rattle.rules.specs.Scan.{roomOf};
-ghost use Rattle.rows.specs.Shape.{asRow, rowNo, closes, breaks};
+ghost use Rattle.rows.specs.Shape.{asRow, rowNo, rowBefore, closes, breaks};
 ghost use Rattle.file_rules.specs.Blocks.{fileLength};
 ghost use Rattle.file_rules.specs.Files.{rowBytes, mostRows, readEnding, endingIn, countSaid, rowWordsIn, rowsTold, blocksTold, saidTold, loadTold, loadLeaves};
 ghost use Rattle.file_blocks.specs.Standing.{rowsFrom};
@@ -147,7 +147,8 @@ fn judge_blocks(file: &[u8], count: u32, plain: u32) -> Blocks
     requires { ⌜ Framed count (now file) × (plain ≤ count) ⌝ }
     ensures { λ r. ⌜ r ≡ blocksJudged plain (now (file .entry)) ⌝ }
 {
-    let lengths = shape::LENGTHS;
+    let least = shape::LEAST;
+    let most = shape::MOST;
     let mut last = shape::no_row();
     let mut stand = true;
     let mut left = count as usize;
@@ -162,7 +163,7 @@ fn judge_blocks(file: &[u8], count: u32, plain: u32) -> Blocks
             return Blocks::Bad(k);
         }
         let m = rows_here(more);
-        stand = stand & rows_stand(&lengths, block, m, last);
+        stand = stand & rows_stand(&least, &most, block, m, last);
         last = last_of(block, m, last);
         left -= n;
         more -= m;
@@ -184,12 +185,24 @@ fn row_of(file: &[u8], count: u32, i: usize) -> Row
     row_in(&file[at..end], i % form::ROWS)
 }
 
+// The row before row i of the file, and before the first a row of zeros.
+fn row_before(file: &[u8], count: u32, i: usize) -> Row
+    requires { ⌜ Framed count (now file) × (i < count) ⌝ }
+    ensures { λ r. ⌜ asRow r ≡ rowBefore (rowWordsIn (now (file .entry))) i ⌝ }
+{
+    if i == 0 {
+        return shape::no_row();
+    }
+    row_of(file, count, i - 1)
+}
+
 // Whether the last row closes the table: it is Eof, at the text's length, and fits behind the row before it.
 fn last_closes(file: &[u8], count: u32, size: u32, i: usize) -> bool
     requires { ⌜ Framed count (now file) × (i < count) ⌝ }
     ensures { λ r. ⌜ r ≡ closes (rowWordsIn (now (file .entry))) size i ⌝ }
 {
-    let lengths = shape::LENGTHS;
+    let least = shape::LEAST;
+    let most = shape::MOST;
     let r = row_of(file, count, i);
     if r.kind != kind::EOF {
         return false;
@@ -197,13 +210,10 @@ fn last_closes(file: &[u8], count: u32, size: u32, i: usize) -> bool
     if r.start != size {
         return false;
     }
-    if !shape::row_fits(&lengths, r) {
-        return false;
+    if shape::row_sane(r) {
+        return shape::row_stands(&least, &most, row_before(file, count, i), r);
     }
-    if i == 0 {
-        return true;
-    }
-    shape::row_follows(row_of(file, count, i - 1), r)
+    false
 }
 
 // Whether a refused ending's place fits behind the last row, within the text's length.

@@ -33,7 +33,6 @@ use Rattle.file_rules.specs.declared.EndingRead.{EndingRead}
 use Rattle.file_rules.specs.declared.EndingRead.the-variants.{Ends, Nothing}
 use Rattle.file_rules.specs.Files.{mostRows, rowBytes, saidAt, said, endingSaid, reasons, readRefused, readEnding, endingIn, countSaid, lengthSaid, formSaid, rowWordsIn, soundIn, rowsTold, loadTold, loadLeaves, storeTold, storeLeaves, encode}
 use Rattle.theory_files.specs.Bounds.{Below, none, some, Bytes, Words}
-use Rattle.theory_files.specs.Told.{Numbered, none, refused, SaidAlike}
 use Rattle.theory_files.proofs.Numbers.{below-take, below-drop, below-append, bytes-length, bytes-bytes, bytes-take, bytes-append, words-bytes, bytes-words, words-length}
 use Rattle.theory_files.proofs.One.{block-length, block-bytes, block-sound, content-block, sound-block, sound-holds, content-length, changed-unsound}
 use Rattle.theory_files.proofs.Many.{blocks-length, blocks-bytes, written-sound, written-read, read-written, body-length, body-bytes, sound-most, changed-first}
@@ -227,104 +226,37 @@ module _ (ws : List ℕ) (t : Table) (well : wellFormed ws t ≡ true) (few : t 
         ∙ told-rows (rowWordsIn (encode ws t)) room (countSaid (encode ws t)) (lengthSaid (encode ws t)) (endingIn (encode ws t)) e ending-is
         ∙ rw (rows-are, count-is, said-is 1 (omega arith))
 
-numbered-back : (e : Ending) → Numbered e → readEnding (getD (endingSaid e) 0 0) (place (getD (endingSaid e) 1 0) (getD (endingSaid e) 2 0) (getD (endingSaid e) 3 0)) ≡ Ends e
+-- the words that say an ending are read as that ending, since each reason has a number of its own
+refused-back : (why : Lexical) (p : Cursor) → readEnding (lexicalNumber why) p ≡ Ends (Refused why p)
+unfolding readEnding readRefused
+refused-back NoRowBegins p = refl
+refused-back LoneSign p = refl
+refused-back NoHexDigit p = refl
+refused-back OpenComment p = refl
+refused-back OpenString p = refl
+refused-back BadEscape p = refl
+refused-back NumberTooLarge p = refl
+
+pub ending-back : (e : Ending) → readEnding (getD (endingSaid e) 0 0) (place (getD (endingSaid e) 1 0) (getD (endingSaid e) 2 0) (getD (endingSaid e) 3 0)) ≡ Ends e
 unfolding readEnding
-numbered-back None none = refl
-numbered-back (Refused why p) (refused f) = f
+ending-back None = refl
+ending-back (Refused why p) = refused-back why p
 
 -- Reading what was written gives back exactly the table, in room for its rows, and every row's words.
-module _ (ws : List ℕ) (t : Table) (well : wellFormed ws t ≡ true) (few : t .count ≤ mostRows) (words : Words ws) (numbered : Numbered (t .ending)) where
+module _ (ws : List ℕ) (t : Table) (well : wellFormed ws t ≡ true) (few : t .count ≤ mostRows) (words : Words ws) where
   pub stored-read : (room : ℕ) → t .count ≤ room → loadTold (encode ws t) room ≡ loaded.Rows t
   stored-read room h =
-      written-told ws t well few words (t .ending) (numbered-back (t .ending) numbered) room
+      written-told ws t well few words (t .ending) (ending-back (t .ending)) room
       ∙ told-table (take (8 * t .count) ws) room t few (well-take ws t well) h
 
   pub stored-full : (room : ℕ) → room < t .count → loadTold (encode ws t) room ≡ loaded.Refused (Outer NoRowRoom)
   stored-full room h =
-      written-told ws t well few words (t .ending) (numbered-back (t .ending) numbered) room
+      written-told ws t well few words (t .ending) (ending-back (t .ending)) room
       ∙ told-full (take (8 * t .count) ws) room t few (well-take ws t well) h
 
   pub stored-words : (new : List ℕ) → t .count ≤ roomOf new → loadLeaves (encode ws t) new ≡ take (8 * t .count) ws ++ drop (8 * t .count) new
   unfolding loadLeaves
   stored-words new h = rw (loadLeaves, stored-read (roomOf new) h) (rw (rows-are ws t well few words))
-
--- ---- whatever the ending: which of several reasons of one number it is, is all that a file does not tell
-
-data Among (why : Lexical) : List Lexical → Type 0 where
-  here : {more : List Lexical} → Among why (why ∷ more)
-  there : {other : Lexical} {more : List Lexical} → Among why more → Among why (other ∷ more)
-
-all-reasons : (why : Lexical) → Among why reasons
-all-reasons NoRowBegins = here
-all-reasons LoneSign = there here
-all-reasons NoHexDigit = there (there here)
-all-reasons OpenComment = there (there (there here))
-all-reasons OpenString = there (there (there (there here)))
-all-reasons BadEscape = there (there (there (there (there here))))
-all-reasons NumberTooLarge = there (there (there (there (there (there here)))))
-
--- the first reason of a number
-record First (rs : List Lexical) (n : ℕ) (p : Cursor) : Type 0 where
-  why : Lexical
-  read : readRefused rs n p ≡ Ends (Refused why p)
-  number-is : n ≡ lexicalNumber why
-
-first-behind : (w : Lexical) (rs : List Lexical) (why : Lexical) (p : Cursor) → First rs (lexicalNumber why) p
-    → (t : Bool) → eqb (lexicalNumber why) (lexicalNumber w) ≡ t → First (w ∷ rs) (lexicalNumber why) p
-unfolding readRefused
-first-behind w rs why p f true e = record { why = w; read = rw e; number-is = eqb-true _ _ e }
-first-behind w rs why p f false e = record { why = f .why; read = rw e (f .read); number-is = f .number-is }
-
-first-of : (rs : List Lexical) (why : Lexical) (p : Cursor) → Among why rs → First rs (lexicalNumber why) p
-unfolding readRefused
-first-of (w ∷ rs) why p here = record { why = why; read = rw (eq-eqb (lexicalNumber why) (lexicalNumber why) refl); number-is = refl }
-first-of (w ∷ rs) why p (there a) = first-behind w rs why p (first-of rs why p a) (eqb (lexicalNumber why) (lexicalNumber w)) refl
-
-record Back (e : Ending) : Type 0 where
-  how : Ending
-  read : readEnding (getD (endingSaid e) 0 0) (place (getD (endingSaid e) 1 0) (getD (endingSaid e) 2 0) (getD (endingSaid e) 3 0)) ≡ Ends how
-  alike : SaidAlike how e
-  fits : (n : ℕ) (rs : List Row) → endingFits n rs how ≡ endingFits n rs e
-
-back-of : (e : Ending) → Back e
-unfolding readEnding endingFits
-back-of None = record { how = None; read = refl; alike = record { same = refl }; fits = λ n rs. refl }
-back-of (Refused why p) =
-    let f = first-of reasons why p (all-reasons why) in
-    record {
-      how = Refused (f .why) p;
-      read = rw (ne-eqb (lexicalNumber why) 0 (some-number why)) (f .read);
-      alike = record { same = rw (f .number-is) };
-      fits = λ n rs. refl;
-    }
-  where
-    some-number : (w : Lexical) → lexicalNumber w ≡ 0 → ⊥
-    some-number NoRowBegins e = omega arith
-    some-number LoneSign e = omega arith
-    some-number NoHexDigit e = omega arith
-    some-number OpenComment e = omega arith
-    some-number OpenString e = omega arith
-    some-number BadEscape e = omega arith
-    some-number NumberTooLarge e = omega arith
-
--- the table that is read
-pub record ReadBack (ws : List ℕ) (t : Table) (room : ℕ) : Type 0 where
-  pub how : Ending
-  pub told : loadTold (encode ws t) room ≡ loaded.Rows (record { count = t .count; length = t .length; ending = how })
-  pub alike : SaidAlike how (t .ending)
-
--- Reading what was written gives back the count, the length, the place of the ending and its number.
-pub stored-alike : (ws : List ℕ) (t : Table) → wellFormed ws t ≡ true → t .count ≤ mostRows → Words ws → (room : ℕ) → t .count ≤ room → ReadBack ws t room
-unfolding wellFormed rowsFit
-stored-alike ws t well few words room h =
-    let b = back-of (t .ending) in
-    let u : Table = record { count = t .count; length = t .length; ending = b .how } in
-    let w : wellFormed (take (8 * t .count) ws) u ≡ true = rw (b .fits (t .length) (rowsIn (t .count) (take (8 * t .count) ws))) (well-take ws t well) in
-    record {
-      how = b .how;
-      told = written-told ws t well few words (b .how) (b .read) room ∙ told-table (take (8 * t .count) ws) room u few w h;
-      alike = b .alike;
-    }
 
 -- ---- what is read is what its table writes
 
@@ -508,9 +440,9 @@ stored-of ws t room n e =
     bytes-same q = cc
 
 -- What a writer leaves, as many bytes as it tells, reads as the table that was written.
-pub stored-loaded : (ws : List ℕ) (t : Table) (file : List ℕ) (n : ℕ) → storeTold ws t (length file) ≡ stored.Bytes n → Words ws → Numbered (t .ending)
+pub stored-loaded : (ws : List ℕ) (t : Table) (file : List ℕ) (n : ℕ) → storeTold ws t (length file) ≡ stored.Bytes n → Words ws
     → (room : ℕ) → t .count ≤ room → loadTold (take n (storeLeaves ws t file)) room ≡ loaded.Rows t
-stored-loaded ws t file n e words numbered room h =
+stored-loaded ws t file n e words room h =
     let s = stored-of ws t (length file) n e in
     let l : length (encode ws t) ≡ n = encode-length ws t (s .well) (s .few) words ∙ s .size in
-    rw (store-written ws t file n e, take-at (encode ws t) (drop n file) n l) (stored-read ws t (s .well) (s .few) words numbered room h)
+    rw (store-written ws t file n e, take-at (encode ws t) (drop n file) n l) (stored-read ws t (s .well) (s .few) words room h)

@@ -1,22 +1,25 @@
--- `rows_stand` meets its contract: at the loop's head the answer is that of the rows from i on, behind the last.
+-- `rows_stand` meets its contract: at the loop's head the verdict so far and that of the rows from i on, behind the last, are the answer.
 use mathlib.Core.Path.{_≡_, refl, sym, ap, _∙_}
-use mathlib.Core.Bool.{true, false}
-use Prim.Native.Nat.{_+_, _*_, _-_, _≤_}
+use mathlib.Core.Bool.{true, not, _&&_, and-true}
+use Prim.Native.Nat.{_+_, _*_, _-_, _≤_, _<_}
 use native.Mathlib.Omega.{arith}
 use lib.ListN.{length, drop}
-use borrow.Author.Tests.{not-true, not-false}
-use Rattle.rows.specs.Shape.{asRow}
-use Rattle.file_blocks.specs.Standing.{rowsFrom, standsOn, stand}
-use Rattle.file_blocks.proofs.Laws.{rows-more, stand-not, stand-more}
+use lib.Dec.{leb}
+use borrow.Author.Needs.{needs}
+use borrow.Author.Tests.{leb-false, not-false}
+use Rattle.rows.specs.Shape.{asRow, sane}
+use Rattle.laws.proofs.Tests.{neither}
+use Rattle.file_blocks.specs.Standing.{rowsFrom, stand}
+use Rattle.file_blocks.proofs.Laws.{stands-on-plain, stands-on-out, stand-not, stand-more}
 use Rattle.file_blocks.proofs.rows_stand.Statement.{statement}
 use Rattle.file_blocks.proofs.rows_stand.Tie as tie
 
 abbrev Inv-loop : tie.InvT-loop
-Inv-loop lengths bytes n last₀ i₀ last i =
-    (i ≤ n) × (stand (asRow last) (rowsFrom (n - i) (drop (4 + 32 * i) bytes)) ≡ stand (asRow last₀) (rowsFrom n (drop 4 bytes)))
+Inv-loop least most bytes n last₀ good₀ i₀ last good i =
+    (i ≤ n) × ((good && stand (asRow last) (rowsFrom (n - i) (drop (4 + 32 * i) bytes))) ≡ stand (asRow last₀) (rowsFrom n (drop 4 bytes)))
 
 abbrev μ-loop : tie.MeasureT-loop
-μ-loop lengths bytes n last₀ i₀ last i = n - i
+μ-loop least most bytes n last₀ good₀ i₀ last good i = n - i
 
 loop-holds : tie.Need-loop-holds Inv-loop μ-loop
 loop-holds c = let e : c .before .args .n - 0 ≡ c .before .args .n = omega arith in (omega arith, rw e)
@@ -24,16 +27,31 @@ loop-holds c = let e : c .before .args .n - 0 ≡ c .before .args .n = omega ari
 row-in-requires : tie.Need-row-in-requires Inv-loop μ-loop
 row-in-requires c κs = omega (arith, c .before .before .before .pre .0)
 
-stands-on-requires : tie.Need-stands-on-requires Inv-loop μ-loop
-stands-on-requires c κs = c .before .before .before .before .pre .1
+row-sane-requires : tie.Need-row-sane-requires Inv-loop μ-loop
+row-sane-requires c κs = search needs
 
 returns : tie.Need-returns Inv-loop μ-loop
 returns c =
-    let l = c .before .before .before .before .loop in
-    let s = c .before .before .before .before .before .before in
-    let r = c .before .before .row-in .ensures in
-    let no = sym (c .before .stands-on .ensures) ∙ not-true (c .before .stands-on .result) (c .if1 .taken) in
-    sym (sym (l .inv .1) ∙ stand-not (s .args .n) (l .i) (s .args .bytes .now) (asRow (l .last)) (asRow (c .before .before .row-in .result)) (omega arith) r no)
+    let r = c .before .before .before in
+    let l = r .before .before .loop in
+    let a = r .before .before .before .before .args in
+    let q = asRow (r .row-in .result) in
+    let known = rw (c .before .row-sane .ensures) at (c .if1 .taken) in
+    let out = stands-on-out (asRow (l .last)) q known in
+    sym (sym (l .inv .1) ∙ stand-not (a .n) (l .i) (a .bytes .now) (asRow (l .last)) q (l .good) (omega arith) (r .row-in .ensures) out)
+
+-- the row is sane, and not Eof
+known : (c : tie.Else1 Inv-loop μ-loop) → let q = c .before .before .before .row-in .result in (q .kind < 52) × (sane (asRow q) ≡ true)
+known c =
+    let s = c .before .row-sane in
+    let q = c .before .before .before .row-in .result in
+    let n = neither (leb 52 (q .kind)) (not (s .result)) (c .if1 .left) in
+    (leb-false 52 (q .kind) (n .0), sym (s .ensures) ∙ not-false (s .result) (n .1))
+
+row-stands-requires : tie.Need-row-stands-requires Inv-loop μ-loop
+row-stands-requires c κs =
+    let k = known c in
+    ((omega (arith, k .0), k .1), c .before .before .before .before .before .before .before .pre .1)
 
 add-i : tie.Need-add-i Inv-loop μ-loop
 add-i c = omega arith
@@ -43,18 +61,19 @@ loop-less c = omega arith
 
 loop-again : tie.Need-loop-again Inv-loop μ-loop
 loop-again c =
-    let l = c .before .before .before .before .loop in
-    let s = c .before .before .before .before .before .before in
-    let r = c .before .before .row-in .ensures in
-    let yes = sym (c .before .stands-on .ensures) ∙ not-false (c .before .stands-on .result) (c .if1 .left) in
-    (omega arith, sym (stand-more (s .args .n) (l .i) (s .args .bytes .now) (asRow (l .last)) (asRow (c .before .before .row-in .result)) (omega arith) r yes) ∙ l .inv .1)
+    let r = c .before .before .before .before in
+    let l = r .before .before .loop in
+    let a = r .before .before .before .before .args in
+    let q = asRow (r .row-in .result) in
+    let row = c .row-stands .ensures ∙ stands-on-plain (asRow (l .last)) q (known (c .before) .0) in
+    (omega arith, stand-more (a .n) (l .i) (a .bytes .now) (asRow (l .last)) q (l .good) (omega arith) (r .row-in .ensures) (c .row-stands .result) row ∙ l .inv .1)
 
 returns-2 : tie.Need-returns-2 Inv-loop μ-loop
 unfolding stand rowsFrom
 returns-2 c =
     let l = c .before .loop in
     let e : c .before .before .before .args .n - l .i ≡ 0 = omega arith in
-    rw e at (l .inv .1)
+    sym (and-true (l .good)) ∙ rw e at (l .inv .1)
 
 pub rows-stand-spec : {M : Type 1} → statement M
 rows-stand-spec =
@@ -64,8 +83,9 @@ rows-stand-spec =
     μ-loop
     loop-holds
     row-in-requires
-    stands-on-requires
+    row-sane-requires
     returns
+    row-stands-requires
     add-i
     loop-less
     loop-again

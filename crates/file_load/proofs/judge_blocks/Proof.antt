@@ -12,10 +12,24 @@ use Rattle.file_load.proofs.judge_blocks.Statement.{statement}
 use Rattle.file_load.proofs.judge_blocks.Tie as tie
 
 abbrev Inv-loop : tie.InvT-loop
-Inv-loop file count plain lengths last₀ stand₀ left₀ more₀ k₀ at₀ last stand left more k at = Judging file count plain (asRow last) stand left more k at
+Inv-loop file count plain least most last₀ stand₀ left₀ more₀ k₀ at₀ last stand left more k at = Judging file count plain (asRow last) stand left more k at
 
 abbrev μ-loop : tie.MeasureT-loop
-μ-loop file count plain lengths last₀ stand₀ left₀ more₀ k₀ at₀ last stand left more k at = left
+μ-loop file count plain least most last₀ stand₀ left₀ more₀ k₀ at₀ last stand left more k at = left
+
+-- ---- the places on the way: the function's entry, the turn of the loop, and how many rows its block has and are to be judged
+
+abbrev start : tie.In-loop Inv-loop μ-loop → tie.Start Inv-loop μ-loop
+start c = c .before .before .before .before
+
+abbrev counted : tie.After-rows-here2 Inv-loop μ-loop → tie.After-rows-here Inv-loop μ-loop
+counted c = c .before .before .before
+
+abbrev in-loop : tie.After-rows-here2 Inv-loop μ-loop → tie.In-loop Inv-loop μ-loop
+in-loop c = counted c .before .before
+
+abbrev behind : tie.After-last-of Inv-loop μ-loop → tie.After-rows-here2 Inv-loop μ-loop
+behind c = c .before .before .before .before
 
 no-row-requires : tie.Need-no-row-requires Inv-loop μ-loop
 no-row-requires c κs = tt
@@ -24,16 +38,16 @@ loop-holds : tie.Need-loop-holds Inv-loop μ-loop
 loop-holds c = let s = c .before .before in rw (c .no-row .ensures) (judging-start (s .args .file .now) (s .args .count) (s .args .plain) (s .pre .0) (s .pre .1))
 
 -- there is one block more, a whole one
-room : (c : tie.In-loop Inv-loop μ-loop) → c .before .loop .at + 512 ≤ length (c .before .before .before .before .args .file .now)
+room : (c : tie.In-loop Inv-loop μ-loop) → c .before .loop .at + 512 ≤ length (start c .args .file .now)
 room c =
     let l = c .before .loop in
-    let s = c .before .before .before .before in
+    let s = start c in
     room-left (s .args .file .now) (s .args .count) (s .args .plain) (s .pre .0) (asRow (l .last)) (l .stand) (l .left) (l .more) (l .k) (l .at) (l .inv) (omega arith)
 
-whole : (c : tie.In-loop Inv-loop μ-loop) → let l = c .before .loop in length (take (l .at + 512 - l .at) (drop (l .at) (c .before .before .before .before .args .file .now))) ≡ 512
+whole : (c : tie.In-loop Inv-loop μ-loop) → let l = c .before .loop in length (take (l .at + 512 - l .at) (drop (l .at) (start c .args .file .now))) ≡ 512
 whole c =
     let l = c .before .loop in
-    let s = c .before .before .before .before in
+    let s = start c in
     here-length (s .args .file .now) (s .args .count) (s .args .plain) (s .pre .0) (asRow (l .last)) (l .stand) (l .left) (l .more) (l .k) (l .at) (l .inv) (omega arith)
 
 add-end : tie.Need-add-end Inv-loop μ-loop
@@ -64,8 +78,9 @@ returns : tie.Need-returns Inv-loop μ-loop
 returns c =
     let i = c .before in
     let r = i .before in
-    let l = r .before .before .before .loop in
-    let s = r .before .before .before .before .before .before in
+    let g = r .before .before in
+    let l = g .before .loop in
+    let s = start g in
     let e = sym (i .is-sound .ensures) ∙ not-true (i .is-sound .result) (c .if1 .taken) in
     sym (judging-bad (s .args .file .now) (s .args .count) (s .args .plain) (s .pre .0) (asRow (l .last)) (l .stand) (l .left) (l .more) (l .k) (l .at) (l .inv) (omega arith) (r .rows-here .result) (r .rows-here .ensures) e)
 
@@ -73,35 +88,37 @@ rows-here-requires-2 : tie.Need-rows-here-requires-2 Inv-loop μ-loop
 rows-here-requires-2 c κs = tt
 
 rows-stand-requires : tie.Need-rows-stand-requires Inv-loop μ-loop
-rows-stand-requires c κs = (omega (arith, c .before .rows-here2 .ensures, whole (c .before .before .before .before .before .before)), length-table)
+rows-stand-requires c κs = let m = c .before .before in (omega (arith, m .rows-here2 .ensures, whole (in-loop m)), length-table)
 
 last-of-requires : tie.Need-last-of-requires Inv-loop μ-loop
-last-of-requires c κs = omega (arith, c .before .before .rows-here2 .ensures, whole (c .before .before .before .before .before .before .before))
+last-of-requires c κs = let m = c .before .before .before in omega (arith, m .rows-here2 .ensures, whole (in-loop m))
 
 sub-left : tie.Need-sub-left Inv-loop μ-loop
-sub-left c = omega (arith, c .before .before .before .before .before .before .rows-here .ensures)
+sub-left c = omega (arith, counted (behind c) .rows-here .ensures)
 
 sub-more : tie.Need-sub-more Inv-loop μ-loop
-sub-more c = omega (arith, c .before .before .before .rows-here2 .ensures)
+sub-more c = omega (arith, behind c .rows-here2 .ensures)
 
 add-k : tie.Need-add-k Inv-loop μ-loop
 add-k c =
-    let l = c .before .before .before .before .before .before .before .before .before .loop in
-    let s = c .before .before .before .before .before .before .before .before .before .before .before .before in
+    let g = in-loop (behind c) in
+    let l = g .before .loop in
+    let s = start g in
     omega (arith, few-blocks (s .args .file .now) (s .args .count) (s .args .plain) (s .pre .0) (asRow (l .last)) (l .stand) (l .left) (l .more) (l .k) (l .at) (l .inv) (omega arith))
 
 loop-less : tie.Need-loop-less Inv-loop μ-loop
-loop-less c = omega (arith, c .before .before .before .before .before .before .rows-here .ensures)
+loop-less c = omega (arith, counted (behind c) .rows-here .ensures)
 
 loop-again : tie.Need-loop-again Inv-loop μ-loop
 loop-again c =
     let t = c .before in
-    let m = t .before .before in
+    let m = behind c in
     let e = m .before in
     let i = e .before in
-    let r = i .before in
-    let l = r .before .before .before .loop in
-    let s = r .before .before .before .before .before .before in
+    let r = counted m in
+    let g = in-loop m in
+    let l = g .before .loop in
+    let s = start g in
     let y = sym (i .is-sound .ensures) ∙ not-false (i .is-sound .result) (e .if1 .left) in
     judging-next (s .args .file .now) (s .args .count) (s .args .plain) (s .pre .0) (asRow (l .last)) (l .stand) (l .left) (l .more) (l .k) (l .at) (l .inv) (omega arith) (r .rows-here .result) (r .rows-here .ensures) y (m .rows-here2 .result) (m .rows-here2 .ensures) (t .rows-stand .result) (t .rows-stand .ensures) (asRow (c .last-of .result)) (c .last-of .ensures)
 

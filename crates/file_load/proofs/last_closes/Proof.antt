@@ -1,13 +1,23 @@
 -- `last_closes` meets its contract, a law for each way out.
-use mathlib.Core.Path.{sym, _∙_}
-use borrow.Author.Tests.{not-true, not-false}
+use mathlib.Core.Path.{sym, ap, _∙_}
+use mathlib.Core.Bool.{_&&_}
+use native.Mathlib.Omega.{arith}
+use Rattle.rules.specs.Rows.{Row, rowFits, follows}
 use Rattle.rows.specs.Shape.{asRow}
 use Rattle.rows.proofs.Lengths.{length-table}
-use Rattle.rows.proofs.Tables.{closes-plain, closes-apart, closes-fit, closes-not, joined-first, joined-next}
+use Rattle.rows.proofs.Tables.{closes-plain, closes-apart, closes-fit, closes-not}
 use Rattle.file_rules.specs.Files.{rowWordsIn}
 use borrow.Author.Needs.{needs}
 use Rattle.file_load.proofs.last_closes.Statement.{statement}
 use Rattle.file_load.proofs.last_closes.Tie as tie
+
+-- ---- the places on the way: the row is sane, and it is Eof
+
+abbrev sane : tie.After-row-before → tie.Then3
+sane c = c .before .before .before
+
+abbrev is-eof : tie.Then3 → tie.Else1
+is-eof c = c .before .before .before .before
 
 row-of-requires : tie.Need-row-of-requires
 row-of-requires c κs = search needs
@@ -25,46 +35,36 @@ returns-2 c =
     let a = r .before .before .args in
     sym (closes-apart (rowWordsIn (a .file .now)) (a .i) (asRow (r .row-of .result)) (r .row-of .ensures) (a .size) (k .if1 .left) (c .if2 .taken))
 
-row-fits-requires : tie.Need-row-fits-requires
-row-fits-requires c κs = length-table
+row-sane-requires : tie.Need-row-sane-requires
+row-sane-requires c κs = search needs
+
+row-before-requires : tie.Need-row-before-requires
+row-before-requires c κs = search needs
+
+row-stands-requires : tie.Need-row-stands-requires
+row-stands-requires c κs =
+    let t = sane c in
+    ((omega (arith, is-eof t .if1 .left), sym (t .before .row-sane .ensures) ∙ t .if3 .taken), length-table)
 
 returns-3 : tie.Need-returns-3
 returns-3 c =
-    let f = c .before in
-    let s = f .before .before in
-    let k = s .before .before in
+    let b = c .before in
+    let t = sane b in
+    let k = is-eof t in
     let r = k .before .before in
     let a = r .before .before .args in
-    sym (closes-not (rowWordsIn (a .file .now)) (a .i) (asRow (r .row-of .result)) (r .row-of .ensures) (a .size) (k .if1 .left) (s .if2 .left) (sym (f .row-fits .ensures) ∙ not-true (f .row-fits .result) (c .if3 .taken)))
+    let q = asRow (r .row-of .result) in
+    c .row-stands .ensures ∙ ap (λ (z : Row). rowFits q && follows z q) (b .row-before .ensures)
+    ∙ closes-fit (rowWordsIn (a .file .now)) (a .i) q (r .row-of .ensures) (a .size) (k .if1 .left) (t .before .before .if2 .left)
 
 returns-4 : tie.Need-returns-4
 returns-4 c =
-    let f = c .before .before in
-    let s = f .before .before in
-    let k = s .before .before in
+    let f = c .before in
+    let k = f .before .before .before in
     let r = k .before .before in
     let a = r .before .before .args in
-    sym (closes-fit (rowWordsIn (a .file .now)) (a .i) (asRow (r .row-of .result)) (r .row-of .ensures) (a .size) (k .if1 .left) (s .if2 .left) (sym (f .row-fits .ensures) ∙ not-false (f .row-fits .result) (c .before .if3 .left)) ∙ joined-first (rowWordsIn (a .file .now)) (a .i) (c .if4 .taken))
-
-sub-row-of : tie.Need-sub-row-of
-sub-row-of c = search needs
-
-row-of-requires-2 : tie.Need-row-of-requires-2
-row-of-requires-2 c κs = search needs
-
-row-follows-requires : tie.Need-row-follows-requires
-row-follows-requires c κs = search needs
-
-returns-5 : tie.Need-returns-5
-returns-5 c =
-    let e = c .before .before in
-    let f = e .before .before in
-    let s = f .before .before in
-    let k = s .before .before in
-    let r = k .before .before in
-    let a = r .before .before .args in
-    rw (c .row-follows .ensures, c .before .row-of2 .ensures, r .row-of .ensures)
-    (sym (closes-fit (rowWordsIn (a .file .now)) (a .i) (asRow (r .row-of .result)) (r .row-of .ensures) (a .size) (k .if1 .left) (s .if2 .left) (sym (f .row-fits .ensures) ∙ not-false (f .row-fits .result) (e .before .if3 .left)) ∙ joined-next (rowWordsIn (a .file .now)) (a .i) (e .if4 .left)))
+    sym (closes-not (rowWordsIn (a .file .now)) (a .i) (asRow (r .row-of .result)) (r .row-of .ensures) (a .size) (k .if1 .left)
+    (f .before .if2 .left) (sym (f .row-sane .ensures) ∙ c .if3 .left))
 
 pub last-closes-spec : {M : Type 1} → statement M
 last-closes-spec =
@@ -73,10 +73,8 @@ last-closes-spec =
     row-of-requires
     returns
     returns-2
-    row-fits-requires
+    row-sane-requires
+    row-before-requires
+    row-stands-requires
     returns-3
-    returns-4
-    sub-row-of
-    row-of-requires-2
-    row-follows-requires
-    returns-5)
+    returns-4)
