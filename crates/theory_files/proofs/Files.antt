@@ -78,6 +78,14 @@ well-take ws t e =
     let l : length (take (8 * t .count) ws) ≡ 8 * t .count = length-take (8 * t .count) ws ∙ omega (arith, w .lent) in
     rw (rows-take (t .count) ws, le-leb (t .count * 8) (length (take (8 * t .count) ws)) (omega arith), le-leb (t .length) 65536 (w .short)) (w .fit)
 
+-- words behind its rows play no part
+pub well-front : (ws more : List ℕ) (t : Table) → length ws ≡ 8 * t .count → wellFormed ws t ≡ true → wellFormed (ws ++ more) t ≡ true
+unfolding wellFormed
+well-front ws more t l e =
+    let w = well-of ws t e in
+    let r : rowsIn (t .count) (ws ++ more) ≡ rowsIn (t .count) ws = sym (rows-take (t .count) (ws ++ more)) ∙ ap (rowsIn (t .count)) (take-at ws more (8 * t .count) l) in
+    rw (r, le-leb (t .count * 8) (length (ws ++ more)) (omega (arith, length-append ws more)), le-leb (t .length) 65536 (w .short)) (w .fit)
+
 -- ---- the words that say a table fit
 
 ending-words : (n : ℕ) (rs : List Row) (e : Ending) → n ≤ 65536 → endingFits n rs e ≡ true → Words (endingSaid e)
@@ -342,6 +350,13 @@ module _ (file : List ℕ) (bytes : Bytes file) (room : ℕ) (t : Table) (told :
   unfolding loadLeaves
   read-left ws e = rw (loadLeaves, e, told) (read-stored (drop (8 * t .count) ws))
 
+  -- and with them the table is well formed
+  pub read-well : (ws : List ℕ) → roomOf ws ≡ room → wellFormed (loadLeaves file ws) t ≡ true
+  unfolding loadLeaves rowWordsIn
+  read-well ws e =
+      let l : length (rowWordsIn file) ≡ 8 * t .count = words-length _ _ ∙ ap (λ (k : ℕ). 8 * k) (sym (is-read .count)) in
+      rw (loadLeaves, e, told) (well-front (rowWordsIn file) (drop (8 * t .count) ws) t l (is-read .well))
+
 -- ---- one byte changed
 
 module _ (file : List ℕ) (bytes : Bytes file) (f : Framed file) (i v : ℕ) (h : i < length file) (l : v < 256) (ne : getD file i 0 ≡ v → ⊥) (room : ℕ) where
@@ -439,10 +454,19 @@ stored-of ws t room n e =
     bytes-same : stored.Bytes (fileLength rowBytes (t .count)) ≡ stored.Bytes n → fileLength rowBytes (t .count) ≡ n
     bytes-same q = cc
 
--- What a writer leaves, as many bytes as it tells, reads as the table that was written.
-pub stored-loaded : (ws : List ℕ) (t : Table) (file : List ℕ) (n : ℕ) → storeTold ws t (length file) ≡ stored.Bytes n → Words ws
-    → (room : ℕ) → t .count ≤ room → loadTold (take n (storeLeaves ws t file)) room ≡ loaded.Rows t
-stored-loaded ws t file n e words room h =
-    let s = stored-of ws t (length file) n e in
-    let l : length (encode ws t) ≡ n = encode-length ws t (s .well) (s .few) words ∙ s .size in
-    rw (store-written ws t file n e, take-at (encode ws t) (drop n file) n l) (stored-read ws t (s .well) (s .few) words room h)
+-- What a writer leaves, as many bytes as it tells, is the table's file, and reads as the table that was written and its rows.
+module _ (ws : List ℕ) (t : Table) (file : List ℕ) (n : ℕ) (e : storeTold ws t (length file) ≡ stored.Bytes n) (words : Words ws) where
+  is-stored : IsStored ws t n
+  is-stored = stored-of ws t (length file) n e
+
+  pub stored-file : take n (storeLeaves ws t file) ≡ encode ws t
+  stored-file =
+      let l : length (encode ws t) ≡ n = encode-length ws t (is-stored .well) (is-stored .few) words ∙ is-stored .size in
+      rw (store-written ws t file n e, take-at (encode ws t) (drop n file) n l)
+
+  pub stored-loaded : (room : ℕ) → t .count ≤ room → loadTold (take n (storeLeaves ws t file)) room ≡ loaded.Rows t
+  stored-loaded room h = rw stored-file (stored-read ws t (is-stored .well) (is-stored .few) words room h)
+
+  pub stored-left : (new : List ℕ) → t .count ≤ roomOf new
+      → loadLeaves (take n (storeLeaves ws t file)) new ≡ take (8 * t .count) ws ++ drop (8 * t .count) new
+  stored-left new h = rw stored-file (stored-words ws t (is-stored .well) (is-stored .few) words new h)
