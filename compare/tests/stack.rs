@@ -32,6 +32,6 @@ fn the_deepest_nesting_takes_little_stack() {
         .flat_map(|(_, figures)| figures.split([' ', ',']))
         .filter_map(|word| word.parse().ok())
         .collect();
-    assert_eq!(figures.len(), 5 * 8, "{report}");
+    assert_eq!(figures.len(), 7 * 8, "{report}");
     assert!(figures.iter().all(|bytes| *bytes <= MOST), "{report}");
 }

@@ -76,9 +76,14 @@ pub fn make_right(file: &mut [u8], block: usize) {
     bytes.copy_from_slice(&right);
 }
 
+/// Two blocks change places, if there are two.
 fn swap(random: &mut Random, file: &mut [u8]) {
     let blocks = file.len() / BLOCK;
-    let (one, other) = (random.below(blocks), random.below(blocks));
+    if blocks < 2 {
+        return;
+    }
+    let one = random.below(blocks);
+    let other = (one + 1 + random.below(blocks - 1)) % blocks;
     for k in 0..BLOCK {
         file.swap(one * BLOCK + k, other * BLOCK + k);
     }
