@@ -49,10 +49,11 @@ enum sh_answer_word {
     SH_OFFSET = 1, /* the refusal's place: offset, line and column; 0 1 1 where the place is 0; beside number 0 the restart place, else all 0 */
     SH_LINE = 2,
     SH_COLUMN = 3, /* one more than the bytes since the last newline: characters of two to four bytes count two to four, a tab one */
-    SH_FIRST = 4,  /* SH_REFUSED_WANTED: the kind that was wanted; SH_REFUSED_MAP_LACKS: the field; SH_FILE_BAD_BLOCK: the block; spelling: start; sets: the number */
+    SH_FIRST = 4,  /* SH_REFUSED_WANTED: the kind that was wanted; SH_REFUSED_MAP_LACKS: the field; SH_FILE_BAD_BLOCK: the block;
+                    * spelling: start; sets: the number */
     SH_SECOND = 5, /* SH_REFUSED_WANTED: the kind that was found; spelling: end */
     SH_COUNT = 6,  /* rows, nodes or blocks written */
-    SH_LENGTH = 7, /* scan, change, edit, load: the text's length; 0 where refused below 11 or from 40 on; store: the file's */
+    SH_LENGTH = 7, /* scan, change, edit, load: the text's length; 0 where refused below 11 or from 40 on; store: the file's length */
     SH_WORDS = 8
 };
 
@@ -232,7 +233,7 @@ enum sh_method {
     SH_METHOD_PROBE_READ_KERNEL_STR = 15
 };
 
-/* Refusal numbers: 1 to 7 of the call, 11 to 17 of the scan, 21 to 32 of the parse. A later version may have more. */
+/* Refusal numbers: 1 to 7 of the call, 11 to 17 of the scan, 21 to 32 of the parse; 40 to 44 are below. A later version may have more. */
 enum sh_refusal {
     SH_REFUSED_TEXT_TOO_LONG = 1,     /* over SH_LONGEST_TEXT bytes */
     SH_REFUSED_BAD_BYTE = 2,          /* no valid UTF-8: its place is where the first character starts that is broken or cut by the end */
@@ -265,15 +266,15 @@ enum sh_refusal {
 /* Refusal numbers of the calls over files, beside 3 and 4; their place is 0 1 1. */
 enum sh_file_refusal {
     SH_FILE_TOO_MANY_ROWS = 40, /* over SH_MOST_STORED_ROWS */
-    SH_FILE_BAD_BLOCK = 41,     /* SH_FIRST tells the block */
+    SH_FILE_BAD_BLOCK = 41,     /* check, number, row count or filler is wrong of the block that SH_FIRST tells; blocks count from 0 */
     SH_FILE_WRONG_LENGTH = 42,  /* under 512 bytes, or not as block 0 says */
     SH_FILE_NO_TABLE = 43,      /* sound blocks, and no table that can be stored */
-    SH_FILE_OTHER_FORM = 44
+    SH_FILE_OTHER_FORM = 44     /* block 0 says another form than 1 */
 };
 
 enum { SH_MOST_STORED_ROWS = 65535 };
 
-/* Bytes for the file of so many rows. */
+/* How many bytes the file of so many rows has. */
 #define SH_FILE_ROOM(rows) (512 * (1 + ((size_t)(rows) + 14) / 15))
 
 /* The field that a map lacks. */
@@ -327,12 +328,15 @@ void spoonharbor_edit(const uint32_t *old_rows, size_t old_words, const uint32_t
 /* Where the window of an edit at a must start: SH_OFFSET, SH_LINE, SH_COLUMN with number 0. Refusals 3, 6. */
 void spoonharbor_restart(const uint32_t *old_rows, size_t old_words, const uint32_t table[SH_WORDS], uint32_t a, uint32_t answer[SH_WORDS]);
 
-/* Store a table as a file: SH_LENGTH bytes from the front of it, SH_COUNT blocks. Refusals 3, 40, 4 leave the file untouched. */
+/* Store a table as a file: SH_LENGTH bytes from the front of it, SH_COUNT blocks. SH_FILE_ROOM of the row count suffices. Refusals in this
+ * order: 3, 40, 4; they leave the file untouched. */
 void spoonharbor_store(const uint32_t *rows, size_t row_words, const uint32_t table[SH_WORDS], uint8_t *file, size_t file_room,
                        uint32_t answer[SH_WORDS]);
 
-/* Read a stored table into rows; the answer tells it as a scan does, and can be lent on as the table. The file is all that is lent.
- * Refusals 42, 41, 44, 42, 41, 43, 4 leave the rows untouched. */
+/* Read a stored table into rows; the answer tells it as a scan does, and can be lent on as the table. The file is all that is lent: one
+ * byte more is 42. Which text the table is of is not in the file, but for the text's length; a table that is lent on beside a text of that
+ * length which is not its own is taken by every call, and only a scan tells. Refusals in this order: 42 (under 512 bytes), 41 of block 0,
+ * 44, 42, 41 of the first other bad block, 43, 4; they leave the rows untouched. */
 void spoonharbor_load(const uint8_t *file, size_t file_length, uint32_t *rows, size_t row_words, uint32_t answer[SH_WORDS]);
 
 /* SH_FIRST is 1 if a program kind (0 to 10) allows a context method (0 to 15), else 0. Refusal 3. */

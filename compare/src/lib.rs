@@ -19,6 +19,7 @@ pub mod deep;
 pub mod differences;
 pub mod edge_cases;
 pub mod edits;
+pub mod files;
 pub mod generate;
 pub mod kinds;
 pub mod method_sets;

@@ -5,6 +5,7 @@
 
 pub mod chains;
 pub mod edit;
+pub mod files;
 pub mod parse;
 pub mod scan;
 pub mod tables;

@@ -16,6 +16,7 @@ static uint8_t text[MOST_BYTES + 1];
 static size_t length;
 static uint32_t rows[ROWS * SH_ROW_WORDS], new_rows[ROWS * SH_ROW_WORDS], nodes[ROWS * SH_NODE_WORDS];
 static uint32_t table[SH_WORDS], answer[SH_WORDS];
+static uint8_t file[SH_FILE_ROOM(ROWS)];
 
 static void nothing(void) {}
 
@@ -32,6 +33,10 @@ static void change(void) {
 }
 
 static void well_formed(void) { answer[0] = spoonharbor_well_formed(rows, ROWS * SH_ROW_WORDS, table); }
+
+static void store(void) { spoonharbor_store(rows, ROWS * SH_ROW_WORDS, table, file, sizeof file, answer); }
+
+static void load(void) { spoonharbor_load(file, SH_FILE_ROOM(table[SH_COUNT]), new_rows, ROWS * SH_ROW_WORDS, answer); }
 
 /* How many bytes of the stack a call takes. */
 static size_t used_by(void (*call)(void)) {
@@ -78,8 +83,12 @@ static void report(const char *what) {
     size_t by_change = used_by(change) - empty;
     if (answer[SH_NUMBER] != 0) exit(1);
     size_t by_test = used_by(well_formed) - empty;
-    printf("%s: scan %zu, parse %zu, edit %zu, change %zu, table test %zu bytes of stack\n", what, by_scan, by_parse, by_edit, by_change,
-           by_test);
+    size_t by_store = used_by(store) - empty;
+    if (answer[SH_NUMBER] != 0) exit(1);
+    size_t by_load = used_by(load) - empty;
+    if (answer[SH_NUMBER] != 0) exit(1);
+    printf("%s: scan %zu, parse %zu, edit %zu, change %zu, table test %zu, store %zu, load %zu bytes of stack\n", what, by_scan, by_parse,
+           by_edit, by_change, by_test, by_store, by_load);
 }
 
 int main(void) {

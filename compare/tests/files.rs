@@ -57,6 +57,18 @@ fn worked_files() {
     assert_eq!(file(b"a"), sparse(1024, &letter));
 }
 
+/// A table without a refusal is told beside a place of zeros, whatever stands there when it is lent.
+#[test]
+fn no_ending_has_no_place() {
+    let (rows, mut table) = table(b"a");
+    table[1..4].copy_from_slice(&[9, 9, 9]);
+    let lent = Lent {
+        rows: &rows,
+        table: &table,
+    };
+    assert_eq!(store(lent, usize::MAX), Ok(file(b"a")));
+}
+
 #[test]
 fn written_and_read() {
     for text in sample_texts(3000, 5) {

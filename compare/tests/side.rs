@@ -1,7 +1,7 @@
 //! Short runs of every part of `side`.
 
 use compare::deep::on_deep_stack;
-use compare::side::{chains, edit, parse, scan, tables, Compared, Counts};
+use compare::side::{chains, edit, files, parse, scan, tables, Compared, Counts};
 
 fn no_difference(part: impl FnOnce() -> Compared + Send) -> Counts {
     match on_deep_stack(part) {
@@ -82,4 +82,34 @@ fn tables_from_outside_are_judged() {
     let counts = no_difference(|| tables::run(20_000, 3));
     assert!(counts.get("well formed") > 1_000);
     assert!(counts.get("not well formed") > 1_000);
+}
+
+#[test]
+fn stored_tables_are_the_models() {
+    let counts = no_difference(|| files::run(10_000, 3));
+    for number in [0, 3, 4, 40] {
+        assert!(counts.get(&format!("stores, answered {number}")) > 0);
+    }
+    for damage in ["sound", "swapped", "said", "sealed"] {
+        assert!(counts.get(&format!("loads, {damage}, answered a table")) > 0);
+    }
+    for (damage, number) in [
+        ("sound", 4),
+        ("byte", 41),
+        ("sealed", 41),
+        ("sealed", 43),
+        ("sealed", 44),
+        ("swapped", 41),
+        ("cut", 42),
+        ("longer", 42),
+        ("said", 42),
+        ("said", 43),
+        ("said", 44),
+        ("each byte of a small file", 41),
+        ("rows that are all zero", 41),
+        ("rows that are all zero", 43),
+    ] {
+        let what = format!("loads, {damage}, answered {number}");
+        assert!(counts.get(&what) > 0, "{what}");
+    }
 }

@@ -4,12 +4,14 @@ use std::path::Path;
 use std::process::Command;
 
 /// The calls that are measured, in the order of the report, and how much stack each may take. Of an edit and a change 1,024 is aimed at.
-const MOST: [(&str, usize); 5] = [
+const MOST: [(&str, usize); 7] = [
     ("scan", 1_024),
     ("parse", 48 * 1_024),
     ("edit", 1_280),
     ("change", 1_280),
     ("table test", 640),
+    ("store", 1_024),
+    ("load", 1_024),
 ];
 
 /// How many texts are measured.

@@ -3,6 +3,7 @@
 use compare::answer::{answer, Answer};
 use compare::deep::on_deep_stack;
 use compare::edits::{file::edits_file, report::report as edits_report, stored, FILE, REPORT};
+use compare::files;
 use compare::generate::sample_texts;
 use compare::sample::{report, sample_file};
 
@@ -21,6 +22,21 @@ fn edits_are_as_written() {
         counts.as_bytes() == read(REPORT),
         "write it again with `edits`"
     );
+}
+
+#[test]
+fn tables_are_as_written() {
+    let cases = files::cases::stored();
+    let written = files::file::files_file(&cases);
+    assert!(written == read(files::FILE), "write it again with `files`");
+    let counts = files::report::report(&cases);
+    assert!(
+        counts.as_bytes() == read(files::REPORT),
+        "write it again with `files`"
+    );
+    for load in cases.iter().flat_map(|case| &case.loads) {
+        assert!(load.file.len() <= files::MOST_BYTES);
+    }
 }
 
 #[test]

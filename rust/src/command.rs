@@ -6,6 +6,7 @@ mod message;
 mod output;
 mod rows;
 mod source;
+mod stored;
 mod tree;
 mod verb;
 
@@ -39,9 +40,16 @@ impl From<Outcome> for ExitCode {
 enum Asked {
     Help(&'static str),
     Version,
-    Run(Verb, Vec<OsString>),
+    Run(Task),
     /// Nothing that there is, and what to say of it.
     Misused(String),
+}
+
+/// A verb, the files that it is done with, and the file that `-o` names to be written.
+struct Task {
+    verb: Verb,
+    files: Vec<OsString>,
+    output: Option<OsString>,
 }
 
 /// Runs the command and gives back its exit status.
@@ -80,19 +88,25 @@ fn asked(arguments: &[OsString]) -> Asked {
 /// Reads a verb's arguments. What stands behind `--` is a file, whatever it begins with.
 fn asked_of(verb: Verb, arguments: &[OsString]) -> Asked {
     let mut files = Vec::new();
+    let mut output = None;
     let mut rest = arguments.iter();
     while let Some(argument) = rest.next() {
         match argument.to_str() {
             Some("--") => files.extend(rest.by_ref().cloned()),
             Some("--help" | "-h") => return Asked::Help(verb.usage()),
             Some("--version" | "-V") => return Asked::Version,
+            Some("-o") if verb == Verb::Store => output = rest.next().cloned(),
             _ if is_option(argument) => return Asked::Misused(unknown_option(argument)),
             _ => files.push(argument.clone()),
         }
     }
-    match verb.lacks(files.len()) {
+    match verb.lacks(files.len(), output.as_deref()) {
         Some(lack) => Asked::Misused(format!("{}: {lack}", verb.name())),
-        None => Asked::Run(verb, files),
+        None => Asked::Run(Task {
+            verb,
+            files,
+            output,
+        }),
     }
 }
 
@@ -122,30 +136,38 @@ fn answered(asked: Asked, out: &mut impl Write) -> io::Result<Outcome> {
             complain_with(USAGE);
             Ok(Outcome::Trouble)
         }
-        Asked::Run(..) if lent::version() != VERSION => {
+        Asked::Run(_) if lent::version() != VERSION => {
             complain("this command was built with the library of another version");
             Ok(Outcome::Trouble)
         }
-        Asked::Run(verb, files) => {
+        Asked::Run(task) => {
             let mut worst = Outcome::Fine;
-            for file in files {
-                worst = worst.max(done(verb, &file, out)?);
+            for file in &task.files {
+                worst = worst.max(done(&task, file, out)?);
             }
             Ok(worst)
         }
     }
 }
 
-/// Does a verb with one file.
-fn done(verb: Verb, file: &OsStr, out: &mut impl Write) -> io::Result<Outcome> {
-    let source = match Source::read(file) {
+/// Does a task with one of its files.
+fn done(task: &Task, file: &OsStr, out: &mut impl Write) -> io::Result<Outcome> {
+    let source = match Source::read(file, task.verb.most_bytes()) {
         Ok(source) => source,
         Err(trouble) => return troubled(&trouble, out),
     };
-    match verb {
+    match task.verb {
         Verb::Check => check::check(&source, out),
         Verb::Rows => shown(&source, out, rows::print),
         Verb::Tree => shown(&source, out, tree::print),
+        Verb::Load => stored::load(&source, out),
+        Verb::Store => {
+            let output = task.output.as_deref().unwrap_or_default();
+            match stored::store(&source, file, output, out)? {
+                Ok(outcome) => Ok(outcome),
+                Err(trouble) => troubled(&trouble, out),
+            }
+        }
     }
 }
 

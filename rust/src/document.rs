@@ -1,8 +1,9 @@
 //! A text with its rows, which follow every change of the text.
 
-use crate::lent::{self, Change, Words, NODE_WORDS, ROW_WORDS};
+use crate::lent::{self, Change, NODE_WORDS, ROW_WORDS};
 use crate::refusal::{Place, Reason, Refusal};
 use crate::row::{Row, Rows};
+use crate::table::{written, Table};
 use crate::tree::Tree;
 use crate::LONGEST_TEXT;
 use std::fmt;
@@ -10,18 +11,16 @@ use std::ops::Range;
 use std::sync::OnceLock;
 
 /// An open text and its rows. The text is valid UTF-8 and has at most 65,536 bytes; the rows are always those of a fresh reading, and
-/// each of them starts and ends between two characters, which is proved of the library. Offsets and columns count bytes.
+/// each of them starts and ends between two characters, which is proved of the library. Offsets and columns count bytes. Of a document
+/// that is opened with a stored table so much is true as [`Document::open_with`] says.
 ///
 /// Two documents are equal if their texts, rows and refusals are.
 #[derive(Clone)]
 pub struct Document {
     text: String,
-    /// The rows' words, and behind them room that no row has.
-    rows: Vec<u32>,
-    /// Where the next change writes; it then changes places with `rows`.
+    table: Table,
+    /// Where the next change writes; it then changes places with the table's rows.
     spare: Vec<u32>,
-    /// What stands beside the rows, in the words in which the library told it.
-    table: Words,
     /// The tree, once it was asked for; a change takes it away.
     tree: OnceLock<Result<Tree, Refusal>>,
 }
@@ -33,17 +32,57 @@ impl Document {
     pub fn open(text: impl Into<Vec<u8>>) -> Result<Document, Refusal> {
         let text = text.into();
         let mut rows = vec![0; room_for(text.len().min(LONGEST_TEXT))];
-        let table = lent::scan(&text, &mut rows);
-        taken(&table)?;
+        let words = lent::scan(&text, &mut rows);
+        let table = Table::told(words, rows)?;
         // The library has taken the text, which is valid UTF-8 then.
-        let text = String::from_utf8(text).map_err(|_| at_start(Reason::BadByte))?;
-        Ok(Document {
+        Ok(Document::of(valid(text)?, table))
+    }
+
+    /// Opens a text with the table that was stored for it, and does not read the text again. Refused are a text that is too long (1) or
+    /// not valid UTF-8 (2), as [`Document::open`] refuses it, and a table that the text cannot have ([`Reason::OtherText`]): it is of a
+    /// text of another length, or something in it stands inside a character.
+    ///
+    /// The table is trusted no further. A table of a text of the same length is taken, as nothing but a reading tells it from the
+    /// text's own. Every call still answers then, some perhaps with 3; but rows, spellings and tree are the table's and not the text's,
+    /// and a change patches what is wrong already. So store a table when its text is saved, and where a text may have been changed
+    /// since, call [`Document::refresh`], at once or when there is time.
+    pub fn open_with(text: impl Into<Vec<u8>>, table: Table) -> Result<Document, Refusal> {
+        let text = text.into();
+        if text.len() > LONGEST_TEXT {
+            return Err(at_start(Reason::TextTooLong));
+        }
+        let text = valid(text)?;
+        match table.fits(&text) {
+            true => Ok(Document::of(text, table)),
+            false => Err(at_start(Reason::OtherText)),
+        }
+    }
+
+    fn of(text: String, table: Table) -> Document {
+        Document {
             text,
-            rows,
-            spare: Vec::new(),
             table,
+            spare: Vec::new(),
             tree: OnceLock::new(),
-        })
+        }
+    }
+
+    /// Reads the whole text afresh, so that the rows are those of a fresh reading, and says whether they were before. They were unless the
+    /// document was opened with a table that is not the text's.
+    pub fn refresh(&mut self) -> bool {
+        let spare = roomy(&mut self.spare, self.text.len());
+        let told = lent::scan(self.text.as_bytes(), spare);
+        let were_fresh =
+            told == *self.table.words() && written(spare, &told) == self.table.row_words();
+        if !were_fresh && self.table.become_told(told, &mut self.spare).is_ok() {
+            self.tree = OnceLock::new();
+        }
+        were_fresh
+    }
+
+    /// The rows and how they end, to be stored.
+    pub fn table(&self) -> &Table {
+        &self.table
     }
 
     /// The text.
@@ -53,17 +92,17 @@ impl Document {
 
     /// The rows in order; without a refusal the last is Eof.
     pub fn rows(&self) -> Rows<'_> {
-        Rows::new(self.row_words())
+        self.table.rows()
     }
 
     /// The row with this number.
     pub fn row(&self, row: usize) -> Option<Row> {
-        self.rows().nth(row)
+        self.table.row(row)
     }
 
     /// The refusal, 11 to 17, at which the rows end; nothing if the whole text scans.
     pub fn refusal(&self) -> Option<Refusal> {
-        Refusal::from_words(&self.table)
+        self.table.refusal()
     }
 
     /// The part of the text that a row spells; empty for Eof. A row that is not there is 3. The rows are the document's own, so
@@ -85,11 +124,11 @@ impl Document {
     }
 
     fn parsed(&self) -> Result<Tree, Refusal> {
-        let mut nodes = vec![0; self.count() * NODE_WORDS];
+        let mut nodes = vec![0; self.rows().len() * NODE_WORDS];
         let answer = lent::parse(
             self.text.as_bytes(),
-            self.row_words(),
-            &self.table,
+            self.table.row_words(),
+            self.table.words(),
             &mut nodes,
         );
         match Refusal::from_words(&answer) {
@@ -109,17 +148,22 @@ impl Document {
         let (before, behind) = self.kept(&range)?;
         let change = change(range, self.text.len(), new.len())?;
         let text = [before, new, behind].concat();
-        let words = room_for(text.len());
-        if self.spare.len() < words {
-            self.spare.resize(words, 0);
+        let spare = roomy(&mut self.spare, text.len());
+        let table = &self.table;
+        let mut told = lent::change(
+            table.row_words(),
+            table.words(),
+            change,
+            text.as_bytes(),
+            spare,
+        );
+        if told[lent::NUMBER] == Reason::NotWellFormed.number() {
+            // Only behind changes of a stored table that was never the text's.
+            told = lent::scan(text.as_bytes(), spare);
         }
-        let rows = written(&self.rows, &self.table);
-        let table = lent::change(rows, &self.table, change, text.as_bytes(), &mut self.spare);
-        taken(&table)?;
+        self.table.become_told(told, &mut self.spare)?;
         self.text = text;
-        self.table = table;
         self.tree = OnceLock::new();
-        std::mem::swap(&mut self.rows, &mut self.spare);
         Ok(())
     }
 
@@ -143,21 +187,11 @@ impl Document {
             place: Place::before(self.text.as_bytes(), offset),
         }
     }
-
-    fn count(&self) -> usize {
-        self.table[lent::COUNT] as usize
-    }
-
-    fn row_words(&self) -> &[u32] {
-        written(&self.rows, &self.table)
-    }
 }
 
 impl PartialEq for Document {
     fn eq(&self, other: &Document) -> bool {
-        self.text == other.text
-            && self.table == other.table
-            && self.row_words() == other.row_words()
+        self.text == other.text && self.table == other.table
     }
 }
 
@@ -185,23 +219,25 @@ fn change(range: Range<usize>, length: usize, new_bytes: usize) -> Result<Change
     })
 }
 
-/// The words of the rows that a table has.
-fn written<'a>(rows: &'a [u32], table: &Words) -> &'a [u32] {
-    let count = table[lent::COUNT] as usize * ROW_WORDS;
-    rows.get(..count).unwrap_or(rows)
+/// A text of these bytes, or 2 where they are no UTF-8.
+fn valid(text: Vec<u8>) -> Result<String, Refusal> {
+    String::from_utf8(text).map_err(|error| Refusal {
+        reason: Reason::BadByte,
+        place: Place::before(error.as_bytes(), error.utf8_error().valid_up_to()),
+    })
+}
+
+/// Lent memory with room for the rows of a text of so many bytes.
+fn roomy(spare: &mut Vec<u32>, length: usize) -> &mut [u32] {
+    if spare.len() < room_for(length) {
+        spare.resize(room_for(length), 0);
+    }
+    spare
 }
 
 /// How many words the rows of a text of so many bytes need: every row but Eof has a byte.
 fn room_for(length: usize) -> usize {
     (length + 1) * ROW_WORDS
-}
-
-/// Whether an answer of a scan or a change is a table, which may end in a refusal from 11 on.
-fn taken(answer: &Words) -> Result<(), Refusal> {
-    match Refusal::from_words(answer) {
-        Some(refusal) if refusal.number() < 11 => Err(refusal),
-        _ => Ok(()),
-    }
 }
 
 fn at_start(reason: Reason) -> Refusal {

@@ -1,7 +1,7 @@
 //! The library's calls over lent slices, as they are: every answer is eight words in the layout below.
 //!
 //! Every call answers for every argument, so nothing here can go wrong but what the answer says. Lengths travel with the
-//! slices; a table is lent in the words in which [`scan`], [`change`] or [`edit`] told it.
+//! slices; a table is lent in the words in which [`scan`], [`change`], [`edit`] or [`load`] told it.
 
 use crate::ffi;
 
@@ -16,13 +16,13 @@ pub const OFFSET: usize = 1;
 pub const LINE: usize = 2;
 /// The column of the refusal's place, which counts bytes.
 pub const COLUMN: usize = 3;
-/// The wanted kind of 21, the field of 29, a spelling's start, or the number that was asked for.
+/// The wanted kind of 21, the field of 29, the block of 41, a spelling's start, or the number that was asked for.
 pub const FIRST: usize = 4;
 /// The found kind of 21, or a spelling's end.
 pub const SECOND: usize = 5;
-/// How many rows or nodes were written.
+/// How many rows, nodes or blocks were written.
 pub const COUNT: usize = 6;
-/// The text's length; 0 where a scan, a change or an edit is refused below 11.
+/// The text's length, of a store the file's; 0 where a call that tells one is refused and told no table.
 pub const LENGTH: usize = 7;
 
 /// The words of a row: kind, start, end, line, column, value low, value high, zero.
@@ -180,7 +180,8 @@ pub fn restart(old: &[u32], table: &Words, a: u32) -> Words {
     answer
 }
 
-/// Store a table as a file: how many bytes of it are written, and how many blocks. Refusals 3, 40, 4 leave the file untouched.
+/// Stores a table as a file: at [`LENGTH`] how many bytes of it are written, at [`COUNT`] how many blocks. Refusals 3, 40, 4 leave the
+/// file untouched.
 pub fn store(rows: &[u32], table: &Words, file: &mut [u8]) -> Words {
     let mut answer = [0; 8];
     // SAFETY: `rows` and `table` are lent for reading, `file` and `answer` for writing, with their own lengths.
@@ -197,7 +198,8 @@ pub fn store(rows: &[u32], table: &Words, file: &mut [u8]) -> Words {
     answer
 }
 
-/// Read a stored table into rows: told as a scan tells it. Refusals 42, 41 (its block at [`FIRST`]), 44, 42, 41, 43, 4 leave the rows untouched.
+/// Reads a stored table into rows; it is told as a scan tells it, and its words can be lent on. The file is all that is lent. Refusals
+/// in this order: 42, 41 (its block at [`FIRST`]) of block 0, 44, 42, 41, 43, 4; they leave the rows untouched.
 pub fn load(file: &[u8], rows: &mut [u32]) -> Words {
     let mut answer = [0; 8];
     // SAFETY: `file` is lent for reading, `rows` and `answer` for writing, with their own lengths.

@@ -17,6 +17,18 @@
 //! # Ok::<(), spoonharbor::Refusal>(())
 //! ```
 //!
+//! A [`Table`] is what a document has beside its text. It is stored as a file and read back, and a document opens with it.
+//!
+//! ```
+//! use spoonharbor::{Document, Table};
+//!
+//! let document = Document::open("unit u{ x = 1; }")?;
+//! let file = document.table().store()?;
+//! let table = Table::load(&file)?;
+//! assert_eq!(Document::open_with("unit u{ x = 1; }", table)?, document);
+//! # Ok::<(), spoonharbor::Refusal>(())
+//! ```
+//!
 //! [`lent`] has the library's calls themselves, over slices, for those who keep their own memory: a table there may be anyone's, so what
 //! its rows spell are bytes.
 
@@ -27,6 +39,7 @@ pub mod lent;
 mod refusal;
 mod row;
 mod sets;
+mod table;
 mod tree;
 
 pub use document::Document;
@@ -34,6 +47,7 @@ pub use kind::Kind;
 pub use refusal::{MapField, Place, Reason, Refusal};
 pub use row::{Row, Rows};
 pub use sets::{allows, section_kind, set_size, Method, ProgramKind};
+pub use table::{Table, MOST_STORED_ROWS};
 pub use tree::{FieldType, MapType, Node, NodeKind, Operator, Tree, Type};
 
 /// This crate's version as one number: major, minor and patch in a byte each. The build refuses an archive of another version,

@@ -22,7 +22,7 @@ pub enum MapField {
     Max,
 }
 
-/// Why a text is refused. A later version may have more reasons.
+/// Why a text or a file is refused. A later version may have more reasons.
 #[derive(Debug, Clone, Copy, PartialEq, Eq, Hash)]
 #[non_exhaustive]
 pub enum Reason {
@@ -32,6 +32,8 @@ pub enum Reason {
     BadByte,
     /// 3: a table, a row or a set number that is not well formed.
     NotWellFormed,
+    /// 3 as well, but told by [`crate::Document::open_with`] alone: a table that the text cannot have.
+    OtherText,
     /// 4: more rows than lent room.
     NoRowRoom,
     /// 5: node room below the row count.
@@ -81,6 +83,16 @@ pub enum Reason {
     CallOnOther,
     /// 32: the 65th open construct.
     TooDeep,
+    /// 40: a table of more than 65,535 rows, which no file holds.
+    TooManyRows,
+    /// 41: this block of a file is damaged, the first being 0: its check, number, row count or filler is wrong.
+    BadBlock(u32),
+    /// 42: a file of under 512 bytes, or not as long as its first block says.
+    WrongLength,
+    /// 43: a file whose blocks are sound and hold no table.
+    NoTable,
+    /// 44: a file in another form than 1.
+    OtherForm,
     /// A number that this version has no name for. The library of this version gives none.
     Other(u32),
 }
@@ -121,7 +133,7 @@ impl Reason {
         match self {
             Reason::TextTooLong => 1,
             Reason::BadByte => 2,
-            Reason::NotWellFormed => 3,
+            Reason::NotWellFormed | Reason::OtherText => 3,
             Reason::NoRowRoom => 4,
             Reason::NoNodeRoom => 5,
             Reason::EditNotSensible | Reason::InsideCharacter => 6,
@@ -145,8 +157,23 @@ impl Reason {
             Reason::NotEventType => 30,
             Reason::CallOnOther => 31,
             Reason::TooDeep => 32,
+            Reason::TooManyRows => 40,
+            Reason::BadBlock(_) => 41,
+            Reason::WrongLength => 42,
+            Reason::NoTable => 43,
+            Reason::OtherForm => 44,
             Reason::Other(number) => number,
         }
+    }
+
+    /// Whether it is one in which the rows of a table end: 11 to 17.
+    pub(crate) fn ends_a_table(self) -> bool {
+        matches!(self.number(), 11..=17)
+    }
+
+    /// Whether it is about a file or about a table as a whole, so that no place in a text is meant.
+    fn has_no_place(self) -> bool {
+        self == Reason::OtherText || matches!(self.number(), 40..=44)
     }
 
     /// The reason of an answer whose number is not 0.
@@ -182,6 +209,11 @@ impl Reason {
             30 => Reason::NotEventType,
             31 => Reason::CallOnOther,
             32 => Reason::TooDeep,
+            40 => Reason::TooManyRows,
+            41 => Reason::BadBlock(words[lent::FIRST]),
+            42 => Reason::WrongLength,
+            43 => Reason::NoTable,
+            44 => Reason::OtherForm,
             number => Reason::Other(number),
         }
     }
@@ -276,14 +308,27 @@ impl fmt::Display for Reason {
             }
             Reason::CallOnOther => out.write_str("only a variable has methods"),
             Reason::TooDeep => out.write_str("nested too deeply: at most 64 may be open"),
+            Reason::TooManyRows => out.write_str("more rows than a file holds: the most is 65,535"),
+            Reason::BadBlock(block) => write!(out, "block {block} is damaged"),
+            Reason::WrongLength => {
+                out.write_str("no whole stored table: it is cut short, or longer than it says")
+            }
+            Reason::NoTable => out.write_str("its blocks are sound, but they hold no table"),
+            Reason::OtherForm => {
+                out.write_str("stored in a form that this version does not read")
+            }
+            Reason::OtherText => out.write_str("the stored table is another text's"),
             Reason::Other(number) => write!(out, "refused with {number}"),
         }
     }
 }
 
-/// `line:column: reason`.
+/// `line:column: reason`, or the reason alone where it is about a file.
 impl fmt::Display for Refusal {
     fn fmt(&self, out: &mut fmt::Formatter<'_>) -> fmt::Result {
+        if self.reason.has_no_place() {
+            return self.reason.fmt(out);
+        }
         let Place { line, column, .. } = self.place;
         write!(out, "{line}:{column}: {}", self.reason)
     }
@@ -313,6 +358,18 @@ mod tests {
             assert!(refusal.to_string().starts_with("2:3: "));
         }
         assert_eq!(Refusal::from_words(&[0, 9, 9, 9, 9, 9, 9, 9]), None);
+    }
+
+    #[test]
+    fn refusals_of_files_have_no_place() {
+        for number in 40..=44 {
+            let refusal = Refusal::from_words(&[number, 0, 1, 1, 7, 0, 0, 0]).unwrap();
+            assert_eq!(refusal.number(), number);
+            assert_eq!(refusal.to_string(), refusal.reason.to_string());
+        }
+        let damaged = Refusal::from_words(&[41, 0, 1, 1, 65_536, 0, 0, 0]).unwrap();
+        assert_eq!(damaged.reason, Reason::BadBlock(65_536));
+        assert_eq!(damaged.to_string(), "block 65536 is damaged");
     }
 
     #[test]

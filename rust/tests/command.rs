@@ -357,7 +357,7 @@ fn the_version_is_the_crates() {
 #[test]
 fn each_verb_has_help() {
     let folder = Folder::new("help");
-    for verb in ["check", "rows", "tree"] {
+    for verb in ["check", "rows", "tree", "store", "load"] {
         let asked = folder.run(&[verb, "--help"]);
         assert!(asked
             .out

@@ -1,9 +1,10 @@
 //! The C header's numbers, held to this crate's and to what the library answers.
 
+use compare::model::file::seal;
 use spoonharbor::lent::{self, Change, Words};
 use spoonharbor::{
     section_kind, Document, FieldType, Kind, MapField, MapType, Method, NodeKind, Operator,
-    ProgramKind, Reason, Refusal, Type, LONGEST_TEXT, VERSION,
+    ProgramKind, Reason, Refusal, Type, LONGEST_TEXT, MOST_STORED_ROWS, VERSION,
 };
 use std::collections::{BTreeMap, BTreeSet};
 use std::fmt::Debug;
@@ -224,6 +225,47 @@ fn refusals_are_the_librarys() {
             .map(|(number, reason)| (in_c(reason), *number)),
     );
     assert_eq!(enumerated("sh_refusal", "SH_REFUSED_"), made);
+}
+
+/// What the library answers to a call over a file that is refused with each number of 40 to 44.
+fn refused_files() -> Vec<Words> {
+    let (rows, table) = scanned(&";".repeat(MOST_STORED_ROWS));
+    let many = lent::store(&rows, &table, &mut []);
+    let (rows, table) = scanned("x");
+    let mut file = vec![0; 1024];
+    lent::store(&rows, &table, &mut file);
+    let said = |at: usize, word: u8| {
+        let mut first = file[..512].to_vec();
+        first[at] = word;
+        seal(&mut first);
+        lent::load(&[&first, &file[512..]].concat(), &mut [])
+    };
+    let mut damaged = file.clone();
+    damaged[600] ^= 1;
+    vec![
+        many,
+        lent::load(&damaged, &mut []),
+        lent::load(&file[..512], &mut []),
+        said(8, 0),
+        said(4, 2),
+    ]
+}
+
+#[test]
+fn file_refusals_are_the_librarys() {
+    let mut made = Numbers::new();
+    for (answer, number) in refused_files().into_iter().zip(40..) {
+        assert_eq!(answer[lent::NUMBER], number);
+        let reason = Refusal::from_words(&answer).unwrap().reason;
+        if let Reason::BadBlock(block) = reason {
+            assert_eq!((block, answer[lent::FIRST]), (1, 1));
+        }
+        made.insert(in_c(reason), number);
+    }
+    assert_eq!(made.len(), 5);
+    assert_eq!(enumerated("sh_file_refusal", "SH_FILE_"), made);
+    let most = format!("enum {{ SH_MOST_STORED_ROWS = {MOST_STORED_ROWS} }};");
+    assert!(code().contains(&most));
 }
 
 #[test]

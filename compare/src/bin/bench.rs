@@ -14,7 +14,7 @@ use compare::generate::probe::{half_greek, probe_text};
 use compare::lexer::Lexer;
 use compare::parser::{parse_program, Parser, Token};
 use spoonharbor::lent::{self, Change, Words};
-use spoonharbor::Document;
+use spoonharbor::{Document, Table};
 use std::hint::black_box;
 
 const SEED: u64 = 7;
@@ -56,6 +56,8 @@ fn main() {
         );
         replaced("the probes", &probe_text(PROBE, SEED), rounds);
         replaced("65,536 newlines", &vec![b'\n'; 64 << 10], rounds);
+        stored("probes", &probe_text(PROBE, SEED), rounds);
+        stored("dense text", &dense_text(PROBE, SEED), rounds);
         keystrokes(&probe_text(PROBE, SEED), rounds);
         spellings(&probe_text(PROBE, SEED), rounds);
     });
@@ -353,6 +355,53 @@ fn replaced(what: &str, text: &[u8], rounds: Rounds) {
         &["the Rust", "own scan"],
         rounds,
     );
+}
+
+/// A table stored and loaded beside the scan of its text, by the calls and by what Rust makes of them.
+fn stored(what: &str, text: &[u8], rounds: Rounds) {
+    let (rows, table) = scanned(text);
+    let document = Document::open(text).expect("a probe is taken");
+    let file = document.table().store().expect("its table is stored");
+    let mut memory = vec![1; rows.len()];
+    let mut written = vec![1; file.len()];
+    let mut copied = vec![1; rows.len()];
+    assert_eq!(lent::load(&file, &mut memory), table, "the table is read");
+    assert_eq!(memory, rows, "its rows are read");
+    let sides = vec![
+        fresh("own scan", text),
+        Side::new("library, load", || {
+            black_box(lent::load(black_box(&file), &mut memory));
+        }),
+        Side::new("library, store", || {
+            black_box(lent::store(black_box(&rows), &table, &mut written));
+        }),
+        Side::new("  of each the table test", || {
+            black_box(lent::well_formed(black_box(&rows), &table));
+        }),
+        Side::new("a copy of the rows (memcpy)", || {
+            copied.copy_from_slice(black_box(&rows));
+            black_box(&mut copied);
+        }),
+        Side::new("Document::open", || {
+            black_box(Document::open(black_box(text)).is_ok());
+        }),
+        Side::new("Table::load, Document::open_with", || {
+            let table = Table::load(black_box(&file));
+            black_box(
+                table
+                    .and_then(|table| Document::open_with(text, table))
+                    .is_ok(),
+            );
+        }),
+    ];
+    let heading = format!(
+        "stored, {} bytes of {what}, {} rows in a file of {} bytes",
+        text.len(),
+        rows.len() / 8,
+        file.len()
+    );
+    let against = ["own scan", "Document::open"];
+    report(&heading, "row", rows.len() / 8, sides, &against, rounds);
 }
 
 /// A thousand bytes typed one after the other into a document.

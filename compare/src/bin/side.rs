@@ -2,7 +2,7 @@
 //! often; stops at the first difference with status 1.
 
 use compare::deep::on_deep_stack;
-use compare::side::{chains, edit, parse, scan, tables, Compared};
+use compare::side::{chains, edit, files, parse, scan, tables, Compared};
 use std::process::ExitCode;
 use std::time::Instant;
 
@@ -14,11 +14,12 @@ usage: side scan [TEXTS [SEED]]      rows, values, refusals, every lent word, of
        side parts [LENGTH]           the same over 11 bytes with parts of characters, old and new bytes together at most LENGTH
        side chains [EDITS [SEED]]    edits one after the other on documents of up to 60,000 bytes
        side tables [TABLES [SEED]]   tables with words changed, sets, sections
+       side files [TABLES [SEED]]    tables stored and read back, of files that are sound and damaged
        side full                     all of them, at length
 ";
 
 /// The counts of a full run.
-const FULL: [(&str, u64); 7] = [
+const FULL: [(&str, u64); 8] = [
     ("scan", 1_000_000),
     ("parse", 1_000_000),
     ("edit", 20_000_000),
@@ -26,6 +27,7 @@ const FULL: [(&str, u64); 7] = [
     ("parts", 6),
     ("chains", 40_000),
     ("tables", 1_000_000),
+    ("files", 1_000_000),
 ];
 
 fn main() -> ExitCode {
@@ -78,6 +80,7 @@ fn run(part: &str, count: u64, seed: u64) -> Compared {
         "small" => edit::run_small(count.min(6) as u32),
         "parts" => edit::run_parts(count.min(8) as u32),
         "chains" => chains::run(count, seed),
+        "files" => files::run(count, seed),
         _ => tables::run(count, seed),
     }
 }

@@ -34,17 +34,12 @@ pub fn store(lent: Lent, room: usize) -> Result<Vec<u8>, u32> {
     if lent.count() > MOST_ROWS {
         return Err(40);
     }
-    let [number, offset, line, column, ..] = *lent.table;
-    let said = [
-        1,
-        lent.length(),
-        lent.count() as u32,
-        number,
-        offset,
-        line,
-        column,
-    ];
-    let mut file = block(0, 0, &said);
+    let ending = match *lent.table {
+        [0, ..] => [0; 4],
+        [number, offset, line, column, ..] => [number, offset, line, column],
+    };
+    let said = [1, lent.length(), lent.count() as u32];
+    let mut file = block(0, 0, &[&said[..], &ending].concat());
     let words = &lent.rows[..8 * lent.count()];
     for (rows, k) in words.chunks(8 * ROWS).zip(1..) {
         file.extend(block(k, rows.len() / 8, rows));

@@ -52,7 +52,7 @@ fn spoil(random: &mut Random, text: &mut Vec<u8>) {
 }
 
 /// Changes a word of the rows or of the table, mostly by little.
-fn change_a_word(random: &mut Random, rows: &mut [u32], table: &mut Words) {
+pub(super) fn change_a_word(random: &mut Random, rows: &mut [u32], table: &mut Words) {
     let count = (table[lent::COUNT] as usize * 8).min(rows.len());
     let word = if count > 0 && !random.one_in(4) {
         &mut rows[random.below(count)]

@@ -1,15 +1,19 @@
 //! The command's verbs and what is said of them.
 
+use super::stored::LONGEST_FILE;
+use spoonharbor::LONGEST_TEXT;
 use std::ffi::OsStr;
 
 /// What is said of the whole command.
 pub const USAGE: &str = "\
-usage: spoonharbor check FILE..    say of each file whether it is a program, and if not, where and why
-       spoonharbor rows FILE       print its rows
-       spoonharbor tree FILE       print its tree
-       spoonharbor VERB --help     say more of one of these
-       spoonharbor --version       print the version
-FILE is a path, or - for standard input. Exit status: 0 all is well, 1 a text is refused, 2 trouble.
+usage: spoonharbor check FILE..            say of each file whether it is a program, and if not, where and why
+       spoonharbor rows FILE               print its rows
+       spoonharbor tree FILE               print its tree
+       spoonharbor store FILE -o TABLE     store its rows in a file
+       spoonharbor load TABLE              print the rows of such a file
+       spoonharbor VERB --help             say more of one of these
+       spoonharbor --version               print the version
+FILE is a path, or - for standard input. Exit status: 0 all is well, 1 a text or a stored table is refused, 2 trouble.
 ";
 
 const CHECK_USAGE: &str = "\
@@ -43,18 +47,41 @@ FILE is a path, or - for standard input; behind -- a path may begin with -.
 Exit status: 0 the text is a program, 1 it is refused, 2 trouble.
 ";
 
+const STORE_USAGE: &str = "\
+usage: spoonharbor store [--] FILE -o TABLE
+
+Stores the rows of a text in a file, which `spoonharbor load` and the library's calls read. If the text cannot be scanned to its end, the
+rows up to there are stored with the refusal, which is printed too. A file that is there is written over, unless it is the text itself.
+
+FILE is a path, or - for standard input; TABLE is a path; behind -- the path FILE may begin with -.
+Exit status: 0 the text scans to its end and is stored, 1 it is refused, 2 trouble.
+";
+
+const LOAD_USAGE: &str = "\
+usage: spoonharbor load [--] FILE
+
+Prints the rows of a stored table as `spoonharbor rows` prints those of a text, but without spellings, which stand in the text alone; and
+the refusal in which they end, if they do. A file that is not as it was stored is refused, a damaged one with the number of its first
+damaged block and that block's bytes; blocks and bytes count from 0.
+
+FILE is a path, or - for standard input; behind -- a path may begin with -.
+Exit status: 0 the table is sound and its text scans to the end, 1 file or text is refused, 2 trouble.
+";
+
 /// What can be done with files.
 #[derive(Debug, Clone, Copy, PartialEq, Eq)]
 pub enum Verb {
     Check,
     Rows,
     Tree,
+    Store,
+    Load,
 }
 
 impl Verb {
     /// The verb that a word names.
     pub fn named(word: &OsStr) -> Option<Verb> {
-        let verbs = [Verb::Check, Verb::Rows, Verb::Tree];
+        let verbs = [Verb::Check, Verb::Rows, Verb::Tree, Verb::Store, Verb::Load];
         verbs.into_iter().find(|verb| word == verb.name())
     }
 
@@ -63,6 +90,8 @@ impl Verb {
             Verb::Check => "check",
             Verb::Rows => "rows",
             Verb::Tree => "tree",
+            Verb::Store => "store",
+            Verb::Load => "load",
         }
     }
 
@@ -72,14 +101,30 @@ impl Verb {
             Verb::Check => CHECK_USAGE,
             Verb::Rows => ROWS_USAGE,
             Verb::Tree => TREE_USAGE,
+            Verb::Store => STORE_USAGE,
+            Verb::Load => LOAD_USAGE,
         }
     }
 
-    /// What is wrong with so many files, if anything.
-    pub fn lacks(self, files: usize) -> Option<&'static str> {
+    /// The most bytes of its file that are read, but for one more.
+    pub fn most_bytes(self) -> usize {
+        match self {
+            Verb::Load => LONGEST_FILE,
+            _ => LONGEST_TEXT,
+        }
+    }
+
+    /// What is wrong with so many files, and with what `-o` names, if anything.
+    pub fn lacks(self, files: usize, output: Option<&OsStr>) -> Option<&'static str> {
         match (self, files) {
             (Verb::Check, 0) => Some("a file is missing"),
-            (Verb::Check, _) | (_, 1) => None,
+            (Verb::Check, _) => None,
+            (Verb::Store, 1) => match output {
+                None => Some("-o and the file to write are missing"),
+                Some(path) if path == "-" => Some("behind -o a path is wanted"),
+                _ => None,
+            },
+            (_, 1) => None,
             _ => Some("one file is wanted"),
         }
     }
