@@ -161,7 +161,8 @@ module _ (n i : ℕ) (s : List ℕ) (last q : Row) (good : Bool) (h : i < n) (e 
   stand-not f = rw (rows-more n i s h, ← e, f) (and-false good)
 
   pub stand-more : (p : Bool) → p ≡ standsOn last q
-      → ((p && good) && stand q (rowsFrom (n - (i + 1)) (drop (4 + 32 * (i + 1)) s))) ≡ (good && stand last (rowsFrom (n - i) (drop (4 + 32 * i) s)))
+      → ((p && good) && stand q (rowsFrom (n - (i + 1)) (drop (4 + 32 * (i + 1)) s)))
+      ≡ (good && stand last (rowsFrom (n - i) (drop (4 + 32 * i) s)))
   unfolding stand
   stand-more p f = rw (rows-more n i s h, ← e, ← f, and-comm p good) (and-assoc good p _)
 

@@ -37,6 +37,21 @@ ghost use Rattle.file_rules.specs.Files.{rowBytes, mostRows, readEnding, ending
 ghost use Rattle.file_blocks.specs.Standing.{rowsFrom};
 ghost use Rattle.file_load.specs.Judged.{Framed, lastOf, plainRows, blocksJudged, refusedRead, standing};
 
+// Where block 0 says each of its words.
+const FORM_AT: usize = form::CONTENT;
+
+const LENGTH_AT: usize = FORM_AT + form::WORD;
+
+const COUNT_AT: usize = LENGTH_AT + form::WORD;
+
+const ENDING_AT: usize = COUNT_AT + form::WORD;
+
+const OFFSET_AT: usize = ENDING_AT + form::WORD;
+
+const LINE_AT: usize = OFFSET_AT + form::WORD;
+
+const COLUMN_AT: usize = LINE_AT + form::WORD;
+
 // What the blocks behind block 0 tell: the number of the first that is not sound, or whether so many rows stand.
 pub enum Blocks {
     Bad(u32),
@@ -97,10 +112,10 @@ fn ending_in(file: &[u8]) -> EndingRead
     requires { ⌜ 512 ≤ length (now file) ⌝ }
     ensures { λ r. ⌜ r ≡ endingIn (now (file .entry)) ⌝ }
 {
-    let number = word_at(file, 16);
-    let offset = word_at(file, 20);
-    let line = word_at(file, 24);
-    let column = word_at(file, 28);
+    let number = word_at(file, ENDING_AT);
+    let offset = word_at(file, OFFSET_AT);
+    let line = word_at(file, LINE_AT);
+    let column = word_at(file, COLUMN_AT);
     read_ending(
         number,
         Cursor {
@@ -290,7 +305,7 @@ fn told_blocks(file: &[u8], count: u32, room: usize) -> Loaded
         Blocks::Sound(stand) => match read {
             EndingRead::Nothing => Loaded::Refused(Fault::NoTable),
             EndingRead::Ends(ending) => {
-                let length = word_at(file, 8);
+                let length = word_at(file, LENGTH_AT);
                 told_rows(
                     file,
                     Table {
@@ -316,10 +331,10 @@ fn told(file: &[u8], room: usize) -> Loaded
     if !is_sound(&file[0..form::BLOCK], 0, 0, form::SAID) {
         return Loaded::Refused(Fault::BadBlock(0));
     }
-    if word_at(file, 4) != form::NUMBER {
+    if word_at(file, FORM_AT) != form::NUMBER {
         return Loaded::Refused(Fault::OtherForm);
     }
-    let count = word_at(file, 12);
+    let count = word_at(file, COUNT_AT);
     if file.len() != length_for(count) {
         return Loaded::Refused(Fault::WrongLength);
     }

@@ -3,7 +3,6 @@
 use crate::change::BYTES;
 use crate::change::Edit;
 use crate::change::WORDS;
-use crate::part::number;
 use crate::report::memory_line;
 use crate::report::word_line;
 use crate::tally::CALLS;
@@ -17,6 +16,7 @@ use crate::words::words_read;
 use replay_input::input::LOST;
 use replay_input::input::count;
 use replay_input::input::letter;
+use replay_input::part::number;
 use rules::Table;
 use rules::Told;
 use rules::row;

@@ -1,8 +1,8 @@
 // An edit of the sample: its numbers, the text that it makes, the old table changed, and the rows that are expected.
-use crate::part::number;
 use replay_input::input::LOST;
 use replay_input::input::count;
 use replay_input::input::letter;
+use replay_input::part::number;
 use rules::kind;
 use rules::row;
 

@@ -11,6 +11,7 @@ use replay_input::input::LOST;
 use replay_input::input::count;
 use replay_input::input::letter;
 use replay_input::lines;
+use replay_input::part;
 use replay_input::told::table_of;
 use rules::Table;
 use tally::RESTARTS;
@@ -18,7 +19,6 @@ use tally::Tally;
 
 mod call;
 mod change;
-mod part;
 mod report;
 mod tally;
 mod words;

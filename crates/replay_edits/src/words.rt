@@ -1,6 +1,6 @@
 // What the calls tell, and what the sample expects of them, as six words: number, offset, line, column, row count, text length.
-use crate::part::number;
 use refusals::outer_number;
+use replay_input::part::number;
 use replay_input::told::at_place;
 use replay_input::told::ending_words;
 use replay_input::told::table_of;

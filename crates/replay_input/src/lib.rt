@@ -3,6 +3,7 @@ use input::LOST;
 
 pub mod input;
 pub mod lines;
+pub mod part;
 pub mod told;
 
 // One more, as far as that goes.

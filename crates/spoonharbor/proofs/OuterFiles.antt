@@ -66,11 +66,13 @@ rows-told (loaded.Refused fault.OtherForm) e = absurd (true≢false (sym e))
 
 -- ---- the theorems
 
--- What was stored is loaded: lent the file that `spoonharbor_store` wrote and room for its rows, `spoonharbor_load` gives back the table and the words of
--- its rows. The rows are u32 words, so that each is below 2^32.
+-- What was stored is loaded: lent the file that `spoonharbor_store` wrote and room for its rows, `spoonharbor_load` gives back the table
+-- and the words of its rows. The rows are u32 words, so that each is below 2^32.
 module _ (ws table lent answer m : List ℕ) (g : OuterStored ws table lent answer m) (words : Words ws) where
   is-file : storeTold ws (tableOf table) (length lent) ≡ stored.Bytes (getD answer 7 0)
-  is-file = rw (g .told) (bytes-told (storeTold ws (tableOf table) (length lent)) (ap (λ (l : List ℕ). getD l 0 0) (sym (g .told)) ∙ g .stored))
+  is-file =
+      let z = ap (λ (l : List ℕ). getD l 0 0) (sym (g .told)) ∙ g .stored in
+      rw (g .told) (bytes-told (storeTold ws (tableOf table) (length lent)) z)
 
   module _ (new : List ℕ) (room : tableOf table .count ≤ roomOf new) where
     is-read : loadTold (fileOf answer m) (roomOf new) ≡ loaded.Rows (tableOf table)
@@ -79,14 +81,16 @@ module _ (ws table lent answer m : List ℕ) (g : OuterStored ws table lent answ
     says : loadedWords (loadTold (fileOf answer m) (roomOf new)) ≡ toldWords (Rows (tableOf table))
     says = ap (λ (x : Loaded). loadedWords x) is-read
 
-    pub outer-stored-loaded : OuterBack ws table new (loadedWords (loadTold (fileOf answer m) (roomOf new))) (loadLeaves (fileOf answer m) new)
+    pub outer-stored-loaded :
+        OuterBack ws table new (loadedWords (loadTold (fileOf answer m) (roomOf new))) (loadLeaves (fileOf answer m) new)
     outer-stored-loaded = record {
       told = lent-table (tableOf table) says;
       words = λ t e. says ∙ ap (λ (u : Table). toldWords (Rows u)) (lent-table t e) ∙ sym e;
       left = rw (g .left) (stored-left ws (tableOf table) lent (getD answer 7 0) is-file words new room);
     }
 
--- What a load tells is lent on: an answer whose number is an ending's is the table that was read, and fits the rows that were left. The file is bytes.
+-- What a load tells is lent on: an answer whose number is an ending's is the table that was read, and fits the rows that were left. The
+-- file is bytes.
 pub outer-load-lends : (file new : List ℕ) → Bytes file → isEnding (getD (loadedWords (loadTold file (roomOf new))) 0 0) ≡ true
     → OuterLends file new (loadedWords (loadTold file (roomOf new))) (loadLeaves file new)
 outer-load-lends file new bytes h =
@@ -106,5 +110,6 @@ module _ (κs : Lfts 3) (a : Dens κs of-load.ps) (r : Unit {0}) (e : AtExit (en
         → a .0 .now ≡ fileOf (f .1 .1 .1 .0 .now) (f .1 .1 .0 .now) → tableOf (b .1 .0 .now) .count ≤ roomOf (a .1 .0 .now)
         → OuterBack (b .0 .now) (b .1 .0 .now) (a .1 .0 .now) (e .1 .1 .0 .now) (e .1 .0 .now)
     outer-store-then-load s p words z x room =
-        let g : OuterStored (b .0 .now) (b .1 .0 .now) (b .1 .1 .0 .now) (f .1 .1 .1 .0 .now) (f .1 .1 .0 .now) = record { told = s .0; left = s .1; stored = z } in
+        let g : OuterStored (b .0 .now) (b .1 .0 .now) (b .1 .1 .0 .now) (f .1 .1 .1 .0 .now) (f .1 .1 .0 .now) =
+        record { told = s .0; left = s .1; stored = z } in
         rw (p .0, p .1, x) (outer-stored-loaded _ _ _ _ _ g words (a .1 .0 .now) room)

@@ -23,15 +23,15 @@ pub record OuterStored (ws table lent answer m : List ℕ) : Type 0 where
 abbrev pub fileOf : List ℕ → List ℕ → List ℕ
 fileOf answer m = take (getD answer 7 0) m
 
--- `spoonharbor_load`, lent the words `new`, told `answer` and left `rows`: the table that `table` says, in the very words if a call told it in them, and the
--- words of its rows as they stand in ws, with no word behind them touched.
+-- `spoonharbor_load`, lent the words `new`, told `answer` and left `rows`: the table that `table` says, in the very words if a call told
+-- it in them, and the words of its rows as they stand in ws, with no word behind them touched.
 pub record OuterBack (ws table new answer rows : List ℕ) : Type 0 where
   pub told : tableOf answer ≡ tableOf table
   pub words : (t : Table) → table ≡ toldWords (Rows t) → answer ≡ table
   pub left : rows ≡ take (8 * tableOf table .count) ws ++ drop (8 * tableOf table .count) new
 
--- `spoonharbor_load` of a file, lent the words `new`, told `answer` and left `rows`: lent on as the table, the answer's words are the table that was read, and with the rows
--- that were left it is well formed.
+-- `spoonharbor_load` of a file, lent the words `new`, told `answer` and left `rows`: lent on as the table, the answer's words are the
+-- table that was read, and with the rows that were left it is well formed.
 pub record OuterLends (file new answer rows : List ℕ) : Type 0 where
   pub told : loadTold file (roomOf new) ≡ loaded.Rows (tableOf answer)
   pub well : wellFormed rows (tableOf answer) ≡ true

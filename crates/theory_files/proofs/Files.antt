@@ -83,7 +83,8 @@ pub well-front : (ws more : List ℕ) (t : Table) → length ws ≡ 8 * t .count
 unfolding wellFormed
 well-front ws more t l e =
     let w = well-of ws t e in
-    let r : rowsIn (t .count) (ws ++ more) ≡ rowsIn (t .count) ws = sym (rows-take (t .count) (ws ++ more)) ∙ ap (rowsIn (t .count)) (take-at ws more (8 * t .count) l) in
+    let r : rowsIn (t .count) (ws ++ more) ≡ rowsIn (t .count) ws =
+    sym (rows-take (t .count) (ws ++ more)) ∙ ap (rowsIn (t .count)) (take-at ws more (8 * t .count) l) in
     rw (r, le-leb (t .count * 8) (length (ws ++ more)) (omega (arith, length-append ws more)), le-leb (t .length) 65536 (w .short)) (w .fit)
 
 -- ---- the words that say a table fit
@@ -245,7 +246,8 @@ refused-back OpenString p = refl
 refused-back BadEscape p = refl
 refused-back NumberTooLarge p = refl
 
-pub ending-back : (e : Ending) → readEnding (getD (endingSaid e) 0 0) (place (getD (endingSaid e) 1 0) (getD (endingSaid e) 2 0) (getD (endingSaid e) 3 0)) ≡ Ends e
+pub ending-back : (e : Ending)
+    → readEnding (getD (endingSaid e) 0 0) (place (getD (endingSaid e) 1 0) (getD (endingSaid e) 2 0) (getD (endingSaid e) 3 0)) ≡ Ends e
 unfolding readEnding
 ending-back None = refl
 ending-back (Refused why p) = refused-back why p

@@ -66,7 +66,8 @@ loop-again c =
     let a = r .before .before .before .before .args in
     let q = asRow (r .row-in .result) in
     let row = c .row-stands .ensures ∙ stands-on-plain (asRow (l .last)) q (known (c .before) .0) in
-    (omega arith, stand-more (a .n) (l .i) (a .bytes .now) (asRow (l .last)) q (l .good) (omega arith) (r .row-in .ensures) (c .row-stands .result) row ∙ l .inv .1)
+    let more = stand-more (a .n) (l .i) (a .bytes .now) (asRow (l .last)) q (l .good) (omega arith) (r .row-in .ensures) in
+    (omega arith, more (c .row-stands .result) row ∙ l .inv .1)
 
 returns-2 : tie.Need-returns-2 Inv-loop μ-loop
 unfolding stand rowsFrom

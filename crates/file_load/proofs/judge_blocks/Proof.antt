@@ -12,7 +12,8 @@ use Rattle.file_load.proofs.judge_blocks.Statement.{statement}
 use Rattle.file_load.proofs.judge_blocks.Tie as tie
 
 abbrev Inv-loop : tie.InvT-loop
-Inv-loop file count plain least most last₀ stand₀ left₀ more₀ k₀ at₀ last stand left more k at = Judging file count plain (asRow last) stand left more k at
+Inv-loop file count plain least most last₀ stand₀ left₀ more₀ k₀ at₀ last stand left more k at =
+    Judging file count plain (asRow last) stand left more k at
 
 abbrev μ-loop : tie.MeasureT-loop
 μ-loop file count plain least most last₀ stand₀ left₀ more₀ k₀ at₀ last stand left more k at = left
@@ -44,7 +45,9 @@ room c =
     let s = start c in
     room-left (s .args .file .now) (s .args .count) (s .args .plain) (s .pre .0) (asRow (l .last)) (l .stand) (l .left) (l .more) (l .k) (l .at) (l .inv) (omega arith)
 
-whole : (c : tie.In-loop Inv-loop μ-loop) → let l = c .before .loop in length (take (l .at + 512 - l .at) (drop (l .at) (start c .args .file .now))) ≡ 512
+whole : (c : tie.In-loop Inv-loop μ-loop) →
+    let l = c .before .loop in
+    length (take (l .at + 512 - l .at) (drop (l .at) (start c .args .file .now))) ≡ 512
 whole c =
     let l = c .before .loop in
     let s = start c in

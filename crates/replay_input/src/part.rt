@@ -1,7 +1,7 @@
 // Numbers of one word, and stretches of bytes as they are, read from the sample.
-use replay_input::input::LOST;
-use replay_input::input::count;
-use replay_input::input::letter;
+use crate::input::LOST;
+use crate::input::count;
+use crate::input::letter;
 use rules::limit;
 
 // A number below 2^32, and the place behind it.
