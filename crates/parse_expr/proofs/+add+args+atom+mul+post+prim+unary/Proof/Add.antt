@@ -10,12 +10,13 @@ use Rattle.rules.specs.Tree.{Tok}
 use Rattle.rules.specs.Parse
 use Rattle.rules.specs.Parse.{kindAt}
 use Rattle.rules.specs.Grammar.{Mul}
-use Rattle.theory_grammar.proofs.Sound.{Reads, mul-sound, inner-sound}
+use Rattle.theory_grammar.proofs.Sound.{Reads}
 use Rattle.parse_nodes.specs.Post.{Tells}
 use Rattle.parse_nodes.specs.declared.At.{At}
 use Rattle.parse_nodes.proofs.Rows.{tells-some, tells-kind, word-test}
-use Rattle.parse_nodes.proofs.Turn.{Came, came-reads, refused, met-no}
-use Rattle.parse_expr.proofs.Loops.{joins, came-fit, mul-came, Sums, sums-start, sums-refused, sums-fit, sums-done, sums-fails, sums-again}
+use Rattle.parse_nodes.proofs.Turn.{Came}
+use Rattle.parse_expr.proofs.Given.{came-fit, mul-came}
+use Rattle.parse_expr.proofs.Ladder.{joins, Sums, sums-start, sums-refused, sums-fit, sums-done, sums-fails, sums-again}
 use Rattle.parse_expr.proofs.add.Reads as add
 use Rattle.parse_expr.proofs.mul.Reads as mul
 use Rattle.parse_expr.proofs.joined.Reads as joined-reads
@@ -101,7 +102,7 @@ module _ (t : ℕ) where
   -- what the first call gave, and so what holds where the loop begins and at each turn
   begin : (c : lts.After-known-told (cs t) (add-at t) add.Post Inv-loop μ-loop) (ts : List Tok) → Told ts (entry (first-done c))
       → (let a = entry (first-done c) .args in
-         Sums ts (a .left) (a .row) (a .node) (a .nodes .now) (c .before .t .given .0 .0) (first-done c .mul .last .1 .1 .0))
+      Sums ts (a .left) (a .row) (a .node) (a .nodes .now) (c .before .t .given .0 .0) (first-done c .mul .last .1 .1 .0))
   begin c ts tl = sums-start (mul-came (first-done c .mul .ensures ts tl) (c .before .t .given .1))
 
   turn : (c : Looping) (ts : List Tok) → Told ts (at-loop c)
@@ -128,9 +129,9 @@ module _ (t : ℕ) where
   -- what the call in the loop gave
   got : (c : Joining) (ts : List Tok) → Told ts (at-second (second-done c))
       → (let a = at-second (second-done c) .args in
-         let l = turning (going (second-done c)) .loop in
-         Came (Reads ts Mul (a .left) (l .s .row + 1)) ts (Parse.mul ts (Parse.inner ts (a .left)) (l .s .row + 1))
-         (l .s .row + 1) (l .s .node) (l .nodes) (c .t2 .given .0 .0) (second-done c .mul2 .last .1 .1 .0))
+      let l = turning (going (second-done c)) .loop in
+      Came (Reads ts Mul (a .left) (l .s .row + 1)) ts (Parse.mul ts (Parse.inner ts (a .left)) (l .s .row + 1))
+      (l .s .row + 1) (l .s .node) (l .nodes) (c .t2 .given .0 .0) (second-done c .mul2 .last .1 .1 .0))
   got c ts tl = mul-came (second-done c .mul2 .ensures ts tl) (c .t2 .given .1)
 
   -- ---- the needs
@@ -151,10 +152,7 @@ module _ (t : ℕ) where
   returns c = λ ts tl.
       let f = first-refused c in
       let a = entry f .args in
-      let w = c .before .why .given in
-      met-no _ (a .row) (a .node) (w .0 .0) (w .0 .1 .0) (a .nodes .now) (f .mul .last .1 .1 .0)
-      (sums-refused ts (a .left) (a .row) (w .0 .0) (w .0 .1 .0)
-      (refused _ (a .row) (a .node) (a .nodes .now) (f .mul .last .1 .1 .0) (f .mul .result) (w .0 .0) (w .0 .1 .0) (f .mul .ensures ts tl) (w .1)))
+      sums-refused ts (a .left) (a .row) (a .node) (a .nodes .now) (f .mul .last .1 .1 .0) (f .mul .ensures ts tl) (c .before .why .given .1)
 
   pub loop-holds : lts.Need-loop-holds (cs t) (add-at t) add.Post Inv-loop μ-loop
   loop-holds c = λ ts tl m h. h
@@ -200,7 +198,7 @@ module _ (t : ℕ) where
       let j = c .before .before in
       let h = in-row (going (second-done (joining j))) in
       let v = got (joining j) _ (tells-some _ _) in
-      let r = ap (λ (x : At). x .row) (j .joined .ensures .0) in
+      let r = ap (λ (x : At). x .row) (j .joined .ensures .state) in
       omega (arith, v .stands .rows)
 
   pub loop-again : lts.Need-loop-again (cs t) (add-at t) add.Post Inv-loop μ-loop
@@ -208,7 +206,7 @@ module _ (t : ℕ) where
       let j = c .before .before in
       let g = going (second-done (joining j)) in
       sums-again (turning g .loop .inv ts tl m h) (goes-on g ts tl) (kind-is (g .before .before) ts tl) (got (joining j) ts tl)
-      (j .joined .ensures .0) (j .joined .ensures .1)
+      (j .joined .ensures)
 
   pub enum-known-why-2 : lts.Need-enum-known-why-2 (cs t) (add-at t) add.Post Inv-loop μ-loop
   enum-known-why-2 c = search needs
@@ -221,7 +219,5 @@ module _ (t : ℕ) where
   pub returns-3 : lts.Need-returns-3 (cs t) (add-at t) add.Post Inv-loop μ-loop
   returns-3 c = λ ts tl.
       let f = second-refused c in
-      let l = turning (going f) .loop in
-      let w = c .before .why2 .given in
-      sums-fails (turn (turning (going f)) ts tl) (goes-on (going f) ts tl) (w .0 .0) (w .0 .1 .0) (f .mul2 .last .1 .1 .0)
-      (refused _ (l .s .row + 1) (l .s .node) (l .nodes) (f .mul2 .last .1 .1 .0) (f .mul2 .result) (w .0 .0) (w .0 .1 .0) (f .mul2 .ensures ts tl) (w .1))
+      sums-fails (f .mul2 .last .1 .1 .0) (turn (turning (going f)) ts tl) (goes-on (going f) ts tl)
+      (f .mul2 .ensures ts tl) (c .before .why2 .given .1)

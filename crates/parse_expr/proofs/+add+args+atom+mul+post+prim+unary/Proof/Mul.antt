@@ -10,13 +10,14 @@ use Rattle.rules.specs.Tree.{Tok}
 use Rattle.rules.specs.Parse
 use Rattle.rules.specs.Parse.{kindAt, isMul}
 use Rattle.rules.specs.Grammar.{Unary}
-use Rattle.theory_grammar.proofs.Sound.{Reads, mul-sound, inner-sound}
+use Rattle.theory_grammar.proofs.Sound.{Reads}
 use Rattle.parse_nodes.specs.Post.{Tells}
 use Rattle.parse_nodes.specs.declared.At.{At}
 use Rattle.parse_nodes.proofs.Rows.{tells-some, tells-kind, word-test}
-use Rattle.parse_nodes.proofs.Turn.{Came, came-reads, refused, met-no}
+use Rattle.parse_nodes.proofs.Turn.{Came}
 use Rattle.parse_expr.proofs.Lone.{met-lone}
-use Rattle.parse_expr.proofs.Loops.{came-fit, unary-came, Products, products-start, products-refused, level-fit, level-done, level-fails, level-again}
+use Rattle.parse_expr.proofs.Given.{came-fit, unary-came}
+use Rattle.parse_expr.proofs.Ladder.{Products, products-start, products-refused, level-fit, level-done, level-fails, level-again}
 use Rattle.parse_expr.proofs.mul.Reads as mul
 use Rattle.parse_expr.proofs.unary.Reads as unary
 use Rattle.parse_expr.proofs.is_lone.Reads as is-lone-reads
@@ -28,9 +29,20 @@ use Rattle.parse_expr.proofs.+add+args+atom+mul+post+prim+unary.Lts-mul
 use Rattle.parse_expr.proofs.+add+args+atom+mul+post+prim+unary.Proof.Measures.{mul-at, unary-below}
 
 abbrev pub cs : ℕ → lts.Claims
-cs t =
-    ( is-lone-reads.Asked, is-lone-reads.Learnt, leaf-reads.Asked, leaf-reads.Learnt, unary-below t, unary.Post, kind-at-reads.Asked, kind-at-reads.Learnt
-    , is-mul-reads.Asked, is-mul-reads.Learnt, joined-reads.Asked, joined-reads.Learnt )
+cs t = (
+  is-lone-reads.Asked,
+  is-lone-reads.Learnt,
+  leaf-reads.Asked,
+  leaf-reads.Learnt,
+  unary-below t,
+  unary.Post,
+  kind-at-reads.Asked,
+  kind-at-reads.Learnt,
+  is-mul-reads.Asked,
+  is-mul-reads.Learnt,
+  joined-reads.Asked,
+  joined-reads.Learnt,
+)
 
 -- what holds where the loop begins holds at each turn
 abbrev pub Inv-loop : lts.InvT-loop
@@ -110,7 +122,7 @@ module _ (t : ℕ) where
   -- what the first call gave, and so what holds where the loop begins and at each turn
   begin : (c : lts.After-known-told (cs t) (mul-at t) mul.Post Inv-loop μ-loop) (ts : List Tok) → Told ts (entry (first-done c))
       → (let a = entry (first-done c) .args in
-         Products ts (a .left) (a .row) (a .node) (a .nodes .now) (c .before .t .given .0 .0) (first-done c .unary .last .1 .1 .0))
+      Products ts (a .left) (a .row) (a .node) (a .nodes .now) (c .before .t .given .0 .0) (first-done c .unary .last .1 .1 .0))
   begin c ts tl = products-start (unary-came (first-done c .unary .ensures ts tl) (c .before .t .given .1))
 
   turn : (c : Looping) (ts : List Tok) → Told ts (at-loop c)
@@ -134,9 +146,9 @@ module _ (t : ℕ) where
   -- what the call in the loop gave
   got : (c : Joining) (ts : List Tok) → Told ts (at-second (second-done c))
       → (let a = at-second (second-done c) .args in
-         let l = turning (going (second-done c)) .loop in
-         Came (Reads ts Unary (a .left) (l .s .row + 1)) ts (Parse.unary ts (Parse.inner ts (a .left)) (l .s .row + 1))
-         (l .s .row + 1) (l .s .node) (l .nodes) (c .t2 .given .0 .0) (second-done c .unary2 .last .1 .1 .0))
+      let l = turning (going (second-done c)) .loop in
+      Came (Reads ts Unary (a .left) (l .s .row + 1)) ts (Parse.unary ts (Parse.inner ts (a .left)) (l .s .row + 1))
+      (l .s .row + 1) (l .s .node) (l .nodes) (c .t2 .given .0 .0) (second-done c .unary2 .last .1 .1 .0))
   got c ts tl = unary-came (second-done c .unary2 .ensures ts tl) (c .t2 .given .1)
 
   -- ---- the needs
@@ -175,10 +187,8 @@ module _ (t : ℕ) where
   returns-2 c = λ ts tl.
       let f = first-refused c in
       let a = entry f .args in
-      let w = c .before .why .given in
-      met-no _ (a .row) (a .node) (w .0 .0) (w .0 .1 .0) (a .nodes .now) (f .unary .last .1 .1 .0)
-      (products-refused ts (a .left) (a .row) (w .0 .0) (w .0 .1 .0)
-      (refused _ (a .row) (a .node) (a .nodes .now) (f .unary .last .1 .1 .0) (f .unary .result) (w .0 .0) (w .0 .1 .0) (f .unary .ensures ts tl) (w .1)))
+      products-refused ts (a .left) (a .row) (a .node) (a .nodes .now) (f .unary .last .1 .1 .0)
+      (f .unary .ensures ts tl) (c .before .why .given .1)
 
   pub loop-holds : lts.Need-loop-holds (cs t) (mul-at t) mul.Post Inv-loop μ-loop
   loop-holds c = λ ts tl m h. h
@@ -223,7 +233,7 @@ module _ (t : ℕ) where
       let j = c .before .before in
       let h = in-row (going (second-done (joining j))) in
       let v = got (joining j) _ (tells-some _ _) in
-      let r = ap (λ (x : At). x .row) (j .joined .ensures .0) in
+      let r = ap (λ (x : At). x .row) (j .joined .ensures .state) in
       omega (arith, v .stands .rows)
 
   pub loop-again : lts.Need-loop-again (cs t) (mul-at t) mul.Post Inv-loop μ-loop
@@ -231,7 +241,7 @@ module _ (t : ℕ) where
       let j = c .before .before in
       let g = going (second-done (joining j)) in
       level-again (turning g .loop .inv ts tl m h) (goes-on g ts tl) (kind-is (g .before .before) ts tl) (got (joining j) ts tl)
-      (j .joined .ensures .0) (j .joined .ensures .1)
+      (j .joined .ensures)
 
   pub enum-known-why-2 : lts.Need-enum-known-why-2 (cs t) (mul-at t) mul.Post Inv-loop μ-loop
   enum-known-why-2 c = search needs
@@ -244,7 +254,5 @@ module _ (t : ℕ) where
   pub returns-4 : lts.Need-returns-4 (cs t) (mul-at t) mul.Post Inv-loop μ-loop
   returns-4 c = λ ts tl.
       let f = second-refused c in
-      let l = turning (going f) .loop in
-      let w = c .before .why2 .given in
-      level-fails (turn (turning (going f)) ts tl) (goes-on (going f) ts tl) (w .0 .0) (w .0 .1 .0) (f .unary2 .last .1 .1 .0)
-      (refused _ (l .s .row + 1) (l .s .node) (l .nodes) (f .unary2 .last .1 .1 .0) (f .unary2 .result) (w .0 .0) (w .0 .1 .0) (f .unary2 .ensures ts tl) (w .1))
+      level-fails (turn (turning (going f)) ts tl) (goes-on (going f) ts tl) (f .unary2 .last .1 .1 .0)
+      (f .unary2 .ensures ts tl) (c .before .why2 .given .1)

@@ -17,10 +17,10 @@ use Rattle.theory_grammar.proofs.Ends.{Ends}
 use Rattle.parse_nodes.specs.Post.{Tells, stateAt}
 use Rattle.parse_nodes.specs.declared.At.{At}
 use Rattle.parse_nodes.proofs.Rows.{tells-some, tells-kind, word-here}
-use Rattle.parse_nodes.proofs.Turn.{Came, refused, met-ok, met-no}
+use Rattle.parse_nodes.proofs.Turn.{Came, met-ok, met-no}
 use Rattle.parse_nodes.proofs.Fitting.{end-met, end-unmet}
 use Rattle.parse_expr.proofs.Trees.{stands-field, stands-bare, stands-call, met-called}
-use Rattle.parse_expr.proofs.Loops.{came-fit, args-came}
+use Rattle.parse_expr.proofs.Given.{came-fit, args-came, refusal}
 use Rattle.parse_expr.proofs.args.Reads as args
 use Rattle.parse_expr.proofs.post.Reads as post
 use Rattle.parse_expr.proofs.call_end.Reads as call-end-reads
@@ -32,9 +32,20 @@ use Rattle.parse_expr.proofs.+add+args+atom+mul+post+prim+unary.Lts-pos
 use Rattle.parse_expr.proofs.+add+args+atom+mul+post+prim+unary.Proof.Measures.{args-below, post-at}
 
 abbrev pub cs : ℕ → lts.Claims
-cs t =
-    ( kind-at-reads.Asked, kind-at-reads.Learnt, wanted-reads.Asked, wanted-reads.Learnt, field-end-reads.Asked, field-end-reads.Learnt
-    , call-end-reads.Asked, call-end-reads.Learnt, args-below t, args.Post, unended-reads.Asked, unended-reads.Learnt )
+cs t = (
+  kind-at-reads.Asked,
+  kind-at-reads.Learnt,
+  wanted-reads.Asked,
+  wanted-reads.Learnt,
+  field-end-reads.Asked,
+  field-end-reads.Learnt,
+  call-end-reads.Asked,
+  call-end-reads.Learnt,
+  args-below t,
+  args.Post,
+  unended-reads.Asked,
+  unended-reads.Learnt,
+)
 
 module _ (t : ℕ) where
   -- ---- the places on the way, each as it is seen from a later one
@@ -135,9 +146,9 @@ module _ (t : ℕ) where
   -- what the call for the arguments gave
   got : (c : Closing) (ts : List Tok) → Told ts (at-call (done c))
       → (let a = at-call (done c) .args in
-         let o = a .s .row + 1 + 1 in
-         Came (Ends ts (o + 1)) ts (Parse.args ts (Parse.inner ts (a .left)) o) (o + 1) (a .s .node) (a .nodes .now)
-         (c .a .given .0 .0) (done c .args2 .last .1 .1 .0))
+      let o = a .s .row + 1 + 1 in
+      Came (Ends ts (o + 1)) ts (Parse.args ts (Parse.inner ts (a .left)) o) (o + 1) (a .s .node) (a .nodes .now)
+      (c .a .given .0 .0) (done c .args2 .last .1 .1 .0))
   got c ts tl =
       let p = opened (filled (done c) .before) in
       let o : ℕ = at-paren p .args .s .row + 1 + 1 in
@@ -146,10 +157,10 @@ module _ (t : ℕ) where
   -- the parser's answer, up to the arguments and behind them
   asked : (c : Called) (ts : List Tok) → Told ts (at-call c) → (u : Tree)
       → (let a = at-call c .args in
-         let m = a .s .row + 1 in
-         Parse.post ts (Parse.inner ts (a .left)) u (a .s .row)
-         ≡ Parse.then (Parse.args ts (Parse.inner ts (a .left)) (m + 1))
-           (λ x r. Parse.endIn ts (only Comma + only RParen) RParen x (Parse.called ts u (spellingOf (tokAt ts m)) x m) r))
+      let m = a .s .row + 1 in
+      Parse.post ts (Parse.inner ts (a .left)) u (a .s .row)
+      ≡ Parse.then (Parse.args ts (Parse.inner ts (a .left)) (m + 1))
+      (λ x r. Parse.endIn ts (only Comma + only RParen) RParen x (Parse.called ts u (spellingOf (tokAt ts m)) x m) r))
   asked c ts tl u =
       let a = at-call c .args in
       let f = filled c in
@@ -159,10 +170,10 @@ module _ (t : ℕ) where
 
   read : (c : Closing) (ts : List Tok) (tl : Told ts (at-call (done c))) (u : Tree)
       → (let a = at-call (done c) .args in
-         let m = a .s .row + 1 in
-         let x = got c ts tl .tree in
-         Parse.post ts (Parse.inner ts (a .left)) u (a .s .row)
-         ≡ Parse.endIn ts (only Comma + only RParen) RParen x (Parse.called ts u (spellingOf (tokAt ts m)) x m) (c .a .given .0 .0 .row))
+      let m = a .s .row + 1 in
+      let x = got c ts tl .tree in
+      Parse.post ts (Parse.inner ts (a .left)) u (a .s .row)
+      ≡ Parse.endIn ts (only Comma + only RParen) RParen x (Parse.called ts u (spellingOf (tokAt ts m)) x m) (c .a .given .0 .0 .row))
   read c ts tl u = asked (done c) ts tl u ∙ then-ok _ _ (got c ts tl .tree) (c .a .given .0 .0 .row) (got c ts tl .is)
 
   -- ---- the needs
@@ -211,8 +222,8 @@ module _ (t : ℕ) where
       let w : List ℕ = spellingOf (tokAt ts (a .s .row + 1)) in
       met-ok (Parse.post ts (Parse.inner ts (a .left)) u (a .s .row)) i n (field u w) m₀ (r .last .0) (r .result)
       (post-field ts (Parse.inner ts (a .left)) u (a .s .row) (is-name (named k) ts tl) (λ e. fielded f .if2 .taken (open-is k ts tl ∙ e))
-      ∙ ap (λ (x : ℕ). ok (field u w) x) (sym (ap (λ (x : At). x .row) (r .ensures .0))))
-      (stands-field i n m₀ (a .nodes .now) (a .s) u (r .result) (r .last .0) w st (r .ensures .0) (r .ensures .1))
+      ∙ ap (λ (x : ℕ). ok (field u w) x) (sym (ap (λ (x : At). x .row) (r .ensures .state))))
+      (stands-field i n m₀ (a .nodes .now) (a .s) u (r .result) (r .last .0) w st (r .ensures))
 
   pub add-kind-at : lts.Need-add-kind-at (cs t) (post-at t) post.Post
   add-kind-at c = omega (arith, paren-here c, at-paren c .pre .1)
@@ -280,7 +291,7 @@ module _ (t : ℕ) where
       met-no (Parse.post ts (Parse.inner ts (a .left)) u (a .s .row)) i n (c .unended .result) (x .row) m₀ (done p .args2 .last .1 .1 .0)
       (read p ts tl u
       ∙ end-unmet ts (a .rows .now) (a .count) tl _ RParen (v .tree) _ (x .row) (x .summed) (v .stands .summed)
-        (λ e. c .before .if4 .taken (k .kind-at4 .ensures ∙ e))
+      (λ e. c .before .if4 .taken (k .kind-at4 .ensures ∙ e))
       ∙ ap (λ (y : Syntax). no y (x .row)) (sym (c .unended .ensures)))
 
   pub add-call-end-3 : lts.Need-add-call-end-3 (cs t) (post-at t) post.Post
@@ -333,5 +344,4 @@ module _ (t : ℕ) where
       let w = c .before .why .given in
       met-no (Parse.post ts (Parse.inner ts (a .left)) u (a .s .row)) i n (w .0 .0) (w .0 .1 .0) m₀ (f .args2 .last .1 .1 .0)
       (asked f ts tl u ∙ then-no _ _ (w .0 .0) (w .0 .1 .0)
-      (refused _ (a .s .row + 1 + 1 + 1) (a .s .node) (a .nodes .now) (f .args2 .last .1 .1 .0) (f .args2 .result) (w .0 .0) (w .0 .1 .0)
-      (f .args2 .ensures ts tl) (w .1)))
+      (refusal (a .s .row + 1 + 1 + 1) (a .s .node) (a .nodes .now) (f .args2 .last .1 .1 .0) (f .args2 .ensures ts tl) (w .1)))

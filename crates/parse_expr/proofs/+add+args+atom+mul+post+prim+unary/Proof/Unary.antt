@@ -15,9 +15,9 @@ use Rattle.theory_grammar.proofs.Sound.{Reads}
 use Rattle.parse_nodes.specs.Post.{Tells, Met}
 use Rattle.parse_nodes.specs.declared.At.{At}
 use Rattle.parse_nodes.proofs.Rows.{tells-some, tells-kind, word-here}
-use Rattle.parse_nodes.proofs.Turn.{Came, refused, met-ok, met-no}
+use Rattle.parse_nodes.proofs.Turn.{Came, met-ok, met-no}
 use Rattle.parse_expr.proofs.Trees.{stands-star}
-use Rattle.parse_expr.proofs.Loops.{came-fit, unary-came}
+use Rattle.parse_expr.proofs.Given.{came-fit, unary-came, refusal}
 use Rattle.parse_expr.proofs.prim.Reads as prim
 use Rattle.parse_expr.proofs.unary.Reads as unary
 use Rattle.parse_nodes.proofs.kind_at.Reads as kind-at-reads
@@ -93,8 +93,8 @@ module _ (t : ℕ) where
   -- what the call for the operand gave
   got : (c : Done) (ts : List Tok) → Told ts (at-call (done c))
       → (let a = at-call (done c) .args in
-         Came (Reads ts Unary (a .left - 1) (a .row + 1)) ts (Parse.unary ts (Parse.inner ts (a .left - 1)) (a .row + 1))
-         (a .row + 1) (a .node) (a .nodes .now) (c .t .given .0 .0) (done c .unary .last .1 .1 .0))
+      Came (Reads ts Unary (a .left - 1) (a .row + 1)) ts (Parse.unary ts (Parse.inner ts (a .left - 1)) (a .row + 1))
+      (a .row + 1) (a .node) (a .nodes .now) (c .t .given .0 .0) (done c .unary .last .1 .1 .0))
   got c ts tl = unary-came (done c .unary .ensures ts tl) (c .t .given .1)
 
   -- ---- the needs
@@ -158,7 +158,7 @@ module _ (t : ℕ) where
       met-no (Parse.unary ts (Parse.inner ts (a .left)) (a .row)) (a .row) (a .node) (w .0 .0) (w .0 .1 .0) (a .nodes .now) (f .unary .last .1 .1 .0)
       (unary-star ts (Parse.inner ts (a .left)) (a .row) (is-star (starred f .before) ts tl)
       ∙ then-no _ _ (w .0 .0) (w .0 .1 .0) (inner-operand ts (a .row) (a .left) (starred f .if2 .left)
-      ∙ refused _ (a .row + 1) (a .node) (a .nodes .now) (f .unary .last .1 .1 .0) (f .unary .result) (w .0 .0) (w .0 .1 .0) (f .unary .ensures ts tl) (w .1)))
+      ∙ refusal (a .row + 1) (a .node) (a .nodes .now) (f .unary .last .1 .1 .0) (f .unary .ensures ts tl) (w .1)))
 
   pub prim-requires : lts.Need-prim-requires (cs t) (unary-at t) unary.Post
   prim-requires c κs = search needs
