@@ -63,8 +63,8 @@ came-fit w = record {
   long = same-len _ _ _ _ _ _ (w .stands);
 }
 
-pub turn-fit : {Q : Tree → Type 0} {ts : List Tok} {test : ℕ → Bool} {step : Tree → P} {o : Out} {i n : ℕ} {m : List ℕ} {s : At} {m′ : List ℕ}
-    → Turn Q ts test step o i n m s m′ → Fit ts i n m s m′
+pub turn-fit : {Q : Tree → Type 0} {ts : List Tok} {test : ℕ → Bool} {step : Tree → P} {o : Out}
+    {i n : ℕ} {m : List ℕ} {s : At} {m′ : List ℕ} → Turn Q ts test step o i n m s m′ → Fit ts i n m s m′
 turn-fit w = record {
   few = omega (arith, w .few, w .stands);
   counts = omega (arith, w .counts, w .stands);

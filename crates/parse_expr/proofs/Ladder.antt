@@ -49,8 +49,8 @@ module _ {ts : List Tok} {d : ℕ} {isOp : ℕ → Bool} {p : P} {all : Out} {i 
   level-done b = met-ok all i n (w .turn .tree) m m′ s (level-ends b) (w .turn .stands)
 
   module _ (b : isOp (kindAt ts (s .row)) ≡ true) where
-    pub level-fails : {r : Got} {why : Syntax} {q : ℕ} (m″ : List ℕ) → Met (p (s .row + 1)) (s .row + 1) (s .node) m′ m″ r → r ≡ Refused why q
-        → Met all i n m m″ (Refused why q)
+    pub level-fails : {r : Got} {why : Syntax} {q : ℕ} (m″ : List ℕ) → Met (p (s .row + 1)) (s .row + 1) (s .node) m′ m″ r
+        → r ≡ Refused why q → Met all i n m m″ (Refused why q)
     unfolding Parse.binStep
     level-fails {why = why} {q = q} m″ h e =
         fails Any ts _ _ all i n m s m′ (w .turn) b why q m″ (then-no (p (s .row + 1)) _ why q (refusal (s .row + 1) (s .node) m′ m″ h e))
@@ -80,7 +80,8 @@ products-start {ts} {d} {i} w =
     level-start (w .tree) (mul-is ts (Parse.inner ts d) i ∙ then-ok _ _ (w .tree) _ (w .is)) (w .stands) (w .inside) (w .counts)
 
 pub products-refused : {r : Got} {why : Syntax} {q : ℕ} (ts : List Tok) (d i n : ℕ) (m m″ : List ℕ)
-    → Met (Parse.unary ts (Parse.inner ts d) i) i n m m″ r → r ≡ Refused why q → Met (Parse.mul ts (Parse.inner ts d) i) i n m m″ (Refused why q)
+    → Met (Parse.unary ts (Parse.inner ts d) i) i n m m″ r → r ≡ Refused why q
+    → Met (Parse.mul ts (Parse.inner ts d) i) i n m m″ (Refused why q)
 products-refused {why = why} {q = q} ts d i n m m″ h e =
     met-no _ i n why q m m″ (mul-is ts (Parse.inner ts d) i ∙ then-no _ _ why q (refusal i n m m″ h e))
 
@@ -121,7 +122,8 @@ sums-start {ts} {d} {i} w =
     (level-start (w .tree) (shift-is ts (Parse.inner ts d) i ∙ then-ok _ _ (w .tree) _ (w .is)) (w .stands) (w .inside) (w .counts))
 
 pub sums-refused : {r : Got} {why : Syntax} {q : ℕ} (ts : List Tok) (d i n : ℕ) (m m″ : List ℕ)
-    → Met (Parse.mul ts (Parse.inner ts d) i) i n m m″ r → r ≡ Refused why q → Met (Parse.add ts (Parse.inner ts d) i) i n m m″ (Refused why q)
+    → Met (Parse.mul ts (Parse.inner ts d) i) i n m m″ r → r ≡ Refused why q
+    → Met (Parse.add ts (Parse.inner ts d) i) i n m m″ (Refused why q)
 sums-refused {why = why} {q = q} ts d i n m m″ h e =
     met-no _ i n why q m m″
     (add-is ts (Parse.inner ts d) i ∙ then-no _ _ why q (shift-is ts (Parse.inner ts d) i ∙ then-no _ _ why q (refusal i n m m″ h e)))
@@ -149,7 +151,8 @@ module _ {ts : List Tok} {d i n : ℕ} {m : List ℕ} {s : At} {m′ : List ℕ}
   signs-now (shifting e w) h =
       let t = w .turn in
       let stop = alone (isShift (kindAt ts (s .row))) (s .summed) h e in
-      level-start (t .tree) (add-is ts (Parse.inner ts d) i ∙ then-ok _ _ (t .tree) (s .row) (level-ends w stop)) (t .stands) (t .inside) (t .counts)
+      level-start (t .tree) (add-is ts (Parse.inner ts d) i ∙ then-ok _ _ (t .tree) (s .row) (level-ends w stop))
+      (t .stands) (t .inside) (t .counts)
     where
       alone : (a b : Bool) → a && not b ≡ false → b ≡ false → a ≡ false
       alone true true h e = absurd (true≢false e)

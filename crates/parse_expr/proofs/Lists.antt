@@ -102,7 +102,8 @@ module _ (ts : List Tok) (d o n : ℕ) (m : List ℕ) where
 
   -- the first one is refused
   pub args-refused : {r : Got} {why told : Syntax} {q : ℕ} (m″ : List ℕ) → (d ≡ 0 → ⊥)
-      → Met (Parse.add ts (Parse.inner ts (d - 1)) (o + 1)) (o + 1) n m m″ r → r ≡ Refused why q → told ≡ retoldAt firstArguments (o + 1) why q
+      → Met (Parse.add ts (Parse.inner ts (d - 1)) (o + 1)) (o + 1) n m m″ r → r ≡ Refused why q
+      → told ≡ retoldAt firstArguments (o + 1) why q
       → Met (Parse.args ts (Parse.inner ts d) o) (o + 1) n m m″ (Refused told q)
   unfolding or then retoldAt
   args-refused {why = why} {told = told} {q = q} m″ h f e g =

@@ -65,7 +65,8 @@ module _ (i n : ℕ) (m m₁ : List ℕ) (s : At) where
     pub stands-field : (w : List ℕ) → Stands i n t m s m₁ → FieldEnd s m₁ m₂ s₂ → Stands i n (field t w) m s₂ m₂
     unfolding width size placeOf isVariable isSum hangs count
     stands-field w a e =
-        stands-at i n (field t w) m m₂ s₂ (e .state) (omega (arith, a .rows)) (omega (arith, a .nodes)) (omega (arith, a .rows)) refl refl refl refl
+        stands-at i n (field t w) m m₂ s₂ (e .state) (omega (arith, a .rows)) (omega (arith, a .nodes)) (omega (arith, a .rows))
+        refl refl refl refl
         (rw (words-field i t w, ← a .rows) (mem-over m i n t s m₁ a m₂ _ (e .memory)))
 
     pub stands-bare : (w : List ℕ) → Stands i n t m s m₁ → s₂ ≡ stateAt (s .row + 1 + 1 + 1 + 1) (s .node + 1) (s .place)

@@ -26,7 +26,16 @@ use Rattle.parse_expr.proofs.+add+args+atom+mul+post+prim+unary.Lts-add
 use Rattle.parse_expr.proofs.+add+args+atom+mul+post+prim+unary.Proof.Measures.{add-at, mul-below}
 
 abbrev pub cs : ℕ → lts.Claims
-cs t = (mul-below t, mul.Post, kind-at-reads.Asked, kind-at-reads.Learnt, joins-reads.Asked, joins-reads.Learnt, joined-reads.Asked, joined-reads.Learnt)
+cs t = (
+  mul-below t,
+  mul.Post,
+  kind-at-reads.Asked,
+  kind-at-reads.Learnt,
+  joins-reads.Asked,
+  joins-reads.Learnt,
+  joined-reads.Asked,
+  joined-reads.Learnt,
+)
 
 -- what holds where the loop begins holds at each turn
 abbrev pub Inv-loop : lts.InvT-loop
@@ -152,7 +161,8 @@ module _ (t : ℕ) where
   returns c = λ ts tl.
       let f = first-refused c in
       let a = entry f .args in
-      sums-refused ts (a .left) (a .row) (a .node) (a .nodes .now) (f .mul .last .1 .1 .0) (f .mul .ensures ts tl) (c .before .why .given .1)
+      sums-refused ts (a .left) (a .row) (a .node) (a .nodes .now) (f .mul .last .1 .1 .0)
+      (f .mul .ensures ts tl) (c .before .why .given .1)
 
   pub loop-holds : lts.Need-loop-holds (cs t) (add-at t) add.Post Inv-loop μ-loop
   loop-holds c = λ ts tl m h. h

@@ -15,7 +15,8 @@ use Rattle.parse_nodes.specs.declared.At.{At}
 use Rattle.parse_nodes.proofs.Rows.{tells-some, tells-kind, word-here}
 use Rattle.parse_nodes.proofs.Turn.{Came}
 use Rattle.parse_expr.proofs.Given.{add-came}
-use Rattle.parse_expr.proofs.Lists.{args-deep, args-refused, Argued, argued-start, argued-fit, argued-done, argued-fails, argued-again}
+use Rattle.parse_expr.proofs.Lists.{args-deep, args-refused}
+use Rattle.parse_expr.proofs.Lists.{Argued, argued-start, argued-fit, argued-done, argued-fails, argued-again}
 use Rattle.parse_expr.proofs.add.Reads as add
 use Rattle.parse_expr.proofs.args.Reads as args
 use Rattle.parse_nodes.proofs.counted.Reads as counted-reads
@@ -25,7 +26,16 @@ use Rattle.parse_expr.proofs.+add+args+atom+mul+post+prim+unary.Lts-arg
 use Rattle.parse_expr.proofs.+add+args+atom+mul+post+prim+unary.Proof.Measures.{add-below, args-at}
 
 abbrev pub cs : ℕ → lts.Claims
-cs t = (add-below t, add.Post, counted-reads.Asked, counted-reads.Learnt, instead-reads.Asked, instead-reads.Learnt, kind-at-reads.Asked, kind-at-reads.Learnt)
+cs t = (
+  add-below t,
+  add.Post,
+  counted-reads.Asked,
+  counted-reads.Learnt,
+  instead-reads.Asked,
+  instead-reads.Learnt,
+  kind-at-reads.Asked,
+  kind-at-reads.Learnt,
+)
 
 -- what holds where the loop begins holds at each turn
 abbrev pub Inv-loop : lts.InvT-loop

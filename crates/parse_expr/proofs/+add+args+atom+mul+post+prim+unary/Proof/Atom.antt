@@ -178,7 +178,7 @@ module _ (t : ℕ) where
       let a = entry (n .before) .args in
       let r = p .number in
       let v = bitsIn (tokAt ts (a .row)) in
-      met-ok (Parse.atom ts (Parse.inner ts (a .left)) (a .row)) (a .row) (a .node) (num v) (a .nodes .now) (r .last .0) (r .result)
+      met-ok _ (a .row) (a .node) (num v) (a .nodes .now) (r .last .0) (r .result)
       (atom-num ts (Parse.inner ts (a .left)) (a .row) (sym (kind-is (n .before) ts tl) ∙ n .if1 .taken)
       ∙ ap (λ (x : ℕ). ok (num v) x) (sym (ap (λ (x : At). x .row) (r .ensures .0))))
       (stands-number (a .row) (a .node) (a .nodes .now) (r .last .0) (r .result) ts (a .rows .now) (a .count) tl
@@ -226,9 +226,10 @@ module _ (t : ℕ) where
       let a = at-call (done p) .args in
       let w = got p ts tl in
       let u : At = p .t .given .0 .0 in
-      met-ok (Parse.atom ts (Parse.inner ts (a .left)) (a .row)) (a .row) (a .node) (group (w .tree)) (a .nodes .now)
+      met-ok _ (a .row) (a .node) (group (w .tree)) (a .nodes .now)
       (done p .add .last .1 .1 .0) (groupAt u)
-      (inside p ts tl ∙ end-met ts (a .rows .now) (a .count) tl _ RParen (w .tree) _ (u .row) (sym (c .before .kind-at2 .ensures) ∙ c .if4 .taken))
+      (inside p ts tl
+      ∙ end-met ts (a .rows .now) (a .count) tl _ RParen (w .tree) _ (u .row) (sym (c .before .kind-at2 .ensures) ∙ c .if4 .taken))
       (stands-group (a .row) (a .node) (a .nodes .now) (done p .add .last .1 .1 .0) u (w .tree) (groupAt u) (w .stands) refl)
 
   pub unended-requires : lts.Need-unended-requires (cs t) (atom-at t) atom.Post
@@ -247,9 +248,10 @@ module _ (t : ℕ) where
       let a = at-call (done p) .args in
       let w = got p ts tl in
       let u : At = p .t .given .0 .0 in
-      met-no (Parse.atom ts (Parse.inner ts (a .left)) (a .row)) (a .row) (a .node) (c .unended .result) (u .row) (a .nodes .now) (done p .add .last .1 .1 .0)
+      met-no _ (a .row) (a .node) (c .unended .result) (u .row) (a .nodes .now) (done p .add .last .1 .1 .0)
       (inside p ts tl
-      ∙ end-unmet ts (a .rows .now) (a .count) tl _ RParen (w .tree) _ (u .row) (u .summed) (w .stands .summed) (λ e. c .before .if4 .left (k .kind-at2 .ensures ∙ e))
+      ∙ end-unmet ts (a .rows .now) (a .count) tl _ RParen (w .tree) _ (u .row) (u .summed) (w .stands .summed)
+      (λ e. c .before .if4 .left (k .kind-at2 .ensures ∙ e))
       ∙ ap (λ (x : Syntax). no x (u .row)) (sym (c .unended .ensures)))
 
   pub enum-known-why : lts.Need-enum-known-why (cs t) (atom-at t) atom.Post
@@ -263,7 +265,7 @@ module _ (t : ℕ) where
       let f = refusing c in
       let a = at-call f .args in
       let w = c .before .why .given in
-      met-no (Parse.atom ts (Parse.inner ts (a .left)) (a .row)) (a .row) (a .node) (w .0 .0) (w .0 .1 .0) (a .nodes .now) (f .add .last .1 .1 .0)
+      met-no _ (a .row) (a .node) (w .0 .0) (w .0 .1 .0) (a .nodes .now) (f .add .last .1 .1 .0)
       (atom-paren ts (Parse.inner ts (a .left)) (a .row) (is-paren (opened f) ts tl)
       ∙ then-no _ _ (w .0 .0) (w .0 .1 .0) (inner-whole ts (a .row) (a .left) (f .before .before .if3 .left)
       ∙ refusal (a .row + 1) (a .node) (a .nodes .now) (f .add .last .1 .1 .0) (f .add .ensures ts tl) (w .1)))
@@ -281,7 +283,7 @@ module _ (t : ℕ) where
       let a = entry k .args in
       let r = p .variable in
       let w : List ℕ = spellingOf (tokAt ts (a .row)) in
-      met-ok (Parse.atom ts (Parse.inner ts (a .left)) (a .row)) (a .row) (a .node) (var w) (a .nodes .now) (r .last .0) (r .result)
+      met-ok _ (a .row) (a .node) (var w) (a .nodes .now) (r .last .0) (r .result)
       (atom-var ts (Parse.inner ts (a .left)) (a .row) (sym (kind-is k ts tl) ∙ varied p .if5 .taken)
       ∙ ap (λ (x : ℕ). ok (var w) x) (sym (ap (λ (x : At). x .row) (r .ensures .0))))
       (stands-var (a .row) (a .node) (a .nodes .now) (r .last .0) (r .result) w (r .ensures .0) (r .ensures .1))

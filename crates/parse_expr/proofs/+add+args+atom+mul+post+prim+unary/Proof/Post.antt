@@ -194,7 +194,7 @@ module _ (t : ℕ) where
   returns c = λ ts tl i n u m₀ st.
       let k = c .before .before in
       let a = entry k .args in
-      met-no (Parse.post ts (Parse.inner ts (a .left)) u (a .s .row)) i n (c .wanted .result) (a .s .row + 1) m₀ (a .nodes .now)
+      met-no _ i n (c .wanted .result) (a .s .row + 1) m₀ (a .nodes .now)
       (post-nameless ts (Parse.inner ts (a .left)) u (a .s .row) (λ e. c .before .if1 .taken (name-is k ts tl ∙ e))
       ∙ ap (λ (x : Syntax). no x (a .s .row + 1)) (sym (c .wanted .ensures)))
 
@@ -220,7 +220,7 @@ module _ (t : ℕ) where
       let a = at-name (named k) .args in
       let r = f .field-end in
       let w : List ℕ = spellingOf (tokAt ts (a .s .row + 1)) in
-      met-ok (Parse.post ts (Parse.inner ts (a .left)) u (a .s .row)) i n (field u w) m₀ (r .last .0) (r .result)
+      met-ok _ i n (field u w) m₀ (r .last .0) (r .result)
       (post-field ts (Parse.inner ts (a .left)) u (a .s .row) (is-name (named k) ts tl) (λ e. fielded f .if2 .taken (open-is k ts tl ∙ e))
       ∙ ap (λ (x : ℕ). ok (field u w) x) (sym (ap (λ (x : At). x .row) (r .ensures .state))))
       (stands-field i n m₀ (a .nodes .now) (a .s) u (r .result) (r .last .0) w st (r .ensures))
@@ -255,10 +255,11 @@ module _ (t : ℕ) where
       let r = f .call-end in
       let w : List ℕ = spellingOf (tokAt ts (a .s .row + 1)) in
       let next : ℕ = a .s .row + 1 + 1 + 1 + 1 in
+      let s : At = stateAt next (a .s .node + 1) (a .s .place) in
       rw (post-bare ts (Parse.inner ts (a .left)) u (a .s .row) (is-name (named (p .before)) ts tl) (is-paren p ts tl)
       (sym (first-is k ts tl) ∙ bare f .if3 .taken))
       (met-called ts i n u w none m₀ (a .nodes .now) (a .nodes .now) (r .last .0) (a .s) (a .s .node) 0 next (r .result) st
-      (λ q. stands-bare i n m₀ (a .nodes .now) (a .s) u (stateAt next (a .s .node + 1) (a .s .place)) (r .last .0) w st refl q) (r .ensures))
+      (λ q. stands-bare i n m₀ (a .nodes .now) (a .s) u s (r .last .0) w st refl q) (r .ensures))
 
   pub args-requires : lts.Need-args-requires (cs t) (post-at t) post.Post
   args-requires c κs =
@@ -288,7 +289,7 @@ module _ (t : ℕ) where
       let a = at-call (done p) .args in
       let v = got p ts tl in
       let x : At = p .a .given .0 .0 in
-      met-no (Parse.post ts (Parse.inner ts (a .left)) u (a .s .row)) i n (c .unended .result) (x .row) m₀ (done p .args2 .last .1 .1 .0)
+      met-no _ i n (c .unended .result) (x .row) m₀ (done p .args2 .last .1 .1 .0)
       (read p ts tl u
       ∙ end-unmet ts (a .rows .now) (a .count) tl _ RParen (v .tree) _ (x .row) (x .summed) (v .stands .summed)
       (λ e. c .before .if4 .taken (k .kind-at4 .ensures ∙ e))
@@ -342,6 +343,6 @@ module _ (t : ℕ) where
       let f = refusing c in
       let a = at-call f .args in
       let w = c .before .why .given in
-      met-no (Parse.post ts (Parse.inner ts (a .left)) u (a .s .row)) i n (w .0 .0) (w .0 .1 .0) m₀ (f .args2 .last .1 .1 .0)
+      met-no _ i n (w .0 .0) (w .0 .1 .0) m₀ (f .args2 .last .1 .1 .0)
       (asked f ts tl u ∙ then-no _ _ (w .0 .0) (w .0 .1 .0)
       (refusal (a .s .row + 1 + 1 + 1) (a .s .node) (a .nodes .now) (f .args2 .last .1 .1 .0) (f .args2 .ensures ts tl) (w .1)))

@@ -137,12 +137,12 @@ module _ (t : ℕ) where
       let p = shutting r in
       let a = at-call (done p) .args in
       let w = got p ts tl in
-      met-ok (Parse.unary ts (Parse.inner ts (a .left)) (a .row)) (a .row) (a .node) (star (w .tree)) (a .nodes .now) (r .shut .last .0) (r .shut .result)
+      met-ok _ (a .row) (a .node) (star (w .tree)) (a .nodes .now) (r .shut .last .0) (r .shut .result)
       (unary-star ts (Parse.inner ts (a .left)) (a .row) (is-star (starred (done p) .before) ts tl)
       ∙ then-ok _ _ (w .tree) (p .t .given .0 .0 .row) (inner-operand ts (a .row) (a .left) (starred (done p) .if2 .left) ∙ w .is)
       ∙ ap (λ (k : ℕ). ok (star (w .tree)) k) (sym (ap (λ (x : At). x .row) (r .shut .ensures .0))))
-      (stands-star (a .row) (a .node) (a .nodes .now) (done p .unary .last .1 .1 .0) (p .t .given .0 .0) (w .tree) (r .shut .result) (r .shut .last .0)
-      (w .stands) (r .shut .ensures .0) (r .shut .ensures .1))
+      (stands-star (a .row) (a .node) (a .nodes .now) (done p .unary .last .1 .1 .0) (p .t .given .0 .0) (w .tree)
+      (r .shut .result) (r .shut .last .0) (w .stands) (r .shut .ensures .0) (r .shut .ensures .1))
 
   pub enum-known-why : lts.Need-enum-known-why (cs t) (unary-at t) unary.Post
   enum-known-why c = search needs
@@ -155,7 +155,7 @@ module _ (t : ℕ) where
       let f = refusing c in
       let a = at-call f .args in
       let w = c .before .why .given in
-      met-no (Parse.unary ts (Parse.inner ts (a .left)) (a .row)) (a .row) (a .node) (w .0 .0) (w .0 .1 .0) (a .nodes .now) (f .unary .last .1 .1 .0)
+      met-no _ (a .row) (a .node) (w .0 .0) (w .0 .1 .0) (a .nodes .now) (f .unary .last .1 .1 .0)
       (unary-star ts (Parse.inner ts (a .left)) (a .row) (is-star (starred f .before) ts tl)
       ∙ then-no _ _ (w .0 .0) (w .0 .1 .0) (inner-operand ts (a .row) (a .left) (starred f .if2 .left)
       ∙ refusal (a .row + 1) (a .node) (a .nodes .now) (f .unary .last .1 .1 .0) (f .unary .ensures ts tl) (w .1)))
