@@ -1,4 +1,4 @@
--- The functions of the circle meet their contracts, each by its own file.
+-- The functions from `add` to `args`, which call each other in a circle, meet their contracts: a file for each of them, and what falls.
 mod Measures
 mod Add
 mod Args
@@ -21,8 +21,10 @@ use Rattle.parse_expr.proofs.mul.Reads as mul
 use Rattle.parse_expr.proofs.post.Reads as post
 use Rattle.parse_expr.proofs.prim.Reads as prim
 use Rattle.parse_expr.proofs.unary.Reads as unary
-use Rattle.parse_expr.proofs.+add+args+atom+mul+post+prim+unary.Proof.Measures.{μ-add, μ-args, μ-atom, μ-mul, μ-post, μ-prim, μ-unary}
-use Rattle.parse_expr.proofs.+add+args+atom+mul+post+prim+unary.Proof.Measures.{add-at, args-at, atom-at, mul-at, post-at, prim-at, unary-at}
+use Rattle.parse_expr.proofs.+add+args+atom+mul+post+prim+unary.Proof.Measures.{μ-add, μ-args, μ-atom, μ-mul}
+use Rattle.parse_expr.proofs.+add+args+atom+mul+post+prim+unary.Proof.Measures.{μ-post, μ-prim, μ-unary}
+use Rattle.parse_expr.proofs.+add+args+atom+mul+post+prim+unary.Proof.Measures.{add-at, args-at, atom-at, mul-at}
+use Rattle.parse_expr.proofs.+add+args+atom+mul+post+prim+unary.Proof.Measures.{post-at, prim-at, unary-at}
 use Rattle.parse_expr.proofs.+add+args+atom+mul+post+prim+unary.Proof.Add as add-proof
 use Rattle.parse_expr.proofs.+add+args+atom+mul+post+prim+unary.Proof.Args as args-proof
 use Rattle.parse_expr.proofs.+add+args+atom+mul+post+prim+unary.Proof.Atom as atom-proof

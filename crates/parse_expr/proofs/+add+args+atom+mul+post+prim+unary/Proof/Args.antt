@@ -111,6 +111,7 @@ module _ (t : ℕ) where
 
   -- ---- what holds there
 
+  -- what the loop has read, as it began with what the first call gave
   turn : (c : Looping) (ts : List Tok) → Told ts (at-loop c)
       → (let a = at-loop c .args in Argued ts (a .left) (a .row) (a .node) (a .nodes .now) (c .loop .s) (c .loop .nodes))
   turn c ts tl =

@@ -84,12 +84,11 @@ module _ (t : ℕ) where
   abbrev Told : List Tok → Entry → Type 0
   Told ts e = Tells ts (e .args .rows .now) (e .args .count)
 
-  abbrev Turned : List Tok → List ℕ → Looping → Type 0
-  Turned ts m c = let a = at-loop c .args in Dotted ts (a .left) (a .row) (a .node) m (c .loop .s) (c .loop .nodes)
-
   -- ---- what holds there
 
-  turn : (c : Looping) (ts : List Tok) → Told ts (at-loop c) → Turned ts (at-loop c .args .nodes .now) c
+  -- what the loop has read, as it began with what the call for the atom gave
+  turn : (c : Looping) (ts : List Tok) → Told ts (at-loop c)
+      → (let a = at-loop c .args in Dotted ts (a .left) (a .row) (a .node) (a .nodes .now) (c .loop .s) (c .loop .nodes))
   turn c ts tl =
       c .loop .inv ts tl (at-loop c .args .nodes .now)
       (dotted-start (atom-came (first-done (c .before) .atom .ensures ts tl) (c .before .before .t .given .1)))
