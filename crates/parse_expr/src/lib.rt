@@ -332,7 +332,8 @@ fn post(rows: &[u32], count: u32, nodes: &mut [u32], s: At, left: usize) -> Got
             let close = a.row;
             if parse_nodes::kind_at(rows, count, close) != RPAREN {
                 let why = parse_nodes::unended(rows, count, a, fits::ARGUMENT_ENDS);
-                return Got::Refused(why, close as usize);
+                let at = close as usize;
+                return Got::Refused(why, at);
             }
             call_end(nodes, s, a.node, a.things, close + 1)
         }

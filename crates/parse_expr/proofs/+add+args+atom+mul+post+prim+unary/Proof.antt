@@ -69,12 +69,12 @@ pub +add+args+atom+mul+post+prim+unary-spec : {M : Type 1} → statement M
     (mul-proof.enum-known-t-2 t) (mul-proof.joined-requires t) (mul-proof.loop-less t) (mul-proof.loop-again t)
     (mul-proof.enum-known-why-2 t) (mul-proof.same-length-4 t) (mul-proof.returns-4 t))
     (λ t. post-lts.spec (post-proof.cs t) (post-at t) post.Post
-    (post-proof.add-name t) (post-proof.kind-at-requires t) (post-proof.wanted-requires t) (post-proof.cast-t17 t)
+    (post-proof.add-name t) (post-proof.kind-at-requires t) (post-proof.wanted-requires t) (post-proof.cast-t18 t)
     (post-proof.returns t) (post-proof.add-open t) (post-proof.kind-at-requires-2 t) (post-proof.field-end-requires t)
     (post-proof.same-length t) (post-proof.returns-2 t) (post-proof.add-kind-at t) (post-proof.kind-at-requires-3 t)
     (post-proof.add-call-end t) (post-proof.add-call-end-2 t) (post-proof.call-end-requires t) (post-proof.same-length-2 t)
     (post-proof.returns-3 t) (post-proof.args-requires t) (post-proof.enum-known-a t) (post-proof.kind-at-requires-4 t)
-    (post-proof.unended-requires t) (post-proof.cast-t32 t) (post-proof.same-length-3 t) (post-proof.returns-4 t)
+    (post-proof.unended-requires t) (post-proof.cast-at t) (post-proof.same-length-3 t) (post-proof.returns-4 t)
     (post-proof.add-call-end-3 t) (post-proof.call-end-requires-2 t) (post-proof.enum-known-why t) (post-proof.same-length-4 t)
     (post-proof.returns-5 t) (post-proof.same-length-5 t) (post-proof.returns-6 t))
     (λ t. prim-lts.spec (prim-proof.cs t) (prim-at t) prim.Post prim-proof.Inv-loop prim-proof.μ-loop

@@ -187,8 +187,8 @@ module _ (t : ℕ) where
   pub wanted-requires : lts.Need-wanted-requires (cs t) (post-at t) post.Post
   wanted-requires c κs = search needs
 
-  pub cast-t17 : lts.Need-cast-t17 (cs t) (post-at t) post.Post
-  cast-t17 c = search needs
+  pub cast-t18 : lts.Need-cast-t18 (cs t) (post-at t) post.Post
+  cast-t18 c = search needs
 
   pub returns : lts.Need-returns (cs t) (post-at t) post.Post
   returns c = λ ts tl i n u m₀ st.
@@ -276,8 +276,8 @@ module _ (t : ℕ) where
   pub unended-requires : lts.Need-unended-requires (cs t) (post-at t) post.Post
   unended-requires c κs = let l = at-call (done (closing (c .before))) .pre .1 .lent in omega arith
 
-  pub cast-t32 : lts.Need-cast-t32 (cs t) (post-at t) post.Post
-  cast-t32 c = search needs
+  pub cast-at : lts.Need-cast-at (cs t) (post-at t) post.Post
+  cast-at c = search needs
 
   pub same-length-3 : lts.Need-same-length-3 (cs t) (post-at t) post.Post
   same-length-3 c = search needs
