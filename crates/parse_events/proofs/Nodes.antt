@@ -1,24 +1,26 @@
 -- The shapes of fields: what is found, and the node of a field.
 -- ---- answers
 use mathlib.Core.Path.{_≡_, refl, sym, subst}
-use mathlib.Core.Bool.{false}
+use mathlib.Core.Bool.{true, false}
 use mathlib.Core.List.{List}
 use Prim.Native.Nat.{ℕ, _+_, _*_, _≤_, _<_}
 use native.Mathlib.Omega.{arith}
 use lib.Seq.{sets}
 use Rattle.rules.specs.Parse
 use Rattle.rules.specs.declared.Syntax.{Syntax}
-use Rattle.rules.specs.Tree.{Tok, Tree, event, isVariable, count}
+use Rattle.rules.specs.Tree.{Tok, Tree, none, seq, event, isVariable, isSum, hangs, count}
 use Rattle.rules.specs.Nodes.{node, factNode, nodeWords, width, size, placeOf, treeWords}
 use Rattle.rules.specs.Parse.{Out, ok, no}
 use Rattle.theory_grammar.proofs.Laws.{words-plain-field, words-bytes-field, words-array-field, words-event}
-use Rattle.theory_grammar.proofs.Runs.{all-ok}
+use Rattle.rules.specs.Grammar.{EventField, Is, i-plain-field, i-bytes-field, i-array-field}
+use Rattle.theory_grammar.proofs.Runs.{All, all-ok, all-both, map-all}
+use Rattle.theory_grammar.proofs.Sound.{Reads, event-field-sound}
 use Rattle.theory_grammar.proofs.Ends.{Ends, ends-event-field, wide-event-field}
 use Rattle.parse_nodes.specs.declared.Got.the-variants as got
 use Rattle.parse_nodes.specs.Post.{stateAt, Met, Stands}
 use Rattle.parse_nodes.specs.declared.At.{At}
 use Rattle.parse_nodes.specs.declared.Got.{Got}
-use Rattle.parse_nodes.proofs.Turn.{Came, came-ends}
+use Rattle.parse_nodes.proofs.Turn.{Came, came}
 use Rattle.parse_nodes.proofs.Steps.{stands-at, mem-over}
 use Rattle.parse_events.specs.Shapes.{Shows, plain, bytes, array, Found}
 use Rattle.parse_events.specs.declared.Shape.{Shape}
@@ -30,6 +32,10 @@ found-ok o t j a b v e s = subst (λ (x : Out). Found x (Done (record { row = j;
 
 pub found-no : (o : Out) (why : Syntax) (p : ℕ) → o ≡ no why p → Found o (Refused why p)
 found-no o why p e = subst (λ (x : Out). Found x (Refused why p)) (sym e) refl
+
+-- the same where the refusal is what a function gave
+pub found-told : (o : Out) (why x : Syntax) (p : ℕ) → o ≡ no why p → x ≡ why → Found o (Refused x p)
+found-told o why x p e q = subst (λ (y : Syntax). Found o (Refused y p)) (sym q) (found-no o why p e)
 
 pub found-as : (o o′ : Out) (r : Shaped) → o ≡ o′ → Found o′ r → Found o r
 found-as o o′ r e h = subst (λ (x : Out). Found x r) (sym e) h
@@ -69,34 +75,62 @@ shows-place i (plain w k) = refl
 shows-place i (bytes w v) = refl
 shows-place i (array w k v) = refl
 
-pub shows-one : {t : Tree} {a b v : ℕ} → Shows t a b v → (isVariable t ≡ false) × (count t ≡ 0)
-unfolding isVariable count
-shows-one (plain w k) = (refl, refl)
-shows-one (bytes w v) = (refl, refl)
-shows-one (array w k v) = (refl, refl)
+pub shows-one : {t : Tree} {a b v : ℕ} → Shows t a b v → (count t ≡ 0) × (isVariable t ≡ false) × (isSum t ≡ false) × (hangs t ≡ false)
+unfolding isVariable isSum hangs count
+shows-one (plain w k) = (refl, refl, refl, refl)
+shows-one (bytes w v) = (refl, refl, refl, refl)
+shows-one (array w k v) = (refl, refl, refl, refl)
 
 -- the answer of a field whose node is written
 pub field-met : (o : Out) (i n : ℕ) (m m′ : List ℕ) (s : Shape) → Gave o s → m′ ≡ sets m (8 * n) (nodeWords (factNode 26 i i 0 (s .form) (s .element) (s .length) 0))
     → Met o i n m m′ (got.Done (stateAt (s .row) (n + 1) i))
 field-met o i n m m′ s g q =
     subst (λ (x : Out). Met x i n m m′ (got.Done (stateAt (s .row) (n + 1) i))) (sym (g .is))
-    (rw (shows-size (g .shows), shows-place i (g .shows), shows-one (g .shows) .0, shows-one (g .shows) .1), rw (shows-words i (g .shows)) q)
+    (let e = shows-one (g .shows) in
+    (rw (shows-size (g .shows), shows-place i (g .shows), e .0, e .1, e .2, e .3), rw (shows-words i (g .shows)) q))
 
 -- ---- a field's call, and the event behind its fields
 
+-- behind a field or a list of fields no `else` may stand
+abbrev pub Flat : Tree → Type 0
+Flat t = hangs t ≡ false
+
+pub flat-none : Flat none
+unfolding hangs
+flat-none = refl
+
+pub flat-seq : (l t : Tree) → Flat t → Flat (seq l t)
+unfolding hangs
+flat-seq l t h = h
+
+flat-field : {d : ℕ} {t : Tree} → Is true EventField d t → Flat t
+unfolding hangs
+flat-field (i-plain-field k) = refl
+flat-field (i-bytes-field k) = refl
+flat-field (i-array-field k l) = refl
+
+-- where a field ends
+abbrev pub FieldEnds : List Tok → ℕ → Tree → ℕ → Type 0
+FieldEnds ts i t j = Ends ts i t j × Flat t
+
+field-ends : (ts : List Tok) (i : ℕ) → All (FieldEnds ts i) (Parse.eventField ts i)
+field-ends ts i =
+    all-both (Ends ts i) (λ t j. Flat t) (Parse.eventField ts i) (ends-event-field ts i)
+    (map-all (Reads ts EventField 64 i) (λ t j. Flat t) (Parse.eventField ts i) (event-field-sound ts i) (λ t j r. flat-field (r .is)))
+
 module _ (ts : List Tok) (i n : ℕ) (m : List ℕ) (s : At) (m′ : List ℕ) where
-  pub field-came : (r : Got) → Met (Parse.eventField ts i) i n m m′ r → r ≡ got.Done s → Came (Ends ts i) ts (Parse.eventField ts i) i n m s m′
-  field-came r h e = came-ends ts (Parse.eventField ts i) i n m m′ r s (ends-event-field ts i) h e
+  pub field-came : (r : Got) → Met (Parse.eventField ts i) i n m m′ r → r ≡ got.Done s → Came (FieldEnds ts i) ts (Parse.eventField ts i) i n m s m′
+  field-came r h e = came (FieldEnds ts i) ts (Parse.eventField ts i) i n m m′ r s (field-ends ts i) (λ t j f. f .0) h e
 
   -- a field has a row or more
-  pub field-up : Came (Ends ts i) ts (Parse.eventField ts i) i n m s m′ → i < s .row
+  pub field-up : Came (FieldEnds ts i) ts (Parse.eventField ts i) i n m s m′ → i < s .row
   field-up v = omega (arith, all-ok (λ t j. 1 ≤ width t) (Parse.eventField ts i) (v .tree) (s .row) (wide-event-field ts i) (v .is), v .stands .rows)
 
 pub stands-event : (i n : ℕ) (m m₁ m₂ : List ℕ) (s s′ : At) (t : Tree) (w : List ℕ) → Stands (i + 1 + 1 + 1) n t m s m₁
     → s′ ≡ stateAt (s .row + 1) (s .node + 1) (i + 1) → m₂ ≡ sets m₁ (8 * s .node) (nodeWords (node 27 (i + 1) (i + 1) (s .things)))
     → Stands i n (event w t) m s′ m₂
-unfolding width size placeOf isVariable count
+unfolding width size placeOf isVariable isSum hangs count
 stands-event i n m m₁ m₂ s s′ t w a e q =
     let three : i + 1 + 1 + 1 ≡ i + 3 = omega arith in
-    stands-at i n (event w t) m m₂ s′ e (omega (arith, a .rows)) (omega (arith, a .nodes)) refl refl refl
+    stands-at i n (event w t) m m₂ s′ e (omega (arith, a .rows)) (omega (arith, a .nodes)) refl refl refl refl refl
     (rw (words-event i w t, ← three, ← a .things) (mem-over m (i + 1 + 1 + 1) n t s m₁ a m₂ (nodeWords (node 27 (i + 1) (i + 1) (s .things))) q))

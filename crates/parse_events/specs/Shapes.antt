@@ -2,14 +2,16 @@
 use mathlib.Core.Path.{_≡_}
 use mathlib.Core.Bool.{true}
 use mathlib.Core.List.{List}
-use Prim.Native.Nat.{ℕ, _+_}
+use Prim.Native.Nat.{ℕ, _+_, _<_}
 use lib.Dec.{eqb}
 use Rattle.rules.specs.Kinds.{RBrace, LBracket}
+use Rattle.rules.specs.Fits.{eventFields}
 use Rattle.rules.specs.Tree.{Tok, Tree, plainField, bytesField, arrayField, event, typeNumber}
 use Rattle.rules.specs.Nodes.{FormPlain, FormBytes, FormArray}
 use Rattle.rules.specs.Parse
 use Rattle.rules.specs.Parse.{Out, ok, no, then, kindAt, isType}
-use Rattle.parse_nodes.specs.Post.{kindWord, Tells, Asks, Met}
+use Rattle.parse_nodes.specs.Post.{kindWord, stateAt, Tells, Asks, AsksOpen, Met}
+use Rattle.parse_nodes.specs.declared.At.{At}
 use Rattle.parse_nodes.specs.declared.Got.{Got}
 use Rattle.parse_events.specs.declared.Shaped.{Shaped}
 use Rattle.parse_events.specs.declared.Shaped.the-variants.{Done, Refused}
@@ -46,7 +48,13 @@ pub record AsksType (ws : List ℕ) (n i k : ℕ) : Type 0 where
 
 -- the fields and the end of the event whose word is at row i
 abbrev pub fieldsOf : List Tok → List ℕ → ℕ → Out
-fieldsOf ts w i = then (Parse.listTo ts RBrace (Parse.eventField ts) (i + 1 + 1 + 1)) (λ l k. ok (event w l) (k + 1))
+fieldsOf ts w i = then (Parse.listTo ts RBrace eventFields (Parse.eventField ts) (i + 1 + 1 + 1)) (λ l k. ok (event w l) (k + 1))
+
+-- what is asked at the first field's row
+pub record AsksFields (ws : List ℕ) (n i : ℕ) (s : At) : Type 0 where
+  pub at : AsksOpen ws n i (s .node) 0
+  pub inside : i + 1 + 1 < n
+  pub first : s ≡ stateAt (i + 1 + 1 + 1) (s .node) (i + 1 + 1 + 1)
 
 -- what the event is, whatever its name
 abbrev pub FieldsMet : List ℕ → ℕ → ℕ → ℕ → List ℕ → List ℕ → Got → Type 0

@@ -18,10 +18,9 @@ use rules::kind::TYPE_I64;
 use rules::kind::TYPE_U32;
 use rules::node_kind;
 use rules::row;
-ghost use Prim.Native.Nat.{_+_, _<_};
 ghost use Rattle.rules.specs.Parse.{eventField, eventAt};
 ghost use Rattle.parse_nodes.specs.Post.{Answers, Asks, AsksOpen};
-ghost use Rattle.parse_events.specs.Shapes.{LengthFound, TypeFound, ShapeFound, AsksType, FieldsMet};
+ghost use Rattle.parse_events.specs.Shapes.{LengthFound, TypeFound, ShapeFound, AsksType, AsksFields, FieldsMet};
 
 // A field's facts and the row behind it.
 pub struct Shape {

@@ -10,8 +10,12 @@ use Rattle.rules.specs.Tree.{Tok, Tree, spellingOf, isSum}
 use Rattle.rules.specs.Parse
 use Rattle.rules.specs.Parse.{no, P, then, tokAt}
 use Rattle.theory_grammar.proofs.Cases.{end-in-yes, end-in-no, want-yes, want-no, named-yes, named-no, braced-is}
-use Rattle.parse_nodes.specs.Post.{kindWord, Tells}
-use Rattle.parse_nodes.specs.Fitting.{dottedWords, onwardWords}
+use Rattle.rules.specs.declared.Syntax.{Syntax}
+use Rattle.parse_nodes.specs.Post.{kindWord, stateAt, Tells}
+use Rattle.parse_nodes.specs.declared.At.{At}
+use Rattle.parse_nodes.specs.declared.Got.{Got}
+use Rattle.parse_nodes.specs.declared.Got.the-variants.{Done, Refused}
+use Rattle.parse_nodes.specs.Fitting.{dottedWords, onwardWords, Header, no-name, no-brace, opens}
 use Rattle.parse_nodes.proofs.Rows.{tells-kind}
 
 -- every such set has kinds below 53 alone
@@ -57,3 +61,25 @@ module _ (ts : List Tok) (ws : List ℕ) (n : ℕ) (tells : Tells ts ws n) where
       pub listed-on : kindWord ws n (i + 1 + 1) ≡ LBrace → Parse.braced ts s p f i
           ≡ then (Parse.listTo ts RBrace s p (i + 1 + 1 + 1)) (λ l k. f (spellingOf (tokAt ts (i + 1))) l (k + 1))
       listed-on h = named-on ∙ want-yes ts LBrace _ (i + 1 + 1) (sym (tells-kind ts ws n tells (i + 1 + 1)) ∙ h)
+
+-- ---- the header's answer, taken apart
+
+-- it gave the state at the first thing in the braces
+pub record Opens (ws : List ℕ) (n i nd : ℕ) (s : At) : Type 0 where
+  pub name : kindWord ws n (i + 1) ≡ Identifier
+  pub brace : kindWord ws n (i + 1 + 1) ≡ LBrace
+  pub state : s ≡ stateAt (i + 1 + 1 + 1) nd (i + 1 + 1 + 1)
+
+module _ (ws : List ℕ) (n i nd : ℕ) (r : Got) where
+  pub header-gave : (s : At) → Header ws n i nd r → r ≡ Done s → Opens ws n i nd s
+  header-gave s (no-name a q) e = let z : _≡_ {A = ℕ} 0 1 = cc (q, e) in absurd (omega arith)
+  header-gave s (no-brace a b q) e = let z : _≡_ {A = ℕ} 0 1 = cc (q, e) in absurd (omega arith)
+  header-gave s (opens a b q) e = record { name = a; brace = b; state = cc (q, e) }
+
+  pub header-refused : (ts : List Tok) → Tells ts ws n → (why : Syntax) (x : ℕ) → Header ws n i nd r → r ≡ Refused why x
+      → (s : ℕ) (p : P) (f : List ℕ → Tree → P) → Parse.braced ts s p f i ≡ no why x
+  header-refused ts tells why x (no-name a q) e s p f =
+      let d : no (wrong (only Identifier)) (i + 1) ≡ no why x = cc (q, e) in nameless ts ws n tells s p f i a ∙ d
+  header-refused ts tells why x (no-brace a b q) e s p f =
+      let d : no (wrong (only LBrace)) (i + 1 + 1) ≡ no why x = cc (q, e) in braceless ts ws n tells s p f i a b ∙ d
+  header-refused ts tells why x (opens a b q) e s p f = let z : _≡_ {A = ℕ} 0 1 = cc (q, e) in absurd (omega arith)

@@ -1,6 +1,6 @@
 -- The state and the memory behind a tree, from those behind its parts; and the loops that read a list of things.
-use mathlib.Core.Path.{_≡_, refl, ap, _∙_}
-use mathlib.Core.Bool.{Bool, true, not, cond}
+use mathlib.Core.Path.{_≡_, refl, ap, _∙_, subst}
+use mathlib.Core.Bool.{Bool, true, false, not, cond}
 use mathlib.Core.List.{List, _++_}
 use Prim.Native.Nat.{ℕ, _+_, _*_, _≤_, _<_}
 use native.Mathlib.Omega.{arith}
@@ -96,6 +96,13 @@ module _ (Q : Tree → Type 0) (ts : List Tok) (stop a : ℕ) (p : P) (whole : O
           → Met whole i n m m″ (Refused (retoldAt (a + cond (s .hanging) (only KeywordElse) 0) (s .row) why q) q)
       unfolding Parse.listStep Parse.elseBehind Parse.or then retoldAt
       list-fails why q m″ f = fails (Listed i Q) ts _ _ whole i n m s m′ c goes-on _ q m″ (rw (f, c .stands .hanging))
+
+      -- the same behind a thing without an open `if`
+      pub list-fails-flat : s .hanging ≡ false → (why : Syntax) (q : ℕ) (m″ : List ℕ) → p (s .row) ≡ no why q
+          → Met whole i n m m″ (Refused (retoldAt a (s .row) why q) q)
+      list-fails-flat g why q m″ f =
+          let e : a + cond (s .hanging) (only KeywordElse) 0 ≡ a = ap (λ (b : Bool). a + cond b (only KeywordElse) 0) g ∙ omega arith in
+          subst (λ (x : ℕ). Met whole i n m m″ (Refused (retoldAt x (s .row) why q) q)) e (list-fails why q m″ f)
 
       -- one thing more, with which the list has the property R
       pub list-again : (R : Tree → Type 0) (C : Tree → ℕ → Type 0) (s₂ : At) (m₂ : List ℕ) (s₃ : At) → (v : Came C ts (p (s .row)) (s .row) (s .node) m′ s₂ m₂) → s .row < s₂ .row

@@ -95,6 +95,14 @@ met-ok o i n t m m′ s e h =
 pub met-no : (o : Out) (i n : ℕ) (why : Syntax) (p : ℕ) (m m′ : List ℕ) → o ≡ no why p → Met o i n m m′ (Refused why p)
 met-no o i n why p m m′ e = subst (λ (x : Out). Met x i n m m′ (Refused why p)) (sym e) refl
 
+-- the same where the refusal is what a function gave
+pub met-told : (o : Out) (i n : ℕ) (why x : Syntax) (p : ℕ) (m m′ : List ℕ) → o ≡ no why p → x ≡ why → Met o i n m m′ (Refused x p)
+met-told o i n why x p m m′ e q = subst (λ (y : Syntax). Met o i n m m′ (Refused y p)) (sym q) (met-no o i n why p m m′ e)
+
+-- the same of another answer that is equal
+pub met-as : (o o′ : Out) (i n : ℕ) (m m′ : List ℕ) (r : Got) → o ≡ o′ → Met o′ i n m m′ r → Met o i n m m′ r
+met-as o o′ i n m m′ r e h = subst (λ (x : Out). Met x i n m m′ r) (sym e) h
+
 -- ---- a loop
 
 -- nothing is said of the tree

@@ -1,74 +1,94 @@
--- `events::event` meets its contract: a name and a brace, and then the fields.
-use mathlib.Core.Path.{refl, sym, _∙_, subst}
-use Prim.Native.Nat.{_+_}
+-- `events::event` meets its contract: the header, and then the fields.
+use mathlib.Core.Path.{refl, sym, ap, _∙_, subst}
+use mathlib.Core.List.{List}
+use Prim.Native.Nat.{ℕ, _+_}
 use borrow.Author.Needs.{needs}
 use Rattle.rules.specs.Kinds.{LBrace}
+use Rattle.rules.specs.Fits.{eventFields}
 use Rattle.rules.specs.Tree.{spellingOf}
-use Rattle.rules.specs.Parse.{Out, tokAt}
-use Rattle.theory_grammar.proofs.Cases.{event-is, braced-is}
-use Rattle.parse_nodes.specs.Post.{Met}
+use Rattle.rules.specs.Parse
+use Rattle.rules.specs.Parse.{tokAt}
+use Rattle.theory_grammar.proofs.Cases.{event-is}
+use Rattle.parse_nodes.specs.Post.{stateAt, AsksOpen, Met}
+use Rattle.parse_nodes.specs.declared.At.{At}
 use Rattle.parse_nodes.proofs.Rows.{word-here}
-use Rattle.parse_nodes.proofs.Turn.{met-no}
-use Rattle.parse_nodes.proofs.Seen.{want-met, want-unmet, named-met, named-unmet}
+use Rattle.parse_nodes.proofs.Turn.{met-no, met-as}
+use Rattle.parse_nodes.proofs.Fitting.{Opens, header-gave, header-refused, listed-on}
+use Rattle.parse_events.specs.Shapes.{fieldsOf}
 use Rattle.parse_events.proofs.event.Statement.{statement}
 use Rattle.parse_events.proofs.event.Tie as tie
 
-add-name : tie.Need-add-name
-add-name c = search needs
+-- ---- the places on the way
 
-kind-at-requires : tie.Need-kind-at-requires
-kind-at-requires c κs = search needs
+abbrev start : tie.After-opened → tie.Start
+start c = c .before .before .before
 
-cast-t12 : tie.Need-cast-t12
-cast-t12 c = search needs
+abbrev header : tie.After-fields-arg → tie.After-opened
+header c = c .before .before .before .before
 
-returns : tie.Need-returns
-returns c ts h =
-    let a = c .before .before .before .before .args in
-    met-no _ _ _ _ _ _ _ (event-is ts (a .row) ∙ braced-is ts _ _ (a .row) ∙ named-unmet ts (a .rows .now) (a .count) h (a .row + 1) (c .before .kind-at .result) (c .before .kind-at .ensures) _ (c .if1 .taken))
+-- the header is there
+opens : (c : tie.After-fields-arg)
+    → Opens (start (header c) .args .rows .now) (start (header c) .args .count) (start (header c) .args .row) (start (header c) .args .node)
+    (c .before .before .start .given .0 .0)
+opens c =
+    let h = header c in
+    let a = start h .args in
+    let y = c .before .before .start .given in
+    header-gave (a .rows .now) (a .count) (a .row) (a .node) (h .opened .result) (y .0 .0) (h .opened .ensures) (y .1)
 
-add-open : tie.Need-add-open
-add-open c = search needs
+opened-requires : tie.Need-opened-requires
+opened-requires c κs = search needs
 
-kind-at-requires-2 : tie.Need-kind-at-requires-2
-kind-at-requires-2 c κs = search needs
-
-cast-t14 : tie.Need-cast-t14
-cast-t14 c = search needs
-
-returns-2 : tie.Need-returns-2
-returns-2 c ts h =
-    let a = c .before .before .before .before .before .before .args in
-    met-no _ _ _ _ _ _ _ (event-is ts (a .row) ∙ braced-is ts _ _ (a .row) ∙ named-met ts (a .rows .now) (a .count) h (a .row + 1) (c .before .before .before .kind-at .result) (c .before .before .before .kind-at .ensures) _ (c .before .before .if1 .left)
-    ∙ want-unmet ts (a .rows .now) (a .count) h (a .row + 1 + 1) (c .before .kind-at2 .result) (c .before .kind-at2 .ensures) LBrace _ (c .if2 .taken))
+enum-known-start : tie.Need-enum-known-start
+enum-known-start c = search needs
 
 fields-requires : tie.Need-fields-requires
 fields-requires c κs =
-    let a = c .before .before .before .before .before .before .before .args in
-    (c .before .before .before .before .before .before .before .pre, word-here (a .rows .now) (a .count) (a .row + 1 + 1) LBrace (sym (c .before .before .kind-at2 .ensures) ∙ c .before .if2 .left) refl)
+    let a = start (header c) .args in
+    let p = start (header c) .pre in
+    let o = opens c in
+    let e = sym (ap (λ (x : At). x .node) (o .state)) in
+    let h = word-here (a .rows .now) (a .count) (a .row + 1 + 1) LBrace (o .brace) refl in
+    record {
+      at = subst (λ (x : ℕ). AsksOpen (a .rows .now) (a .count) (a .row) x 0) e p;
+      inside = h;
+      first = o .state ∙ ap (λ (x : ℕ). stateAt (a .row + 1 + 1 + 1) x (a .row + 1 + 1 + 1)) e;
+    }
+
+enum-known-why : tie.Need-enum-known-why
+enum-known-why c = search needs
 
 same-length : tie.Need-same-length
 same-length c = search needs
 
-returns-3 : tie.Need-returns-3
-returns-3 c ts h =
-    let a = c .before .before .before .before .before .before .before .before .before .before .args in
-    let e = event-is ts (a .row) ∙ braced-is ts _ _ (a .row) ∙ named-met ts (a .rows .now) (a .count) h (a .row + 1) (c .before .before .before .before .before .before .before .kind-at .result) (c .before .before .before .before .before .before .before .kind-at .ensures) _ (c .before .before .before .before .before .before .if1 .left)
-    ∙ want-met ts (a .rows .now) (a .count) h (a .row + 1 + 1) (c .before .before .before .before .before .kind-at2 .result) (c .before .before .before .before .before .kind-at2 .ensures) LBrace _ (c .before .before .before .before .if2 .left) in
-    subst (λ (x : Out). Met x (a .row) (a .node) (a .nodes .now) (c .before .before .fields .last .1 .1 .0) (c .before .before .fields .result)) (sym e) (c .before .before .fields .ensures ts h (spellingOf (tokAt ts (a .row + 1))))
+returns : tie.Need-returns
+returns c ts h =
+    let d = c .before .before .before in
+    let a = start (header d) .args in
+    let o = opens d in
+    let f = c .before .before .fields in
+    let w : List ℕ = spellingOf (tokAt ts (a .row + 1)) in
+    met-as _ _ _ _ _ _ _ (event-is ts (a .row) ∙ listed-on ts (a .rows .now) (a .count) h eventFields (Parse.eventField ts) _ (a .row) (o .name) (o .brace))
+    (subst (λ (x : ℕ). Met (fieldsOf ts w (a .row)) (a .row) x (a .nodes .now) (f .last .1 .1 .0) (f .result)) (ap (λ (x : At). x .node) (o .state)) (f .ensures ts h w))
+
+returns-2 : tie.Need-returns-2
+returns-2 c ts h =
+    let d = c .before .before .before in
+    let a = start d .args in
+    let y = c .before .why .given in
+    met-no _ _ _ _ _ _ _
+    (event-is ts (a .row)
+    ∙ header-refused (a .rows .now) (a .count) (a .row) (a .node) (d .opened .result) ts h (y .0 .0) (y .0 .1 .0) (d .opened .ensures) (y .1)
+    eventFields (Parse.eventField ts) _)
 
 pub event-spec : {M : Type 1} → statement M
 event-spec =
     tie.close
     (tie.spec
-    add-name
-    kind-at-requires
-    cast-t12
-    returns
-    add-open
-    kind-at-requires-2
-    cast-t14
-    returns-2
+    opened-requires
+    enum-known-start
     fields-requires
+    enum-known-why
     same-length
-    returns-3)
+    returns
+    returns-2)

@@ -15,38 +15,84 @@ use Rattle.theory_grammar.proofs.Cases.{length-is, length-yes, length-no}
 use Rattle.parse_nodes.specs.Post.{Tells}
 use Rattle.parse_nodes.proofs.Rows.{word-here}
 use Rattle.parse_nodes.proofs.Seen.{want-met, want-unmet, valued-met, valued-unmet}
-use Rattle.parse_events.proofs.Nodes.{found-ok, found-no}
+use Rattle.parse_events.proofs.Nodes.{found-ok, found-no, found-told}
 use Rattle.parse_events.proofs.length_at.Statement.{statement}
 use Rattle.parse_events.proofs.length_at.Tie as tie
 
+-- ---- the places on the way, as they are seen from the function's entry
+
+abbrev start : tie.After-kind-at → tie.Start
+start c = c .before .before
+
+abbrev at-number : tie.Else1 → tie.Start
+at-number c = start (c .before)
+
+abbrev at-close : tie.After-shared-slice-known3 → tie.Else1
+at-close c = c .before .before .before
+
+abbrev entry : tie.After-shared-slice-known3 → tie.Start
+entry c = at-number (at-close c)
+
+abbrev at-end : tie.Else3 → tie.After-shared-slice-known3
+at-end c = c .before .before
+
+abbrev Told : List Tok → tie.Start → Type 0
+Told ts s = Tells ts (s .args .rows .now) (s .args .count)
+
+-- ---- what the parser does on the way
+
 -- the number is in the table
-inside : (c : tie.Else1) → c .before .before .before .args .row < c .before .before .before .args .count
-inside c = word-here (c .before .before .before .args .rows .now) (c .before .before .before .args .count) (c .before .before .before .args .row) Number (sym (c .before .kind-at .ensures) ∙ c .if1 .left) refl
+inside : (c : tie.Else1) → at-number c .args .row < at-number c .args .count
+inside c =
+    let a = at-number c .args in
+    word-here (a .rows .now) (a .count) (a .row) Number (sym (c .before .kind-at .ensures) ∙ c .if1 .left) refl
 
--- the number's value
-abbrev bits : (c : tie.Else1) → ℕ
-bits c = getD (c .before .before .before .args .rows .now) (c .before .before .before .args .row * 8 + 6) 0 * 2 ^ 32 + getD (c .before .before .before .args .rows .now) (c .before .before .before .args .row * 8 + 5) 0
+-- the number's two words, and its value
+abbrev low : tie.Start → ℕ
+low s = getD (s .args .rows .now) (s .args .row * 8 + 5) 0
 
-value : (c : tie.Else1) (ts : List Tok) → Tells ts (c .before .before .before .args .rows .now) (c .before .before .before .args .count) → (f : ℕ → Tree)
-    → Parse.lengthAt ts f (c .before .before .before .args .row) ≡ Parse.lengthBy ts (leb (bits c) most32) f (bits c) (c .before .before .before .args .row) (c .before .before .before .args .row + 1)
+abbrev bits : tie.Start → ℕ
+bits s = getD (s .args .rows .now) (s .args .row * 8 + 6) 0 * 2 ^ 32 + low s
+
+value : (c : tie.Else1) (ts : List Tok) → Told ts (at-number c) → (f : ℕ → Tree)
+    → Parse.lengthAt ts f (at-number c .args .row)
+    ≡ Parse.lengthBy ts (leb (bits (at-number c)) most32) f (bits (at-number c)) (at-number c .args .row) (at-number c .args .row + 1)
 value c ts h f =
-    length-is ts f (c .before .before .before .args .row) ∙ valued-met ts (c .before .before .before .args .rows .now) (c .before .before .before .args .count) h (c .before .before .before .args .row) (c .before .kind-at .result) (c .before .kind-at .ensures) _ (c .if1 .left)
+    let a = at-number c .args in
+    length-is ts f (a .row)
+    ∙ valued-met ts (a .rows .now) (a .count) h (a .row) (c .before .kind-at .result) (c .before .kind-at .ensures) _ (c .if1 .left)
 
 -- a number of one word is in range
-bounded : (c : tie.After-shared-slice-known3) (ts : List Tok) → Tells ts (c .before .before .before .before .before .before .args .rows .now) (c .before .before .before .before .before .before .args .count) → (f : ℕ → Tree)
-    → Parse.lengthAt ts f (c .before .before .before .before .before .before .args .row) ≡ Parse.want ts RBracket (Parse.want ts Semicolon (ok (f (getD (c .before .before .before .before .before .before .args .rows .now) (c .before .before .before .before .before .before .args .row * 8 + 5) 0)))) (c .before .before .before .before .before .before .args .row + 1)
+bounded : (c : tie.After-shared-slice-known3) (ts : List Tok) → Told ts (entry c) → (f : ℕ → Tree)
+    → Parse.lengthAt ts f (entry c .args .row)
+    ≡ Parse.want ts RBracket (Parse.want ts Semicolon (ok (f (low (entry c))))) (entry c .args .row + 1)
 bounded c ts h f =
-    let low : ℕ = getD (c .before .before .before .before .before .before .args .rows .now) (c .before .before .before .before .before .before .args .row * 8 + 5) 0 in
-    let e : bits (c .before .before .before) ≡ low = omega (arith, c .before .if2 .left) in
-    value (c .before .before .before) ts h f ∙ (rw e (length-yes ts f low _ _ (le-leb low most32 (omega (arith, c .shared-slice-known3 .given (c .before .before .before .before .before .before .args .row * 8 + 5))))))
+    let v : ℕ = low (entry c) in
+    let e : bits (entry c) ≡ v = omega (arith, c .before .if2 .left) in
+    let w = c .shared-slice-known3 .given (entry c .args .row * 8 + 5) in
+    value (at-close c) ts h f ∙ rw e (length-yes ts f v _ _ (le-leb v most32 (omega (arith, w))))
+
+-- and behind it stands `]`
+closed : (c : tie.Else3) (ts : List Tok) → Told ts (entry (at-end c)) → (f : ℕ → Tree)
+    → Parse.lengthAt ts f (entry (at-end c) .args .row)
+    ≡ Parse.want ts Semicolon (ok (f (low (entry (at-end c))))) (entry (at-end c) .args .row + 1 + 1)
+closed c ts h f =
+    let a = entry (at-end c) .args in
+    let k = c .before .kind-at2 in
+    bounded (at-end c) ts h f ∙ want-met ts (a .rows .now) (a .count) h (a .row + 1) (k .result) (k .ensures) RBracket _ (c .if3 .left)
 
 kind-at-requires : tie.Need-kind-at-requires
 kind-at-requires c κs = search needs
 
+wanted-requires : tie.Need-wanted-requires
+wanted-requires c κs = search needs
+
 returns : tie.Need-returns
 returns c ts h f g =
-    let a = c .before .before .before .args in
-    found-no (Parse.lengthAt ts f (a .row)) _ _ (length-is ts f (a .row) ∙ valued-unmet ts (a .rows .now) (a .count) h (a .row) (c .before .kind-at .result) (c .before .kind-at .ensures) _ (c .if1 .taken))
+    let a = start (c .before .before) .args in
+    let k = c .before .before .kind-at in
+    found-told _ _ _ _ (length-is ts f (a .row) ∙ valued-unmet ts (a .rows .now) (a .count) h (a .row) (k .result) (k .ensures) _ (c .before .if1 .taken))
+    (c .wanted .ensures)
 
 mul-at : tie.Need-mul-at
 mul-at c = search needs
@@ -62,8 +108,9 @@ shared-slice-read-if2 c = omega (arith, inside (c .before))
 
 returns-2 : tie.Need-returns-2
 returns-2 c ts h f g =
-    let a = c .before .before .before .before .before .args in
-    found-no (Parse.lengthAt ts f (a .row)) _ _ (value (c .before .before) ts h f ∙ length-no ts f (bits (c .before .before)) (a .row) (a .row + 1) (lt-leb (bits (c .before .before)) most32 (omega (arith, c .if2 .taken))))
+    let s = at-number (c .before .before) in
+    found-no _ _ _
+    (value (c .before .before) ts h f ∙ length-no ts f (bits s) (s .args .row) (s .args .row + 1) (lt-leb (bits s) most32 (omega (arith, c .if2 .taken))))
 
 add-length : tie.Need-add-length
 add-length c = search needs
@@ -72,45 +119,60 @@ mul-length : tie.Need-mul-length
 mul-length c = search needs
 
 shared-slice-read-length : tie.Need-shared-slice-read-length
-shared-slice-read-length c = omega (arith, inside (c .before .before .before))
+shared-slice-read-length c = omega (arith, inside (at-close c))
 
 add-close : tie.Need-add-close
-add-close c = omega (arith, inside (c .before .before .before), c .before .before .before .before .before .before .pre)
+add-close c = search needs
 
 kind-at-requires-2 : tie.Need-kind-at-requires-2
 kind-at-requires-2 c κs = search needs
 
+wanted-requires-2 : tie.Need-wanted-requires-2
+wanted-requires-2 c κs = search needs
+
 returns-3 : tie.Need-returns-3
 returns-3 c ts h f g =
-    let a = c .before .before .before .before .before .before .before .before .args in
-    found-no (Parse.lengthAt ts f (a .row)) _ _ (bounded (c .before .before) ts h f ∙ want-unmet ts (a .rows .now) (a .count) h (a .row + 1) (c .before .kind-at2 .result) (c .before .kind-at2 .ensures) RBracket _ (c .if3 .taken))
+    let d = c .before .before .before in
+    let a = entry d .args in
+    let k = c .before .before .kind-at2 in
+    found-told _ _ _ _ (bounded d ts h f ∙ want-unmet ts (a .rows .now) (a .count) h (a .row + 1) (k .result) (k .ensures) RBracket _ (c .before .if3 .taken))
+    (c .wanted2 .ensures)
 
 add-end : tie.Need-add-end
-add-end c = omega (arith, inside (c .before .before .before .before .before), c .before .before .before .before .before .before .before .before .pre)
+add-end c = search needs
 
 kind-at-requires-3 : tie.Need-kind-at-requires-3
 kind-at-requires-3 c κs = search needs
 
+wanted-requires-3 : tie.Need-wanted-requires-3
+wanted-requires-3 c κs = search needs
+
 returns-4 : tie.Need-returns-4
 returns-4 c ts h f g =
-    let a = c .before .before .before .before .before .before .before .before .before .before .args in
-    found-no (Parse.lengthAt ts f (a .row)) _ _ (bounded (c .before .before .before .before) ts h f ∙ want-met ts (a .rows .now) (a .count) h (a .row + 1) (c .before .before .before .kind-at2 .result) (c .before .before .before .kind-at2 .ensures) RBracket _ (c .before .before .if3 .left)
-    ∙ want-unmet ts (a .rows .now) (a .count) h (a .row + 1 + 1) (c .before .kind-at3 .result) (c .before .kind-at3 .ensures) Semicolon _ (c .if4 .taken))
+    let d = c .before .before .before in
+    let a = entry (at-end d) .args in
+    let k = c .before .before .kind-at3 in
+    found-told _ _ _ _ (closed d ts h f ∙ want-unmet ts (a .rows .now) (a .count) h (a .row + 1 + 1) (k .result) (k .ensures) Semicolon _ (c .before .if4 .taken))
+    (c .wanted3 .ensures)
 
-add-t18 : tie.Need-add-t18
-add-t18 c = search needs
+add-t10 : tie.Need-add-t10
+add-t10 c = search needs
 
 returns-5 : tie.Need-returns-5
 returns-5 c ts h f g =
-    let a = c .before .before .before .before .before .before .before .before .before .before .args in
-    found-ok (Parse.lengthAt ts f (a .row)) _ _ _ _ _ (bounded (c .before .before .before .before) ts h f ∙ want-met ts (a .rows .now) (a .count) h (a .row + 1) (c .before .before .before .kind-at2 .result) (c .before .before .before .kind-at2 .ensures) RBracket _ (c .before .before .if3 .left)
-    ∙ want-met ts (a .rows .now) (a .count) h (a .row + 1 + 1) (c .before .kind-at3 .result) (c .before .kind-at3 .ensures) Semicolon _ (c .if4 .left)) (g (getD (a .rows .now) (a .row * 8 + 5) 0))
+    let d = c .before .before in
+    let s = entry (at-end d) in
+    let a = s .args in
+    let k = c .before .kind-at3 in
+    found-ok _ (f (low s)) _ _ _ _
+    (closed d ts h f ∙ want-met ts (a .rows .now) (a .count) h (a .row + 1 + 1) (k .result) (k .ensures) Semicolon _ (c .if4 .left)) (g (low s))
 
 pub length-at-spec : {M : Type 1} → statement M
 length-at-spec =
     tie.close
     (tie.spec
     kind-at-requires
+    wanted-requires
     returns
     mul-at
     add-if2
@@ -122,9 +184,11 @@ length-at-spec =
     shared-slice-read-length
     add-close
     kind-at-requires-2
+    wanted-requires-2
     returns-3
     add-end
     kind-at-requires-3
+    wanted-requires-3
     returns-4
-    add-t18
+    add-t10
     returns-5)

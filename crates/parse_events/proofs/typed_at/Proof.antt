@@ -1,18 +1,41 @@
 -- `events::typed_at` meets its contract: a type with a length, or with none.
 use mathlib.Core.Path.{_≡_, refl, sym, _∙_, subst}
+use mathlib.Core.List.{List}
 use Prim.Native.Nat.{ℕ, _+_, _-_}
 use native.Mathlib.Omega.{arith}
 use borrow.Author.Needs.{needs}
 use Rattle.rules.specs.Kinds.{LBracket, Semicolon}
-use Rattle.rules.specs.Tree.{plainField, arrayField}
-use Rattle.rules.specs.Parse.{kindAt}
-use Rattle.theory_grammar.proofs.Cases.{array-yes, array-no}
+use Rattle.rules.specs.Tree.{Tok, plainField, arrayField}
+use Rattle.rules.specs.Parse
+use Rattle.rules.specs.Parse.{ok, kindAt}
+use Rattle.theory_grammar.proofs.Cases.{array-yes, array-no, want-in-yes, want-in-no}
+use Rattle.parse_nodes.specs.Post.{Tells}
 use Rattle.parse_nodes.proofs.Rows.{word-here}
+use Rattle.parse_nodes.proofs.Seen.{type-low, seen}
 use Rattle.parse_events.specs.Shapes.{Shows, plain, array}
-use Rattle.parse_nodes.proofs.Seen.{type-low, seen, want-met, want-unmet}
-use Rattle.parse_events.proofs.Nodes.{found-ok, found-no, found-as}
+use Rattle.parse_events.proofs.Nodes.{found-ok, found-told, found-as}
 use Rattle.parse_events.proofs.typed_at.Statement.{statement}
 use Rattle.parse_events.proofs.typed_at.Tie as tie
+
+-- ---- the places on the way
+
+abbrev start : tie.After-kind-at → tie.Start
+start c = c .before .before
+
+abbrev at-end : tie.Else1 → tie.Start
+at-end c = start (c .before)
+
+abbrev Told : List Tok → tie.Start → Type 0
+Told ts s = Tells ts (s .args .rows .now) (s .args .count)
+
+-- the kinds of the type's row and of the one behind it
+type-is : (s : tie.Start) (ts : List Tok) → Told ts s → s .args .kind ≡ kindAt ts (s .args .row)
+type-is s ts h = seen ts (s .args .rows .now) (s .args .count) h (s .args .row) (s .args .kind) (s .pre .word)
+
+next-is : (c : tie.After-kind-at) (ts : List Tok) → Told ts (start c) → c .kind-at .result ≡ kindAt ts (start c .args .row + 1)
+next-is c ts h =
+    let a = start c .args in
+    seen ts (a .rows .now) (a .count) h (a .row + 1) (c .kind-at .result) (c .kind-at .ensures)
 
 add-next : tie.Need-add-next
 add-next c = search needs
@@ -24,41 +47,51 @@ add-length-at : tie.Need-add-length-at
 add-length-at c = search needs
 
 sub-length-at : tie.Need-sub-length-at
-sub-length-at c = omega (arith, type-low (c .before .before .before .args .kind) (c .before .before .before .pre .type))
+sub-length-at c = let s = start (c .before) in omega (arith, type-low (s .args .kind) (s .pre .type))
 
 length-at-requires : tie.Need-length-at-requires
 length-at-requires c κs =
-    let a = c .before .before .before .args in
-    let p = c .before .before .before .pre .at in
+    let a = start (c .before) .args in
+    let p = start (c .before) .pre .at in
     let h = word-here (a .rows .now) (a .count) (a .row + 1) LBracket (sym (c .before .kind-at .ensures) ∙ c .if1 .taken) refl in
     record { lent = p .lent; inside = omega arith; few = omega arith; short = p .short; nest = p .nest }
 
 returns : tie.Need-returns
 returns c ts h w =
-    let a = c .before .before .before .before .args in
-    let q : a .kind ≡ kindAt ts (a .row) = seen ts (a .rows .now) (a .count) h (a .row) (a .kind) (c .before .before .before .before .pre .word) in
-    found-as _ _ _ (array-yes ts w (a .row) (sym (seen ts (a .rows .now) (a .count) h (a .row + 1) (c .before .before .kind-at .result) (c .before .before .kind-at .ensures)) ∙ c .before .if1 .taken))
-    (c .length-at .ensures ts h (λ v. arrayField w (kindAt ts (a .row)) v) (λ v. subst (λ (x : ℕ). Shows (arrayField w (kindAt ts (a .row)) v) 3 (x - 20) v) (sym q) (array w (kindAt ts (a .row)) v)))
+    let d = c .before .before in
+    let a = start d .args in
+    let k : ℕ = kindAt ts (a .row) in
+    found-as _ _ _ (array-yes ts w (a .row) (sym (next-is d ts h) ∙ c .before .if1 .taken))
+    (c .length-at .ensures ts h (λ v. arrayField w k v)
+    (λ v. subst (λ (x : ℕ). Shows (arrayField w k v) 3 (x - 20) v) (sym (type-is (start d) ts h)) (array w k v)))
+
+wrong-requires : tie.Need-wrong-requires
+wrong-requires c κs = search needs
 
 returns-2 : tie.Need-returns-2
 returns-2 c ts h w =
-    let a = c .before .before .before .before .args in
-    found-no _ _ _ (array-no ts w (a .row) (λ e. c .before .if1 .left (seen ts (a .rows .now) (a .count) h (a .row + 1) (c .before .before .kind-at .result) (c .before .before .kind-at .ensures) ∙ e))
-    ∙ want-unmet ts (a .rows .now) (a .count) h (a .row + 1) (c .before .before .kind-at .result) (c .before .before .kind-at .ensures) Semicolon _ (c .if2 .taken))
+    let d = c .before .before .before in
+    let a = start d .args in
+    found-told _ _ _ _
+    (array-no ts w (a .row) (λ e. c .before .before .if1 .left (next-is d ts h ∙ e))
+    ∙ want-in-no ts _ Semicolon _ (a .row + 1) (λ e. c .before .if2 .taken (next-is d ts h ∙ e)))
+    (c .wrong .ensures)
 
 add-t11 : tie.Need-add-t11
 add-t11 c = search needs
 
 sub-t12 : tie.Need-sub-t12
-sub-t12 c = omega (arith, type-low (c .before .before .before .before .args .kind) (c .before .before .before .before .pre .type))
+sub-t12 c = let s = at-end (c .before) in omega (arith, type-low (s .args .kind) (s .pre .type))
 
 returns-3 : tie.Need-returns-3
 returns-3 c ts h w =
-    let a = c .before .before .before .before .args in
-    let q : a .kind ≡ kindAt ts (a .row) = seen ts (a .rows .now) (a .count) h (a .row) (a .kind) (c .before .before .before .before .pre .word) in
-    found-ok _ (plainField w (kindAt ts (a .row))) _ _ _ _ (array-no ts w (a .row) (λ e. c .before .if1 .left (seen ts (a .rows .now) (a .count) h (a .row + 1) (c .before .before .kind-at .result) (c .before .before .kind-at .ensures) ∙ e))
-    ∙ want-met ts (a .rows .now) (a .count) h (a .row + 1) (c .before .before .kind-at .result) (c .before .before .kind-at .ensures) Semicolon _ (c .if2 .left))
-    (subst (λ (x : ℕ). Shows (plainField w (kindAt ts (a .row))) 1 (x - 20) 0) (sym q) (plain w (kindAt ts (a .row))))
+    let d = c .before .before in
+    let a = start d .args in
+    let k : ℕ = kindAt ts (a .row) in
+    found-ok _ (plainField w k) _ _ _ _
+    (array-no ts w (a .row) (λ e. c .before .if1 .left (next-is d ts h ∙ e))
+    ∙ want-in-yes ts _ Semicolon _ (a .row + 1) (sym (next-is d ts h) ∙ c .if2 .left))
+    (subst (λ (x : ℕ). Shows (plainField w k) 1 (x - 20) 0) (sym (type-is (start d) ts h)) (plain w k))
 
 pub typed-at-spec : {M : Type 1} → statement M
 typed-at-spec =
@@ -70,6 +103,7 @@ typed-at-spec =
     sub-length-at
     length-at-requires
     returns
+    wrong-requires
     returns-2
     add-t11
     sub-t12
