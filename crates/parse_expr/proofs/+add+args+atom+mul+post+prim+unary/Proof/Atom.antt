@@ -4,20 +4,19 @@ use mathlib.Core.Path.{_≡_, refl, sym, ap, _∙_}
 use mathlib.Core.List.{List}
 use native.Mathlib.Omega.{arith}
 use borrow.Author.Needs.{needs}
-use Rattle.rules.specs.declared.Syntax.{Syntax}
 use Rattle.rules.specs.declared.Syntax.the-variants.{TooDeep}
 use Rattle.rules.specs.Kinds.{LParen, RParen, Number}
 use Rattle.rules.specs.Fits.{only}
 use Rattle.rules.specs.Tree.{Tok, spellingOf, bitsIn, num, var, group}
 use Rattle.rules.specs.Parse
-use Rattle.rules.specs.Parse.{ok, no, tokAt, kindAt, whole}
+use Rattle.rules.specs.Parse.{ok, tokAt, kindAt, whole}
 use Rattle.rules.specs.Grammar.{Add}
 use Rattle.theory_grammar.proofs.Cases.{then-ok, then-no, inner-none, inner-whole, atom-num, atom-var, atom-paren, atom-else}
 use Rattle.theory_grammar.proofs.Sound.{Reads}
 use Rattle.parse_nodes.specs.Post.{Tells}
 use Rattle.parse_nodes.specs.declared.At.{At}
 use Rattle.parse_nodes.proofs.Rows.{tells-some, tells-kind, word-here}
-use Rattle.parse_nodes.proofs.Turn.{Came, met-ok, met-no}
+use Rattle.parse_nodes.proofs.Turn.{Came, met-ok, met-no, met-told}
 use Rattle.parse_nodes.proofs.Fitting.{end-met, end-unmet}
 use Rattle.parse_expr.proofs.Trees.{groupAt, stands-number, stands-var, stands-group}
 use Rattle.parse_expr.proofs.Given.{came-fit, add-came, refusal}
@@ -248,11 +247,11 @@ module _ (t : ℕ) where
       let a = at-call (done p) .args in
       let w = got p ts tl in
       let u : At = p .t .given .0 .0 in
-      met-no _ (a .row) (a .node) (c .unended .result) (u .row) (a .nodes .now) (done p .add .last .1 .1 .0)
+      met-told _ (a .row) (a .node) _ (c .unended .result) (u .row) (a .nodes .now) (done p .add .last .1 .1 .0)
       (inside p ts tl
       ∙ end-unmet ts (a .rows .now) (a .count) tl _ RParen (w .tree) _ (u .row) (u .summed) (w .stands .summed)
-      (λ e. c .before .if4 .left (k .kind-at2 .ensures ∙ e))
-      ∙ ap (λ (x : Syntax). no x (u .row)) (sym (c .unended .ensures)))
+      (λ e. c .before .if4 .left (k .kind-at2 .ensures ∙ e)))
+      (c .unended .ensures)
 
   pub enum-known-why : lts.Need-enum-known-why (cs t) (atom-at t) atom.Post
   enum-known-why c = search needs
@@ -297,7 +296,7 @@ module _ (t : ℕ) where
       let k = other (n .before) in
       let a = entry k .args in
       let e = kind-is k ts tl in
-      met-no _ (a .row) (a .node) (c .wrong .result) (a .row) (a .nodes .now) (a .nodes .now)
+      met-told _ (a .row) (a .node) _ (c .wrong .result) (a .row) (a .nodes .now) (a .nodes .now)
       (atom-else ts (Parse.inner ts (a .left)) (a .row)
-      (λ f. n .before .before .if1 .left (e ∙ f)) (λ f. n .before .if2 .left (e ∙ f)) (λ f. n .if5 .left (e ∙ f))
-      ∙ ap (λ (x : Syntax). no x (a .row)) (sym (c .wrong .ensures)))
+      (λ f. n .before .before .if1 .left (e ∙ f)) (λ f. n .before .if2 .left (e ∙ f)) (λ f. n .if5 .left (e ∙ f)))
+      (c .wrong .ensures)

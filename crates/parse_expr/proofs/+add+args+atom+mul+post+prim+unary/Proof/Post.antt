@@ -4,19 +4,18 @@ use mathlib.Core.Path.{_≡_, refl, sym, ap, _∙_}
 use mathlib.Core.List.{List}
 use native.Mathlib.Omega.{arith}
 use borrow.Author.Needs.{needs}
-use Rattle.rules.specs.declared.Syntax.{Syntax}
 use Rattle.rules.specs.Kinds.{LParen, RParen, Comma, Identifier}
 use Rattle.rules.specs.Fits.{only}
 use Rattle.rules.specs.Tree.{Tok, spellingOf, Tree, none, field}
 use Rattle.rules.specs.Parse
-use Rattle.rules.specs.Parse.{ok, no, tokAt, kindAt}
+use Rattle.rules.specs.Parse.{ok, tokAt, kindAt}
 use Rattle.theory_grammar.proofs.Laws.{here}
 use Rattle.theory_grammar.proofs.Cases.{then-ok, then-no, post-nameless, post-field, post-bare, post-args}
 use Rattle.theory_grammar.proofs.Ends.{Ends}
 use Rattle.parse_nodes.specs.Post.{Tells, stateAt}
 use Rattle.parse_nodes.specs.declared.At.{At}
 use Rattle.parse_nodes.proofs.Rows.{tells-some, tells-kind, word-here}
-use Rattle.parse_nodes.proofs.Turn.{Came, met-ok, met-no}
+use Rattle.parse_nodes.proofs.Turn.{Came, met-ok, met-no, met-told}
 use Rattle.parse_nodes.proofs.Fitting.{end-met, end-unmet}
 use Rattle.parse_expr.proofs.Trees.{stands-field, stands-bare, stands-call, met-called}
 use Rattle.parse_expr.proofs.Given.{came-fit, args-came, refusal}
@@ -193,9 +192,9 @@ module _ (t : ℕ) where
   returns c = λ ts tl i n u m₀ st.
       let k = c .before .before in
       let a = entry k .args in
-      met-no _ i n (c .wanted .result) (a .s .row + 1) m₀ (a .nodes .now)
-      (post-nameless ts (Parse.inner ts (a .left)) u (a .s .row) (λ e. c .before .if1 .taken (name-is k ts tl ∙ e))
-      ∙ ap (λ (x : Syntax). no x (a .s .row + 1)) (sym (c .wanted .ensures)))
+      met-told _ i n _ (c .wanted .result) (a .s .row + 1) m₀ (a .nodes .now)
+      (post-nameless ts (Parse.inner ts (a .left)) u (a .s .row) (λ e. c .before .if1 .taken (name-is k ts tl ∙ e)))
+      (c .wanted .ensures)
 
   pub add-open : lts.Need-add-open (cs t) (post-at t) post.Post
   add-open c = omega (arith, name-here c, at-name c .pre .1)
@@ -288,11 +287,11 @@ module _ (t : ℕ) where
       let a = at-call (done p) .args in
       let v = got p ts tl in
       let x : At = p .a .given .0 .0 in
-      met-no _ i n (c .unended .result) (x .row) m₀ (done p .args2 .last .1 .1 .0)
+      met-told _ i n _ (c .unended .result) (x .row) m₀ (done p .args2 .last .1 .1 .0)
       (read p ts tl u
       ∙ end-unmet ts (a .rows .now) (a .count) tl _ RParen (v .tree) _ (x .row) (x .summed) (v .stands .summed)
-      (λ e. c .before .if4 .taken (k .kind-at4 .ensures ∙ e))
-      ∙ ap (λ (y : Syntax). no y (x .row)) (sym (c .unended .ensures)))
+      (λ e. c .before .if4 .taken (k .kind-at4 .ensures ∙ e)))
+      (c .unended .ensures)
 
   pub add-call-end-3 : lts.Need-add-call-end-3 (cs t) (post-at t) post.Post
   add-call-end-3 c =

@@ -1,6 +1,6 @@
 -- `unary` of the circle: a star and its operand, or no star.
 use Prim.Native.Nat.{ℕ, _+_, _-_, _<_}
-use mathlib.Core.Path.{_≡_, refl, sym, ap, _∙_, subst}
+use mathlib.Core.Path.{_≡_, refl, sym, ap, _∙_}
 use mathlib.Core.List.{List}
 use native.Mathlib.Omega.{arith}
 use borrow.Author.Needs.{needs}
@@ -12,10 +12,10 @@ use Rattle.rules.specs.Parse.{ok, kindAt, operand}
 use Rattle.rules.specs.Grammar.{Unary}
 use Rattle.theory_grammar.proofs.Cases.{then-ok, then-no, inner-none, inner-operand, unary-star, unary-else}
 use Rattle.theory_grammar.proofs.Sound.{Reads}
-use Rattle.parse_nodes.specs.Post.{Tells, Met}
+use Rattle.parse_nodes.specs.Post.{Tells}
 use Rattle.parse_nodes.specs.declared.At.{At}
 use Rattle.parse_nodes.proofs.Rows.{tells-some, tells-kind, word-here}
-use Rattle.parse_nodes.proofs.Turn.{Came, met-ok, met-no}
+use Rattle.parse_nodes.proofs.Turn.{Came, met-ok, met-no, met-as}
 use Rattle.parse_expr.proofs.Trees.{stands-star}
 use Rattle.parse_expr.proofs.Given.{came-fit, unary-came, refusal}
 use Rattle.parse_expr.proofs.prim.Reads as prim
@@ -170,6 +170,6 @@ module _ (t : ℕ) where
   returns-4 c = λ ts tl.
       let r = c .before .before in
       let a = entry (starless r) .args in
-      subst (λ (o : Parse.Out). Met o (a .row) (a .node) (a .nodes .now) (r .prim .last .1 .1 .0) (r .prim .result))
-      (sym (unary-else ts (Parse.inner ts (a .left)) (a .row) (λ e. r .before .before .if1 .left (kind-is (starless r) ts tl ∙ e))))
+      met-as _ _ (a .row) (a .node) (a .nodes .now) (r .prim .last .1 .1 .0) (r .prim .result)
+      (unary-else ts (Parse.inner ts (a .left)) (a .row) (λ e. r .before .before .if1 .left (kind-is (starless r) ts tl ∙ e)))
       (r .prim .ensures ts tl)
