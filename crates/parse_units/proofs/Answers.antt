@@ -11,7 +11,7 @@ use lib.Seq.{sets}
 use borrow.Author.Tests.{eqb-true, ne-eqb}
 use Rattle.rules.specs.declared.Syntax.{Syntax}
 use Rattle.rules.specs.Fits.{only, unitThings, wrong}
-use Rattle.rules.specs.Kinds.{KeywordSection, KeywordLicense, KeywordElse, RBrace, StringLiteral}
+use Rattle.rules.specs.Kinds.{KeywordSection, KeywordLicense, KeywordElse, LBrace, RBrace, StringLiteral}
 use Rattle.rules.specs.Sets.{fromSection}
 use Rattle.rules.specs.Tree.{Tok, Tree, seq, unit, spellingOf, isVariable, isSum, hangs, count, sectionsOf, sectionText, unitKind}
 use Rattle.rules.specs.Nodes.{missing, node, factNode, nodeWords, textNode, width, size, placeOf, licenceRow, treeWords}
@@ -22,14 +22,17 @@ use Rattle.theory_grammar.proofs.Laws.{nodes-within-rows, place-width, sets-tre
 use Rattle.theory_grammar.proofs.Cases.{quoted-yes}
 use Rattle.theory_grammar.proofs.Runs.{all-ok}
 use Rattle.theory_grammar.proofs.Ends.{Ends, ends-item, wide-item, ends-items}
-use Rattle.parse_nodes.specs.Post.{kindWord, Tells, stateAt, behind, Stands}
+use Rattle.parse_nodes.specs.Post.{kindWord, Tells, stateAt, behind, Stands, AsksOpen}
+use Rattle.parse_nodes.specs.Names.{Spans}
 use Rattle.parse_nodes.specs.Fitting.{retoldAt}
 use Rattle.parse_nodes.specs.declared.At.{At}
-use Rattle.parse_nodes.specs.declared.Got.the-variants as got
 use Rattle.parse_nodes.proofs.Turn.{Came, refused}
 use Rattle.parse_nodes.proofs.Steps.{stands-at, Listing, list-start, list-ends, list-fails, list-again}
 use Rattle.parse_nodes.proofs.Seen.{seen, want-unmet}
-use Rattle.parse_units.specs.Contents.{unset, kindFrom, firstOf, lastRow, spelt, overAt, over, textAt, Adds, Texted, contentsOf, Holds}
+use Rattle.parse_nodes.proofs.Rows.{word-here}
+use Rattle.parse_nodes.proofs.Fitting.{Opens}
+use Rattle.parse_units.specs.Contents.{unset, kindFrom, firstOf, lastRow, spelt, overAt, over, textAt, Adds, Texted, AsksItems}
+use Rattle.parse_units.specs.Contents.{thingsFrom, contentsOf, Holds}
 use Rattle.parse_units.specs.declared.Contents.{Contents}
 use Rattle.parse_units.specs.declared.Went.{Went}
 use Rattle.parse_units.specs.declared.Went.the-variants.{Done, Refused}
@@ -53,6 +56,10 @@ module _ (u : Contents) (o : Out) (m m′ : List ℕ) where
 
   pub adds-no : (why : Syntax) (p : ℕ) → o ≡ no why p → Adds u o m m′ (Refused why p)
   adds-no why p e = subst (λ (x : Out). Adds u x m m′ (Refused why p)) (sym e) refl
+
+  -- the same where the refusal is what a function gave
+  pub adds-told : (why x : Syntax) (p : ℕ) → o ≡ no why p → x ≡ why → Adds u o m m′ (Refused x p)
+  adds-told why x p e q = subst (λ (y : Syntax). Adds u o m m′ (Refused y p)) (sym q) (adds-no why p e)
 
   pub adds-as : (o′ : Out) (r : Went) → o ≡ o′ → Adds u o′ m m′ r → Adds u o m m′ r
   adds-as o′ r e h = subst (λ (x : Out). Adds u x m m′ r) (sym e) h
@@ -144,11 +151,14 @@ pub record Carries (i : ℕ) (u : Contents) (l : Tree) : Type 0 where
   pub licence : u .licence ≡ licenceRow i l
 
 abbrev pub Gathering : List Tok → ℕ → ℕ → List ℕ → Contents → List ℕ → Type 0
-Gathering ts i n m u m′ = Listing (Carries i u) ts RBrace unitThings (Parse.item ts) (Parse.listTo ts RBrace unitThings (Parse.item ts) i) i n m (u .at) m′
+Gathering ts i n m u m′ = Listing (Carries i u) ts RBrace unitThings (Parse.item ts) (thingsFrom ts i) i n m (u .at) m′
 
-pub items-start : (ts : List Tok) (i n : ℕ) (m : List ℕ) → i ≤ length ts → Gathering ts i n m (record { at = stateAt i n i; kind = unset; licence = missing }) m
+pub items-start : (ts : List Tok) (s : At) (m : List ℕ) → s ≡ stateAt (s .row) (s .node) (s .row) → s .row ≤ length ts
+    → Gathering ts (s .row) (s .node) m (record { at = s; kind = unset; licence = missing }) m
 unfolding kindFrom sectionsOf licenceRow
-items-start ts i n m h = list-start (Carries i _) ts RBrace unitThings (Parse.item ts) (Parse.listTo ts RBrace unitThings (Parse.item ts) i) i n m _ refl h refl (record { kind = refl; licence = refl })
+items-start ts s m e h =
+    list-start (Carries (s .row) _) ts RBrace unitThings (Parse.item ts) (thingsFrom ts (s .row)) (s .row) (s .node) m s refl h e
+    (record { kind = refl; licence = refl })
 
 module _ (ts : List Tok) (u : Contents) (m m′ : List ℕ) (v : Contents) (g : Added u (Parse.item ts (u .at .row)) m m′ v) where
   -- where the thing ends
@@ -178,20 +188,28 @@ module _ (ts : List Tok) (u : Contents) (m m′ : List ℕ) (v : Contents) (g : 
     carried : Carries i v (seq (c .tree) (g .tree))
     unfolding sectionsOf licenceRow
     carried = record {
-      kind = ap (λ (x : Contents). x .kind) (g .same) ∙ ap (λ (x : ℕ). firstOf x (kindFrom (sectionsOf (g .tree)))) (c .known .known .kind) ∙ sym (kind-append (sectionsOf (c .tree)) (sectionsOf (g .tree)));
-      licence = ap (λ (x : Contents). x .licence) (g .same) ∙ ap (λ (x : ℕ). lastRow x (licenceRow (u .at .row) (g .tree))) (c .known .known .licence) ∙ ap (λ (x : ℕ). lastRow (licenceRow i (c .tree)) (licenceRow x (g .tree))) (c .stands .rows);
+      kind =
+          ap (λ (x : Contents). x .kind) (g .same)
+          ∙ ap (λ (x : ℕ). firstOf x (kindFrom (sectionsOf (g .tree)))) (c .known .known .kind)
+          ∙ sym (kind-append (sectionsOf (c .tree)) (sectionsOf (g .tree)));
+      licence =
+          ap (λ (x : Contents). x .licence) (g .same)
+          ∙ ap (λ (x : ℕ). lastRow x (licenceRow (u .at .row) (g .tree))) (c .known .known .licence)
+          ∙ ap (λ (x : ℕ). lastRow (licenceRow i (c .tree)) (licenceRow x (g .tree))) (c .stands .rows);
     }
 
     pub items-again : (kindAt ts (u .at .row) ≡ RBrace → ⊥) → Gathering ts i n m₀ v m′
     unfolding item-came
     items-again e =
-        list-again (Carries i u) ts RBrace unitThings (Parse.item ts) _ i n m₀ (u .at) m c e (Carries i v) (Ends ts (u .at .row)) (behind (u .at .row) (u .at .node) (g .tree) (v .at .row)) m′ (v .at) item-came item-up
+        list-again (Carries i u) ts RBrace unitThings (Parse.item ts) _ i n m₀ (u .at) m c e (Carries i v) (Ends ts (u .at .row))
+        (behind (u .at .row) (u .at .node) (g .tree) (v .at .row)) m′ (v .at) item-came item-up
         (ap (λ (x : Contents). x .at) (g .same)) carried
 
 module _ (ts : List Tok) (i n : ℕ) (m : List ℕ) (u : Contents) (m′ : List ℕ) (c : Gathering ts i n m u m′) where
-  pub items-end : kindAt ts (u .at .row) ≡ RBrace → Holds (Parse.listTo ts RBrace unitThings (Parse.item ts) i) i n m m′ (Done u)
+  pub items-end : kindAt ts (u .at .row) ≡ RBrace → Holds (thingsFrom ts i) i n m m′ (Done u)
   items-end e =
-      subst (λ (x : Out). Holds x i n m m′ (Done u)) (sym (list-ends (Carries i u) ts RBrace unitThings (Parse.item ts) _ i n m (u .at) m′ c e)) (
+      let f = list-ends (Carries i u) ts RBrace unitThings (Parse.item ts) _ i n m (u .at) m′ c e in
+      subst (λ (x : Out). Holds x i n m m′ (Done u)) (sym f) (
         ap Done (λ j. record {
           at = record {
             row = u .at .row;
@@ -208,19 +226,30 @@ module _ (ts : List Tok) (i n : ℕ) (m : List ℕ) (u : Contents) (m′ : List 
         c .stands .mem,
       )
 
-  -- what is told where the thing at the contents' row is refused
-  abbrev pub retoldHere : Syntax → ℕ → Syntax
-  retoldHere why p = retoldAt (unitThings + cond (u .at .hanging) (only KeywordElse) 0) (u .at .row) why p
-
+  -- the thing at the contents' row is refused
   pub items-fail : (kindAt ts (u .at .row) ≡ RBrace → ⊥) → (why : Syntax) (p : ℕ) (m″ : List ℕ) → Parse.item ts (u .at .row) ≡ no why p
-      → Holds (Parse.listTo ts RBrace unitThings (Parse.item ts) i) i n m m″ (Refused (retoldHere why p) p)
-  items-fail e why p m″ f =
+      → (x : Syntax) → x ≡ retoldAt (unitThings + cond (u .at .hanging) (only KeywordElse) 0) (u .at .row) why p
+      → Holds (thingsFrom ts i) i n m m″ (Refused x p)
+  items-fail e why p m″ f x q =
       let l = list-fails (Carries i u) ts RBrace unitThings (Parse.item ts) _ i n m (u .at) m′ c e why p m″ f in
-      let q = refused (Parse.listTo ts RBrace unitThings (Parse.item ts) i) i n m m″ (got.Refused (retoldHere why p) p) (retoldHere why p) p l refl in
-      subst (λ (x : Out). Holds x i n m m″ (Refused (retoldHere why p) p)) (sym q) refl
+      let r : thingsFrom ts i ≡ no x p = refused (thingsFrom ts i) i n m m″ _ _ p l refl ∙ ap (λ (y : Syntax). no y p) (sym q) in
+      subst (λ (y : Out). Holds y i n m m″ (Refused x p)) (sym r) refl
 
 -- ---- a unit
 
+-- what is asked at the first thing's row, behind the header of the unit whose word is at row i
+pub asks-first : (t ws : List ℕ) (n i nd : ℕ) (s : At) → Opens ws n i nd s → AsksOpen ws n i nd 64 → Spans t ws n → AsksItems t ws n s
+asks-first t ws n i nd s o p h =
+    let row : s .row ≡ i + 1 + 1 + 1 = ap (λ (x : At). x .row) (o .state) in
+    let node : s .node ≡ nd = ap (λ (x : At). x .node) (o .state) in
+    let brace = word-here ws n (i + 1 + 1) LBrace (o .brace) refl in
+    record {
+      at = record { lent = p .lent; inside = omega arith; few = omega (arith, p .few); short = p .short; nest = p .nest };
+      first = o .state ∙ (λ k. stateAt (sym row k) (sym node k) (sym row k));
+      spans = h;
+    }
+
+-- the contents, taken apart
 pub record Held (o : Out) (i n : ℕ) (m m′ : List ℕ) (u : Contents) : Type 0 where
   pub list : Tree
   pub is : o ≡ ok list (u .at .row)
@@ -239,9 +268,10 @@ held-refused (ok l j) i n m m′ r why p h e = let z : _≡_ {A = ℕ} 0 1 = cc 
 held-refused (no why′ p′) i n m m′ r why p h e = cc (h, e)
 
 -- where the contents end
-pub held-ends : (ts : List Tok) (i n : ℕ) (m m′ : List ℕ) (u : Contents) (v : Held (Parse.listTo ts RBrace unitThings (Parse.item ts) i) i n m m′ u) → i ≤ length ts
+pub held-ends : (ts : List Tok) (i n : ℕ) (m m′ : List ℕ) (u : Contents) (v : Held (thingsFrom ts i) i n m m′ u) → i ≤ length ts
     → Ends ts i (v .list) (u .at .row) × (kindAt ts (u .at .row) ≡ RBrace)
-held-ends ts i n m m′ u v h = all-ok (λ l j. Ends ts i l j × (kindAt ts j ≡ RBrace)) (Parse.listTo ts RBrace unitThings (Parse.item ts) i) (v .list) (u .at .row) (ends-items ts i h) (v .is)
+held-ends ts i n m m′ u v h =
+    all-ok (λ l j. Ends ts i l j × (kindAt ts j ≡ RBrace)) (thingsFrom ts i) (v .list) (u .at .row) (ends-items ts i h) (v .is)
 
 pub stands-unit : (o : Out) (i n : ℕ) (m m₁ m₂ : List ℕ) (u : Contents) (s : At) (w : List ℕ) (v : Held o (i + 1 + 1 + 1) n m m₁ u) → u .at .row ≡ i + 1 + 1 + 1 + width (v .list)
     → s ≡ stateAt (u .at .row + 1) (u .at .node + 1) i

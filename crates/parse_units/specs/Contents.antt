@@ -43,7 +43,8 @@ lastRow x y = cond (eqb y missing) x y
 
 -- the spelling of row i
 abbrev pub spelt : List ℕ → List ℕ → ℕ → List ℕ
-spelt t ws i = take (getD ws (i * wordsPerRow + atEnd) 0 - getD ws (i * wordsPerRow + atStart) 0) (drop (getD ws (i * wordsPerRow + atStart) 0) t)
+spelt t ws i =
+    take (getD ws (i * wordsPerRow + atEnd) 0 - getD ws (i * wordsPerRow + atStart) 0) (drop (getD ws (i * wordsPerRow + atStart) 0) t)
 
 -- ---- one thing more
 
@@ -125,6 +126,10 @@ Texted t ws u k m m′ v = Adds u (ok (text k (spelt t ws (u .at .row + 1))) (u 
 
 -- ---- all of them
 
+-- the things from row i on, up to a brace
+abbrev pub thingsFrom : List Tok → ℕ → Out
+thingsFrom ts i = Parse.listTo ts RBrace unitThings (Parse.item ts) i
+
 -- what holds behind the list l of things, which begins at row i and ends at row j, its first node at n
 abbrev pub contentsOf : ℕ → ℕ → Tree → ℕ → Contents
 contentsOf i n l j = record {
@@ -137,9 +142,8 @@ abbrev pub Holds : Out → ℕ → ℕ → List ℕ → List ℕ → Went → Ty
 Holds (ok l j) i n m m′ r = (r ≡ Done (contentsOf i n l j)) × (m′ ≡ sets m (8 * n) (treeWords i l))
 Holds (no why p) i n m m′ r = r ≡ Refused why p
 
--- the things from row i on, up to a brace
 abbrev pub ItemsMet : List ℕ → List ℕ → ℕ → ℕ → ℕ → List ℕ → List ℕ → Went → Type 0
-ItemsMet t ws n i nd m m′ r = (ts : List Tok) → Names ts t ws n → Holds (Parse.listTo ts RBrace unitThings (Parse.item ts) i) i nd m m′ r
+ItemsMet t ws n i nd m m′ r = (ts : List Tok) → Names ts t ws n → Holds (thingsFrom ts i) i nd m m′ r
 
 -- the unit whose word is at row i
 abbrev pub UnitMet : List ℕ → List ℕ → ℕ → ℕ → ℕ → List ℕ → List ℕ → Got → Type 0
