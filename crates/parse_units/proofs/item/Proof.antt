@@ -85,8 +85,10 @@ returns-2 c ts h =
     let a = entry (at-stmt f) .args in
     let u = a .u in
     let t = b .t .given .0 .0 in
-    let g = came-reads ts Stmt mostOpen (Parse.stmt ts mostOpen (Parse.body ts mostOpen) (u .at .row)) (u .at .row) (u .at .node) (a .nodes .now)
-      (f .stmt .last .1 .1 .0) (f .stmt .result) t (stmt-sound ts mostOpen (u .at .row)) (f .stmt .ensures ts (h .tells)) (b .t .given .1) in
+    let g = came-reads ts Stmt mostOpen (Parse.stmt ts mostOpen (Parse.body ts mostOpen) (u .at .row))
+      (u .at .row) (u .at .node) (a .nodes .now)
+      (f .stmt .last .1 .1 .0) (f .stmt .result) t (stmt-sound ts mostOpen (u .at .row))
+      (f .stmt .ensures ts (h .tells)) (b .t .given .1) in
     let e : countedAt t (u .at .place) (u .at .things + 1) ≡ overAt u (g .tree) (t .row) =
       λ k. record {
         row = t .row;
