@@ -173,8 +173,12 @@ module _ (ts : List Tok) (u : Contents) (m m′ : List ℕ) (v : Contents) (g : 
 
   pub item-up : u .at .row < v .at .row
   item-up =
-      omega (arith, item-ends .0, all-ok (λ t j. 1 ≤ width t) (Parse.item ts (u .at .row)) (g .tree) (v .at .row)
-      (wide-item ts (u .at .row)) (g .is))
+      omega (
+        arith,
+        item-ends .0,
+        all-ok (λ t j. 1 ≤ width t) (Parse.item ts (u .at .row)) (g .tree) (v .at .row)
+            (wide-item ts (u .at .row)) (g .is),
+      )
 
   pub item-inside : v .at .row ≤ length ts
   item-inside = item-ends .1
@@ -306,5 +310,14 @@ stands-unit o i n m m₁ m₂ u s w v r e q =
     let kind : u .kind ≡ kindFrom (sectionsOf (v .list)) = ap (λ (x : Contents). x .kind) (v .same) in
     let licence : u .licence ≡ licenceRow (i + 1 + 1 + 1) (v .list) = ap (λ (x : Contents). x .licence) (v .same) in
     stands-at i n (unit w (v .list)) m m₂ s e (omega (arith, r)) (omega (arith, nodes)) refl refl refl refl refl
-    (rw (words-unit i w (v .list), ← three, kind-known (sectionsOf (v .list)), ← kind, ← things, ← licence,
-    sets-tree m n (i + 1 + 1 + 1) (v .list), ← v .mem, ← nodes) q)
+    (rw (
+      words-unit i w (v .list),
+      ← three,
+      kind-known (sectionsOf (v .list)),
+      ← kind,
+      ← things,
+      ← licence,
+      sets-tree m n (i + 1 + 1 + 1) (v .list),
+      ← v .mem,
+      ← nodes,
+    ) q)

@@ -124,7 +124,7 @@ returns c ts h =
     let a = entry (d .before) .args in
     let v = l .inv ts h in
     let f = list-ends Flat ts Eof tops (Parse.top ts) _ 0 0 (a .nodes .now) (l .s) (l .nodes) v
-      (sym (head-is d ts h) ∙ e .before .before .if1 .taken) in
+    (sym (head-is d ts h) ∙ e .before .before .if1 .taken) in
     let r = ap (λ (x : At). x .row) (e .ended .ensures .0) in
     met-ok _ _ _ (program (v .tree)) _ _ (e .ended .result)
     (parse-is ts ∙ then-ok _ _ (v .tree) (l .s .row) f ∙ ap (ok (program (v .tree))) (sym r))
@@ -190,7 +190,7 @@ returns-2 c ts h =
     let v = l .inv ts h in
     let n : l .s .hanging ≡ false = v .stands .hanging ∙ v .known .known in
     let q = list-fails-flat Flat ts Eof tops (Parse.top ts) _ 0 0 (a .nodes .now) (l .s) (l .nodes) v (goes-on (at-top f) ts h) n
-      (y .0 .0) (y .0 .1 .0) (f .top .last .1 .1 .1 .0) e in
+    (y .0 .0) (y .0 .1 .0) (f .top .last .1 .1 .1 .0) e in
     met-told _ _ _ _ _ _ _ _ (parse-is ts ∙ then-no _ _ _ _ (refused _ _ _ _ _ _ _ _ q refl)) (c .instead .ensures)
 
 pub program-spec : {M : Type 1} → statement M
