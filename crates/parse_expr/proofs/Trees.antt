@@ -1,4 +1,4 @@
--- Expressions: the state and the memory behind each tree, from those behind its parts; a turn of a ladder's loop; a call's end.
+-- Expressions: the state and the memory behind each tree, from those behind its parts; and a call's end.
 use mathlib.Core.Path.{_≡_, refl, sym, ap, _∙_}
 use mathlib.Core.Bool.{Bool, true, false}
 use mathlib.Core.List.{List}
@@ -6,36 +6,40 @@ use Prim.Native.Nat.{ℕ, _+_, _*_, _/_, _%_, _^_, _<_}
 use native.Mathlib.Omega.{arith}
 use lib.ListN.{getD}
 use lib.Seq.{sets}
-use Rattle.rules.specs.declared.Syntax.{Syntax}
 use Rattle.rules.specs.declared.Syntax.the-variants.{CallOnOther}
 use Rattle.rules.specs.Kinds.{Number}
-use Rattle.rules.specs.Tree.{Tok, bitsIn, Tree, none, num, var, star, group, field, call, bin, one, more, isVariable, count}
-use Rattle.rules.specs.Nodes.{node, factNode, missing, width, size, placeOf, binaryNode, nodeWords}
+use Rattle.rules.specs.Tree.{Tok, bitsIn, Tree, none, num, var, star, group, field, call, bin, one, more, isVariable, isSum, hangs, count}
+use Rattle.rules.specs.Nodes.{NodeVariable, NodeNumber, NodeDereference, NodeCall, node, factNode, missing, width, size, placeOf, nodeWords}
 use Rattle.rules.specs.Parse
-use Rattle.rules.specs.Parse.{Out, ok, no, P, pick, tokAt, kindAt, Sort}
-use Rattle.theory_grammar.proofs.Laws.{words-none, words-num, words-var, words-star, words-group, words-field, words-call, words-bin, words-one, words-more}
-use Rattle.theory_grammar.proofs.Cases.{then-ok, then-no}
-use Rattle.parse_nodes.specs.Post.{kindWord, Tells, stateAt, listAt, Met, Stands}
+use Rattle.rules.specs.Parse.{ok, no, pick, tokAt}
+use Rattle.theory_grammar.proofs.Laws.{words-none, words-num, words-var, words-star, words-group, words-field, words-call}
+use Rattle.theory_grammar.proofs.Laws.{words-bin, words-one, words-more}
+use Rattle.parse_nodes.specs.Post.{kindWord, Tells, stateAt, variableAt, countedAt, Met, Stands}
 use Rattle.parse_nodes.specs.declared.At.{At}
 use Rattle.parse_nodes.specs.declared.Got.{Got}
-use Rattle.parse_nodes.specs.declared.Got.the-variants.{Refused}
 use Rattle.parse_nodes.proofs.Rows.{tells-value, word-at, word-here, low-word, high-word}
-use Rattle.parse_nodes.proofs.Turn.{Any, Came, Turn, met-ok, again, fails}
+use Rattle.parse_nodes.proofs.Turn.{met-ok}
 use Rattle.parse_nodes.proofs.Steps.{stands-at, mem-over, mem-both, mem-join}
-use Rattle.parse_expr.specs.Calls.{CallEnd}
+use Rattle.parse_expr.specs.Written.{CallEnd, FieldEnd, Joint}
+
+-- the state behind a group, from the one in front of its `)`
+abbrev pub groupAt : At → At
+groupAt s =
+    record { row = s .row + 1; node = s .node; place = s .place; things = 0; variable = s .variable; summed = false; hanging = false }
 
 -- ---- the state and the memory behind a tree
 
 module _ (i n : ℕ) (m m₁ : List ℕ) (s : At) where
   stands-num : (v low high : ℕ) → v % 2 ^ 32 ≡ low → v / 2 ^ 32 ≡ high → s ≡ stateAt (i + 1) (n + 1) i
-      → m₁ ≡ sets m (8 * n) (nodeWords (factNode 2 i missing 0 low high 0 0)) → Stands i n (num v) m s m₁
-  unfolding width size placeOf isVariable count
-  stands-num v low high a b e q = stands-at i n (num v) m m₁ s e refl refl refl refl refl (rw (words-num i v, a, b) q)
+      → m₁ ≡ sets m (8 * n) (nodeWords (factNode NodeNumber i missing 0 low high 0 0)) → Stands i n (num v) m s m₁
+  unfolding width size placeOf isVariable isSum hangs count
+  stands-num v low high a b e q = stands-at i n (num v) m m₁ s e refl refl refl refl refl refl refl (rw (words-num i v, a, b) q)
 
   -- a number's row, by its words
   pub stands-number : (ts : List Tok) (ws : List ℕ) (c : ℕ) → Tells ts ws c → kindWord ws c i ≡ Number → getD ws (i * 8 + 5) 0 < 2 ^ 32
       → s ≡ stateAt (i + 1) (n + 1) i
-      → m₁ ≡ sets m (8 * n) (nodeWords (factNode 2 i missing 0 (getD ws (i * 8 + 5) 0) (getD ws (i * 8 + 6) 0) 0 0)) → Stands i n (num (bitsIn (tokAt ts i))) m s m₁
+      → m₁ ≡ sets m (8 * n) (nodeWords (factNode NodeNumber i missing 0 (getD ws (i * 8 + 5) 0) (getD ws (i * 8 + 6) 0) 0 0))
+      → Stands i n (num (bitsIn (tokAt ts i))) m s m₁
   stands-number ts ws c tl k f e q =
       let low = getD ws (i * 8 + 5) 0 in
       let high = getD ws (i * 8 + 6) 0 in
@@ -45,97 +49,83 @@ module _ (i n : ℕ) (m m₁ : List ℕ) (s : At) where
       (ap (λ (x : ℕ). x % 2 ^ 32) v ∙ low-word high low f)
       (ap (λ (x : ℕ). x / 2 ^ 32) v ∙ high-word high low f) e q
 
-  pub stands-var : (w : List ℕ) → s ≡ record { row = i + 1; node = n + 1; place = i; variable = true; things = 0 } → m₁ ≡ sets m (8 * n) (nodeWords (node 1 i i 0)) → Stands i n (var w) m s m₁
-  unfolding width size placeOf isVariable count
-  stands-var w e q = stands-at i n (var w) m m₁ s e refl refl refl refl refl (rw (words-var i w) q)
+  pub stands-var : (w : List ℕ) → s ≡ variableAt (i + 1) (n + 1) i → m₁ ≡ sets m (8 * n) (nodeWords (node NodeVariable i i 0))
+      → Stands i n (var w) m s m₁
+  unfolding width size placeOf isVariable isSum hangs count
+  stands-var w e q = stands-at i n (var w) m m₁ s e refl refl refl refl refl refl refl (rw (words-var i w) q)
 
   module _ (t : Tree) (s₂ : At) (m₂ : List ℕ) where
     pub stands-star : Stands (i + 1) n t m s m₁ → s₂ ≡ stateAt (s .row) (s .node + 1) (s .place)
-        → m₂ ≡ sets m₁ (8 * s .node) (nodeWords (node 3 (s .place) missing 1)) → Stands i n (star t) m s₂ m₂
-    unfolding width size placeOf isVariable count
+        → m₂ ≡ sets m₁ (8 * s .node) (nodeWords (node NodeDereference (s .place) missing 1)) → Stands i n (star t) m s₂ m₂
+    unfolding width size placeOf isVariable isSum hangs count
     stands-star a e q =
-        stands-at i n (star t) m m₂ s₂ e (omega (arith, a .rows)) (omega (arith, a .nodes)) (a .place) refl refl
+        stands-at i n (star t) m m₂ s₂ e (omega (arith, a .rows)) (omega (arith, a .nodes)) (a .place) refl refl refl refl
         (rw (words-star i t, ← a .place) (mem-over m (i + 1) n t s m₁ a m₂ _ q))
 
-    pub stands-group : Stands (i + 1) n t m s m₁ → s₂ ≡ record { row = s .row + 1; node = s .node; place = s .place; variable = s .variable; things = 0 } → Stands i n (group t) m s₂ m₁
-    unfolding width size placeOf isVariable count
-    stands-group a e =
-        stands-at i n (group t) m m₁ s₂ e (omega (arith, a .rows)) (a .nodes) (a .place) (a .variable) refl (rw (words-group i t) (a .mem))
-
-    pub stands-one : Stands i n t m s m₁ → s₂ ≡ listAt (s .row) (s .node) (s .place) 1 → Stands i n (one t) m s₂ m₁
-    unfolding width size placeOf isVariable count
-    stands-one a e = stands-at i n (one t) m m₁ s₂ e (a .rows) (a .nodes) (a .place) refl refl (rw (words-one i t) (a .mem))
-
-    pub stands-field : (w : List ℕ) → Stands i n t m s m₁ → s₂ ≡ stateAt (s .row + 1 + 1) (s .node + 1) (s .row + 1)
-        → m₂ ≡ sets m₁ (8 * s .node) (nodeWords (node 12 (s .row + 1) (s .row + 1) 1)) → Stands i n (field t w) m s₂ m₂
-    unfolding width size placeOf isVariable count
-    stands-field w a e q =
-        stands-at i n (field t w) m m₂ s₂ e (omega (arith, a .rows)) (omega (arith, a .nodes)) (omega (arith, a .rows)) refl refl
-        (rw (words-field i t w, ← a .rows) (mem-over m i n t s m₁ a m₂ _ q))
+    pub stands-field : (w : List ℕ) → Stands i n t m s m₁ → FieldEnd s m₁ m₂ s₂ → Stands i n (field t w) m s₂ m₂
+    unfolding width size placeOf isVariable isSum hangs count
+    stands-field w a e =
+        stands-at i n (field t w) m m₂ s₂ (e .state) (omega (arith, a .rows)) (omega (arith, a .nodes)) (omega (arith, a .rows))
+        refl refl refl refl
+        (rw (words-field i t w, ← a .rows) (mem-over m i n t s m₁ a m₂ _ (e .memory)))
 
     pub stands-bare : (w : List ℕ) → Stands i n t m s m₁ → s₂ ≡ stateAt (s .row + 1 + 1 + 1 + 1) (s .node + 1) (s .place)
-        → m₂ ≡ sets m₁ (8 * s .node) (nodeWords (node 11 (s .place) (s .row + 1) (0 + 1))) → Stands i n (call t w none) m s₂ m₂
-    unfolding width size placeOf isVariable count
+        → m₂ ≡ sets m₁ (8 * s .node) (nodeWords (node NodeCall (s .place) (s .row + 1) (0 + 1))) → Stands i n (call t w none) m s₂ m₂
+    unfolding width size placeOf isVariable isSum hangs count
     stands-bare w a e q =
-        stands-at i n (call t w none) m m₂ s₂ e (omega (arith, a .rows)) (omega (arith, a .nodes)) (a .place) refl refl
+        stands-at i n (call t w none) m m₂ s₂ e (omega (arith, a .rows)) (omega (arith, a .nodes)) (a .place) refl refl refl refl
         (rw (words-call i t w none, words-none, ← a .rows, ← a .place) (mem-over m i n t s m₁ a m₂ _ q))
 
     module _ (u : Tree) (s₃ : At) (m₃ : List ℕ) where
       -- two operands and an operator's row between them
-      pub stands-bin : (k : ℕ) → Stands i n t m s m₁ → Stands (s .row + 1) (s .node) u m₁ s₂ m₂
-          → s₃ ≡ stateAt (s₂ .row) (s₂ .node + 1) (s .place) → m₃ ≡ sets m₂ (8 * s₂ .node) (nodeWords (node (binaryNode k) (s .place) missing 2))
+      pub stands-bin : (k : ℕ) → Stands i n t m s m₁ → Stands (s .row + 1) (s .node) u m₁ s₂ m₂ → Joint s s₂ k m₂ m₃ s₃
           → Stands i n (bin k t u) m s₃ m₃
-      unfolding width size placeOf isVariable count
-      stands-bin k a b e q =
-          stands-at i n (bin k t u) m m₃ s₃ e (omega (arith, a .rows, b .rows)) (omega (arith, a .nodes, b .nodes)) (a .place) refl refl
-          (rw (words-bin i k t u, ← a .rows, ← a .place) (mem-both m i n t s m₁ a (s .row + 1) u s₂ m₂ b m₃ _ q))
-
-      -- arguments and one more
-      pub stands-more : Stands i n t m s m₁ → Stands (s .row + 1) (s .node) u m₁ s₂ m₂
-          → s₃ ≡ listAt (s₂ .row) (s₂ .node) (s .place) (s .things + 1) → Stands i n (more t u) m s₃ m₂
-      unfolding width size placeOf isVariable count
-      stands-more a b e =
-          stands-at i n (more t u) m m₂ s₃ e (omega (arith, a .rows, b .rows)) (omega (arith, a .nodes, b .nodes)) (a .place) refl (omega (arith, a .things))
-          (rw (words-more i t u, ← a .rows) (mem-join m i n t s m₁ a (s .row + 1) u s₂ m₂ b))
+      unfolding width size placeOf isVariable isSum hangs count
+      stands-bin k a b e =
+          stands-at i n (bin k t u) m m₃ s₃ (e .state) (omega (arith, a .rows, b .rows)) (omega (arith, a .nodes, b .nodes)) (a .place)
+          refl refl refl refl
+          (rw (words-bin i k t u, ← a .rows, ← a .place) (mem-both m i n t s m₁ a (s .row + 1) u s₂ m₂ b m₃ _ (e .memory)))
 
       -- a receiver and arguments
       pub stands-call : (w : List ℕ) → Stands i n t m s m₁ → Stands (s .row + 1 + 1 + 1) (s .node) u m₁ s₂ m₂
           → s₃ ≡ stateAt (s₂ .row + 1) (s₂ .node + 1) (s .place)
-          → m₃ ≡ sets m₂ (8 * s₂ .node) (nodeWords (node 11 (s .place) (s .row + 1) (s₂ .things + 1))) → Stands i n (call t w u) m s₃ m₃
-      unfolding width size placeOf isVariable count
+          → m₃ ≡ sets m₂ (8 * s₂ .node) (nodeWords (node NodeCall (s .place) (s .row + 1) (s₂ .things + 1)))
+          → Stands i n (call t w u) m s₃ m₃
+      unfolding width size placeOf isVariable isSum hangs count
       stands-call w a b e q =
           let r : i + width t + 3 ≡ s .row + 1 + 1 + 1 = omega (arith, a .rows) in
-          stands-at i n (call t w u) m m₃ s₃ e (omega (arith, a .rows, b .rows)) (omega (arith, a .nodes, b .nodes)) (a .place) refl refl
+          stands-at i n (call t w u) m m₃ s₃ e (omega (arith, a .rows, b .rows)) (omega (arith, a .nodes, b .nodes)) (a .place)
+          refl refl refl refl
           (rw (words-call i t w u, r, ← a .rows, ← a .place, ← b .things) (mem-both m i n t s m₁ a (s .row + 1 + 1 + 1) u s₂ m₂ b m₃ _ q))
 
--- ---- a turn of a ladder's loop: operators `isOp` between operands p
+  -- trees that write no node of their own: a group, a first argument, arguments and one more
+  module _ (t : Tree) (s₂ : At) where
+    pub stands-group : Stands (i + 1) n t m s m₁ → s₂ ≡ groupAt s → Stands i n (group t) m s₂ m₁
+    unfolding width size placeOf isVariable isSum hangs count
+    stands-group a e =
+        stands-at i n (group t) m m₁ s₂ e (omega (arith, a .rows)) (a .nodes) (a .place) refl (a .variable) refl refl
+        (rw (words-group i t) (a .mem))
 
-module _ (ts : List Tok) (g : Sort → P) (isOp : ℕ → Bool) (p : P) (all : Out) (i n : ℕ) (m : List ℕ) (s : At) (m₁ : List ℕ)
-    (w : Turn Any ts (λ r. isOp (kindAt ts r)) (Parse.binStep ts g p) all i n m s m₁) (b : isOp (kindAt ts (s .row)) ≡ true) where
-  pub bin-again : (C : Tree → ℕ → Type 0) (k : ℕ) (s₂ : At) (m₂ : List ℕ) (s₃ : At) (m₃ : List ℕ) → k ≡ binaryNode (kindAt ts (s .row)) → Came C ts (p (s .row + 1)) (s .row + 1) (s .node) m₁ s₂ m₂
-      → s₃ ≡ stateAt (s₂ .row) (s₂ .node + 1) (s .place) → m₃ ≡ sets m₂ (8 * s₂ .node) (nodeWords (node k (s .place) missing 2))
-      → Turn Any ts (λ r. isOp (kindAt ts r)) (Parse.binStep ts g p) all i n m s₃ m₃
-  unfolding Parse.binStep count width
-  bin-again C k s₂ m₂ s₃ m₃ ek v e q =
-      let r : s₃ .row ≡ s₂ .row = ap (λ (x : At). x .row) e in
-      again Any ts (λ r. isOp (kindAt ts r)) (Parse.binStep ts g p) all i n m s m₁ w b Any (bin (kindAt ts (s .row)) (w .tree) (v .tree)) s₃ m₃
-      (then-ok (p (s .row + 1)) _ (v .tree) (s₂ .row) (v .is) ∙ ap (λ (x : ℕ). ok (bin (kindAt ts (s .row)) (w .tree) (v .tree)) x) (sym r))
-      (stands-bin i n m m₁ s (w .tree) s₂ m₂ (v .tree) s₃ m₃ (kindAt ts (s .row)) (w .stands) (v .stands) e (rw (← ek) q))
-      (omega (arith, r, v .stands .rows))
-      (omega (arith, r, v .inside))
-      (omega arith)
-      tt
+    pub stands-one : Stands i n t m s m₁ → s₂ ≡ countedAt s (s .place) 1 → Stands i n (one t) m s₂ m₁
+    unfolding width size placeOf isVariable isSum hangs count
+    stands-one a e =
+        stands-at i n (one t) m m₁ s₂ e (a .rows) (a .nodes) (a .place) refl refl (a .summed) (a .hanging) (rw (words-one i t) (a .mem))
 
-  pub bin-fails : (why : Syntax) (q : ℕ) (m″ : List ℕ) → p (s .row + 1) ≡ no why q → Met all i n m m″ (Refused why q)
-  unfolding Parse.binStep
-  bin-fails why q m″ e =
-      fails Any ts (λ r. isOp (kindAt ts r)) (Parse.binStep ts g p) all i n m s m₁ w b why q m″ (then-no (p (s .row + 1)) _ why q e)
+    pub stands-more : (m₂ : List ℕ) (u : Tree) (s₃ : At) → Stands i n t m s m₁ → Stands (s .row + 1) (s .node) u m₁ s₂ m₂
+        → s₃ ≡ countedAt s₂ (s .place) (s .things + 1) → Stands i n (more t u) m s₃ m₂
+    unfolding width size placeOf isVariable isSum hangs count
+    stands-more m₂ u s₃ a b e =
+        stands-at i n (more t u) m m₂ s₃ e (omega (arith, a .rows, b .rows)) (omega (arith, a .nodes, b .nodes)) (a .place)
+        (omega (arith, a .things)) refl (b .summed) (b .hanging)
+        (rw (words-more i t u, ← a .rows) (mem-join m i n t s m₁ a (s .row + 1) u s₂ m₂ b))
 
 -- ---- a call's end
 
 -- what `call_end` answers is what the parser says of a call's end
-pub met-called : (ts : List Tok) (i n : ℕ) (t : Tree) (w : List ℕ) (a : Tree) (m₀ m₁ m₂ m₃ : List ℕ) (s : At) (k count′ next : ℕ) (r : Got) → Stands i n t m₀ s m₁
-    → (let s₃ : At = stateAt next (k + 1) (s .place) in m₃ ≡ sets m₂ (8 * k) (nodeWords (node 11 (s .place) (s .row + 1) (count′ + 1))) → Stands i n (call t w a) m₀ s₃ m₃)
+pub met-called : (ts : List Tok) (i n : ℕ) (t : Tree) (w : List ℕ) (a : Tree) (m₀ m₁ m₂ m₃ : List ℕ) (s : At) (k count′ next : ℕ) (r : Got)
+    → Stands i n t m₀ s m₁
+    → (m₃ ≡ sets m₂ (8 * k) (nodeWords (node NodeCall (s .place) (s .row + 1) (count′ + 1)))
+    → Stands i n (call t w a) m₀ (stateAt next (k + 1) (s .place)) m₃)
     → CallEnd (s .variable) s k count′ next m₂ m₃ r → Met (Parse.called ts t w a (s .row + 1) next) i n m₀ m₃ r
 unfolding Parse.called
 met-called ts i n t w a m₀ m₁ m₂ m₃ s k count′ next r st build h =
