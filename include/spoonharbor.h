@@ -58,7 +58,8 @@ enum sh_answer_word {
 };
 
 /* The words of a row. Offsets count from 0, lines and columns from 1, and columns count bytes; the end is the offset behind the last byte.
- * The value is 64-bit two's complement, zero unless the kind is a number. The eighth word is zero. */
+ * The value is 64-bit two's complement, zero unless the kind is a number. The comments are those between the row and the one before it,
+ * or the text's start; Eof has a count too, so that the counts of a text that scans to its end add up to its comments. */
 enum sh_row_word {
     SH_ROW_KIND = 0,
     SH_ROW_START = 1,
@@ -67,6 +68,7 @@ enum sh_row_word {
     SH_ROW_COLUMN = 4,
     SH_ROW_VALUE_LOW = 5,
     SH_ROW_VALUE_HIGH = 6,
+    SH_ROW_COMMENTS = 7,
     SH_ROW_WORDS = 8
 };
 

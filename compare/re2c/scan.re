@@ -57,7 +57,7 @@ void re2c_scan(const uint8_t *text, size_t length, uint32_t *rows, size_t room, 
     const unsigned char *YYCURSOR = text, *YYLIMIT = text + length, *YYMARKER = text;
     const unsigned char *line_start = text, *start;
     size_t line = 1, count = 0, valid = 0;
-    uint32_t kind, why;
+    uint32_t kind, why, comments = 0;
     uint64_t bits;
     const unsigned char *place;
     if (length > LIMIT) {
@@ -85,7 +85,7 @@ next:
 
         [\t\v\f\r ]+ { goto next; }
         "\n" { line++; line_start = YYCURSOR; goto next; }
-        "//" [^\n]* { goto next; }
+        "//" [^\n]* { comments++; goto next; }
         "/*" { goto comment; }
 
         "unit" { kind = 0; goto row; }
@@ -167,8 +167,9 @@ row:
     rows[4] = (uint32_t)(start - line_start) + 1;
     rows[5] = (uint32_t)bits;
     rows[6] = (uint32_t)(bits >> 32);
-    rows[7] = 0;
+    rows[7] = comments;
     rows += 8;
+    comments = 0;
     count++;
     if (kind == EOF_KIND) {
         tell(answer, 0, 0, 0, 0, count, length);
@@ -183,6 +184,7 @@ comment:
         for (; YYCURSOR < YYLIMIT; YYCURSOR++) {
             if (*YYCURSOR == '*' && YYCURSOR[1] == '/' && YYCURSOR + 1 < YYLIMIT) {
                 YYCURSOR += 2;
+                comments++;
                 goto next;
             }
             if (*YYCURSOR == '\n') line++, line_start = YYCURSOR + 1;

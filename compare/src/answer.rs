@@ -5,6 +5,7 @@
 //! - Rows: kind, start, end, line, column and value, up to the end or the
 //!   lexical refusal. Line and column are the original's own, except Eof's: the
 //!   original has 0:0 there, so the position counted in the text stands instead.
+//!   The original has no comments; they are counted in the gaps between its rows.
 //! - The lexical refusal: number and place. 15 is a panic of the original;
 //!   `scan` says how its place is found. Where a character of two bytes or more
 //!   stands outside comments and strings, the original is asked about what stands
@@ -34,7 +35,7 @@ pub struct Place {
     pub column: u32,
 }
 
-/// A row of LANGUAGE.md; the value is zero unless the kind is Number.
+/// A row of LANGUAGE.md; the value is zero unless the kind is Number. The comments are those in the gap before it.
 #[derive(Debug, Clone, Copy, PartialEq, Eq)]
 pub struct Row {
     pub kind: u32,
@@ -43,6 +44,7 @@ pub struct Row {
     pub line: u32,
     pub column: u32,
     pub value: i64,
+    pub comments: u32,
 }
 
 impl Row {

@@ -106,11 +106,11 @@ pub fn row_words(row: &Row) -> [u32; 8] {
         row.column,
         value as u32,
         (value >> 32) as u32,
-        0,
+        row.comments,
     ]
 }
 
-/// The row that eight words are; the eighth is not looked at.
+/// The row that eight words are.
 pub fn row_of(words: &[u32]) -> Row {
     Row {
         kind: words[0],
@@ -119,6 +119,7 @@ pub fn row_of(words: &[u32]) -> Row {
         line: words[3],
         column: words[4],
         value: (u64::from(words[6]) << 32 | u64::from(words[5])) as i64,
+        comments: words[7],
     }
 }
 

@@ -43,7 +43,8 @@ fn read(text: &str) -> Scan {
             Err(panic) => ending = Some(refusal_of_panic(text, &panic)),
         }
     }
-    let rows = tokens.iter().map(|token| row_of(text, token)).collect();
+    let mut rows: Vec<Row> = tokens.iter().map(|token| row_of(text, token)).collect();
+    count_comments(text, &mut rows);
     Scan {
         tokens,
         rows,
@@ -70,7 +71,32 @@ fn row_of(text: &str, token: &Token) -> Row {
         line: place.line,
         column: place.column,
         value: token.int_value.unwrap_or(0),
+        comments: 0,
     }
+}
+
+/// Gives each row the number of comments in the gap before it.
+fn count_comments(text: &str, rows: &mut [Row]) {
+    let mut end = 0;
+    for row in rows {
+        row.comments = comments_of(&text[end..row.start as usize]);
+        end = row.end as usize;
+    }
+}
+
+/// How many comments a gap has, in which there are only comments and blanks.
+fn comments_of(gap: &str) -> u32 {
+    let mut rest = gap.trim_start();
+    let mut count = 0;
+    while !rest.is_empty() {
+        let (opening, closing) = rest.split_at(2);
+        let close = if opening == "//" { "\n" } else { "*/" };
+        rest = closing
+            .split_once(close)
+            .map_or("", |(_, behind)| behind.trim_start());
+        count += 1;
+    }
+    count
 }
 
 /// The position before the byte at `offset`, counted in the text.

@@ -45,11 +45,12 @@ enum Asked {
     Misused(String),
 }
 
-/// A verb, the files that it is done with, and the file that `-o` names to be written.
+/// A verb, the files that it is done with, the file that `-o` names to be written, and whether `--style` asks for style.
 struct Task {
     verb: Verb,
     files: Vec<OsString>,
     output: Option<OsString>,
+    with_style: bool,
 }
 
 /// Runs the command and gives back its exit status.
@@ -89,6 +90,7 @@ fn asked(arguments: &[OsString]) -> Asked {
 fn asked_of(verb: Verb, arguments: &[OsString]) -> Asked {
     let mut files = Vec::new();
     let mut output = None;
+    let mut with_style = false;
     let mut rest = arguments.iter();
     while let Some(argument) = rest.next() {
         match argument.to_str() {
@@ -96,6 +98,7 @@ fn asked_of(verb: Verb, arguments: &[OsString]) -> Asked {
             Some("--help" | "-h") => return Asked::Help(verb.usage()),
             Some("--version" | "-V") => return Asked::Version,
             Some("-o") if verb == Verb::Store => output = rest.next().cloned(),
+            Some("--style") if verb == Verb::Check => with_style = true,
             _ if is_option(argument) => return Asked::Misused(unknown_option(argument)),
             _ => files.push(argument.clone()),
         }
@@ -106,6 +109,7 @@ fn asked_of(verb: Verb, arguments: &[OsString]) -> Asked {
             verb,
             files,
             output,
+            with_style,
         }),
     }
 }
@@ -157,7 +161,7 @@ fn done(task: &Task, file: &OsStr, out: &mut impl Write) -> io::Result<Outcome> 
         Err(trouble) => return troubled(&trouble, out),
     };
     match task.verb {
-        Verb::Check => check::check(&source, out),
+        Verb::Check => check::check(&source, task.with_style, out),
         Verb::Rows => shown(&source, out, rows::print),
         Verb::Tree => shown(&source, out, tree::print),
         Verb::Load => stored::load(&source, out),

@@ -25,7 +25,7 @@ pub const COUNT: usize = 6;
 /// The text's length, of a store the file's; 0 where a call that tells one is refused and told no table.
 pub const LENGTH: usize = 7;
 
-/// The words of a row: kind, start, end, line, column, value low, value high, zero.
+/// The words of a row: kind, start, end, line, column, value low, value high, comments in the gap before it.
 pub const ROW_WORDS: usize = 8;
 
 /// The words of a node: kind, place row, name row, children, four facts.

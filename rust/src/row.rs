@@ -7,8 +7,8 @@ use std::iter::FusedIterator;
 use std::ops::Range;
 use std::slice;
 
-/// A row: what stands where. Start, end and column count bytes. The value is 0 unless the kind is Number. A later version may tell more
-/// of it.
+/// A row: what stands where. Start, end and column count bytes. The value is 0 unless the kind is Number. The comments are those between
+/// the row and the one before it, or the text's start. A later version may tell more of it.
 #[derive(Debug, Clone, Copy, PartialEq, Eq, Hash)]
 #[non_exhaustive]
 pub struct Row {
@@ -18,11 +18,12 @@ pub struct Row {
     pub line: usize,
     pub column: usize,
     pub value: i64,
+    pub comments: usize,
 }
 
 impl Row {
     fn from_words(words: &[u32; ROW_WORDS]) -> Row {
-        let [kind, start, end, line, column, low, high, _] = *words;
+        let [kind, start, end, line, column, low, high, comments] = *words;
         Row {
             kind: Kind::read(kind),
             start: start as usize,
@@ -30,6 +31,7 @@ impl Row {
             line: line as usize,
             column: column as usize,
             value: (u64::from(high) << 32 | u64::from(low)) as i64,
+            comments: comments as usize,
         }
     }
 
@@ -94,9 +96,9 @@ mod tests {
 
     #[test]
     fn values_are_two_s_complement() {
-        let row = Row::from_words(&[50, 12, 14, 2, 5, u32::MAX, u32::MAX, 0]);
+        let row = Row::from_words(&[50, 12, 14, 2, 5, u32::MAX, u32::MAX, 3]);
         assert_eq!(row.value, -1);
-        assert_eq!(row.span(), 12..14);
+        assert_eq!((row.span(), row.comments), (12..14, 3));
         let row = Row::from_words(&[50, 0, 19, 1, 1, u32::MAX, 0x7fff_ffff, 0]);
         assert_eq!(row.value, i64::MAX);
     }

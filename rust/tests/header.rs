@@ -393,11 +393,13 @@ fn words_stand_where_the_crate_has_them() {
     assert_eq!(enumerated("sh_answer_word", "SH_"), words);
 
     let at = enumerated("sh_row_word", "SH_ROW_");
-    let (rows, _) = scanned(" \n  -2");
+    let text = "//\n  -2";
+    let (rows, _) = scanned(text);
     let word = |name: &str| rows[at[name] as usize];
-    let row = Document::open(" \n  -2").unwrap().row(0).unwrap();
+    let row = Document::open(text).unwrap().row(0).unwrap();
     assert_eq!(word("KIND"), row.kind.number());
-    assert_eq!((word("START"), word("END")), (4, 6));
+    assert_eq!((word("START"), word("END")), (5, 7));
+    assert_eq!((word("COMMENTS"), row.comments), (1, 1));
     assert_eq!((word("LINE"), word("COLUMN")), (2, 3));
     assert_eq!(
         (word("VALUE_LOW"), word("VALUE_HIGH")),

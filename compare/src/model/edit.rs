@@ -22,8 +22,8 @@ const JUDGING: u64 = 4;
 enum End {
     /// At an ending of its own.
     Own(Option<Refusal>),
-    /// Before the old row with this index, which stands at this place now.
-    Meets(usize, Place),
+    /// Before the old row with this index, which stands at this place now, behind so many comments.
+    Meets(usize, Place, u32),
     /// Before anything is decided.
     Short,
 }
@@ -69,9 +69,11 @@ pub fn edit(old: Lent, change: Change, start: u32, window: &[u8], room: usize) -
     let ending = match end {
         End::Short => return Told::refused(7, START),
         End::Own(ending) => ending,
-        End::Meets(index, place) => {
+        End::Meets(index, place, comments) => {
             let met = rows[index].place();
+            let first = told.len();
             told.extend(rows[index..].iter().map(|row| moved_row(row, met, place)));
+            told[first].comments = comments;
             old.ending().map(|ending| Refusal {
                 place: moved(ending.place, met, place),
                 ..ending
@@ -127,6 +129,7 @@ fn restart_in(rows: &[Row], a: u32) -> Place {
 fn look(old: &[Row], change: Change, restart: Place, window: Shown) -> (Vec<Row>, End) {
     let mut rows = Vec::new();
     let mut place = restart;
+    let mut comments = 0;
     loop {
         let shown = Shown {
             bytes: &window.bytes[(place.offset - restart.offset) as usize..],
@@ -136,23 +139,28 @@ fn look(old: &[Row], change: Change, restart: Place, window: Shown) -> (Vec<Row>
             if !shown.whole {
                 return (rows, End::Short);
             }
-            rows.push(eof(place));
+            rows.push(eof(place, comments));
             return (rows, End::Own(None));
         }
         if let Some(index) = meeting(old, change, place.offset) {
             if !opens_gap(shown.bytes) {
-                return (rows, End::Meets(index, place));
+                return (rows, End::Meets(index, place, comments));
             }
         }
         let length = match piece(shown) {
             None => return (rows, End::Short),
-            Some(Piece::Gap { length }) => length,
+            Some(Piece::Blank) => 1,
+            Some(Piece::Comment { length }) => {
+                comments += 1;
+                length
+            }
             Some(Piece::Row {
                 kind,
                 length,
                 value,
             }) => {
-                rows.push(row(place, kind, length, value));
+                rows.push(row(place, kind, length, value, comments));
+                comments = 0;
                 length
             }
             Some(Piece::Refused {

@@ -3,7 +3,8 @@
 /// What stands at the front, with its length in bytes; a refusal's place is so many bytes on.
 #[derive(Debug, Clone, Copy, PartialEq, Eq)]
 pub enum Piece {
-    Gap {
+    Blank,
+    Comment {
         length: usize,
     },
     Row {
@@ -111,7 +112,7 @@ pub fn opens_gap(bytes: &[u8]) -> bool {
 pub fn piece(shown: Shown) -> Option<Piece> {
     let first = shown.bytes[0];
     match first {
-        _ if is_blank(first) => Some(Gap { length: 1 }),
+        _ if is_blank(first) => Some(Blank),
         b'/' if shown.at(1)? == Some(b'/') => line_comment(shown),
         b'/' if shown.at(1)? == Some(b'*') => block_comment(shown),
         b'a'..=b'z' | b'A'..=b'Z' | b'_' => identifier(shown),
@@ -124,14 +125,14 @@ pub fn piece(shown: Shown) -> Option<Piece> {
 
 fn line_comment(shown: Shown) -> Option<Piece> {
     let end = shown.run(2, |byte| byte != b'\n')?;
-    Some(Gap { length: end })
+    Some(Comment { length: end })
 }
 
 fn block_comment(shown: Shown) -> Option<Piece> {
     let mut index = 2;
     loop {
         match (shown.at(index)?, shown.at(index + 1)?) {
-            (Some(b'*'), Some(b'/')) => return Some(Gap { length: index + 2 }),
+            (Some(b'*'), Some(b'/')) => return Some(Comment { length: index + 2 }),
             (_, None) => {
                 return Some(Refused {
                     number: 12,

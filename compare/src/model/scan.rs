@@ -22,10 +22,11 @@ pub fn scan(text: &[u8], room: usize) -> Told {
 pub fn read(text: &[u8]) -> (Vec<Row>, Option<Refusal>) {
     let mut rows = Vec::new();
     let mut place = START;
+    let mut comments = 0;
     loop {
         let rest = &text[place.offset as usize..];
         if rest.is_empty() {
-            rows.push(eof(place));
+            rows.push(eof(place, comments));
             return (rows, None);
         }
         let shown = Shown {
@@ -33,13 +34,18 @@ pub fn read(text: &[u8]) -> (Vec<Row>, Option<Refusal>) {
             whole: true,
         };
         let length = match piece(shown).expect("a whole text decides everything") {
-            Piece::Gap { length } => length,
+            Piece::Blank => 1,
+            Piece::Comment { length } => {
+                comments += 1;
+                length
+            }
             Piece::Row {
                 kind,
                 length,
                 value,
             } => {
-                rows.push(row(place, kind, length, value));
+                rows.push(row(place, kind, length, value, comments));
+                comments = 0;
                 length
             }
             Piece::Refused {
@@ -54,8 +60,8 @@ pub fn read(text: &[u8]) -> (Vec<Row>, Option<Refusal>) {
     }
 }
 
-/// A row of so many bytes at a place.
-pub fn row(place: Place, kind: u32, length: usize, value: i64) -> Row {
+/// A row of so many bytes at a place, with so many comments before it.
+pub fn row(place: Place, kind: u32, length: usize, value: i64, comments: u32) -> Row {
     Row {
         kind,
         start: place.offset,
@@ -63,10 +69,11 @@ pub fn row(place: Place, kind: u32, length: usize, value: i64) -> Row {
         line: place.line,
         column: place.column,
         value,
+        comments,
     }
 }
 
 /// Eof's row.
-pub fn eof(place: Place) -> Row {
-    row(place, 52, 0, 0)
+pub fn eof(place: Place, comments: u32) -> Row {
+    row(place, 52, 0, 0, comments)
 }

@@ -51,13 +51,10 @@ impl Lent<'_> {
         let Some(rows) = self.all_rows() else {
             return false;
         };
-        let eighth_words = self.rows[..rows.len() * 8]
-            .chunks_exact(8)
-            .map(|row| row[7]);
         matches!(self.table[0], 0 | 11..=17)
             && self.length() as usize <= LONGEST_TEXT
-            && eighth_words.into_iter().all(|word| word == 0)
             && rows.iter().all(is_made)
+            && gaps_hold(&rows)
             && rows
                 .windows(2)
                 .all(|pair| follows(&pair[0], pair[1].place()))
@@ -127,6 +124,13 @@ fn is_made(row: &Row) -> bool {
         _ => row.value == 0,
     };
     has_its_length && has_its_value && is_place(row.place())
+}
+
+/// Each row has at most half as many comments as its gap, from the row before it or from the text's start, has bytes.
+fn gaps_hold(rows: &[Row]) -> bool {
+    let ends = std::iter::once(0).chain(rows.iter().map(|row| row.end));
+    ends.zip(rows)
+        .all(|(end, row)| row.comments <= row.start.saturating_sub(end) / 2)
 }
 
 /// Lines and columns are 1 or more and never exceed offset + 1.

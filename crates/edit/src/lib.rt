@@ -118,14 +118,7 @@ fn is_short(old: &[u32], job: Job, window: &[u8], whole: bool) -> bool
 }
 
 // The old rows from one on, moved: what stood at that row's start stands at p, with so many comments in the gap before it.
-fn follow(
-    old: &[u32],
-    table: Table,
-    row: usize,
-    p: Cursor,
-    comments: u32,
-    tail: &mut [u32],
-) -> Tail
+fn follow(old: &[u32], table: Table, row: usize, p: Cursor, comments: u32, tail: &mut [u32]) -> Tail
     requires { ⌜ Follows (now old) table row p ⌝ }
     ensures { λ r. ⌜ (r ≡ tailTold (roomOf (now (tail .entry))) (rowsBehind (now (old .entry)) table row p comments) (endingBehind (now (old .entry)) table row p)) × (now (tail .exit) ≡ laid (rowsBehind (now (old .entry)) table row p comments) (now (tail .entry))) ⌝ }
 {
@@ -170,7 +163,10 @@ fn fill_tail(old: &[u32], job: Job, window: &[u8], whole: bool, tail: &mut [u32]
             let base = count * row::WORDS;
             let table = job.table;
             let p = spot.cursor;
-            behind(count, follow(old, table, row, p, comments, &mut tail[base..]))
+            behind(
+                count,
+                follow(old, table, row, p, comments, &mut tail[base..]),
+            )
         }
         Stop::Over(ending) => Tail::Rows(count, ending),
         Stop::Short => Tail::Full,

@@ -241,7 +241,7 @@ module _ {ws : List ℕ} {o : Olds} {t : List ℕ} {p : Cursor} {whole : Bool} {
       let q = rw at-offset at (f .there e) in
       let m : k + i - k ≡ i = omega arith in
       let d : length olds - length (drop (r .row) olds) ≡ r .row =
-          omega (arith, length-drop (r .row) olds, rows-length (o .count) ws, f .high) in
+      omega (arith, length-drop (r .row) olds, rows-length (o .count) ws, f .high) in
       over-with (Met here (r .row) c) (rw s) (ap stopOf s ∙ rw (q, d, m, g .spot))
 
   -- ---- nothing meets, no blank stands there, and r was told
@@ -357,7 +357,7 @@ module _ {ws : List ℕ} {o : Olds} {t : List ℕ} {p : Cursor} {whole : Bool} {
           let b = by-row whole (drop i t) r told-here h in
           let e = seen-by (known (row′ (b .decided))) (b .item-is) in
           let k : rowAt (placeIn p t (p .offset .0 + i)) c (r .kind) (p .offset .0 + i + r .size) (r .bits) ≡ rowOf (here .cursor) c r =
-              rw (place-here, at-offset) in
+          rw (place-here, at-offset) in
           subst (λ (j : ℕ). Stands (placed n (rowOf (here .cursor) c r) us) s j row (n + 1) 0) (sym (on-at s (r .size) z))
           (record {
             done = g .done ++ (rowOf (here .cursor) c r ∷ []);

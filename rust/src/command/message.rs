@@ -2,7 +2,7 @@
 
 use super::columns::{columns, is_mark, shows};
 use super::source::Source;
-use spoonharbor::{Reason, Refusal};
+use spoonharbor::{Place, Reason, Refusal};
 use std::io::{self, Write};
 
 /// The most cells of a source line that are shown, and how many of them stand before the place in a longer line.
@@ -18,15 +18,15 @@ pub fn refused(source: &Source, refusal: &Refusal, out: &mut impl Write) -> io::
     if refusal.reason == Reason::TextTooLong {
         return writeln!(out, "{}: {}", source.name, refusal.reason);
     }
-    writeln!(
-        out,
-        "{}:{}:{}: {}",
-        source.name,
-        refusal.place.line,
-        refusal.place.column,
-        words(&source.bytes, refusal)
-    )?;
-    let line = SourceLine::around(&source.bytes, refusal.place.offset);
+    let words = words(&source.bytes, refusal);
+    pointed(source, refusal.place, &words, out)
+}
+
+/// Prints words about a place of this source, with the line and a caret.
+pub fn pointed(source: &Source, place: Place, words: &str, out: &mut impl Write) -> io::Result<()> {
+    let (line, column) = (place.line, place.column);
+    writeln!(out, "{}:{line}:{column}: {words}", source.name)?;
+    let line = SourceLine::around(&source.bytes, place.offset);
     writeln!(out, "    {}", line.shown)?;
     writeln!(out, "    {}^", line.before_caret)
 }

@@ -1,4 +1,4 @@
-//! `spoonharbor rows`: a line for each row: its number, place, bytes, kind, spelling and value.
+//! `spoonharbor rows`: a line for each row: its number, place, bytes, kind, spelling and value, and the comments before it.
 
 use super::columns::shown;
 use spoonharbor::{Document, Kind, Refusal, Row, Table};
@@ -28,7 +28,12 @@ pub fn print_unspelt(table: &Table, out: &mut impl Write) -> io::Result<()> {
 fn print_row(number: usize, row: &Row, told: &str, out: &mut impl Write) -> io::Result<()> {
     let place = format!("{}:{}", row.line, row.column);
     let bytes = format!("{}..{}", row.start, row.end);
-    writeln!(out, "{number:>5}  {place:<9} {bytes:<13} {told}")
+    let comments = match row.comments {
+        0 => String::new(),
+        1 => ", 1 comment before".to_string(),
+        count => format!(", {count} comments before"),
+    };
+    writeln!(out, "{number:>5}  {place:<9} {bytes:<13} {told}{comments}")
 }
 
 /// The kind, and what it does not say itself.

@@ -17,21 +17,22 @@ FILE is a path, or - for standard input. Exit status: 0 all is well, 1 a text or
 ";
 
 const CHECK_USAGE: &str = "\
-usage: spoonharbor check [--] FILE..
+usage: spoonharbor check [--style] [--] FILE..
 
 Says of each file whether it is a Solnix program. A program gets one line, which counts its maps, events and units; a refused text
 gets file:line:column and the reason, the source line, and a caret below the place. Columns count bytes; the caret stands below the
-character.
+character. With --style each map of a program that has no comment above it, behind whatever stands before it, is told in the same way.
 
 FILE is a path, or - for standard input; behind -- a path may begin with -. A file that cannot be read is told on standard error, and
-the others are checked all the same. Exit status: 0 every text is a program, 1 a text is refused, 2 trouble.
+the others are checked all the same. Exit status: 0 every text is a program, and with --style in style, 1 a text is not, 2 trouble.
 ";
 
 const ROWS_USAGE: &str = "\
 usage: spoonharbor rows [--] FILE
 
-Prints a line for each row of a text: its number, line:column, the bytes from start to end, its kind, and its spelling or value where
-the kind does not say it. If the text cannot be scanned to its end, the rows up to there and the refusal are printed.
+Prints a line for each row of a text: its number, line:column, the bytes from start to end, its kind, its spelling or value where the
+kind does not say it, and how many comments stand before it, if any. If the text cannot be scanned to its end, the rows up to there and
+the refusal are printed.
 
 FILE is a path, or - for standard input; behind -- a path may begin with -.
 Exit status: 0 the text scans to its end, 1 it is refused, 2 trouble.
