@@ -266,8 +266,8 @@ enum sh_refusal {
     SH_REFUSED_TOO_DEEP = 32          /* the 65th open construct */
 };
 
-/* Whether a row kind is one of those that a refused parse tells: exactly the kinds with which some program of the grammar goes on behind the
- * rows in front, of any nesting and with the checks of 24, 26 to 29 and 31 left aside. Only 21, 22, 23, 25 and 30 tell kinds. */
+/* Whether a row kind is one of those that a refused parse tells: exactly the kinds with which some program of the grammar goes on behind
+ * the rows in front, of any nesting and with the checks of 24, 26 to 29 and 31 left aside. Only 21, 22, 23, 25 and 30 tell kinds. */
 #define SH_FITS(answer, kind) ((answer)[(kind) < 32 ? SH_FIRST : SH_SECOND] >> ((kind) % 32) & 1)
 
 /* Refusal numbers of the calls over files, beside 3 and 4; their place is 0 1 1. */
