@@ -1,6 +1,6 @@
 -- The program: its node, what both passes over the rows give, and the call's answer and memory, case by case.
 use mathlib.Core.Path.{_≡_, refl, sym, ap, _∙_, subst}
-use mathlib.Core.Bool.{not}
+use mathlib.Core.Bool.{true, not}
 use mathlib.Core.List.{List, [], _∷_, _++_}
 use Prim.Native.Nat.{ℕ, suc, _+_, _-_, _*_, _≤_, _<_}
 use native.Mathlib.Nat.{zero-add}
@@ -22,14 +22,18 @@ use Rattle.rules.specs.declared.Parsed.{Parsed}
 use Rattle.rules.specs.declared.Parsed.the-variants as parsed
 use Rattle.rules.specs.Text.{startPlace}
 use Rattle.rules.specs.Kinds.{Eof}
-use Rattle.rules.specs.Rows.{rowsIn}
-use Rattle.rules.specs.Tree.{Tok, Tree, program, isVariable, count}
+use Rattle.rules.specs.Refusals.{foundTold}
+use Rattle.rules.specs.Rows.{rowNo, rowsIn}
+use Rattle.rules.specs.Tree.{Tok, Tree, program, isVariable, isSum, hangs, count}
 use Rattle.rules.specs.Nodes.{node, missing, nodeWords, width, size, placeOf, treeWords}
 use Rattle.rules.specs.Parse
 use Rattle.rules.specs.Parse.{Out, ok, no, kindAt}
-use Rattle.rules.specs.Calls.{judged, tokens, nodeRoom, placeOfRow, outTold, outLeaves, reading, endingTold, endingLeaves, parseTold, parseLeaves}
+use Rattle.rules.specs.Grammar.{Decl, Is, i-unit, i-map, i-event}
+use Rattle.rules.specs.Calls.{judged, tokens, nodeRoom, placeOfRow, outTold, outLeaves, reading}
+use Rattle.rules.specs.Calls.{endingTold, endingLeaves, parseTold, parseLeaves}
 use Rattle.theory_grammar.proofs.Laws.{nodes-within-rows, tree-length, words-program}
-use Rattle.theory_grammar.proofs.Runs.{all-ok}
+use Rattle.theory_grammar.proofs.Runs.{All, all-ok, all-both, map-all}
+use Rattle.theory_grammar.proofs.Sound.{Reads, top-sound}
 use Rattle.theory_grammar.proofs.Ends.{Ends, ends-top, wide-top, ends-parse}
 use Rattle.theory_grammar.proofs.Refused.{refused-inside}
 use Rattle.parse_nodes.specs.Post.{kindWord, stateAt, behind, Met, Stands}
@@ -37,9 +41,10 @@ use Rattle.parse_nodes.specs.declared.At.{At}
 use Rattle.parse_nodes.specs.declared.Got.{Got}
 use Rattle.parse_nodes.specs.declared.Got.the-variants.{Done}
 use Rattle.parse_nodes.proofs.Rows.{word-test}
-use Rattle.parse_nodes.proofs.Turn.{Came, came-ends}
+use Rattle.parse_nodes.proofs.Turn.{Came, came}
 use Rattle.parse_nodes.proofs.Steps.{stands-at, mem-over}
 use Rattle.parse_nodes.proofs.Told.{names-told}
+use Rattle.parse_events.proofs.Nodes.{Flat}
 use Rattle.parse.specs.Program.{AsksWhole, readingOf, Final}
 
 -- ---- one thing of a program, and its end
@@ -48,19 +53,34 @@ use Rattle.parse.specs.Program.{AsksWhole, readingOf, Final}
 pub word-in : (ws : List ℕ) (n i : ℕ) → (kindWord ws n i ≡ Eof → ⊥) → i < n
 word-in ws n i h = word-test ws n i (λ k. not (eqb k Eof)) refl (rw (ne-eqb (kindWord ws n i) Eof h))
 
-module _ (ts : List Tok) (i n : ℕ) (m : List ℕ) (s : At) (m′ : List ℕ) where
-  pub top-came : (r : Got) → Met (Parse.top ts i) i n m m′ r → r ≡ Done s → Came (Ends ts i) ts (Parse.top ts i) i n m s m′
-  top-came r h e = came-ends ts (Parse.top ts i) i n m m′ r s (ends-top ts i) h e
+-- where a declaration ends; behind none of them may an `else` stand
+abbrev pub TopEnds : List Tok → ℕ → Tree → ℕ → Type 0
+TopEnds ts i t j = Ends ts i t j × Flat t
 
-  pub top-up : Came (Ends ts i) ts (Parse.top ts i) i n m s m′ → i < s .row
+flat-top : {d : ℕ} {t : Tree} → Is true Decl d t → Flat t
+unfolding hangs
+flat-top (i-unit l) = refl
+flat-top (i-map l k) = refl
+flat-top (i-event l) = refl
+
+top-ends : (ts : List Tok) (i : ℕ) → All (TopEnds ts i) (Parse.top ts i)
+top-ends ts i =
+    all-both (Ends ts i) (λ t j. Flat t) (Parse.top ts i) (ends-top ts i)
+    (map-all (Reads ts Decl 64 i) (λ t j. Flat t) (Parse.top ts i) (top-sound ts i) (λ t j r. flat-top (r .is)))
+
+module _ (ts : List Tok) (i n : ℕ) (m : List ℕ) (s : At) (m′ : List ℕ) where
+  pub top-came : (r : Got) → Met (Parse.top ts i) i n m m′ r → r ≡ Done s → Came (TopEnds ts i) ts (Parse.top ts i) i n m s m′
+  top-came r h e = came (TopEnds ts i) ts (Parse.top ts i) i n m m′ r s (top-ends ts i) (λ t j f. f .0) h e
+
+  pub top-up : Came (TopEnds ts i) ts (Parse.top ts i) i n m s m′ → i < s .row
   top-up v = omega (arith, all-ok (λ t j. 1 ≤ width t) (Parse.top ts i) (v .tree) (s .row) (wide-top ts i) (v .is), v .stands .rows)
 
 pub stands-program : (m m₁ m₂ : List ℕ) (s s′ : At) (t : Tree) → Stands 0 0 t m s m₁
     → s′ ≡ stateAt (s .row + 1) (s .node + 1) (s .row) → m₂ ≡ sets m₁ (8 * s .node) (nodeWords (node 29 (s .row) missing (s .things)))
     → Stands 0 0 (program t) m s′ m₂
-unfolding width size placeOf isVariable count
+unfolding width size placeOf isVariable isSum hangs count
 stands-program m m₁ m₂ s s′ t a e q =
-    stands-at 0 0 (program t) m m₂ s′ e (omega (arith, a .rows)) (omega (arith, a .nodes)) (a .rows) refl refl
+    stands-at 0 0 (program t) m m₂ s′ e (omega (arith, a .rows)) (omega (arith, a .nodes)) (a .rows) refl refl refl refl
     (rw (words-program 0 t, ← a .rows, ← a .things) (mem-over m 0 0 t s m₁ a m₂ (nodeWords (node 29 (s .row) missing (s .things))) q))
 
 -- ---- two passes
@@ -79,7 +99,11 @@ pub record Wrote (o : Out) (s : At) : Type 0 where
 pub wrote : (o : Out) (m m′ : List ℕ) (r : Got) (s : At) → Met o 0 0 m m′ r → r ≡ Done s → Wrote o s
 wrote (ok t j) m m′ r s h e =
     let q : s ≡ behind 0 0 t j = cc (h .0, e) in
-    record { tree = t; is = ap (λ (x : ℕ). ok t x) (sym (ap (λ (x : At). x .row) q)); node = ap (λ (x : At). x .node) q ∙ zero-add (size t) }
+    record {
+      tree = t;
+      is = ap (λ (x : ℕ). ok t x) (sym (ap (λ (x : At). x .row) q));
+      node = ap (λ (x : At). x .node) q ∙ zero-add (size t);
+    }
 wrote (no why p) m m′ r s h e = let z : _≡_ {A = ℕ} 0 1 = cc (h, e) in absurd (omega arith)
 
 -- what stands behind its words
@@ -89,15 +113,17 @@ written m t h =
     sets-eq (treeWords 0 t) m 0 (omega arith) ∙ ap (λ (k : ℕ). treeWords 0 t ++ drop k m) (zero-add (length (treeWords 0 t)) ∙ n)
 
 module _ (ws : List ℕ) (o : Out) (m m′ : List ℕ) where
-  pub final-ok : (t : Tree) (j x : ℕ) (r : Got) → o ≡ ok t j → x ≡ size t → 8 * size t ≤ length m → Met o 0 0 m m′ r → Final ws o m m′ (parsed.Nodes x)
+  pub final-ok : (t : Tree) (j x : ℕ) (r : Got) → o ≡ ok t j → x ≡ size t → 8 * size t ≤ length m → Met o 0 0 m m′ r
+      → Final ws o m m′ (parsed.Nodes x)
   unfolding outTold outLeaves
   final-ok t j x r e q h met =
       let w : Met (ok t j) 0 0 m m′ r = subst (λ (y : Out). Met y 0 0 m m′ r) e met in
       rw e (ap parsed.Nodes q, w .1 ∙ written m t h)
 
-  pub final-no : (why : Syntax) (p : ℕ) (x : Cursor) → o ≡ no why p → x ≡ placeOfRow ws p → m′ ≡ m → Final ws o m m′ (parsed.Refused (reason.Syntax why) x)
+  pub final-no : (why : Syntax) (p : ℕ) (x : Cursor) (k : ℕ) → o ≡ no why p → x ≡ placeOfRow ws p → k ≡ foundTold why (rowNo ws p .kind) → m′ ≡ m
+      → Final ws o m m′ (parsed.Refused (reason.Syntax why) x k)
   unfolding outTold outLeaves
-  final-no why p x e q k = rw e (ap (parsed.Refused (reason.Syntax why)) q, k)
+  final-no why p x k e q f s = rw e ((λ j. parsed.Refused (reason.Syntax why) (q j) (f j)), s)
 
 -- ---- a whole table
 
@@ -134,20 +160,22 @@ module _ (t ws : List ℕ) (tbl : Table) (m : List ℕ) where
   abbrev pub Whole : Parsed → List ℕ → Type 0
   Whole r m′ = (r ≡ parseTold t ws tbl (nodeRoom m)) × (m′ ≡ parseLeaves t ws tbl m)
 
-  pub whole-refused : (why : Outer) (p : Cursor) → judged t ws tbl ≡ verdict.Refused why p → Whole (parsed.Refused (reason.Outer why) p) m
+  pub whole-refused : (why : Outer) (p : Cursor) → judged t ws tbl ≡ verdict.Refused why p → Whole (parsed.Refused (reason.Outer why) p 0) m
   unfolding parseTold parseLeaves
   whole-refused why p e = rw (parseTold, parseLeaves, e) (refl, refl)
 
   module _ (fine : judged t ws tbl ≡ verdict.Fine) where
-    pub whole-ending : (why : Lexical) (p : Cursor) → tbl .ending ≡ ending.Refused why p → Whole (parsed.Refused (reason.Lexical why) p) m
+    pub whole-ending : (why : Lexical) (p : Cursor) → tbl .ending ≡ ending.Refused why p → Whole (parsed.Refused (reason.Lexical why) p 0) m
     unfolding parseTold parseLeaves endingTold endingLeaves
     whole-ending why p e = rw (parseTold, parseLeaves, fine) (rw (endingTold, endingLeaves, e) (refl, refl))
 
     module _ (e : tbl .ending ≡ ending.None) where
-      pub whole-tight : nodeRoom m < tbl .count → (r : Parsed) → r ≡ parsed.Refused (reason.Outer NoNodeRoom) startPlace → Whole r m
+      pub whole-tight : nodeRoom m < tbl .count → (r : Parsed) → r ≡ parsed.Refused (reason.Outer NoNodeRoom) startPlace 0 → Whole r m
       unfolding parseTold parseLeaves endingTold endingLeaves
-      whole-tight h r q = rw (parseTold, parseLeaves, fine) (rw (endingTold, endingLeaves, e) (rw (lt-ltb (nodeRoom m) (tbl .count) h) (q, refl)))
+      whole-tight h r q =
+          rw (parseTold, parseLeaves, fine) (rw (endingTold, endingLeaves, e) (rw (lt-ltb (nodeRoom m) (tbl .count) h) (q, refl)))
 
       pub whole-read : tbl .count ≤ nodeRoom m → (r : Parsed) (m′ : List ℕ) → Final ws (readingOf t ws (tbl .count)) m m′ r → Whole r m′
       unfolding parseTold parseLeaves endingTold endingLeaves reading
-      whole-read h r m′ f = rw (parseTold, parseLeaves, fine) (rw (endingTold, endingLeaves, e) (rw (le-ltb (nodeRoom m) (tbl .count) h) f))
+      whole-read h r m′ f =
+          rw (parseTold, parseLeaves, fine) (rw (endingTold, endingLeaves, e) (rw (le-ltb (nodeRoom m) (tbl .count) h) f))

@@ -1,4 +1,6 @@
 -- What the proofs of the circle share.
 pub mod Trees
 pub mod Lone
-pub mod Loops
+pub mod Given
+pub mod Ladder
+pub mod Lists

@@ -46,7 +46,8 @@ module _ (ts : List Tok) (g : Sort → P) (i : ℕ) where
   unfolding Parse.atom Parse.atomBy Parse.lead leafOf
   atom-leaf b =
       either-kind
-      (λ x. Parse.atomBy ts g (Parse.lead x) i ≡ ok (cond (eqb x Number) (num (bitsIn (tokAt ts i))) (var (spellingOf (tokAt ts i)))) (i + 1))
+      (λ x. Parse.atomBy ts g (Parse.lead x) i
+      ≡ ok (cond (eqb x Number) (num (bitsIn (tokAt ts i))) (var (spellingOf (tokAt ts i)))) (i + 1))
       (kindAt ts i) Identifier Number b refl refl
 
   -- an atom with neither a dot nor an operator behind it

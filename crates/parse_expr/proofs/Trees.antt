@@ -9,17 +9,23 @@ use lib.Seq.{sets}
 use Rattle.rules.specs.declared.Syntax.the-variants.{CallOnOther}
 use Rattle.rules.specs.Kinds.{Number}
 use Rattle.rules.specs.Tree.{Tok, bitsIn, Tree, none, num, var, star, group, field, call, bin, one, more, isVariable, isSum, hangs, count}
-use Rattle.rules.specs.Nodes.{NodeVariable, NodeNumber, NodeDereference, NodeCall, NodeField, node, factNode, missing, width, size, placeOf, binaryNode, nodeWords}
+use Rattle.rules.specs.Nodes.{NodeVariable, NodeNumber, NodeDereference, NodeCall, node, factNode, missing, width, size, placeOf, nodeWords}
 use Rattle.rules.specs.Parse
-use Rattle.rules.specs.Parse.{ok, no, pick, tokAt, isAdd}
-use Rattle.theory_grammar.proofs.Laws.{words-none, words-num, words-var, words-star, words-group, words-field, words-call, words-bin, words-one, words-more}
-use Rattle.parse_nodes.specs.Post.{kindWord, Tells, stateAt, variableAt, joinedAt, countedAt, Met, Stands}
+use Rattle.rules.specs.Parse.{ok, no, pick, tokAt}
+use Rattle.theory_grammar.proofs.Laws.{words-none, words-num, words-var, words-star, words-group, words-field, words-call}
+use Rattle.theory_grammar.proofs.Laws.{words-bin, words-one, words-more}
+use Rattle.parse_nodes.specs.Post.{kindWord, Tells, stateAt, variableAt, countedAt, Met, Stands}
 use Rattle.parse_nodes.specs.declared.At.{At}
 use Rattle.parse_nodes.specs.declared.Got.{Got}
 use Rattle.parse_nodes.proofs.Rows.{tells-value, word-at, word-here, low-word, high-word}
 use Rattle.parse_nodes.proofs.Turn.{met-ok}
 use Rattle.parse_nodes.proofs.Steps.{stands-at, mem-over, mem-both, mem-join}
-use Rattle.parse_expr.specs.Calls.{CallEnd}
+use Rattle.parse_expr.specs.Written.{CallEnd, FieldEnd, Joint}
+
+-- the state behind a group, from the one in front of its `)`
+abbrev pub groupAt : At → At
+groupAt s =
+    record { row = s .row + 1; node = s .node; place = s .place; things = 0; variable = s .variable; summed = false; hanging = false }
 
 -- ---- the state and the memory behind a tree
 
@@ -56,12 +62,12 @@ module _ (i n : ℕ) (m m₁ : List ℕ) (s : At) where
         stands-at i n (star t) m m₂ s₂ e (omega (arith, a .rows)) (omega (arith, a .nodes)) (a .place) refl refl refl refl
         (rw (words-star i t, ← a .place) (mem-over m (i + 1) n t s m₁ a m₂ _ q))
 
-    pub stands-field : (w : List ℕ) → Stands i n t m s m₁ → s₂ ≡ stateAt (s .row + 1 + 1) (s .node + 1) (s .row + 1)
-        → m₂ ≡ sets m₁ (8 * s .node) (nodeWords (node NodeField (s .row + 1) (s .row + 1) 1)) → Stands i n (field t w) m s₂ m₂
+    pub stands-field : (w : List ℕ) → Stands i n t m s m₁ → FieldEnd s m₁ m₂ s₂ → Stands i n (field t w) m s₂ m₂
     unfolding width size placeOf isVariable isSum hangs count
-    stands-field w a e q =
-        stands-at i n (field t w) m m₂ s₂ e (omega (arith, a .rows)) (omega (arith, a .nodes)) (omega (arith, a .rows)) refl refl refl refl
-        (rw (words-field i t w, ← a .rows) (mem-over m i n t s m₁ a m₂ _ q))
+    stands-field w a e =
+        stands-at i n (field t w) m m₂ s₂ (e .state) (omega (arith, a .rows)) (omega (arith, a .nodes)) (omega (arith, a .rows))
+        refl refl refl refl
+        (rw (words-field i t w, ← a .rows) (mem-over m i n t s m₁ a m₂ _ (e .memory)))
 
     pub stands-bare : (w : List ℕ) → Stands i n t m s m₁ → s₂ ≡ stateAt (s .row + 1 + 1 + 1 + 1) (s .node + 1) (s .place)
         → m₂ ≡ sets m₁ (8 * s .node) (nodeWords (node NodeCall (s .place) (s .row + 1) (0 + 1))) → Stands i n (call t w none) m s₂ m₂
@@ -72,32 +78,33 @@ module _ (i n : ℕ) (m m₁ : List ℕ) (s : At) where
 
     module _ (u : Tree) (s₃ : At) (m₃ : List ℕ) where
       -- two operands and an operator's row between them
-      pub stands-bin : (k : ℕ) → Stands i n t m s m₁ → Stands (s .row + 1) (s .node) u m₁ s₂ m₂
-          → s₃ ≡ joinedAt (s₂ .row) (s₂ .node + 1) (s .place) (isAdd k)
-          → m₃ ≡ sets m₂ (8 * s₂ .node) (nodeWords (node (binaryNode k) (s .place) missing 2)) → Stands i n (bin k t u) m s₃ m₃
+      pub stands-bin : (k : ℕ) → Stands i n t m s m₁ → Stands (s .row + 1) (s .node) u m₁ s₂ m₂ → Joint s s₂ k m₂ m₃ s₃
+          → Stands i n (bin k t u) m s₃ m₃
       unfolding width size placeOf isVariable isSum hangs count
-      stands-bin k a b e q =
-          stands-at i n (bin k t u) m m₃ s₃ e (omega (arith, a .rows, b .rows)) (omega (arith, a .nodes, b .nodes)) (a .place) refl refl refl refl
-          (rw (words-bin i k t u, ← a .rows, ← a .place) (mem-both m i n t s m₁ a (s .row + 1) u s₂ m₂ b m₃ _ q))
+      stands-bin k a b e =
+          stands-at i n (bin k t u) m m₃ s₃ (e .state) (omega (arith, a .rows, b .rows)) (omega (arith, a .nodes, b .nodes)) (a .place)
+          refl refl refl refl
+          (rw (words-bin i k t u, ← a .rows, ← a .place) (mem-both m i n t s m₁ a (s .row + 1) u s₂ m₂ b m₃ _ (e .memory)))
 
       -- a receiver and arguments
       pub stands-call : (w : List ℕ) → Stands i n t m s m₁ → Stands (s .row + 1 + 1 + 1) (s .node) u m₁ s₂ m₂
           → s₃ ≡ stateAt (s₂ .row + 1) (s₂ .node + 1) (s .place)
-          → m₃ ≡ sets m₂ (8 * s₂ .node) (nodeWords (node NodeCall (s .place) (s .row + 1) (s₂ .things + 1))) → Stands i n (call t w u) m s₃ m₃
+          → m₃ ≡ sets m₂ (8 * s₂ .node) (nodeWords (node NodeCall (s .place) (s .row + 1) (s₂ .things + 1)))
+          → Stands i n (call t w u) m s₃ m₃
       unfolding width size placeOf isVariable isSum hangs count
       stands-call w a b e q =
           let r : i + width t + 3 ≡ s .row + 1 + 1 + 1 = omega (arith, a .rows) in
-          stands-at i n (call t w u) m m₃ s₃ e (omega (arith, a .rows, b .rows)) (omega (arith, a .nodes, b .nodes)) (a .place) refl refl refl refl
+          stands-at i n (call t w u) m m₃ s₃ e (omega (arith, a .rows, b .rows)) (omega (arith, a .nodes, b .nodes)) (a .place)
+          refl refl refl refl
           (rw (words-call i t w u, r, ← a .rows, ← a .place, ← b .things) (mem-both m i n t s m₁ a (s .row + 1 + 1 + 1) u s₂ m₂ b m₃ _ q))
 
   -- trees that write no node of their own: a group, a first argument, arguments and one more
   module _ (t : Tree) (s₂ : At) where
-    pub stands-group : Stands (i + 1) n t m s m₁
-        → s₂ ≡ record { row = s .row + 1; node = s .node; place = s .place; things = 0; variable = s .variable; summed = false; hanging = false }
-        → Stands i n (group t) m s₂ m₁
+    pub stands-group : Stands (i + 1) n t m s m₁ → s₂ ≡ groupAt s → Stands i n (group t) m s₂ m₁
     unfolding width size placeOf isVariable isSum hangs count
     stands-group a e =
-        stands-at i n (group t) m m₁ s₂ e (omega (arith, a .rows)) (a .nodes) (a .place) refl (a .variable) refl refl (rw (words-group i t) (a .mem))
+        stands-at i n (group t) m m₁ s₂ e (omega (arith, a .rows)) (a .nodes) (a .place) refl (a .variable) refl refl
+        (rw (words-group i t) (a .mem))
 
     pub stands-one : Stands i n t m s m₁ → s₂ ≡ countedAt s (s .place) 1 → Stands i n (one t) m s₂ m₁
     unfolding width size placeOf isVariable isSum hangs count

@@ -1,6 +1,6 @@
 // Expressions. The functions from `add` to `args` call each other in a circle, the rest of the nesting limit and the rows falling:
-// add = shift (('+'|'-') mul)*, shift = mul (('<<'|'>>') mul)* (one loop serves both), mul = unary (('*'|'/'|'%') unary)*, unary = '*' unary | prim,
-// prim = (Number | Identifier | '(' add ')') ('.' Identifier ['(' [add (',' add)*] ')'])*.
+// add = shift (('+'|'-') mul)*, shift = mul (('<<'|'>>') mul)* (one loop serves both), mul = unary (('*'|'/'|'%') unary)*,
+// unary = '*' unary | prim, prim = (Number | Identifier | '(' add ')') ('.' Identifier ['(' [add (',' add)*] ')'])*.
 use parse_nodes::At;
 use parse_nodes::Got;
 use rules::Syntax;
@@ -27,11 +27,10 @@ ghost use mathlib.Core.Path.{_≡_};
 ghost use mathlib.Core.Bool.{not, _&&_, _||_};
 ghost use Prim.Native.Nat.{_+_, _*_, _≤_, _<_};
 ghost use lib.ListN.{length};
-ghost use lib.Seq.{sets};
-ghost use Rattle.rules.specs.Nodes.{NodeField, binaryNode, node, nodeWords, missing};
+ghost use Rattle.rules.specs.Nodes.{binaryNode};
 ghost use Rattle.rules.specs.Parse.{isAdd, isShift, isMul, inner, atom, prim, unary, mul, add, args, post};
-ghost use Rattle.parse_nodes.specs.Post.{kindWord, stateAt, joinedAt, Answers, Onward, Asks, AsksAt, AsksOpen};
-ghost use Rattle.parse_expr.specs.Calls.{CallEnd};
+ghost use Rattle.parse_nodes.specs.Post.{kindWord, Answers, Onward, Asks, AsksAt, AsksOpen};
+ghost use Rattle.parse_expr.specs.Written.{CallEnd, FieldEnd, Joint};
 ghost use Rattle.parse_expr.specs.Lone.{isLone, Leaf};
 
 // Whether a row's kind is `+` or `-`, which stand side by side among the kinds.
@@ -94,7 +93,7 @@ fn call_end(nodes: &mut [u32], s: At, m: u32, count: u32, next: u32) -> Got
 // The state behind a field of what s stands behind, at the dot.
 fn field_end(nodes: &mut [u32], s: At) -> At
     requires { ⌜ (s .row ≤ 65535) × (s .node ≤ 65537) ⌝ }
-    ensures { λ r. ⌜ (r ≡ stateAt (s .row + 1 + 1) (s .node + 1) (s .row + 1)) × (now (nodes .exit) ≡ sets (now (nodes .entry)) (8 * s .node) (nodeWords (node NodeField (s .row + 1) (s .row + 1) 1))) ⌝ }
+    ensures { λ r. ⌜ FieldEnd s (now (nodes .entry)) (now (nodes .exit)) r ⌝ }
 {
     let name = s.row + 1;
     let n = s.node;
@@ -147,7 +146,7 @@ fn joins(k: u32, summed: bool) -> bool
 // The state behind the operator k with its operands: the first ends at s, the second at t.
 fn joined(nodes: &mut [u32], s: At, t: At, k: u32) -> At
     requires { ⌜ t .node ≤ 65537 ⌝ }
-    ensures { λ r. ⌜ (r ≡ joinedAt (t .row) (t .node + 1) (s .place) (isAdd k)) × (now (nodes .exit) ≡ sets (now (nodes .entry)) (8 * t .node) (nodeWords (node (binaryNode k) (s .place) missing 2))) ⌝ }
+    ensures { λ r. ⌜ Joint s t k (now (nodes .entry)) (now (nodes .exit)) r ⌝ }
 {
     let n = t.node;
     parse_nodes::close(nodes, n, binary_node(k), s.place, MISSING, 2);
@@ -333,7 +332,8 @@ fn post(rows: &[u32], count: u32, nodes: &mut [u32], s: At, left: usize) -> Got
             let close = a.row;
             if parse_nodes::kind_at(rows, count, close) != RPAREN {
                 let why = parse_nodes::unended(rows, count, a, fits::ARGUMENT_ENDS);
-                return Got::Refused(why, close as usize);
+                let at = close as usize;
+                return Got::Refused(why, at);
             }
             call_end(nodes, s, a.node, a.things, close + 1)
         }

@@ -10,7 +10,19 @@ use Rattle.parse.proofs.Whole.{whole-refused, whole-ending, whole-tight
 use Rattle.parse.proofs.parse.Statement.{statement}
 use Rattle.parse.proofs.parse.Tie as tie
 
-well : (c : tie.After-enum-told) → judged (c .before .before .before .before .before .before .args .text .now) (c .before .before .before .before .before .before .args .rows .now) (c .before .before .before .before .before .before .args .table) ≡ verdict.Fine
+-- ---- the places on the way, as they are seen from the function's entry
+
+abbrev start : tie.After-judge → tie.Start
+start c = c .before .before .before .before
+
+abbrev entry : tie.After-enum-told → tie.Start
+entry c = start (c .before .before)
+
+abbrev unrefused : tie.After-enum-told2 → tie.After-enum-told
+unrefused c = c .before .before
+
+-- the table is well formed
+well : (c : tie.After-enum-told) → judged (entry c .args .text .now) (entry c .args .rows .now) (entry c .args .table) ≡ verdict.Fine
 well c = sym (c .before .before .judge .ensures) ∙ c .enum-told .given .1
 
 judge-requires : tie.Need-judge-requires
@@ -21,8 +33,10 @@ enum-known-why c = search needs
 
 returns : tie.Need-returns
 returns c =
-    let a = c .before .before .before .before .before .before .before .args in
-    whole-refused (a .text .now) (a .rows .now) (a .table) (a .nodes .now) (c .before .why .given .0 .0) (c .before .why .given .0 .1 .0) (sym (c .before .before .before .judge .ensures) ∙ c .before .why .given .1)
+    let j = c .before .before .before in
+    let a = start j .args in
+    let y = c .before .why .given in
+    whole-refused (a .text .now) (a .rows .now) (a .table) (a .nodes .now) (y .0 .0) (y .0 .1 .0) (sym (j .judge .ensures) ∙ y .1)
 
 enum-told : tie.Need-enum-told
 enum-told c = search needs
@@ -32,8 +46,10 @@ enum-known-ending c = search needs
 
 returns-2 : tie.Need-returns-2
 returns-2 c =
-    let a = c .before .before .before .before .before .before .before .before .before .args in
-    whole-ending (a .text .now) (a .rows .now) (a .table) (a .nodes .now) (well (c .before .before .before)) (c .before .ending .given .0 .0) (c .before .ending .given .0 .1 .0) (c .before .ending .given .1)
+    let d = c .before .before .before in
+    let a = entry d .args in
+    let y = c .before .ending .given in
+    whole-ending (a .text .now) (a .rows .now) (a .table) (a .nodes .now) (well d) (y .0 .0) (y .0 .1 .0) (y .1)
 
 enum-told-2 : tie.Need-enum-told-2
 enum-told-2 c = search needs
@@ -47,15 +63,19 @@ outer-requires c κs = search needs
 returns-3 : tie.Need-returns-3
 unfolding nodeRoom
 returns-3 c =
-    let a = c .before .before .before .before .before .before .before .before .before .before .before .args in
-    whole-tight (a .text .now) (a .rows .now) (a .table) (a .nodes .now) (well (c .before .before .before .before .before)) (c .before .before .before .enum-told2 .given .1) (c .before .if1 .taken) _ (c .outer .ensures)
+    let e = c .before .before .before in
+    let d = unrefused e in
+    let a = entry d .args in
+    whole-tight (a .text .now) (a .rows .now) (a .table) (a .nodes .now) (well d) (e .enum-told2 .given .1) (c .before .if1 .taken) _ (c .outer .ensures)
 
 twice-requires : tie.Need-twice-requires
 unfolding nodeRoom
 twice-requires c κs =
-    let a = c .before .before .before .before .before .before .before .before .before .before .before .args in
-    let w = judged-fine (a .text .now) (a .rows .now) (a .table) (well (c .before .before .before .before .before)) in
-    asks-whole (fine (a .rows .now) (a .table) (w .0)) (a .text .now) (w .1) (c .before .before .before .enum-told2 .given .1) (a .nodes .now) (c .before .if1 .left)
+    let e = c .before .before .before in
+    let d = unrefused e in
+    let a = entry d .args in
+    let w = judged-fine (a .text .now) (a .rows .now) (a .table) (well d) in
+    asks-whole (fine (a .rows .now) (a .table) (w .0)) (a .text .now) (w .1) (e .enum-told2 .given .1) (a .nodes .now) (c .before .if1 .left)
 
 same-length : tie.Need-same-length
 same-length c = search needs
@@ -63,8 +83,12 @@ same-length c = search needs
 returns-4 : tie.Need-returns-4
 unfolding nodeRoom
 returns-4 c =
-    let a = c .before .before .before .before .before .before .before .before .before .before .before .before .before .before .args in
-    whole-read (a .text .now) (a .rows .now) (a .table) (a .nodes .now) (well (c .before .before .before .before .before .before .before .before)) (c .before .before .before .before .before .before .enum-told2 .given .1) (c .before .before .before .before .if1 .left) _ _ (c .before .before .twice .ensures)
+    let t = c .before .before in
+    let r = t .before .before in
+    let e = r .before .before in
+    let d = unrefused e in
+    let a = entry d .args in
+    whole-read (a .text .now) (a .rows .now) (a .table) (a .nodes .now) (well d) (e .enum-told2 .given .1) (r .if1 .left) _ _ (t .twice .ensures)
 
 pub parse-spec : {M : Type 1} → statement M
 parse-spec =

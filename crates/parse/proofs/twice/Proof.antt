@@ -1,14 +1,15 @@
 -- `parse::twice` meets its contract: the first pass, into no memory, says what the second will answer.
 use mathlib.Core.Path.{_≡_, ap, subst, _∙_}
-use mathlib.Core.List.{List}
+use mathlib.Core.List.{List, _++_}
 use Prim.Native.Nat.{ℕ, _≤_}
 use native.Mathlib.Omega.{arith}
 use lib.ListN.{length}
 use lib.Seq.{length-take-le}
-use Rattle.rules.specs.Rows.{rowPlace}
-use Rattle.rules.specs.Calls.{nodeRoom, placeOfRow}
 use borrow.Author.Needs.{needs}
-use Rattle.rules.specs.Parse.{no}
+use Rattle.rules.specs.Refusals.{foundTold}
+use Rattle.rules.specs.Rows.{Row, rowPlace}
+use Rattle.rules.specs.Calls.{nodeRoom, placeOfRow}
+use Rattle.rules.specs.Parse.{Out, no}
 use Rattle.parse_nodes.specs.Post.{Met}
 use Rattle.parse_nodes.proofs.Turn.{refused}
 use Rattle.parse_nodes.proofs.Told.{names-told}
@@ -17,15 +18,37 @@ use Rattle.parse.proofs.Whole.{none-written, Wrote, wrote, final-ok, fi
 use Rattle.parse.proofs.twice.Statement.{statement}
 use Rattle.parse.proofs.twice.Tie as tie
 
-first : (c : tie.After-t) → Wrote (readingOf (c .before .before .before .before .before .before .before .before .before .args .text .now) (c .before .before .before .before .before .before .before .before .before .args .rows .now) (c .before .before .before .before .before .before .before .before .before .args .count)) (c .t .given .0 .0)
-first c =
-    let a = c .before .before .before .before .before .before .before .before .before .args in
-    wrote _ _ (c .before .before .before .before .program .last .1 .1 .1 .0) (c .before .before .before .before .program .result) (c .t .given .0 .0) (c .before .before .before .before .program .ensures _ (names-told (a .text .now) (a .rows .now) (a .count))) (c .t .given .1)
+-- ---- the places on the way, as they are seen from the function's entry
 
-stopped : (c : tie.After-why) → readingOf (c .before .before .before .before .before .before .before .before .before .args .text .now) (c .before .before .before .before .before .before .before .before .before .args .rows .now) (c .before .before .before .before .before .before .before .before .before .args .count) ≡ no (c .why .given .0 .0) (c .why .given .0 .1 .0)
+abbrev start : tie.After-program → tie.Start
+start c = c .before .before .before .before .before
+
+abbrev behind-first : tie.After-t → tie.After-program
+behind-first c = c .before .before .before .before
+
+abbrev stopping : tie.After-why → tie.After-program
+stopping c = c .before .before .before .before
+
+-- what the reading of the rows gives
+abbrev whole : tie.Start → Out
+whole s = readingOf (s .args .text .now) (s .args .rows .now) (s .args .count)
+
+first : (c : tie.After-t) → Wrote (whole (start (behind-first c))) (c .t .given .0 .0)
+first c =
+    let p = behind-first c .program in
+    let a = start (behind-first c) .args in
+    wrote _ _ (p .last .1 .1 .1 .0) (p .result) (c .t .given .0 .0) (p .ensures _ (names-told (a .text .now) (a .rows .now) (a .count))) (c .t .given .1)
+
+stopped : (c : tie.After-why) → whole (start (stopping c)) ≡ no (c .why .given .0 .0) (c .why .given .0 .1 .0)
 stopped c =
-    let a = c .before .before .before .before .before .before .before .before .before .args in
-    refused _ 0 0 _ (c .before .before .before .before .program .last .1 .1 .1 .0) (c .before .before .before .before .program .result) (c .why .given .0 .0) (c .why .given .0 .1 .0) (c .before .before .before .before .program .ensures _ (names-told (a .text .now) (a .rows .now) (a .count))) (c .why .given .1)
+    let p = stopping c .program in
+    let a = start (stopping c) .args in
+    let y = c .why .given in
+    refused _ 0 0 _ (p .last .1 .1 .1 .0) (p .result) (y .0 .0) (y .0 .1 .0) (p .ensures _ (names-told (a .text .now) (a .rows .now) (a .count))) (y .1)
+
+-- the first pass leaves node memory as it was
+untouched : (c : tie.After-program) → c .program .last .1 .1 .1 .0 ++ start c .args .nodes .now ≡ start c .args .nodes .now
+untouched c = none-written (c .program .last .1 .1 .1 .0) (start c .args .nodes .now) (c .program .kept .1 .1 .1 .0)
 
 -- There is room for a node: what rules out a first pass that writes one is the promise, not a bound.
 room-for-one : (c : tie.After-slice-known) → 8 ≤ length (c .before .before .before .args .nodes .now)
@@ -52,11 +75,17 @@ enum-known-why c = search needs
 
 row-at-requires : tie.Need-row-at-requires
 row-at-requires c κs =
-    let a = c .before .before .before .before .before .before .before .before .before .before .args in
-    refused-in (a .text .now) (a .rows .now) (a .count) (a .nodes .now) (c .before .before .before .before .before .before .before .before .before .before .pre) (c .before .why .given .0 .0) (c .before .why .given .0 .1 .0) (stopped (c .before))
+    let w = c .before in
+    let s = start (stopping w) in
+    let a = s .args in
+    let y = w .why .given in
+    refused-in (a .text .now) (a .rows .now) (a .count) (a .nodes .now) (s .pre) (y .0 .0) (y .0 .1 .0) (stopped w)
 
 row-place-requires : tie.Need-row-place-requires
 row-place-requires c κs = search needs
+
+found-told-requires : tie.Need-found-told-requires
+found-told-requires c κs = search needs
 
 same-length : tie.Need-same-length
 same-length c = search needs
@@ -64,15 +93,13 @@ same-length c = search needs
 returns : tie.Need-returns
 returns c =
     let w = c .before .before .before .before .before in
-    let a = w .before .before .before .before .before .before .before .before .before .args in
-    let p = w .before .before .before .before .program in
+    let s = start (behind-first w) in
+    let a = s .args in
     let q = c .before .before .program2 in
     let v = first w in
-    let n = none-written (p .last .1 .1 .1 .0) (a .nodes .now) (p .kept .1 .1 .1 .0) in
-    let s = w .before .before .before .before .before .before .before .before .before .pre in
-    final-ok (a .rows .now) (readingOf (a .text .now) (a .rows .now) (a .count)) (a .nodes .now) _ (v .tree) (w .t .given .0 .0 .row) _ (q .result) (v .is)
-    (v .node) (room-fits (a .text .now) (a .rows .now) (a .count) (a .nodes .now) s (v .tree) _ (v .is))
-    (subst (λ (x : List ℕ). Met (readingOf (a .text .now) (a .rows .now) (a .count)) 0 0 x (q .last .1 .1 .1 .0) (q .result)) n
+    final-ok (a .rows .now) (whole s) (a .nodes .now) _ (v .tree) (w .t .given .0 .0 .row) _ (q .result) (v .is) (v .node)
+    (room-fits (a .text .now) (a .rows .now) (a .count) (a .nodes .now) (s .pre) (v .tree) _ (v .is))
+    (subst (λ (x : List ℕ). Met (whole s) 0 0 x (q .last .1 .1 .1 .0) (q .result)) (untouched (behind-first w))
     (q .ensures _ (names-told (a .text .now) (a .rows .now) (a .count))))
 
 same-length-2 : tie.Need-same-length-2
@@ -81,10 +108,15 @@ same-length-2 c = search needs
 returns-2 : tie.Need-returns-2
 unfolding placeOfRow
 returns-2 c =
-    let w = c .before .before .before in
-    let a = w .before .before .before .before .before .before .before .before .before .args in
-    let p = w .before .before .before .before .program in
-    final-no (a .rows .now) (readingOf (a .text .now) (a .rows .now) (a .count)) (a .nodes .now) _ (w .why .given .0 .0) (w .why .given .0 .1 .0) _ (stopped w) (c .row-place .ensures ∙ ap rowPlace (c .before .row-at .ensures)) (none-written (p .last .1 .1 .1 .0) (a .nodes .now) (p .kept .1 .1 .1 .0))
+    let r = c .before .before .row-at in
+    let w = c .before .before .before .before in
+    let s = start (stopping w) in
+    let a = s .args in
+    let y = w .why .given in
+    final-no (a .rows .now) (whole s) (a .nodes .now) _ (y .0 .0) (y .0 .1 .0) _ _ (stopped w)
+    (c .before .row-place .ensures ∙ ap rowPlace (r .ensures))
+    (c .found-told .ensures ∙ ap (λ (x : Row). foundTold (y .0 .0) (x .kind)) (r .ensures))
+    (untouched (stopping w))
 
 pub twice-spec : {M : Type 1} → statement M
 twice-spec =
@@ -98,6 +130,7 @@ twice-spec =
     enum-known-why
     row-at-requires
     row-place-requires
+    found-told-requires
     same-length
     returns
     same-length-2

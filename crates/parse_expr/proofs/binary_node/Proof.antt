@@ -1,5 +1,6 @@
--- `expr::binary_node` meets its contract.
+-- `parse_expr::binary_node` meets its contract.
 use borrow.Author.Tests.{ne-eqb}
+use Rattle.rules.specs.Kinds.{Plus, Minus, Star, Slash, Percent, Shl}
 use Rattle.rules.specs.Nodes.{binaryNode}
 use Rattle.parse_expr.proofs.binary_node.Statement.{statement}
 use Rattle.parse_expr.proofs.binary_node.Tie as tie
@@ -32,7 +33,14 @@ returns-7 : tie.Need-returns-7
 unfolding binaryNode
 returns-7 c =
     let r = c .match .rest in
-    rw (ne-eqb _ 41 (r .0 .0 .0 .0 .0 .1), ne-eqb _ 42 (r .0 .0 .0 .0 .1), ne-eqb _ 43 (r .0 .0 .0 .1), ne-eqb _ 44 (r .0 .0 .1), ne-eqb _ 45 (r .0 .1), ne-eqb _ 47 (r .1))
+    rw (
+      ne-eqb _ Plus (r .0 .0 .0 .0 .0 .1),
+      ne-eqb _ Minus (r .0 .0 .0 .0 .1),
+      ne-eqb _ Star (r .0 .0 .0 .1),
+      ne-eqb _ Slash (r .0 .0 .1),
+      ne-eqb _ Percent (r .0 .1),
+      ne-eqb _ Shl (r .1),
+    )
 
 pub binary-node-spec : {M : Type 1} → statement M
 binary-node-spec =

@@ -1,8 +1,12 @@
--- `expr::call_end` meets its contract.
+-- `parse_expr::call_end` meets its contract.
 use mathlib.Core.Path.{refl}
 use borrow.Author.Needs.{needs}
 use Rattle.parse_expr.proofs.call_end.Statement.{statement}
 use Rattle.parse_expr.proofs.call_end.Tie as tie
+
+-- the receiver is a variable, as it is seen from behind the node
+abbrev on-variable : tie.After-close → tie.Then1
+on-variable c = c .before .before .before
 
 add-name : tie.Need-add-name
 add-name c = search needs
@@ -21,7 +25,8 @@ same-length c = search needs
 
 returns : tie.Need-returns
 returns c =
-    rw (c .before .before .before .before .before .if1 .taken) (refl, c .before .before .close .ensures)
+    let p = c .before .before in
+    rw (on-variable p .if1 .taken) (refl, p .close .ensures)
 
 add-t14 : tie.Need-add-t14
 add-t14 c = search needs
@@ -30,8 +35,7 @@ cast-t15 : tie.Need-cast-t15
 cast-t15 c = search needs
 
 returns-2 : tie.Need-returns-2
-returns-2 c =
-    rw (c .before .if1 .left) refl
+returns-2 c = rw (c .before .if1 .left) refl
 
 pub call-end-spec : {M : Type 1} → statement M
 call-end-spec =

@@ -21,7 +21,7 @@ same-length c = search needs
 returns : tie.Need-returns
 returns c =
     let f = c .before .before .before in
-    (rw (c .is-add .ensures), rw (← f .before .binary-node .ensures) (f .close .ensures))
+    record { state = rw (c .is-add .ensures); memory = rw (← f .before .binary-node .ensures) (f .close .ensures) }
 
 pub joined-spec : {M : Type 1} → statement M
 joined-spec = tie.close (tie.spec binary-node-requires close-requires add-t9 is-add-requires same-length returns)

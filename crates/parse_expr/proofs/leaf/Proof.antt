@@ -1,4 +1,4 @@
--- `expr::leaf` meets its contract.
+-- `parse_expr::leaf` meets its contract.
 use mathlib.Core.Path.{refl, sym, _∙_}
 use Prim.Native.Nat.{_+_, _*_, _<_}
 use native.Mathlib.Omega.{arith}
@@ -12,11 +12,22 @@ use Rattle.parse_expr.proofs.Lone.{leaf-num, leaf-var}
 use Rattle.parse_expr.proofs.leaf.Statement.{statement}
 use Rattle.parse_expr.proofs.leaf.Tie as tie
 
+-- ---- the places on the way, each as it is seen from a later one
+
+abbrev entry : tie.After-kind-at → tie.Start
+entry c = c .before .before .before
+
+abbrev numbered : tie.After-number → tie.Then1
+numbered c = c .before .before .before .before
+
+abbrev varied : tie.After-variable → tie.Else1
+varied c = c .before .before
+
 -- a number's row is in the table
-number-here : (c : tie.Then1) → c .before .before .before .before .args .row < c .before .before .before .before .args .count
-number-here c =
-    let a = c .before .before .before .before .args in
-    word-here (a .rows .now) (a .count) (a .row) Number (sym (c .before .kind-at .ensures) ∙ c .if1 .taken) refl
+number-here : (c : tie.Then1) → entry (c .before) .args .row < entry (c .before) .args .count
+number-here c = word-here _ _ _ Number (sym (c .before .kind-at .ensures) ∙ c .if1 .taken) refl
+
+-- ---- the needs
 
 kind-at-requires : tie.Need-kind-at-requires
 kind-at-requires c κs = search needs
@@ -31,7 +42,7 @@ mul-number-2 : tie.Need-mul-number-2
 mul-number-2 c = search needs
 
 shared-slice-read-number : tie.Need-shared-slice-read-number
-shared-slice-read-number c = omega (arith, number-here (c .before .before), c .before .before .before .before .before .before .pre)
+shared-slice-read-number c = let n = c .before .before in omega (arith, number-here n, entry (n .before) .pre)
 
 mul-number-3 : tie.Need-mul-number-3
 mul-number-3 c = search needs
@@ -43,7 +54,7 @@ mul-number-4 : tie.Need-mul-number-4
 mul-number-4 c = search needs
 
 shared-slice-read-number-2 : tie.Need-shared-slice-read-number-2
-shared-slice-read-number-2 c = omega (arith, number-here (c .before .before .before), c .before .before .before .before .before .before .before .pre)
+shared-slice-read-number-2 c = let n = c .before .before .before in omega (arith, number-here n, entry (n .before) .pre)
 
 number-requires : tie.Need-number-requires
 number-requires c κs = search needs
@@ -53,13 +64,14 @@ same-length c = search needs
 
 returns : tie.Need-returns
 returns c = λ ts tl.
-    let a = c .before .before .before .before .before .before .before .before .before .before .args in
-    let k = c .before .before .before .before .before .before in
-    let r = c .before .before .number in
+    let p = c .before .before in
+    let k = numbered p in
+    let a = entry (k .before) .args in
+    let r = p .number in
     let e = sym (k .before .kind-at .ensures) ∙ k .if1 .taken in
     rw (leaf-num (tokAt ts (a .row)) (sym (tells-kind ts (a .rows .now) (a .count) tl (a .row)) ∙ e))
     (stands-number (a .row) (a .node) (a .nodes .now) (r .last .0) (r .result) ts (a .rows .now) (a .count) tl e
-    (omega (arith, c .before .before .before .before .shared-slice-known2 .given (a .row * 8 + 5))) (r .ensures .0) (r .ensures .1))
+    (omega (arith, p .before .before .shared-slice-known2 .given (a .row * 8 + 5))) (r .ensures .0) (r .ensures .1))
 
 variable-requires : tie.Need-variable-requires
 variable-requires c κs = search needs
@@ -69,12 +81,14 @@ same-length-2 c = search needs
 
 returns-2 : tie.Need-returns-2
 returns-2 c = λ ts tl.
-    let a = c .before .before .before .before .before .before .before .before .args in
-    let k = c .before .before .before .before in
-    let r = c .before .before .variable in
+    let p = c .before .before in
+    let k = varied p in
+    let a = entry (k .before) .args in
+    let r = p .variable in
     let e = k .before .kind-at .ensures ∙ tells-kind ts (a .rows .now) (a .count) tl (a .row) in
     rw (leaf-var (tokAt ts (a .row)) (λ f. k .if1 .left (e ∙ f)))
-    (stands-var (a .row) (a .node) (a .nodes .now) (r .last .0) (r .result) (spellingOf (tokAt ts (a .row))) (r .ensures .0) (r .ensures .1))
+    (stands-var (a .row) (a .node) (a .nodes .now) (r .last .0) (r .result) (spellingOf (tokAt ts (a .row)))
+    (r .ensures .0) (r .ensures .1))
 
 pub leaf-spec : {M : Type 1} → statement M
 leaf-spec =

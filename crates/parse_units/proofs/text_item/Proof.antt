@@ -13,29 +13,61 @@ use Rattle.theory_grammar.proofs.Cases.{item-text}
 use Rattle.parse_nodes.specs.Names.{Names}
 use Rattle.parse_nodes.proofs.Rows.{word-at, word-here}
 use Rattle.parse_nodes.proofs.Seen.{seen, want-met, want-unmet}
-use Rattle.parse_units.proofs.Answers.{quoted-met, quoted-unmet, adds-no, adds-as}
+use Rattle.parse_units.proofs.Answers.{quoted-met, quoted-unmet, adds-told, adds-as}
 use Rattle.parse_units.proofs.text_item.Statement.{statement}
 use Rattle.parse_units.proofs.text_item.Tie as tie
 
--- the kind of the row is what the parser sees there
-begun : (c : tie.Start) (ts : List Tok) → Names ts (c .args .text .now) (c .args .rows .now) (c .args .count)
-    → Parse.item ts (c .args .u .at .row) ≡ Parse.quoted ts (λ w. Parse.want ts Semicolon (ok (text (kindAt ts (c .args .u .at .row)) w))) (c .args .u .at .row + 1)
-begun c ts h =
-    let a = c .args in
-    item-text ts (a .u .at .row) (ap isText (sym (seen ts (a .rows .now) (a .count) (h .tells) (a .u .at .row) (a .word) (c .pre .word))) ∙ c .pre .text)
+-- ---- the places on the way, as they are seen from the function's entry
+
+abbrev start : tie.After-kind-at → tie.Start
+start c = c .before .before .before .before .before .before
+
+abbrev entry : tie.Else1 → tie.Start
+entry c = start (c .before)
+
+abbrev at-end : tie.Else2 → tie.Else1
+at-end c = c .before .before
+
+abbrev Told : List Tok → tie.Start → Type 0
+Told ts s = Names ts (s .args .text .now) (s .args .rows .now) (s .args .count)
+
+-- the row of the word, and of the string
+abbrev word : tie.Start → ℕ
+word s = s .args .u .at .row
+
+abbrev string : tie.Start → ℕ
+string s = word s + 1
+
+-- ---- what the parser does on the way
+
+-- the kind of the word is what the parser sees there
+word-is : (s : tie.Start) (ts : List Tok) → Told ts s → s .args .word ≡ kindAt ts (word s)
+word-is s ts h = seen ts (s .args .rows .now) (s .args .count) (h .tells) (word s) (s .args .word) (s .pre .word)
+
+begun : (s : tie.Start) (ts : List Tok) → Told ts s
+    → Parse.item ts (word s) ≡ Parse.quoted ts (λ w. Parse.want ts Semicolon (ok (text (kindAt ts (word s)) w))) (string s)
+begun s ts h = item-text ts (word s) (ap isText (sym (word-is s ts h)) ∙ s .pre .text)
 
 -- the string is in the table
-inside : (c : tie.Else1) → c .before .before .before .before .before .before .before .args .u .at .row + 1 < c .before .before .before .before .before .before .before .args .count
-inside c = word-here (c .before .before .before .before .before .before .before .args .rows .now) (c .before .before .before .before .before .before .before .args .count) (c .before .before .before .before .before .before .before .args .u .at .row + 1) StringLiteral (sym (c .before .kind-at .ensures) ∙ c .if1 .left) refl
+inside : (c : tie.Else1) → string (entry c) < entry c .args .count
+inside c =
+    let a = entry c .args in
+    word-here (a .rows .now) (a .count) (string (entry c)) StringLiteral (sym (c .before .kind-at .ensures) ∙ c .if1 .left) refl
 
-string-word : (c : tie.Else1) → getD (c .before .before .before .before .before .before .before .args .rows .now) ((c .before .before .before .before .before .before .before .args .u .at .row + 1) * 8) 0 ≡ StringLiteral
-string-word c = sym (word-at (c .before .before .before .before .before .before .before .args .rows .now) (c .before .before .before .before .before .before .before .args .count) (c .before .before .before .before .before .before .before .args .u .at .row + 1) (inside c)) ∙ sym (c .before .kind-at .ensures) ∙ c .if1 .left
+string-word : (c : tie.Else1) → getD (entry c .args .rows .now) (string (entry c) * 8) 0 ≡ StringLiteral
+string-word c =
+    let a = entry c .args in
+    sym (word-at (a .rows .now) (a .count) (string (entry c)) (inside c)) ∙ sym (c .before .kind-at .ensures) ∙ c .if1 .left
 
-quoted : (c : tie.Else1) (ts : List Tok) → Names ts (c .before .before .before .before .before .before .before .args .text .now) (c .before .before .before .before .before .before .before .args .rows .now) (c .before .before .before .before .before .before .before .args .count)
-    → Parse.item ts (c .before .before .before .before .before .before .before .args .u .at .row) ≡ Parse.want ts Semicolon (ok (text (kindAt ts (c .before .before .before .before .before .before .before .args .u .at .row)) (spellingOf (tokAt ts (c .before .before .before .before .before .before .before .args .u .at .row + 1))))) (c .before .before .before .before .before .before .before .args .u .at .row + 1 + 1)
+quoted : (c : tie.Else1) (ts : List Tok) → Told ts (entry c)
+    → Parse.item ts (word (entry c))
+    ≡ Parse.want ts Semicolon (ok (text (kindAt ts (word (entry c))) (spellingOf (tokAt ts (string (entry c)))))) (string (entry c) + 1)
 quoted c ts h =
-    let a = c .before .before .before .before .before .before .before .args in
-    begun (c .before .before .before .before .before .before .before) ts h ∙ quoted-met ts (a .rows .now) (a .count) (h .tells) (a .u .at .row + 1) (c .before .kind-at .result) (c .before .kind-at .ensures) _ (c .if1 .left)
+    let a = entry c .args in
+    let k = c .before .kind-at in
+    begun (entry c) ts h ∙ quoted-met ts (a .rows .now) (a .count) (h .tells) (string (entry c)) (k .result) (k .ensures) _ (c .if1 .left)
+
+-- ---- needs
 
 add-string : tie.Need-add-string
 add-string c = search needs
@@ -43,13 +75,20 @@ add-string c = search needs
 kind-at-requires : tie.Need-kind-at-requires
 kind-at-requires c κs = search needs
 
-cast-t14 : tie.Need-cast-t14
-cast-t14 c = search needs
+wanted-requires : tie.Need-wanted-requires
+wanted-requires c κs = search needs
+
+cast-t13 : tie.Need-cast-t13
+cast-t13 c = search needs
 
 returns : tie.Need-returns
 returns c ts h =
-    let a = c .before .before .before .before .before .before .before .args in
-    adds-no (a .u) _ _ _ _ _ (begun (c .before .before .before .before .before .before .before) ts h ∙ quoted-unmet ts (a .rows .now) (a .count) (h .tells) (a .u .at .row + 1) (c .before .kind-at .result) (c .before .kind-at .ensures) _ (c .if1 .taken))
+    let s = start (c .before .before) in
+    let a = s .args in
+    let k = c .before .before .kind-at in
+    adds-told (a .u) _ _ _ _ _ _
+    (begun s ts h ∙ quoted-unmet ts (a .rows .now) (a .count) (h .tells) (string s) (k .result) (k .ensures) _ (c .before .if1 .taken))
+    (c .wanted .ensures)
 
 add-end : tie.Need-add-end
 add-end c = search needs
@@ -57,22 +96,37 @@ add-end c = search needs
 kind-at-requires-2 : tie.Need-kind-at-requires-2
 kind-at-requires-2 c κs = search needs
 
-cast-t16 : tie.Need-cast-t16
-cast-t16 c = search needs
+wanted-requires-2 : tie.Need-wanted-requires-2
+wanted-requires-2 c κs = search needs
+
+cast-t15 : tie.Need-cast-t15
+cast-t15 c = search needs
 
 returns-2 : tie.Need-returns-2
 returns-2 c ts h =
-    let a = c .before .before .before .before .before .before .before .before .before .args in
-    adds-no (a .u) _ _ _ _ _ (quoted (c .before .before) ts h ∙ want-unmet ts (a .rows .now) (a .count) (h .tells) (a .u .at .row + 1 + 1) (c .before .kind-at2 .result) (c .before .kind-at2 .ensures) Semicolon _ (c .if2 .taken))
+    let d = c .before .before .before in
+    let a = entry d .args in
+    let k = c .before .before .kind-at2 in
+    adds-told (a .u) _ _ _ _ _ _
+    (quoted d ts h
+    ∙ want-unmet ts (a .rows .now) (a .count) (h .tells) (string (entry d) + 1) (k .result) (k .ensures) Semicolon _ (c .before .if2 .taken))
+    (c .wanted2 .ensures)
 
 with-text-requires : tie.Need-with-text-requires
 with-text-requires c κs =
-    let a = c .before .before .before .before .before .before .before .before .before .before .args in
-    let p = c .before .before .before .before .before .before .before .before .before .before .pre in
-    let h = inside (c .before .before .before) in
-    let e = word-here (a .rows .now) (a .count) (a .u .at .row + 1 + 1) Semicolon (sym (c .before .before .kind-at2 .ensures) ∙ c .before .if2 .left) refl in
+    let d = at-end (c .before) in
+    let s = entry d in
+    let a = s .args in
+    let p = s .pre in
+    let h = inside d in
+    let k = c .before .before .kind-at2 in
+    let e = word-here (a .rows .now) (a .count) (string s + 1) Semicolon (sym (k .ensures) ∙ c .before .if2 .left) refl in
     record {
-      string = record { lent = omega (arith, p .at .at .lent); order = p .at .spans .quotes (a .u .at .row + 1) h (string-word (c .before .before .before)); inside = p .at .spans .inside (a .u .at .row + 1) h };
+      string = record {
+        lent = omega (arith, p .at .at .lent);
+        order = p .at .spans .quotes (string s) h (string-word d);
+        inside = p .at .spans .inside (string s) h;
+      };
       text = p .text;
       inside = omega (arith, p .at .at .short);
       few = omega (arith, p .at .at);
@@ -84,11 +138,18 @@ same-length c = search needs
 
 returns-3 : tie.Need-returns-3
 returns-3 c ts h =
-    let a = c .before .before .before .before .before .before .before .before .before .before .before .before .before .args in
-    let i : ℕ = a .u .at .row + 1 in
-    adds-as (a .u) _ _ _ _ _ (quoted (c .before .before .before .before .before .before) ts h ∙ want-met ts (a .rows .now) (a .count) (h .tells) (i + 1) (c .before .before .before .before .before .kind-at2 .result) (c .before .before .before .before .before .kind-at2 .ensures) Semicolon _ (c .before .before .before .before .if2 .left)
-    ∙ ap (λ (k : ℕ). ok (text k (spellingOf (tokAt ts i))) (i + 1 + 1)) (sym (seen ts (a .rows .now) (a .count) (h .tells) (a .u .at .row) (a .word) (c .before .before .before .before .before .before .before .before .before .before .before .before .before .pre .word)))
-    ∙ ap (λ (w : List ℕ). ok (text (a .word) w) (i + 1 + 1)) (h .strings i (inside (c .before .before .before .before .before .before)) (string-word (c .before .before .before .before .before .before)))) (c .before .before .with-text .ensures)
+    let e = c .before .before .before .before in
+    let d = at-end e in
+    let s = entry d in
+    let a = s .args in
+    let k = e .before .kind-at2 in
+    let i : ℕ = string s in
+    adds-as (a .u) _ _ _ _ _
+    (quoted d ts h
+    ∙ want-met ts (a .rows .now) (a .count) (h .tells) (i + 1) (k .result) (k .ensures) Semicolon _ (e .if2 .left)
+    ∙ ap (λ (x : ℕ). ok (text x (spellingOf (tokAt ts i))) (i + 1 + 1)) (sym (word-is s ts h))
+    ∙ ap (λ (w : List ℕ). ok (text (a .word) w) (i + 1 + 1)) (h .strings i (inside d) (string-word d)))
+    (c .before .before .with-text .ensures)
 
 pub text-item-spec : {M : Type 1} → statement M
 text-item-spec =
@@ -96,11 +157,13 @@ text-item-spec =
     (tie.spec
     add-string
     kind-at-requires
-    cast-t14
+    wanted-requires
+    cast-t13
     returns
     add-end
     kind-at-requires-2
-    cast-t16
+    wanted-requires-2
+    cast-t15
     returns-2
     with-text-requires
     same-length

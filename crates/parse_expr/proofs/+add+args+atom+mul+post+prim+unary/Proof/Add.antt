@@ -1,7 +1,7 @@
 -- `add` of the circle: operands behind shifts, and from the first sign on behind signs alone.
 use Prim.Native.Nat.{ℕ, _+_, _-_, _<_}
 use mathlib.Core.Path.{_≡_, refl, sym, ap, _∙_}
-use mathlib.Core.Bool.{Bool, true}
+use mathlib.Core.Bool.{true}
 use mathlib.Core.List.{List}
 use native.Mathlib.Omega.{arith}
 use borrow.Author.Needs.{needs}
@@ -10,12 +10,13 @@ use Rattle.rules.specs.Tree.{Tok}
 use Rattle.rules.specs.Parse
 use Rattle.rules.specs.Parse.{kindAt}
 use Rattle.rules.specs.Grammar.{Mul}
-use Rattle.theory_grammar.proofs.Sound.{Reads, mul-sound, inner-sound}
+use Rattle.theory_grammar.proofs.Sound.{Reads}
 use Rattle.parse_nodes.specs.Post.{Tells}
 use Rattle.parse_nodes.specs.declared.At.{At}
 use Rattle.parse_nodes.proofs.Rows.{tells-some, tells-kind, word-test}
-use Rattle.parse_nodes.proofs.Turn.{Came, came-reads, refused, met-no}
-use Rattle.parse_expr.proofs.Loops.{joins, came-fit, mul-came, Sums, sums-start, sums-refused, sums-fit, sums-done, sums-fails, sums-again}
+use Rattle.parse_nodes.proofs.Turn.{Came}
+use Rattle.parse_expr.proofs.Given.{came-fit, mul-came}
+use Rattle.parse_expr.proofs.Ladder.{joins, Sums, sums-start, sums-refused, sums-fit, sums-done, sums-fails, sums-again}
 use Rattle.parse_expr.proofs.add.Reads as add
 use Rattle.parse_expr.proofs.mul.Reads as mul
 use Rattle.parse_expr.proofs.joined.Reads as joined-reads
@@ -25,7 +26,16 @@ use Rattle.parse_expr.proofs.+add+args+atom+mul+post+prim+unary.Lts-add
 use Rattle.parse_expr.proofs.+add+args+atom+mul+post+prim+unary.Proof.Measures.{add-at, mul-below}
 
 abbrev pub cs : ℕ → lts.Claims
-cs t = (mul-below t, mul.Post, kind-at-reads.Asked, kind-at-reads.Learnt, joins-reads.Asked, joins-reads.Learnt, joined-reads.Asked, joined-reads.Learnt)
+cs t = (
+  mul-below t,
+  mul.Post,
+  kind-at-reads.Asked,
+  kind-at-reads.Learnt,
+  joins-reads.Asked,
+  joins-reads.Learnt,
+  joined-reads.Asked,
+  joined-reads.Learnt,
+)
 
 -- what holds where the loop begins holds at each turn
 abbrev pub Inv-loop : lts.InvT-loop
@@ -50,8 +60,8 @@ module _ (t : ℕ) where
   abbrev Going : Type 0
   Going = lts.Else1 (cs t) (add-at t) add.Post Inv-loop μ-loop
 
-  abbrev Second : Type 0
-  Second = lts.After-mul2 (cs t) (add-at t) add.Post Inv-loop μ-loop
+  abbrev Term : Type 0
+  Term = lts.After-mul2 (cs t) (add-at t) add.Post Inv-loop μ-loop
 
   abbrev Joining : Type 0
   Joining = lts.After-t2 (cs t) (add-at t) add.Post Inv-loop μ-loop
@@ -70,25 +80,25 @@ module _ (t : ℕ) where
   abbrev first-refused : lts.After-known-told2 (cs t) (add-at t) add.Post Inv-loop μ-loop → First
   first-refused c = c .before .before .before .before .before
 
-  -- the entry from the loop, the turn of the loop from behind its test, the test from behind the second call
+  -- the entry from the loop, the turn of the loop from behind its test, the test from behind the call for a further term
   abbrev at-loop : Looping → Entry
   at-loop c = entry (first-done (c .before))
 
   abbrev turning : Going → Looping
   turning c = c .before .before .before
 
-  abbrev going : Second → Going
+  abbrev going : Term → Going
   going c = c .before .before
 
-  abbrev at-second : Second → Entry
-  at-second c = at-loop (turning (going c))
+  abbrev at-term : Term → Entry
+  at-term c = at-loop (turning (going c))
 
-  -- the second call, from behind its state and from behind its refusal
-  abbrev second-done : Joining → Second
-  second-done c = c .before .before .before .before
+  -- that call, from behind its state and from behind its refusal
+  abbrev term-done : Joining → Term
+  term-done c = c .before .before .before .before
 
-  abbrev second-refused : lts.After-known-told4 (cs t) (add-at t) add.Post Inv-loop μ-loop → Second
-  second-refused c = c .before .before .before .before .before
+  abbrev term-refused : lts.After-known-told4 (cs t) (add-at t) add.Post Inv-loop μ-loop → Term
+  term-refused c = c .before .before .before .before .before
 
   abbrev joining : Joined → Joining
   joining c = c .before .before .before
@@ -98,15 +108,12 @@ module _ (t : ℕ) where
 
   -- ---- what holds there
 
-  -- what the first call gave, and so what holds where the loop begins and at each turn
-  begin : (c : lts.After-known-told (cs t) (add-at t) add.Post Inv-loop μ-loop) (ts : List Tok) → Told ts (entry (first-done c))
-      → (let a = entry (first-done c) .args in
-         Sums ts (a .left) (a .row) (a .node) (a .nodes .now) (c .before .t .given .0 .0) (first-done c .mul .last .1 .1 .0))
-  begin c ts tl = sums-start (mul-came (first-done c .mul .ensures ts tl) (c .before .t .given .1))
-
+  -- what the loop has read, as it began with what the first call gave
   turn : (c : Looping) (ts : List Tok) → Told ts (at-loop c)
       → (let a = at-loop c .args in Sums ts (a .left) (a .row) (a .node) (a .nodes .now) (c .loop .s) (c .loop .nodes))
-  turn c ts tl = c .loop .inv ts tl (at-loop c .args .nodes .now) (begin (c .before) ts tl)
+  turn c ts tl =
+      c .loop .inv ts tl (at-loop c .args .nodes .now)
+      (sums-start (mul-came (first-done (c .before) .mul .ensures ts tl) (c .before .before .t .given .1)))
 
   -- the row's kind, and what the loop's test says of it
   kind-is : (c : lts.After-kind-at (cs t) (add-at t) add.Post Inv-loop μ-loop) (ts : List Tok) → Told ts (at-loop (c .before))
@@ -126,12 +133,12 @@ module _ (t : ℕ) where
       ∙ sym (c .before .joins .ensures) ∙ not-false _ (c .if1 .left))
 
   -- what the call in the loop gave
-  got : (c : Joining) (ts : List Tok) → Told ts (at-second (second-done c))
-      → (let a = at-second (second-done c) .args in
-         let l = turning (going (second-done c)) .loop in
-         Came (Reads ts Mul (a .left) (l .s .row + 1)) ts (Parse.mul ts (Parse.inner ts (a .left)) (l .s .row + 1))
-         (l .s .row + 1) (l .s .node) (l .nodes) (c .t2 .given .0 .0) (second-done c .mul2 .last .1 .1 .0))
-  got c ts tl = mul-came (second-done c .mul2 .ensures ts tl) (c .t2 .given .1)
+  got : (c : Joining) (ts : List Tok) → Told ts (at-term (term-done c))
+      → (let a = at-term (term-done c) .args in
+      let l = turning (going (term-done c)) .loop in
+      Came (Reads ts Mul (a .left) (l .s .row + 1)) ts (Parse.mul ts (Parse.inner ts (a .left)) (l .s .row + 1))
+      (l .s .row + 1) (l .s .node) (l .nodes) (c .t2 .given .0 .0) (term-done c .mul2 .last .1 .1 .0))
+  got c ts tl = mul-came (term-done c .mul2 .ensures ts tl) (c .t2 .given .1)
 
   -- ---- the needs
 
@@ -151,10 +158,8 @@ module _ (t : ℕ) where
   returns c = λ ts tl.
       let f = first-refused c in
       let a = entry f .args in
-      let w = c .before .why .given in
-      met-no _ (a .row) (a .node) (w .0 .0) (w .0 .1 .0) (a .nodes .now) (f .mul .last .1 .1 .0)
-      (sums-refused ts (a .left) (a .row) (w .0 .0) (w .0 .1 .0)
-      (refused _ (a .row) (a .node) (a .nodes .now) (f .mul .last .1 .1 .0) (f .mul .result) (w .0 .0) (w .0 .1 .0) (f .mul .ensures ts tl) (w .1)))
+      sums-refused ts (a .left) (a .row) (a .node) (a .nodes .now) (f .mul .last .1 .1 .0)
+      (f .mul .ensures ts tl) (c .before .why .given .1)
 
   pub loop-holds : lts.Need-loop-holds (cs t) (add-at t) add.Post Inv-loop μ-loop
   loop-holds c = λ ts tl m h. h
@@ -189,39 +194,37 @@ module _ (t : ℕ) where
 
   pub joined-requires : lts.Need-joined-requires (cs t) (add-at t) add.Post Inv-loop μ-loop
   joined-requires c κs =
-      let e = at-second (second-done (c .before .before)) in
+      let e = at-term (term-done (c .before .before)) in
       let l = tells-some (e .args .rows .now) (e .args .count) in
-      let w = sums-fit (turn (turning (going (second-done (c .before .before)))) _ l) in
+      let w = sums-fit (turn (turning (going (term-done (c .before .before)))) _ l) in
       let v = came-fit (got (c .before .before) _ l) in
       omega (arith, w .few, v .few, v .inside, l .long, e .pre .1)
 
   pub loop-less : lts.Need-loop-less (cs t) (add-at t) add.Post Inv-loop μ-loop
   loop-less c =
       let j = c .before .before in
-      let h = in-row (going (second-done (joining j))) in
+      let h = in-row (going (term-done (joining j))) in
       let v = got (joining j) _ (tells-some _ _) in
-      let r = ap (λ (x : At). x .row) (j .joined .ensures .0) in
+      let r = ap (λ (x : At). x .row) (j .joined .ensures .state) in
       omega (arith, v .stands .rows)
 
   pub loop-again : lts.Need-loop-again (cs t) (add-at t) add.Post Inv-loop μ-loop
   loop-again c = λ ts tl m h.
       let j = c .before .before in
-      let g = going (second-done (joining j)) in
+      let g = going (term-done (joining j)) in
       sums-again (turning g .loop .inv ts tl m h) (goes-on g ts tl) (kind-is (g .before .before) ts tl) (got (joining j) ts tl)
-      (j .joined .ensures .0) (j .joined .ensures .1)
+      (j .joined .ensures)
 
   pub enum-known-why-2 : lts.Need-enum-known-why-2 (cs t) (add-at t) add.Post Inv-loop μ-loop
   enum-known-why-2 c = search needs
 
   pub same-length-3 : lts.Need-same-length-3 (cs t) (add-at t) add.Post Inv-loop μ-loop
   same-length-3 c =
-      let f = second-refused c in
+      let f = term-refused c in
       f .mul2 .kept .1 .1 .0 ∙ sums-fit (turn (turning (going f)) _ (tells-some _ _)) .long
 
   pub returns-3 : lts.Need-returns-3 (cs t) (add-at t) add.Post Inv-loop μ-loop
   returns-3 c = λ ts tl.
-      let f = second-refused c in
-      let l = turning (going f) .loop in
-      let w = c .before .why2 .given in
-      sums-fails (turn (turning (going f)) ts tl) (goes-on (going f) ts tl) (w .0 .0) (w .0 .1 .0) (f .mul2 .last .1 .1 .0)
-      (refused _ (l .s .row + 1) (l .s .node) (l .nodes) (f .mul2 .last .1 .1 .0) (f .mul2 .result) (w .0 .0) (w .0 .1 .0) (f .mul2 .ensures ts tl) (w .1))
+      let f = term-refused c in
+      sums-fails (f .mul2 .last .1 .1 .0) (turn (turning (going f)) ts tl) (goes-on (going f) ts tl)
+      (f .mul2 .ensures ts tl) (c .before .why2 .given .1)

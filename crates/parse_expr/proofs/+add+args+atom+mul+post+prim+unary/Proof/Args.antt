@@ -4,19 +4,19 @@ use mathlib.Core.Path.{_≡_, refl, sym, ap, _∙_}
 use mathlib.Core.List.{List}
 use native.Mathlib.Omega.{arith}
 use borrow.Author.Needs.{needs}
-use Rattle.rules.specs.declared.Syntax.{Syntax}
-use Rattle.rules.specs.declared.Syntax.the-variants.{TooDeep}
 use Rattle.rules.specs.Kinds.{Comma}
 use Rattle.rules.specs.Tree.{Tok}
 use Rattle.rules.specs.Parse
-use Rattle.rules.specs.Parse.{no, kindAt}
+use Rattle.rules.specs.Parse.{kindAt}
 use Rattle.rules.specs.Grammar.{Add}
 use Rattle.theory_grammar.proofs.Sound.{Reads}
 use Rattle.parse_nodes.specs.Post.{Tells}
 use Rattle.parse_nodes.specs.declared.At.{At}
 use Rattle.parse_nodes.proofs.Rows.{tells-some, tells-kind, word-here}
-use Rattle.parse_nodes.proofs.Turn.{Came, refused, met-no}
-use Rattle.parse_expr.proofs.Loops.{add-came, args-deep, args-refused, Argued, argued-start, argued-fit, argued-done, argued-fails, argued-again}
+use Rattle.parse_nodes.proofs.Turn.{Came}
+use Rattle.parse_expr.proofs.Given.{add-came}
+use Rattle.parse_expr.proofs.Lists.{args-deep, args-refused}
+use Rattle.parse_expr.proofs.Lists.{Argued, argued-start, argued-fit, argued-done, argued-fails, argued-again}
 use Rattle.parse_expr.proofs.add.Reads as add
 use Rattle.parse_expr.proofs.args.Reads as args
 use Rattle.parse_nodes.proofs.counted.Reads as counted-reads
@@ -26,7 +26,16 @@ use Rattle.parse_expr.proofs.+add+args+atom+mul+post+prim+unary.Lts-arg
 use Rattle.parse_expr.proofs.+add+args+atom+mul+post+prim+unary.Proof.Measures.{add-below, args-at}
 
 abbrev pub cs : ℕ → lts.Claims
-cs t = (add-below t, add.Post, counted-reads.Asked, counted-reads.Learnt, instead-reads.Asked, instead-reads.Learnt, kind-at-reads.Asked, kind-at-reads.Learnt)
+cs t = (
+  add-below t,
+  add.Post,
+  counted-reads.Asked,
+  counted-reads.Learnt,
+  instead-reads.Asked,
+  instead-reads.Learnt,
+  kind-at-reads.Asked,
+  kind-at-reads.Learnt,
+)
 
 -- what holds where the loop begins holds at each turn
 abbrev pub Inv-loop : lts.InvT-loop
@@ -102,6 +111,7 @@ module _ (t : ℕ) where
 
   -- ---- what holds there
 
+  -- what the loop has read, as it began with what the first call gave
   turn : (c : Looping) (ts : List Tok) → Told ts (at-loop c)
       → (let a = at-loop c .args in Argued ts (a .left) (a .row) (a .node) (a .nodes .now) (c .loop .s) (c .loop .nodes))
   turn c ts tl =
@@ -122,9 +132,9 @@ module _ (t : ℕ) where
   -- what the call in the loop gave
   got : (c : Joining) (ts : List Tok) → Told ts (at-second (second-done c))
       → (let a = at-second (second-done c) .args in
-         let l = turning (going (second-done c)) .loop in
-         Came (Reads ts Add (a .left - 1) (l .s .row + 1)) ts (Parse.add ts (Parse.inner ts (a .left - 1)) (l .s .row + 1))
-         (l .s .row + 1) (l .s .node) (l .nodes) (c .t2 .given .0 .0) (second-done c .add2 .last .1 .1 .0))
+      let l = turning (going (second-done c)) .loop in
+      Came (Reads ts Add (a .left - 1) (l .s .row + 1)) ts (Parse.add ts (Parse.inner ts (a .left - 1)) (l .s .row + 1))
+      (l .s .row + 1) (l .s .node) (l .nodes) (c .t2 .given .0 .0) (second-done c .add2 .last .1 .1 .0))
   got c ts tl = add-came (second-done c .add2 .ensures ts tl) (c .t2 .given .1)
 
   -- ---- the needs
@@ -132,7 +142,7 @@ module _ (t : ℕ) where
   pub returns : lts.Need-returns (cs t) (args-at t) args.Post Inv-loop μ-loop
   returns c = λ ts tl.
       let a = c .before .before .before .args in
-      met-no _ (a .row + 1) (a .node) TooDeep (a .row) (a .nodes .now) (a .nodes .now) (args-deep ts (a .left) (a .row) (c .if1 .taken))
+      args-deep ts (a .left) (a .row) (a .node) (a .nodes .now) (c .if1 .taken)
 
   pub add-add : lts.Need-add-add (cs t) (args-at t) args.Post Inv-loop μ-loop
   add-add c = omega (arith, entry (c .before) .pre .1)
@@ -165,12 +175,8 @@ module _ (t : ℕ) where
   returns-2 c = λ ts tl.
       let f = first-refused (c .before) in
       let a = entry (nesting f) .args in
-      let w = c .before .before .why .given in
-      let q : ℕ = w .0 .1 .0 in
-      met-no _ (a .row + 1) (a .node) (c .instead .result) q (a .nodes .now) (f .add .last .1 .1 .0)
-      (args-refused ts (a .left) (a .row) (nesting f .if1 .left) (w .0 .0) q
-      (refused _ (a .row + 1) (a .node) (a .nodes .now) (f .add .last .1 .1 .0) (f .add .result) (w .0 .0) q (f .add .ensures ts tl) (w .1))
-      ∙ ap (λ (x : Syntax). no x q) (sym (c .instead .ensures)))
+      args-refused ts (a .left) (a .row) (a .node) (a .nodes .now) (f .add .last .1 .1 .0) (nesting f .if1 .left)
+      (f .add .ensures ts tl) (c .before .before .why .given .1) (c .instead .ensures)
 
   pub loop-holds : lts.Need-loop-holds (cs t) (args-at t) args.Post Inv-loop μ-loop
   loop-holds c = λ ts tl m h. h
@@ -223,7 +229,8 @@ module _ (t : ℕ) where
   loop-again c = λ ts tl m h.
       let j = c .before .before .before in
       let g = going (second-done j) in
-      argued-again (turning g .loop .inv ts tl m h) (is-comma g ts tl) (nesting (looping (turning g)) .if1 .left) (got j ts tl) (c .counted2 .ensures)
+      argued-again (turning g .loop .inv ts tl m h) (is-comma g ts tl) (nesting (looping (turning g)) .if1 .left)
+      (got j ts tl) (c .counted2 .ensures)
 
   pub enum-known-why-2 : lts.Need-enum-known-why-2 (cs t) (args-at t) args.Post Inv-loop μ-loop
   enum-known-why-2 c = search needs
@@ -237,7 +244,5 @@ module _ (t : ℕ) where
   returns-4 c = λ ts tl.
       let f = second-refused c in
       let g = going f in
-      let l = turning g .loop in
-      let w = c .before .why2 .given in
-      argued-fails (turn (turning g) ts tl) (is-comma g ts tl) (nesting (looping (turning g)) .if1 .left) (w .0 .0) (w .0 .1 .0) (f .add2 .last .1 .1 .0)
-      (refused _ (l .s .row + 1) (l .s .node) (l .nodes) (f .add2 .last .1 .1 .0) (f .add2 .result) (w .0 .0) (w .0 .1 .0) (f .add2 .ensures ts tl) (w .1))
+      argued-fails (turn (turning g) ts tl) (is-comma g ts tl) (nesting (looping (turning g)) .if1 .left) (f .add2 .last .1 .1 .0)
+      (f .add2 .ensures ts tl) (c .before .why2 .given .1)

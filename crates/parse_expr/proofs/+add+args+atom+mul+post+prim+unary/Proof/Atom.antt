@@ -1,27 +1,25 @@
 -- `atom` of the circle: a number, a variable or a group.
 use Prim.Native.Nat.{ℕ, _+_, _-_, _*_, _<_}
 use mathlib.Core.Path.{_≡_, refl, sym, ap, _∙_}
-use mathlib.Core.Bool.{false}
 use mathlib.Core.List.{List}
 use native.Mathlib.Omega.{arith}
 use borrow.Author.Needs.{needs}
-use Rattle.rules.specs.declared.Syntax.{Syntax}
 use Rattle.rules.specs.declared.Syntax.the-variants.{TooDeep}
 use Rattle.rules.specs.Kinds.{LParen, RParen, Number}
 use Rattle.rules.specs.Fits.{only}
 use Rattle.rules.specs.Tree.{Tok, spellingOf, bitsIn, num, var, group}
 use Rattle.rules.specs.Parse
-use Rattle.rules.specs.Parse.{ok, no, tokAt, kindAt, whole}
+use Rattle.rules.specs.Parse.{ok, tokAt, kindAt, whole}
 use Rattle.rules.specs.Grammar.{Add}
 use Rattle.theory_grammar.proofs.Cases.{then-ok, then-no, inner-none, inner-whole, atom-num, atom-var, atom-paren, atom-else}
 use Rattle.theory_grammar.proofs.Sound.{Reads}
 use Rattle.parse_nodes.specs.Post.{Tells}
 use Rattle.parse_nodes.specs.declared.At.{At}
 use Rattle.parse_nodes.proofs.Rows.{tells-some, tells-kind, word-here}
-use Rattle.parse_nodes.proofs.Turn.{Came, refused, met-ok, met-no}
+use Rattle.parse_nodes.proofs.Turn.{Came, met-ok, met-no, met-told}
 use Rattle.parse_nodes.proofs.Fitting.{end-met, end-unmet}
-use Rattle.parse_expr.proofs.Trees.{stands-number, stands-var, stands-group}
-use Rattle.parse_expr.proofs.Loops.{came-fit, add-came}
+use Rattle.parse_expr.proofs.Trees.{groupAt, stands-number, stands-var, stands-group}
+use Rattle.parse_expr.proofs.Given.{came-fit, add-came, refusal}
 use Rattle.parse_expr.proofs.add.Reads as add
 use Rattle.parse_expr.proofs.atom.Reads as atom
 use Rattle.parse_nodes.proofs.kind_at.Reads as kind-at-reads
@@ -33,9 +31,20 @@ use Rattle.parse_expr.proofs.+add+args+atom+mul+post+prim+unary.Lts-ato
 use Rattle.parse_expr.proofs.+add+args+atom+mul+post+prim+unary.Proof.Measures.{add-below, atom-at}
 
 abbrev pub cs : ℕ → lts.Claims
-cs t =
-    ( kind-at-reads.Asked, kind-at-reads.Learnt, number-reads.Asked, number-reads.Learnt, add-below t, add.Post
-    , unended-reads.Asked, unended-reads.Learnt, variable-reads.Asked, variable-reads.Learnt, wrong-reads.Asked, wrong-reads.Learnt )
+cs t = (
+  kind-at-reads.Asked,
+  kind-at-reads.Learnt,
+  number-reads.Asked,
+  number-reads.Learnt,
+  add-below t,
+  add.Post,
+  unended-reads.Asked,
+  unended-reads.Learnt,
+  variable-reads.Asked,
+  variable-reads.Learnt,
+  wrong-reads.Asked,
+  wrong-reads.Learnt,
+)
 
 module _ (t : ℕ) where
   -- ---- the places on the way, each as it is seen from a later one
@@ -113,15 +122,15 @@ module _ (t : ℕ) where
   -- what the call behind the parenthesis gave
   got : (c : Closing) (ts : List Tok) → Told ts (at-call (done c))
       → (let a = at-call (done c) .args in
-         Came (Reads ts Add (a .left - 1) (a .row + 1)) ts (Parse.add ts (Parse.inner ts (a .left - 1)) (a .row + 1))
-         (a .row + 1) (a .node) (a .nodes .now) (c .t .given .0 .0) (done c .add .last .1 .1 .0))
+      Came (Reads ts Add (a .left - 1) (a .row + 1)) ts (Parse.add ts (Parse.inner ts (a .left - 1)) (a .row + 1))
+      (a .row + 1) (a .node) (a .nodes .now) (c .t .given .0 .0) (done c .add .last .1 .1 .0))
   got c ts tl = add-came (done c .add .ensures ts tl) (c .t .given .1)
 
   -- the parser's answer, as far as that
   inside : (c : Closing) (ts : List Tok) (tl : Told ts (at-call (done c)))
       → (let a = at-call (done c) .args in
-         let u = got c ts tl .tree in
-         Parse.atom ts (Parse.inner ts (a .left)) (a .row) ≡ Parse.endIn ts (only RParen) RParen u (ok (group u)) (c .t .given .0 .0 .row))
+      let u = got c ts tl .tree in
+      Parse.atom ts (Parse.inner ts (a .left)) (a .row) ≡ Parse.endIn ts (only RParen) RParen u (ok (group u)) (c .t .given .0 .0 .row))
   unfolding Parse.end
   inside c ts tl =
       let a = at-call (done c) .args in
@@ -168,7 +177,7 @@ module _ (t : ℕ) where
       let a = entry (n .before) .args in
       let r = p .number in
       let v = bitsIn (tokAt ts (a .row)) in
-      met-ok (Parse.atom ts (Parse.inner ts (a .left)) (a .row)) (a .row) (a .node) (num v) (a .nodes .now) (r .last .0) (r .result)
+      met-ok _ (a .row) (a .node) (num v) (a .nodes .now) (r .last .0) (r .result)
       (atom-num ts (Parse.inner ts (a .left)) (a .row) (sym (kind-is (n .before) ts tl) ∙ n .if1 .taken)
       ∙ ap (λ (x : ℕ). ok (num v) x) (sym (ap (λ (x : At). x .row) (r .ensures .0))))
       (stands-number (a .row) (a .node) (a .nodes .now) (r .last .0) (r .result) ts (a .rows .now) (a .count) tl
@@ -216,10 +225,11 @@ module _ (t : ℕ) where
       let a = at-call (done p) .args in
       let w = got p ts tl in
       let u : At = p .t .given .0 .0 in
-      let s : At = record { row = u .row + 1; node = u .node; place = u .place; things = 0; variable = u .variable; summed = false; hanging = false } in
-      met-ok (Parse.atom ts (Parse.inner ts (a .left)) (a .row)) (a .row) (a .node) (group (w .tree)) (a .nodes .now) (done p .add .last .1 .1 .0) s
-      (inside p ts tl ∙ end-met ts (a .rows .now) (a .count) tl _ RParen (w .tree) _ (u .row) (sym (c .before .kind-at2 .ensures) ∙ c .if4 .taken))
-      (stands-group (a .row) (a .node) (a .nodes .now) (done p .add .last .1 .1 .0) u (w .tree) s (w .stands) refl)
+      met-ok _ (a .row) (a .node) (group (w .tree)) (a .nodes .now)
+      (done p .add .last .1 .1 .0) (groupAt u)
+      (inside p ts tl
+      ∙ end-met ts (a .rows .now) (a .count) tl _ RParen (w .tree) _ (u .row) (sym (c .before .kind-at2 .ensures) ∙ c .if4 .taken))
+      (stands-group (a .row) (a .node) (a .nodes .now) (done p .add .last .1 .1 .0) u (w .tree) (groupAt u) (w .stands) refl)
 
   pub unended-requires : lts.Need-unended-requires (cs t) (atom-at t) atom.Post
   unended-requires c κs = let l = at-call (done (closing (c .before))) .pre .1 .lent in omega arith
@@ -237,10 +247,11 @@ module _ (t : ℕ) where
       let a = at-call (done p) .args in
       let w = got p ts tl in
       let u : At = p .t .given .0 .0 in
-      met-no (Parse.atom ts (Parse.inner ts (a .left)) (a .row)) (a .row) (a .node) (c .unended .result) (u .row) (a .nodes .now) (done p .add .last .1 .1 .0)
+      met-told _ (a .row) (a .node) _ (c .unended .result) (u .row) (a .nodes .now) (done p .add .last .1 .1 .0)
       (inside p ts tl
-      ∙ end-unmet ts (a .rows .now) (a .count) tl _ RParen (w .tree) _ (u .row) (u .summed) (w .stands .summed) (λ e. c .before .if4 .left (k .kind-at2 .ensures ∙ e))
-      ∙ ap (λ (x : Syntax). no x (u .row)) (sym (c .unended .ensures)))
+      ∙ end-unmet ts (a .rows .now) (a .count) tl _ RParen (w .tree) _ (u .row) (u .summed) (w .stands .summed)
+      (λ e. c .before .if4 .left (k .kind-at2 .ensures ∙ e)))
+      (c .unended .ensures)
 
   pub enum-known-why : lts.Need-enum-known-why (cs t) (atom-at t) atom.Post
   enum-known-why c = search needs
@@ -253,10 +264,10 @@ module _ (t : ℕ) where
       let f = refusing c in
       let a = at-call f .args in
       let w = c .before .why .given in
-      met-no (Parse.atom ts (Parse.inner ts (a .left)) (a .row)) (a .row) (a .node) (w .0 .0) (w .0 .1 .0) (a .nodes .now) (f .add .last .1 .1 .0)
+      met-no _ (a .row) (a .node) (w .0 .0) (w .0 .1 .0) (a .nodes .now) (f .add .last .1 .1 .0)
       (atom-paren ts (Parse.inner ts (a .left)) (a .row) (is-paren (opened f) ts tl)
       ∙ then-no _ _ (w .0 .0) (w .0 .1 .0) (inner-whole ts (a .row) (a .left) (f .before .before .if3 .left)
-      ∙ refused _ (a .row + 1) (a .node) (a .nodes .now) (f .add .last .1 .1 .0) (f .add .result) (w .0 .0) (w .0 .1 .0) (f .add .ensures ts tl) (w .1)))
+      ∙ refusal (a .row + 1) (a .node) (a .nodes .now) (f .add .last .1 .1 .0) (f .add .ensures ts tl) (w .1)))
 
   pub variable-requires : lts.Need-variable-requires (cs t) (atom-at t) atom.Post
   variable-requires c κs = omega (arith, entry (other (c .before .before)) .pre .1)
@@ -271,7 +282,7 @@ module _ (t : ℕ) where
       let a = entry k .args in
       let r = p .variable in
       let w : List ℕ = spellingOf (tokAt ts (a .row)) in
-      met-ok (Parse.atom ts (Parse.inner ts (a .left)) (a .row)) (a .row) (a .node) (var w) (a .nodes .now) (r .last .0) (r .result)
+      met-ok _ (a .row) (a .node) (var w) (a .nodes .now) (r .last .0) (r .result)
       (atom-var ts (Parse.inner ts (a .left)) (a .row) (sym (kind-is k ts tl) ∙ varied p .if5 .taken)
       ∙ ap (λ (x : ℕ). ok (var w) x) (sym (ap (λ (x : At). x .row) (r .ensures .0))))
       (stands-var (a .row) (a .node) (a .nodes .now) (r .last .0) (r .result) w (r .ensures .0) (r .ensures .1))
@@ -285,7 +296,7 @@ module _ (t : ℕ) where
       let k = other (n .before) in
       let a = entry k .args in
       let e = kind-is k ts tl in
-      met-no _ (a .row) (a .node) (c .wrong .result) (a .row) (a .nodes .now) (a .nodes .now)
+      met-told _ (a .row) (a .node) _ (c .wrong .result) (a .row) (a .nodes .now) (a .nodes .now)
       (atom-else ts (Parse.inner ts (a .left)) (a .row)
-      (λ f. n .before .before .if1 .left (e ∙ f)) (λ f. n .before .if2 .left (e ∙ f)) (λ f. n .if5 .left (e ∙ f))
-      ∙ ap (λ (x : Syntax). no x (a .row)) (sym (c .wrong .ensures)))
+      (λ f. n .before .before .if1 .left (e ∙ f)) (λ f. n .before .if2 .left (e ∙ f)) (λ f. n .if5 .left (e ∙ f)))
+      (c .wrong .ensures)

@@ -3,24 +3,22 @@ use Prim.Native.Nat.{ℕ, _+_, _<_}
 use mathlib.Core.Path.{_≡_, refl, sym, ap, _∙_}
 use mathlib.Core.List.{List}
 use native.Mathlib.Omega.{arith}
-use lib.ListN.{length}
 use borrow.Author.Needs.{needs}
-use Rattle.rules.specs.declared.Syntax.{Syntax}
 use Rattle.rules.specs.Kinds.{LParen, RParen, Comma, Identifier}
 use Rattle.rules.specs.Fits.{only}
 use Rattle.rules.specs.Tree.{Tok, spellingOf, Tree, none, field}
 use Rattle.rules.specs.Parse
-use Rattle.rules.specs.Parse.{ok, no, tokAt, kindAt}
+use Rattle.rules.specs.Parse.{ok, tokAt, kindAt}
 use Rattle.theory_grammar.proofs.Laws.{here}
 use Rattle.theory_grammar.proofs.Cases.{then-ok, then-no, post-nameless, post-field, post-bare, post-args}
 use Rattle.theory_grammar.proofs.Ends.{Ends}
 use Rattle.parse_nodes.specs.Post.{Tells, stateAt}
 use Rattle.parse_nodes.specs.declared.At.{At}
 use Rattle.parse_nodes.proofs.Rows.{tells-some, tells-kind, word-here}
-use Rattle.parse_nodes.proofs.Turn.{Came, refused, met-ok, met-no}
+use Rattle.parse_nodes.proofs.Turn.{Came, met-ok, met-no, met-told}
 use Rattle.parse_nodes.proofs.Fitting.{end-met, end-unmet}
 use Rattle.parse_expr.proofs.Trees.{stands-field, stands-bare, stands-call, met-called}
-use Rattle.parse_expr.proofs.Loops.{came-fit, args-came}
+use Rattle.parse_expr.proofs.Given.{came-fit, args-came, refusal}
 use Rattle.parse_expr.proofs.args.Reads as args
 use Rattle.parse_expr.proofs.post.Reads as post
 use Rattle.parse_expr.proofs.call_end.Reads as call-end-reads
@@ -32,9 +30,20 @@ use Rattle.parse_expr.proofs.+add+args+atom+mul+post+prim+unary.Lts-pos
 use Rattle.parse_expr.proofs.+add+args+atom+mul+post+prim+unary.Proof.Measures.{args-below, post-at}
 
 abbrev pub cs : ℕ → lts.Claims
-cs t =
-    ( kind-at-reads.Asked, kind-at-reads.Learnt, wanted-reads.Asked, wanted-reads.Learnt, field-end-reads.Asked, field-end-reads.Learnt
-    , call-end-reads.Asked, call-end-reads.Learnt, args-below t, args.Post, unended-reads.Asked, unended-reads.Learnt )
+cs t = (
+  kind-at-reads.Asked,
+  kind-at-reads.Learnt,
+  wanted-reads.Asked,
+  wanted-reads.Learnt,
+  field-end-reads.Asked,
+  field-end-reads.Learnt,
+  call-end-reads.Asked,
+  call-end-reads.Learnt,
+  args-below t,
+  args.Post,
+  unended-reads.Asked,
+  unended-reads.Learnt,
+)
 
 module _ (t : ℕ) where
   -- ---- the places on the way, each as it is seen from a later one
@@ -135,9 +144,9 @@ module _ (t : ℕ) where
   -- what the call for the arguments gave
   got : (c : Closing) (ts : List Tok) → Told ts (at-call (done c))
       → (let a = at-call (done c) .args in
-         let o = a .s .row + 1 + 1 in
-         Came (Ends ts (o + 1)) ts (Parse.args ts (Parse.inner ts (a .left)) o) (o + 1) (a .s .node) (a .nodes .now)
-         (c .a .given .0 .0) (done c .args2 .last .1 .1 .0))
+      let o = a .s .row + 1 + 1 in
+      Came (Ends ts (o + 1)) ts (Parse.args ts (Parse.inner ts (a .left)) o) (o + 1) (a .s .node) (a .nodes .now)
+      (c .a .given .0 .0) (done c .args2 .last .1 .1 .0))
   got c ts tl =
       let p = opened (filled (done c) .before) in
       let o : ℕ = at-paren p .args .s .row + 1 + 1 in
@@ -146,10 +155,10 @@ module _ (t : ℕ) where
   -- the parser's answer, up to the arguments and behind them
   asked : (c : Called) (ts : List Tok) → Told ts (at-call c) → (u : Tree)
       → (let a = at-call c .args in
-         let m = a .s .row + 1 in
-         Parse.post ts (Parse.inner ts (a .left)) u (a .s .row)
-         ≡ Parse.then (Parse.args ts (Parse.inner ts (a .left)) (m + 1))
-           (λ x r. Parse.endIn ts (only Comma + only RParen) RParen x (Parse.called ts u (spellingOf (tokAt ts m)) x m) r))
+      let m = a .s .row + 1 in
+      Parse.post ts (Parse.inner ts (a .left)) u (a .s .row)
+      ≡ Parse.then (Parse.args ts (Parse.inner ts (a .left)) (m + 1))
+      (λ x r. Parse.endIn ts (only Comma + only RParen) RParen x (Parse.called ts u (spellingOf (tokAt ts m)) x m) r))
   asked c ts tl u =
       let a = at-call c .args in
       let f = filled c in
@@ -159,10 +168,10 @@ module _ (t : ℕ) where
 
   read : (c : Closing) (ts : List Tok) (tl : Told ts (at-call (done c))) (u : Tree)
       → (let a = at-call (done c) .args in
-         let m = a .s .row + 1 in
-         let x = got c ts tl .tree in
-         Parse.post ts (Parse.inner ts (a .left)) u (a .s .row)
-         ≡ Parse.endIn ts (only Comma + only RParen) RParen x (Parse.called ts u (spellingOf (tokAt ts m)) x m) (c .a .given .0 .0 .row))
+      let m = a .s .row + 1 in
+      let x = got c ts tl .tree in
+      Parse.post ts (Parse.inner ts (a .left)) u (a .s .row)
+      ≡ Parse.endIn ts (only Comma + only RParen) RParen x (Parse.called ts u (spellingOf (tokAt ts m)) x m) (c .a .given .0 .0 .row))
   read c ts tl u = asked (done c) ts tl u ∙ then-ok _ _ (got c ts tl .tree) (c .a .given .0 .0 .row) (got c ts tl .is)
 
   -- ---- the needs
@@ -176,16 +185,16 @@ module _ (t : ℕ) where
   pub wanted-requires : lts.Need-wanted-requires (cs t) (post-at t) post.Post
   wanted-requires c κs = search needs
 
-  pub cast-t17 : lts.Need-cast-t17 (cs t) (post-at t) post.Post
-  cast-t17 c = search needs
+  pub cast-t18 : lts.Need-cast-t18 (cs t) (post-at t) post.Post
+  cast-t18 c = search needs
 
   pub returns : lts.Need-returns (cs t) (post-at t) post.Post
   returns c = λ ts tl i n u m₀ st.
       let k = c .before .before in
       let a = entry k .args in
-      met-no (Parse.post ts (Parse.inner ts (a .left)) u (a .s .row)) i n (c .wanted .result) (a .s .row + 1) m₀ (a .nodes .now)
-      (post-nameless ts (Parse.inner ts (a .left)) u (a .s .row) (λ e. c .before .if1 .taken (name-is k ts tl ∙ e))
-      ∙ ap (λ (x : Syntax). no x (a .s .row + 1)) (sym (c .wanted .ensures)))
+      met-told _ i n _ (c .wanted .result) (a .s .row + 1) m₀ (a .nodes .now)
+      (post-nameless ts (Parse.inner ts (a .left)) u (a .s .row) (λ e. c .before .if1 .taken (name-is k ts tl ∙ e)))
+      (c .wanted .ensures)
 
   pub add-open : lts.Need-add-open (cs t) (post-at t) post.Post
   add-open c = omega (arith, name-here c, at-name c .pre .1)
@@ -209,10 +218,10 @@ module _ (t : ℕ) where
       let a = at-name (named k) .args in
       let r = f .field-end in
       let w : List ℕ = spellingOf (tokAt ts (a .s .row + 1)) in
-      met-ok (Parse.post ts (Parse.inner ts (a .left)) u (a .s .row)) i n (field u w) m₀ (r .last .0) (r .result)
+      met-ok _ i n (field u w) m₀ (r .last .0) (r .result)
       (post-field ts (Parse.inner ts (a .left)) u (a .s .row) (is-name (named k) ts tl) (λ e. fielded f .if2 .taken (open-is k ts tl ∙ e))
-      ∙ ap (λ (x : ℕ). ok (field u w) x) (sym (ap (λ (x : At). x .row) (r .ensures .0))))
-      (stands-field i n m₀ (a .nodes .now) (a .s) u (r .result) (r .last .0) w st (r .ensures .0) (r .ensures .1))
+      ∙ ap (λ (x : ℕ). ok (field u w) x) (sym (ap (λ (x : At). x .row) (r .ensures .state))))
+      (stands-field i n m₀ (a .nodes .now) (a .s) u (r .result) (r .last .0) w st (r .ensures))
 
   pub add-kind-at : lts.Need-add-kind-at (cs t) (post-at t) post.Post
   add-kind-at c = omega (arith, paren-here c, at-paren c .pre .1)
@@ -244,10 +253,11 @@ module _ (t : ℕ) where
       let r = f .call-end in
       let w : List ℕ = spellingOf (tokAt ts (a .s .row + 1)) in
       let next : ℕ = a .s .row + 1 + 1 + 1 + 1 in
+      let s : At = stateAt next (a .s .node + 1) (a .s .place) in
       rw (post-bare ts (Parse.inner ts (a .left)) u (a .s .row) (is-name (named (p .before)) ts tl) (is-paren p ts tl)
       (sym (first-is k ts tl) ∙ bare f .if3 .taken))
       (met-called ts i n u w none m₀ (a .nodes .now) (a .nodes .now) (r .last .0) (a .s) (a .s .node) 0 next (r .result) st
-      (λ q. stands-bare i n m₀ (a .nodes .now) (a .s) u (stateAt next (a .s .node + 1) (a .s .place)) (r .last .0) w st refl q) (r .ensures))
+      (λ q. stands-bare i n m₀ (a .nodes .now) (a .s) u s (r .last .0) w st refl q) (r .ensures))
 
   pub args-requires : lts.Need-args-requires (cs t) (post-at t) post.Post
   args-requires c κs =
@@ -264,8 +274,8 @@ module _ (t : ℕ) where
   pub unended-requires : lts.Need-unended-requires (cs t) (post-at t) post.Post
   unended-requires c κs = let l = at-call (done (closing (c .before))) .pre .1 .lent in omega arith
 
-  pub cast-t32 : lts.Need-cast-t32 (cs t) (post-at t) post.Post
-  cast-t32 c = search needs
+  pub cast-at : lts.Need-cast-at (cs t) (post-at t) post.Post
+  cast-at c = search needs
 
   pub same-length-3 : lts.Need-same-length-3 (cs t) (post-at t) post.Post
   same-length-3 c = search needs
@@ -277,11 +287,11 @@ module _ (t : ℕ) where
       let a = at-call (done p) .args in
       let v = got p ts tl in
       let x : At = p .a .given .0 .0 in
-      met-no (Parse.post ts (Parse.inner ts (a .left)) u (a .s .row)) i n (c .unended .result) (x .row) m₀ (done p .args2 .last .1 .1 .0)
+      met-told _ i n _ (c .unended .result) (x .row) m₀ (done p .args2 .last .1 .1 .0)
       (read p ts tl u
       ∙ end-unmet ts (a .rows .now) (a .count) tl _ RParen (v .tree) _ (x .row) (x .summed) (v .stands .summed)
-        (λ e. c .before .if4 .taken (k .kind-at4 .ensures ∙ e))
-      ∙ ap (λ (y : Syntax). no y (x .row)) (sym (c .unended .ensures)))
+      (λ e. c .before .if4 .taken (k .kind-at4 .ensures ∙ e)))
+      (c .unended .ensures)
 
   pub add-call-end-3 : lts.Need-add-call-end-3 (cs t) (post-at t) post.Post
   add-call-end-3 c =
@@ -331,7 +341,6 @@ module _ (t : ℕ) where
       let f = refusing c in
       let a = at-call f .args in
       let w = c .before .why .given in
-      met-no (Parse.post ts (Parse.inner ts (a .left)) u (a .s .row)) i n (w .0 .0) (w .0 .1 .0) m₀ (f .args2 .last .1 .1 .0)
+      met-no _ i n (w .0 .0) (w .0 .1 .0) m₀ (f .args2 .last .1 .1 .0)
       (asked f ts tl u ∙ then-no _ _ (w .0 .0) (w .0 .1 .0)
-      (refused _ (a .s .row + 1 + 1 + 1) (a .s .node) (a .nodes .now) (f .args2 .last .1 .1 .0) (f .args2 .result) (w .0 .0) (w .0 .1 .0)
-      (f .args2 .ensures ts tl) (w .1)))
+      (refusal (a .s .row + 1 + 1 + 1) (a .s .node) (a .nodes .now) (f .args2 .last .1 .1 .0) (f .args2 .ensures ts tl) (w .1)))

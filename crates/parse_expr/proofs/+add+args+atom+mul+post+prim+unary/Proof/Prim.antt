@@ -1,5 +1,5 @@
 -- `prim` of the circle: an atom, and the fields and calls behind it.
-use Prim.Native.Nat.{ℕ, _+_, _-_, _<_}
+use Prim.Native.Nat.{ℕ, _-_, _<_}
 use mathlib.Core.Path.{_≡_, refl, sym, _∙_}
 use mathlib.Core.List.{List}
 use native.Mathlib.Omega.{arith}
@@ -11,8 +11,9 @@ use Rattle.rules.specs.Parse.{kindAt}
 use Rattle.theory_grammar.proofs.Cases.{then-no, prim-is}
 use Rattle.parse_nodes.specs.Post.{Tells}
 use Rattle.parse_nodes.proofs.Rows.{tells-some, tells-kind, word-here}
-use Rattle.parse_nodes.proofs.Turn.{refused, met-no}
-use Rattle.parse_expr.proofs.Loops.{atom-came, Dotted, dotted-start, dotted-fit, dotted-done, dotted-fails, dotted-on, dotted-again}
+use Rattle.parse_nodes.proofs.Turn.{met-no}
+use Rattle.parse_expr.proofs.Given.{atom-came, refusal}
+use Rattle.parse_expr.proofs.Lists.{Dotted, dotted-start, dotted-fit, dotted-done, dotted-fails, dotted-on, dotted-again}
 use Rattle.parse_expr.proofs.atom.Reads as atom
 use Rattle.parse_expr.proofs.post.Reads as post
 use Rattle.parse_expr.proofs.prim.Reads as prim
@@ -83,12 +84,11 @@ module _ (t : ℕ) where
   abbrev Told : List Tok → Entry → Type 0
   Told ts e = Tells ts (e .args .rows .now) (e .args .count)
 
-  abbrev Turned : List Tok → List ℕ → Looping → Type 0
-  Turned ts m c = let a = at-loop c .args in Dotted ts (a .left) (a .row) (a .node) m (c .loop .s) (c .loop .nodes)
-
   -- ---- what holds there
 
-  turn : (c : Looping) (ts : List Tok) → Told ts (at-loop c) → Turned ts (at-loop c .args .nodes .now) c
+  -- what the loop has read, as it began with what the call for the atom gave
+  turn : (c : Looping) (ts : List Tok) → Told ts (at-loop c)
+      → (let a = at-loop c .args in Dotted ts (a .left) (a .row) (a .node) (a .nodes .now) (c .loop .s) (c .loop .nodes))
   turn c ts tl =
       c .loop .inv ts tl (at-loop c .args .nodes .now)
       (dotted-start (atom-came (first-done (c .before) .atom .ensures ts tl) (c .before .before .t .given .1)))
@@ -124,7 +124,7 @@ module _ (t : ℕ) where
       let w = c .before .why .given in
       met-no _ (a .row) (a .node) (w .0 .0) (w .0 .1 .0) (a .nodes .now) (f .atom .last .1 .1 .0)
       (prim-is ts (Parse.inner ts (a .left)) (a .row) ∙ then-no _ _ (w .0 .0) (w .0 .1 .0)
-      (refused _ (a .row) (a .node) (a .nodes .now) (f .atom .last .1 .1 .0) (f .atom .result) (w .0 .0) (w .0 .1 .0) (f .atom .ensures ts tl) (w .1)))
+      (refusal (a .row) (a .node) (a .nodes .now) (f .atom .last .1 .1 .0) (f .atom .ensures ts tl) (w .1)))
 
   pub loop-holds : lts.Need-loop-holds (cs t) (prim-at t) prim.Post Inv-loop μ-loop
   loop-holds c = λ ts tl m h. h
@@ -154,7 +154,7 @@ module _ (t : ℕ) where
       let l = tells-some (a .rows .now) (a .count) in
       let h = in-row (going p) in
       let u = dotted-on (turn (turning (going p)) _ l) (is-dot (going p) _ l) (p .post .last .1 .1 .0) (p .post .result)
-      (λ u st. p .post .ensures _ l (a .row) (a .node) u (a .nodes .now) st) (c .before .t2 .given .0 .0) (c .before .t2 .given .1) in
+      (λ u st. p .post .ensures _ l (a .row) (a .node) u (a .nodes .now) st) (c .before .t2 .given .1) in
       omega arith
 
   pub loop-again : lts.Need-loop-again (cs t) (prim-at t) prim.Post Inv-loop μ-loop
@@ -162,7 +162,7 @@ module _ (t : ℕ) where
       let p = second-done c in
       let a = at-second p .args in
       dotted-again (turning (going p) .loop .inv ts tl m h) (is-dot (going p) ts tl) (p .post .last .1 .1 .0) (p .post .result)
-      (λ u st. p .post .ensures ts tl (a .row) (a .node) u m st) (c .before .t2 .given .0 .0) (c .before .t2 .given .1)
+      (λ u st. p .post .ensures ts tl (a .row) (a .node) u m st) (c .before .t2 .given .1)
 
   pub enum-known-why-2 : lts.Need-enum-known-why-2 (cs t) (prim-at t) prim.Post Inv-loop μ-loop
   enum-known-why-2 c = search needs
@@ -176,6 +176,5 @@ module _ (t : ℕ) where
   returns-3 c = λ ts tl.
       let p = second-refused c in
       let a = at-second p .args in
-      let w = c .before .why2 .given in
       dotted-fails (turn (turning (going p)) ts tl) (is-dot (going p) ts tl) (p .post .last .1 .1 .0) (p .post .result)
-      (λ u st. p .post .ensures ts tl (a .row) (a .node) u (a .nodes .now) st) (w .0 .0) (w .0 .1 .0) (w .1)
+      (λ u st. p .post .ensures ts tl (a .row) (a .node) u (a .nodes .now) st) (c .before .why2 .given .1)

@@ -1,6 +1,6 @@
 -- `unary` of the circle: a star and its operand, or no star.
 use Prim.Native.Nat.{ℕ, _+_, _-_, _<_}
-use mathlib.Core.Path.{_≡_, refl, sym, ap, _∙_, subst}
+use mathlib.Core.Path.{_≡_, refl, sym, ap, _∙_}
 use mathlib.Core.List.{List}
 use native.Mathlib.Omega.{arith}
 use borrow.Author.Needs.{needs}
@@ -12,12 +12,12 @@ use Rattle.rules.specs.Parse.{ok, kindAt, operand}
 use Rattle.rules.specs.Grammar.{Unary}
 use Rattle.theory_grammar.proofs.Cases.{then-ok, then-no, inner-none, inner-operand, unary-star, unary-else}
 use Rattle.theory_grammar.proofs.Sound.{Reads}
-use Rattle.parse_nodes.specs.Post.{Tells, Met}
+use Rattle.parse_nodes.specs.Post.{Tells}
 use Rattle.parse_nodes.specs.declared.At.{At}
 use Rattle.parse_nodes.proofs.Rows.{tells-some, tells-kind, word-here}
-use Rattle.parse_nodes.proofs.Turn.{Came, refused, met-ok, met-no}
+use Rattle.parse_nodes.proofs.Turn.{Came, met-ok, met-no, met-as}
 use Rattle.parse_expr.proofs.Trees.{stands-star}
-use Rattle.parse_expr.proofs.Loops.{came-fit, unary-came}
+use Rattle.parse_expr.proofs.Given.{came-fit, unary-came, refusal}
 use Rattle.parse_expr.proofs.prim.Reads as prim
 use Rattle.parse_expr.proofs.unary.Reads as unary
 use Rattle.parse_nodes.proofs.kind_at.Reads as kind-at-reads
@@ -93,8 +93,8 @@ module _ (t : ℕ) where
   -- what the call for the operand gave
   got : (c : Done) (ts : List Tok) → Told ts (at-call (done c))
       → (let a = at-call (done c) .args in
-         Came (Reads ts Unary (a .left - 1) (a .row + 1)) ts (Parse.unary ts (Parse.inner ts (a .left - 1)) (a .row + 1))
-         (a .row + 1) (a .node) (a .nodes .now) (c .t .given .0 .0) (done c .unary .last .1 .1 .0))
+      Came (Reads ts Unary (a .left - 1) (a .row + 1)) ts (Parse.unary ts (Parse.inner ts (a .left - 1)) (a .row + 1))
+      (a .row + 1) (a .node) (a .nodes .now) (c .t .given .0 .0) (done c .unary .last .1 .1 .0))
   got c ts tl = unary-came (done c .unary .ensures ts tl) (c .t .given .1)
 
   -- ---- the needs
@@ -137,12 +137,12 @@ module _ (t : ℕ) where
       let p = shutting r in
       let a = at-call (done p) .args in
       let w = got p ts tl in
-      met-ok (Parse.unary ts (Parse.inner ts (a .left)) (a .row)) (a .row) (a .node) (star (w .tree)) (a .nodes .now) (r .shut .last .0) (r .shut .result)
+      met-ok _ (a .row) (a .node) (star (w .tree)) (a .nodes .now) (r .shut .last .0) (r .shut .result)
       (unary-star ts (Parse.inner ts (a .left)) (a .row) (is-star (starred (done p) .before) ts tl)
       ∙ then-ok _ _ (w .tree) (p .t .given .0 .0 .row) (inner-operand ts (a .row) (a .left) (starred (done p) .if2 .left) ∙ w .is)
       ∙ ap (λ (k : ℕ). ok (star (w .tree)) k) (sym (ap (λ (x : At). x .row) (r .shut .ensures .0))))
-      (stands-star (a .row) (a .node) (a .nodes .now) (done p .unary .last .1 .1 .0) (p .t .given .0 .0) (w .tree) (r .shut .result) (r .shut .last .0)
-      (w .stands) (r .shut .ensures .0) (r .shut .ensures .1))
+      (stands-star (a .row) (a .node) (a .nodes .now) (done p .unary .last .1 .1 .0) (p .t .given .0 .0) (w .tree)
+      (r .shut .result) (r .shut .last .0) (w .stands) (r .shut .ensures .0) (r .shut .ensures .1))
 
   pub enum-known-why : lts.Need-enum-known-why (cs t) (unary-at t) unary.Post
   enum-known-why c = search needs
@@ -155,10 +155,10 @@ module _ (t : ℕ) where
       let f = refusing c in
       let a = at-call f .args in
       let w = c .before .why .given in
-      met-no (Parse.unary ts (Parse.inner ts (a .left)) (a .row)) (a .row) (a .node) (w .0 .0) (w .0 .1 .0) (a .nodes .now) (f .unary .last .1 .1 .0)
+      met-no _ (a .row) (a .node) (w .0 .0) (w .0 .1 .0) (a .nodes .now) (f .unary .last .1 .1 .0)
       (unary-star ts (Parse.inner ts (a .left)) (a .row) (is-star (starred f .before) ts tl)
       ∙ then-no _ _ (w .0 .0) (w .0 .1 .0) (inner-operand ts (a .row) (a .left) (starred f .if2 .left)
-      ∙ refused _ (a .row + 1) (a .node) (a .nodes .now) (f .unary .last .1 .1 .0) (f .unary .result) (w .0 .0) (w .0 .1 .0) (f .unary .ensures ts tl) (w .1)))
+      ∙ refusal (a .row + 1) (a .node) (a .nodes .now) (f .unary .last .1 .1 .0) (f .unary .ensures ts tl) (w .1)))
 
   pub prim-requires : lts.Need-prim-requires (cs t) (unary-at t) unary.Post
   prim-requires c κs = search needs
@@ -170,6 +170,6 @@ module _ (t : ℕ) where
   returns-4 c = λ ts tl.
       let r = c .before .before in
       let a = entry (starless r) .args in
-      subst (λ (o : Parse.Out). Met o (a .row) (a .node) (a .nodes .now) (r .prim .last .1 .1 .0) (r .prim .result))
-      (sym (unary-else ts (Parse.inner ts (a .left)) (a .row) (λ e. r .before .before .if1 .left (kind-is (starless r) ts tl ∙ e))))
+      met-as _ _ (a .row) (a .node) (a .nodes .now) (r .prim .last .1 .1 .0) (r .prim .result)
+      (unary-else ts (Parse.inner ts (a .left)) (a .row) (λ e. r .before .before .if1 .left (kind-is (starless r) ts tl ∙ e)))
       (r .prim .ensures ts tl)

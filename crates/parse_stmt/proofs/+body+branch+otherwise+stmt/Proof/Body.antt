@@ -1,23 +1,25 @@
 -- `body` of the circle: statements up to the brace that closes them, and the body's node.
-use Prim.Native.Nat.{ℕ, _+_, _-_}
+use Prim.Native.Nat.{ℕ, _+_, _-_, _<_}
 use mathlib.Core.Path.{_≡_, refl, sym, ap, _∙_}
 use mathlib.Core.List.{List}
 use native.Mathlib.Omega.{arith}
 use borrow.Author.Needs.{needs}
 use Rattle.rules.specs.declared.Syntax.the-variants.{TooDeep}
 use Rattle.rules.specs.Kinds.{RBrace}
+use Rattle.rules.specs.Fits.{bodyThings}
 use Rattle.rules.specs.Tree.{Tok, count}
 use Rattle.rules.specs.Nodes.{node, missing, nodeWords}
 use Rattle.rules.specs.Parse
-use Rattle.rules.specs.Parse.{kindAt}
+use Rattle.rules.specs.Parse.{Out, P, kindAt}
 use Rattle.rules.specs.Grammar.{Stmt}
 use Rattle.theory_grammar.proofs.Laws.{is-wide}
 use Rattle.theory_grammar.proofs.Cases.{then-ok, then-no, body-none, body-some}
 use Rattle.theory_grammar.proofs.Sound.{Reads, stmt-sound}
 use Rattle.parse_nodes.specs.Post.{Tells, stateAt}
+use Rattle.parse_nodes.specs.Fitting.{retoldAt}
 use Rattle.parse_nodes.specs.declared.At.{At}
-use Rattle.parse_nodes.specs.declared.Got.the-variants.{Refused}
-use Rattle.parse_nodes.proofs.Rows.{tokens, tells-some, tells-kind}
+use Rattle.parse_nodes.proofs.Rows.{tokens, tells-some}
+use Rattle.parse_nodes.proofs.Seen.{seen}
 use Rattle.parse_nodes.proofs.Turn.{Any, same-len, Came, came-reads, refused}
 use Rattle.parse_nodes.proofs.Steps.{mem-over, Listing, list-start, list-ends, list-fails, list-again}
 use Rattle.parse_stmt.proofs.Trees.{body-ok, body-no}
@@ -26,140 +28,245 @@ use Rattle.parse_stmt.proofs.body.Reads as body
 use Rattle.parse_stmt.proofs.stmt.Reads as stmt
 use Rattle.parse_nodes.proofs.counted.Reads as counted-reads
 use Rattle.parse_nodes.proofs.ended.Reads as ended-reads
+use Rattle.parse_nodes.proofs.instead.Reads as instead-reads
 use Rattle.parse_nodes.proofs.kind_at.Reads as kind-at-reads
+use Rattle.parse_stmt.proofs.things.Reads as things-reads
 use Rattle.parse_stmt.proofs.+body+branch+otherwise+stmt.Proof.Measures.{body-at, stmt-below}
 
 abbrev pub cs : ℕ → lts.Claims
-cs t = (kind-at-reads.Asked, kind-at-reads.Learnt, ended-reads.Asked, ended-reads.Learnt, stmt-below t, stmt.Post, counted-reads.Asked, counted-reads.Learnt)
+cs t = (
+  kind-at-reads.Asked, kind-at-reads.Learnt,
+  ended-reads.Asked, ended-reads.Learnt,
+  stmt-below t, stmt.Post,
+  counted-reads.Asked, counted-reads.Learnt,
+  things-reads.Asked, things-reads.Learnt,
+  instead-reads.Asked, instead-reads.Learnt,
+)
 
--- the statements of a body whose brace is at row o
-abbrev Reading : List Tok → ℕ → Parse.P
-Reading ts d = Parse.stmt ts (d - 1) (Parse.body ts (d - 1))
+-- a statement of a body, which is one of the d constructs left
+abbrev statement : List Tok → ℕ → P
+statement ts d = Parse.stmt ts (d - 1) (Parse.body ts (d - 1))
 
--- what the loop has read, and has to read, with the node memory m at the function's entry
-abbrev Loop : List Tok → ℕ → ℕ → ℕ → List ℕ → At → List ℕ → Type 0
-Loop ts o n d m s m′ = Listing Any ts RBrace (Reading ts d) (Parse.listTo ts RBrace (Reading ts d) (o + 1)) (o + 1) n m s m′
+-- all of them, behind the brace at row o
+abbrev listing : List Tok → ℕ → ℕ → Out
+listing ts d o = Parse.listTo ts RBrace bodyThings (statement ts d) (o + 1)
+
+-- what the loop has read, and has to read
+abbrev Reading : List Tok → ℕ → ℕ → ℕ → List ℕ → At → List ℕ → Type 0
+Reading ts o n d m s m′ = Listing Any ts RBrace bodyThings (statement ts d) (listing ts d o) (o + 1) n m s m′
 
 abbrev pub Inv-loop : lts.InvT-loop
-Inv-loop rows count nodes₀ row node left kind s₀ nodes s =
-    (ts : List Tok) → Tells ts rows count → (m : List ℕ) → Loop ts row node left m s₀ nodes₀ → Loop ts row node left m s nodes
+Inv-loop rows count nodes₀ row node left kind s₀ nodes s = (ts : List Tok) → Tells ts rows count → Reading ts row node left nodes₀ s nodes
 
 abbrev pub μ-loop : lts.MeasureT-loop
 μ-loop rows count nodes₀ row node left kind s₀ nodes s = count - s .row
 
--- what holds at each turn
-turn : (t : ℕ) (c : lts.At-loop (cs t) (body-at t) body.Post Inv-loop μ-loop) (ts : List Tok) → Tells ts (c .before .before .before .before .args .rows .now) (c .before .before .before .before .args .count) → Loop ts (c .before .before .before .before .args .row) (c .before .before .before .before .args .node) (c .before .before .before .before .args .left) (c .before .before .before .before .args .nodes .now) (c .loop .s) (c .loop .nodes)
-turn t c ts tl =
-    let a = c .before .before .before .before .args in
-    c .loop .inv ts tl (a .nodes .now) (list-start Any ts RBrace (Reading ts (a .left)) _ (a .row + 1) (a .node) (a .nodes .now) _ refl (omega (arith, tl .long, c .before .before .before .before .pre .1)) refl tt)
+module _ (t : ℕ) where
+  -- ---- the places on the way
 
-some : (t : ℕ) (c : lts.At-loop (cs t) (body-at t) body.Post Inv-loop μ-loop)
-    → Loop (tokens (c .before .before .before .before .args .rows .now) (c .before .before .before .before .args .count)) (c .before .before .before .before .args .row) (c .before .before .before .before .args .node) (c .before .before .before .before .args .left) (c .before .before .before .before .args .nodes .now) (c .loop .s) (c .loop .nodes)
-some t c = turn t c _ (tells-some (c .before .before .before .before .args .rows .now) (c .before .before .before .before .args .count))
+  abbrev Entry : Type 0
+  Entry = lts.Start (cs t) (body-at t) body.Post Inv-loop μ-loop
 
--- the row's kind
-kind-is : (t : ℕ) (c : lts.After-kind-at (cs t) (body-at t) body.Post Inv-loop μ-loop) (ts : List Tok) → Tells ts (c .before .before .before .before .before .args .rows .now) (c .before .before .before .before .before .args .count) → c .kind-at .result ≡ kindAt ts (c .before .loop .s .row)
-kind-is t c ts tl = c .kind-at .ensures ∙ tells-kind ts (c .before .before .before .before .before .args .rows .now) (c .before .before .before .before .before .args .count) tl (c .before .loop .s .row)
+  abbrev Turning : Type 0
+  Turning = lts.At-loop (cs t) (body-at t) body.Post Inv-loop μ-loop
 
--- what the call in the loop gave
-got : (t : ℕ) (c : lts.After-t (cs t) (body-at t) body.Post Inv-loop μ-loop) (ts : List Tok) → Tells ts (c .before .before .before .before .before .before .before .before .before .before .before .before .args .rows .now) (c .before .before .before .before .before .before .before .before .before .before .before .before .args .count)
-    → Came (Reads ts Stmt (c .before .before .before .before .before .before .before .before .before .before .before .before .args .left - 1) (c .before .before .before .before .before .before .before .before .loop .s .row)) ts (Reading ts (c .before .before .before .before .before .before .before .before .before .before .before .before .args .left) (c .before .before .before .before .before .before .before .before .loop .s .row)) (c .before .before .before .before .before .before .before .before .loop .s .row) (c .before .before .before .before .before .before .before .before .loop .s .node) (c .before .before .before .before .before .before .before .before .loop .nodes) (c .t .given .0 .0) (c .before .before .before .before .stmt .last .1 .1 .0)
-got t c ts tl =
-    let a = c .before .before .before .before .before .before .before .before .before .before .before .before .args in
-    came-reads ts Stmt (a .left - 1) (Reading ts (a .left) (c .before .before .before .before .before .before .before .before .loop .s .row)) (c .before .before .before .before .before .before .before .before .loop .s .row) (c .before .before .before .before .before .before .before .before .loop .s .node) (c .before .before .before .before .before .before .before .before .loop .nodes) (c .before .before .before .before .stmt .last .1 .1 .0) (c .before .before .before .before .stmt .result) (c .t .given .0 .0)
-    (stmt-sound ts (a .left - 1) (c .before .before .before .before .before .before .before .before .loop .s .row)) (c .before .before .before .before .stmt .ensures ts tl) (c .t .given .1)
+  abbrev Looked : Type 0
+  Looked = lts.After-kind-at (cs t) (body-at t) body.Post Inv-loop μ-loop
 
-pub returns : (t : ℕ) → lts.Need-returns (cs t) (body-at t) body.Post Inv-loop μ-loop
-returns t c = λ ts tl.
-    let a = c .before .before .before .args in
-    body-no (Parse.body ts (a .left) (a .row)) (a .kind) (a .row) (a .node) TooDeep (a .row) (a .nodes .now) (a .nodes .now) (body-none ts (a .row) (a .left) (c .if1 .taken))
+  abbrev Called : Type 0
+  Called = lts.After-stmt (cs t) (body-at t) body.Post Inv-loop μ-loop
 
-pub add-t16 : (t : ℕ) → lts.Need-add-t16 (cs t) (body-at t) body.Post Inv-loop μ-loop
-add-t16 t c = omega (arith, c .before .before .before .pre .1)
+  abbrev Read : Type 0
+  Read = lts.After-t (cs t) (body-at t) body.Post Inv-loop μ-loop
 
-pub add-t17 : (t : ℕ) → lts.Need-add-t17 (cs t) (body-at t) body.Post Inv-loop μ-loop
-add-t17 t c = omega (arith, c .before .before .before .pre .1)
+  abbrev entry : Turning → Entry
+  entry c = c .before .before .before .before
 
-pub loop-holds : (t : ℕ) → lts.Need-loop-holds (cs t) (body-at t) body.Post Inv-loop μ-loop
-loop-holds t c = λ ts tl m h. h
+  abbrev turn : Looked → Turning
+  turn c = c .before
 
-pub kind-at-requires : (t : ℕ) → lts.Need-kind-at-requires (cs t) (body-at t) body.Post Inv-loop μ-loop
-kind-at-requires t c κs = c .before .before .before .before .pre .1 .lent
+  -- the look at the row, from behind the call for a statement
+  abbrev looked : Called → Looked
+  looked c = c .before .before .before
 
-pub ended-requires : (t : ℕ) → lts.Need-ended-requires (cs t) (body-at t) body.Post Inv-loop μ-loop
-ended-requires t c κs =
-    let w = some t (c .before .before .before) in
-    let l = tells-some (c .before .before .before .before .before .before .before .args .rows .now) (c .before .before .before .before .before .before .before .args .count) .long in
-    omega (arith, w .few, w .counts, w .stands, w .inside, c .before .before .before .before .before .before .before .pre .1)
+  abbrev at-call : Called → Turning
+  at-call c = turn (looked c)
 
-pub same-length : (t : ℕ) → lts.Need-same-length (cs t) (body-at t) body.Post Inv-loop μ-loop
-same-length t c = c .before .before .ended .kept .0 ∙ same-len _ _ _ _ _ _ (some t (c .before .before .before .before .before .before) .stands)
+  -- that call, from behind its state, from where things are counted and from behind its refusal
+  abbrev called : Read → Called
+  called c = c .before .before .before .before
 
-pub returns-2 : (t : ℕ) → lts.Need-returns-2 (cs t) (body-at t) body.Post Inv-loop μ-loop
-returns-2 t c = λ ts tl.
-    let a = c .before .before .before .before .before .before .before .before .before .before .args in
-    let w = turn t (c .before .before .before .before .before .before) ts tl in
-    let s : At = c .before .before .before .before .before .before .loop .s in
-    let r = c .before .before .ended .ensures in
-    let e = list-ends Any ts RBrace (Reading ts (a .left)) _ (a .row + 1) (a .node) (a .nodes .now) s (c .before .before .before .before .before .before .loop .nodes) w (sym (kind-is t (c .before .before .before .before .before) ts tl) ∙ c .before .before .before .before .if2 .taken) in
-    body-ok (Parse.body ts (a .left) (a .row)) (a .kind) (a .row) (a .node) (w .tree) (s .row + 1) (a .nodes .now) (c .before .before .ended .last .0) (c .before .before .ended .result)
-    (body-some ts (a .row) (a .left) (c .before .before .before .before .before .before .before .if1 .left) ∙ then-ok _ _ (w .tree) (s .row) e)
-    (r .0 ∙ ap (λ (x : ℕ). stateAt (s .row + 1) (x + 1) (a .row)) (w .stands .nodes))
-    (mem-over (a .nodes .now) (a .row + 1) (a .node) (w .tree) s (c .before .before .before .before .before .before .loop .nodes) (w .stands) (c .before .before .ended .last .0) (nodeWords (node (a .kind) (a .row) missing (count (w .tree)))) (rw (← w .stands .things) (r .1)))
+  abbrev counting : lts.After-struct-known (cs t) (body-at t) body.Post Inv-loop μ-loop → Read
+  counting c = c .before .before
 
-pub sub-stmt : (t : ℕ) → lts.Need-sub-stmt (cs t) (body-at t) body.Post Inv-loop μ-loop
-sub-stmt t c = search needs
+  abbrev why : lts.After-instead (cs t) (body-at t) body.Post Inv-loop μ-loop → lts.After-why (cs t) (body-at t) body.Post Inv-loop μ-loop
+  why c = c .before .before .before
 
-pub stmt-requires : (t : ℕ) → lts.Need-stmt-requires (cs t) (body-at t) body.Post Inv-loop μ-loop
-stmt-requires t c κs =
-    let w = some t (c .before .before .before) in
-    let l = tells-some (c .before .before .before .before .before .before .before .args .rows .now) (c .before .before .before .before .before .before .before .args .count) .long in
-    omega (arith, w .few, w .stands, w .inside, c .before .before .before .before .before .before .before .pre, c .before .before .before .before .if1 .left)
+  abbrev refusing : lts.After-instead (cs t) (body-at t) body.Post Inv-loop μ-loop → Called
+  refusing c = why c .before .before .before .before
 
-pub enum-known-t : (t : ℕ) → lts.Need-enum-known-t (cs t) (body-at t) body.Post Inv-loop μ-loop
-enum-known-t t c = search needs
+  abbrev Told : List Tok → Turning → Type 0
+  Told ts c = Tells ts (entry c .args .rows .now) (entry c .args .count)
 
-pub add-counted : (t : ℕ) → lts.Need-add-counted (cs t) (body-at t) body.Post Inv-loop μ-loop
-add-counted t c =
-    let w = some t (c .before .before .before .before .before .before .before .before .before .before) in
-    let l = tells-some (c .before .before .before .before .before .before .before .before .before .before .before .before .before .before .args .rows .now) (c .before .before .before .before .before .before .before .before .before .before .before .before .before .before .args .count) .long in
-    omega (arith, w .inside, w .counts, w .stands, c .before .before .before .before .before .before .before .before .before .before .before .before .before .before .pre .1)
+  -- ---- what holds there
 
-pub counted-requires : (t : ℕ) → lts.Need-counted-requires (cs t) (body-at t) body.Post Inv-loop μ-loop
-counted-requires t c κs = search needs
+  abbrev whole : List Tok → Entry → Out
+  whole ts e = Parse.body ts (e .args .left) (e .args .row)
 
-pub loop-less : (t : ℕ) → lts.Need-loop-less (cs t) (body-at t) body.Post Inv-loop μ-loop
-loop-less t c =
-    let v = got t (c .before .before .before) (tokens (c .before .before .before .before .before .before .before .before .before .before .before .before .before .before .before .args .rows .now) (c .before .before .before .before .before .before .before .before .before .before .before .before .before .before .before .args .count)) (tells-some (c .before .before .before .before .before .before .before .before .before .before .before .before .before .before .before .args .rows .now) (c .before .before .before .before .before .before .before .before .before .before .before .before .before .before .before .args .count)) in
-    let l = tells-some (c .before .before .before .before .before .before .before .before .before .before .before .before .before .before .before .args .rows .now) (c .before .before .before .before .before .before .before .before .before .before .before .before .before .before .before .args .count) .long in
-    let r = ap (λ (x : At). x .row) (c .counted .ensures) in
-    omega (arith, r, v .stands .rows, v .inside, is-wide (v .known .is))
+  -- whatever the tokens
+  told : (c : Turning) → Told (tokens (entry c .args .rows .now) (entry c .args .count)) c
+  told c = tells-some (entry c .args .rows .now) (entry c .args .count)
 
-pub loop-again : (t : ℕ) → lts.Need-loop-again (cs t) (body-at t) body.Post Inv-loop μ-loop
-loop-again t c = λ ts tl m h.
-    let a = c .before .before .before .before .before .before .before .before .before .before .before .before .before .before .before .args in
-    let w = c .before .before .before .before .before .before .before .before .before .before .before .loop .inv ts tl m h in
-    let v = got t (c .before .before .before) ts tl in
-    list-again Any ts RBrace (Reading ts (a .left)) (Parse.listTo ts RBrace (Reading ts (a .left)) (a .row + 1)) (a .row + 1) (a .node) m (c .before .before .before .before .before .before .before .before .before .before .before .loop .s) (c .before .before .before .before .before .before .before .before .before .before .before .loop .nodes) w
-    (λ e. c .before .before .before .before .before .before .before .before .before .if2 .left (kind-is t (c .before .before .before .before .before .before .before .before .before .before) ts tl ∙ e)) Any (Reads ts Stmt (a .left - 1) (c .before .before .before .before .before .before .before .before .before .before .before .loop .s .row)) (c .before .before .before .t .given .0 .0) (c .before .before .before .before .before .before .before .stmt .last .1 .1 .0) (c .counted .result) v
-    (omega (arith, v .stands .rows, is-wide (v .known .is))) (c .counted .ensures) tt
+  some : (c : Turning)
+      → (let a = entry c .args in
+         Reading (tokens (a .rows .now) (a .count)) (a .row) (a .node) (a .left) (a .nodes .now) (c .loop .s) (c .loop .nodes))
+  some c = c .loop .inv _ (told c)
 
-pub enum-known-why : (t : ℕ) → lts.Need-enum-known-why (cs t) (body-at t) body.Post Inv-loop μ-loop
-enum-known-why t c = search needs
+  -- the row's kind
+  kind-is : (c : Looked) (ts : List Tok) → Told ts (turn c) → c .kind-at .result ≡ kindAt ts (turn c .loop .s .row)
+  kind-is c ts h =
+      let a = entry (turn c) .args in
+      seen ts (a .rows .now) (a .count) h (turn c .loop .s .row) (c .kind-at .result) (c .kind-at .ensures)
 
-pub same-length-2 : (t : ℕ) → lts.Need-same-length-2 (cs t) (body-at t) body.Post Inv-loop μ-loop
-same-length-2 t c = c .before .before .before .before .before .stmt .kept .1 .1 .0 ∙ same-len _ _ _ _ _ _ (some t (c .before .before .before .before .before .before .before .before .before) .stands)
+  -- it is no brace
+  goes-on : (c : Called) (ts : List Tok) → Told ts (at-call c) → kindAt ts (at-call c .loop .s .row) ≡ RBrace → ⊥
+  goes-on c ts h e = c .before .before .if2 .left (kind-is (looked c) ts h ∙ e)
 
-pub returns-3 : (t : ℕ) → lts.Need-returns-3 (cs t) (body-at t) body.Post Inv-loop μ-loop
-returns-3 t c = λ ts tl.
-    let a = c .before .before .before .before .before .before .before .before .before .before .before .before .before .args in
-    let w = turn t (c .before .before .before .before .before .before .before .before .before) ts tl in
-    let p : Parse.P = Reading ts (a .left) in
-    let why = c .before .why .given .0 .0 in
-    let q : ℕ = c .before .why .given .0 .1 .0 in
-    let m′ : List ℕ = c .before .before .before .before .before .stmt .last .1 .1 .0 in
-    body-no (Parse.body ts (a .left) (a .row)) (a .kind) (a .row) (a .node) why q (a .nodes .now) m′
-    (body-some ts (a .row) (a .left) (c .before .before .before .before .before .before .before .before .before .before .if1 .left) ∙ then-no _ _ why q
-    (refused _ (a .row + 1) (a .node) (a .nodes .now) m′ (Refused why q) why q
-    (list-fails Any ts RBrace p _ (a .row + 1) (a .node) (a .nodes .now) (c .before .before .before .before .before .before .before .before .before .loop .s) (c .before .before .before .before .before .before .before .before .before .loop .nodes) w (λ e. c .before .before .before .before .before .before .before .if2 .left (kind-is t (c .before .before .before .before .before .before .before .before) ts tl ∙ e)) why q m′
-    (refused (p (c .before .before .before .before .before .before .before .before .before .loop .s .row)) (c .before .before .before .before .before .before .before .before .before .loop .s .row) (c .before .before .before .before .before .before .before .before .before .loop .s .node) (c .before .before .before .before .before .before .before .before .before .loop .nodes) m′ (c .before .before .before .before .before .stmt .result) why q (c .before .before .before .before .before .stmt .ensures ts tl) (c .before .why .given .1))) refl))
+  -- the statement that was read there has a row or more
+  got : (c : Read) (ts : List Tok) → Told ts (at-call (called c))
+      → (let a = entry (at-call (called c)) .args in
+         let l = at-call (called c) .loop in
+         Came (Reads ts Stmt (a .left - 1) (l .s .row)) ts (statement ts (a .left) (l .s .row)) (l .s .row) (l .s .node) (l .nodes)
+         (c .t .given .0 .0) (called c .stmt .last .1 .1 .0))
+  got c ts h =
+      let a = entry (at-call (called c)) .args in
+      let l = at-call (called c) .loop in
+      let f = called c .stmt in
+      came-reads ts Stmt (a .left - 1) (statement ts (a .left) (l .s .row)) (l .s .row) (l .s .node) (l .nodes) (f .last .1 .1 .0) (f .result)
+      (c .t .given .0 .0) (stmt-sound ts (a .left - 1) (l .s .row)) (f .ensures ts h) (c .t .given .1)
+
+  up : (c : Read) (ts : List Tok) → Told ts (at-call (called c)) → at-call (called c) .loop .s .row < c .t .given .0 .0 .row
+  up c ts h = let v = got c ts h in omega (arith, v .stands .rows, is-wide (v .known .is))
+
+  -- ---- the needs
+
+  pub returns : lts.Need-returns (cs t) (body-at t) body.Post Inv-loop μ-loop
+  returns c ts h =
+      let e = c .before .before .before in
+      let a = e .args in
+      body-no (whole ts e) (a .kind) (a .row) (a .node) TooDeep TooDeep (a .row) (a .nodes .now) (a .nodes .now)
+      (body-none ts (a .row) (a .left) (c .if1 .taken)) refl
+
+  pub add-t16 : lts.Need-add-t16 (cs t) (body-at t) body.Post Inv-loop μ-loop
+  add-t16 c = omega (arith, c .before .before .before .pre .1)
+
+  pub add-t17 : lts.Need-add-t17 (cs t) (body-at t) body.Post Inv-loop μ-loop
+  add-t17 c = omega (arith, c .before .before .before .pre .1)
+
+  pub loop-holds : lts.Need-loop-holds (cs t) (body-at t) body.Post Inv-loop μ-loop
+  loop-holds c ts h =
+      let e = c .before .before .before in
+      let a = e .args in
+      list-start Any ts RBrace bodyThings (statement ts (a .left)) _ (a .row + 1) (a .node) (a .nodes .now) _ refl
+      (omega (arith, h .long, e .pre .1)) refl tt
+
+  pub kind-at-requires : lts.Need-kind-at-requires (cs t) (body-at t) body.Post Inv-loop μ-loop
+  kind-at-requires c κs = entry c .pre .1 .lent
+
+  pub ended-requires : lts.Need-ended-requires (cs t) (body-at t) body.Post Inv-loop μ-loop
+  ended-requires c κs =
+      let d = turn (c .before .before) in
+      let w = some d in
+      omega (arith, w .few, w .counts, w .stands, w .inside, told d .long, entry d .pre .1)
+
+  pub same-length : lts.Need-same-length (cs t) (body-at t) body.Post Inv-loop μ-loop
+  same-length c =
+      let o = c .before .before in
+      let d = turn (o .before .before .before) in
+      o .ended .kept .0 ∙ same-len _ _ _ _ _ _ (some d .stands)
+
+  pub returns-2 : lts.Need-returns-2 (cs t) (body-at t) body.Post Inv-loop μ-loop
+  returns-2 c ts h =
+      let o = c .before .before in
+      let f = o .before .before in
+      let k = f .before in
+      let l = turn k .loop in
+      let a = entry (turn k) .args in
+      let w = l .inv ts h in
+      let s : At = l .s in
+      let r = o .ended .ensures in
+      let e = list-ends Any ts RBrace bodyThings (statement ts (a .left)) _ (a .row + 1) (a .node) (a .nodes .now) s (l .nodes) w
+        (sym (kind-is k ts h) ∙ f .if2 .taken) in
+      body-ok (whole ts (entry (turn k))) (a .kind) (a .row) (a .node) (w .tree) (s .row + 1) (a .nodes .now) (o .ended .last .0) (o .ended .result)
+      (body-some ts (a .row) (a .left) (turn k .before .if1 .left) ∙ then-ok _ _ (w .tree) (s .row) e)
+      (r .0 ∙ ap (λ (x : ℕ). stateAt (s .row + 1) (x + 1) (a .row)) (w .stands .nodes))
+      (mem-over (a .nodes .now) (a .row + 1) (a .node) (w .tree) s (l .nodes) (w .stands) (o .ended .last .0)
+      (nodeWords (node (a .kind) (a .row) missing (count (w .tree)))) (rw (← w .stands .things) (r .1)))
+
+  pub sub-stmt : lts.Need-sub-stmt (cs t) (body-at t) body.Post Inv-loop μ-loop
+  sub-stmt c = search needs
+
+  pub stmt-requires : lts.Need-stmt-requires (cs t) (body-at t) body.Post Inv-loop μ-loop
+  stmt-requires c κs =
+      let d = turn (c .before .before) in
+      let w = some d in
+      let n = told d .long in
+      omega (arith, w .few, w .stands, w .inside, entry d .pre, d .before .if1 .left)
+
+  pub enum-known-t : lts.Need-enum-known-t (cs t) (body-at t) body.Post Inv-loop μ-loop
+  enum-known-t c = search needs
+
+  pub add-counted : lts.Need-add-counted (cs t) (body-at t) body.Post Inv-loop μ-loop
+  add-counted c =
+      let d = at-call (called (counting c)) in
+      let w = some d in
+      omega (arith, w .inside, w .counts, w .stands, told d .long, entry d .pre .1)
+
+  pub counted-requires : lts.Need-counted-requires (cs t) (body-at t) body.Post Inv-loop μ-loop
+  counted-requires c κs = search needs
+
+  pub loop-less : lts.Need-loop-less (cs t) (body-at t) body.Post Inv-loop μ-loop
+  loop-less c =
+      let p = counting (c .before) in
+      let d = at-call (called p) in
+      let v = got p _ (told d) in
+      let r = ap (λ (x : At). x .row) (c .counted .ensures) in
+      omega (arith, r, v .inside, up p _ (told d), told d .long)
+
+  pub loop-again : lts.Need-loop-again (cs t) (body-at t) body.Post Inv-loop μ-loop
+  loop-again c ts h =
+      let p = counting (c .before) in
+      let f = called p in
+      let l = at-call f .loop in
+      let a = entry (at-call f) .args in
+      list-again Any ts RBrace bodyThings (statement ts (a .left)) _ (a .row + 1) (a .node) (a .nodes .now) (l .s) (l .nodes) (l .inv ts h)
+      (goes-on f ts h) Any _ (p .t .given .0 .0) (f .stmt .last .1 .1 .0) (c .counted .result) (got p ts h) (up p ts h) (c .counted .ensures) tt
+
+  pub enum-known-why : lts.Need-enum-known-why (cs t) (body-at t) body.Post Inv-loop μ-loop
+  enum-known-why c = search needs
+
+  pub things-requires : lts.Need-things-requires (cs t) (body-at t) body.Post Inv-loop μ-loop
+  things-requires c κs = search needs
+
+  pub instead-requires : lts.Need-instead-requires (cs t) (body-at t) body.Post Inv-loop μ-loop
+  instead-requires c κs = search needs
+
+  pub same-length-2 : lts.Need-same-length-2 (cs t) (body-at t) body.Post Inv-loop μ-loop
+  same-length-2 c =
+      let f = refusing c in
+      f .stmt .kept .1 .1 .0 ∙ same-len _ _ _ _ _ _ (some (at-call f) .stands)
+
+  pub returns-3 : lts.Need-returns-3 (cs t) (body-at t) body.Post Inv-loop μ-loop
+  returns-3 c ts h =
+      let f = refusing c in
+      let d = at-call f in
+      let l = d .loop in
+      let a = entry d .args in
+      let y = why c .why .given in
+      let m : List ℕ = f .stmt .last .1 .1 .0 in
+      let e = refused _ _ _ _ _ _ _ _ (f .stmt .ensures ts h) (y .1) in
+      let q = list-fails Any ts RBrace bodyThings (statement ts (a .left)) (listing ts (a .left) (a .row)) (a .row + 1) (a .node) (a .nodes .now)
+        (l .s) (l .nodes) (l .inv ts h) (goes-on f ts h) (y .0 .0) (y .0 .1 .0) m e in
+      body-no (whole ts (entry d)) (a .kind) (a .row) (a .node) _ _ _ (a .nodes .now) m
+      (body-some ts (a .row) (a .left) (d .before .if1 .left) ∙ then-no _ _ _ _ (refused _ _ _ _ _ _ _ _ q refl))
+      (c .instead .ensures ∙ ap (λ (z : ℕ). retoldAt z (l .s .row) (y .0 .0) (y .0 .1 .0)) (c .before .things .ensures))

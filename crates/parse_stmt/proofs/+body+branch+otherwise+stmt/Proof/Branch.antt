@@ -6,13 +6,12 @@ use native.Mathlib.Omega.{arith}
 use borrow.Author.Needs.{needs}
 use Rattle.rules.specs.Tree.{Tok, spellingOf}
 use Rattle.rules.specs.Parse
-use Rattle.rules.specs.Parse.{tokAt}
+use Rattle.rules.specs.Parse.{Out, branching, tokAt}
 use Rattle.theory_grammar.proofs.Cases.{then-ok, then-no}
 use Rattle.theory_grammar.proofs.Ends.{ends-body}
 use Rattle.parse_nodes.specs.Post.{Tells}
-use Rattle.parse_nodes.specs.declared.At.{At}
-use Rattle.parse_nodes.proofs.Rows.{tokens, tells-some}
-use Rattle.parse_nodes.proofs.Turn.{met-no}
+use Rattle.parse_nodes.proofs.Rows.{tells-some}
+use Rattle.parse_nodes.proofs.Turn.{met-no, met-as}
 use Rattle.parse_stmt.specs.declared.Opened.the-variants.{Brace, Refused}
 use Rattle.parse_stmt.specs.Bodies.{HeadSays}
 use Rattle.parse_stmt.proofs.Trees.{Bodied, bodied, body-refused, guarded}
@@ -25,89 +24,178 @@ use Rattle.parse_stmt.proofs.head.Reads as head-reads
 use Rattle.parse_stmt.proofs.+body+branch+otherwise+stmt.Proof.Measures.{body-below, branch-at, otherwise-below}
 
 abbrev pub cs : ℕ → lts.Claims
-cs t = (head-reads.Asked, head-reads.Learnt, close-reads.Asked, close-reads.Learnt, body-below t, body.Post, otherwise-below t, otherwise.Post)
+cs t = (
+  head-reads.Asked, head-reads.Learnt,
+  close-reads.Asked, close-reads.Learnt,
+  body-below t, body.Post,
+  otherwise-below t, otherwise.Post,
+)
 
--- what the rows of the guard say
-told : (t : ℕ) (c : lts.After-brace (cs t) (branch-at t) branch.Post) → HeadSays (c .before .before .before .before .before .args .rows .now) (c .before .before .before .before .before .args .count) (c .before .before .before .before .before .args .row) (Brace (c .brace .given .0 .0))
-told t c = subst (HeadSays (c .before .before .before .before .before .args .rows .now) (c .before .before .before .before .before .args .count) (c .before .before .before .before .before .args .row)) (c .brace .given .1) (c .before .before .head .ensures)
+module _ (t : ℕ) where
+  -- ---- the places on the way
 
--- what the call for the body gave
-got : (t : ℕ) (c : lts.After-t (cs t) (branch-at t) branch.Post) (ts : List Tok) → Tells ts (c .before .before .before .before .before .before .before .before .before .before .before .before .before .before .before .before .args .rows .now) (c .before .before .before .before .before .before .before .before .before .before .before .before .before .before .before .before .args .count)
-    → Bodied ts (Parse.body ts (c .before .before .before .before .before .before .before .before .before .before .before .before .before .before .before .before .args .left) (c .before .before .before .before .before .before .before .before .before .before .before .brace .given .0 .0)) 21 (c .before .before .before .before .before .before .before .before .before .before .before .brace .given .0 .0) (c .before .before .before .before .before .before .before .before .before .before .before .before .before .before .before .before .args .node + 1) (c .before .before .before .before .before .before .before .before .close .last .0) (c .t .given .0 .0) (c .before .before .before .before .body .last .1 .1 .0)
-got t c ts tl =
-    let a = c .before .before .before .before .before .before .before .before .before .before .before .before .before .before .before .before .args in
-    let o : ℕ = c .before .before .before .before .before .before .before .before .before .before .before .brace .given .0 .0 in
-    let h = told t (c .before .before .before .before .before .before .before .before .before .before .before) in
-    bodied ts (Parse.body ts (a .left) o) 21 o (a .node + 1) (c .before .before .before .before .before .before .before .before .close .last .0) (c .before .before .before .before .body .last .1 .1 .0) (c .before .before .before .before .body .result) (c .t .given .0 .0)
-    (ends-body ts (a .left) o (omega (arith, tl .long, h .1))) (c .before .before .before .before .body .ensures ts tl) (c .t .given .1)
+  abbrev Entry : Type 0
+  Entry = lts.Start (cs t) (branch-at t) branch.Post
 
-pub head-requires : (t : ℕ) → lts.Need-head-requires (cs t) (branch-at t) branch.Post
-head-requires t c κs = omega (arith, c .before .before .pre .1)
+  abbrev Headed : Type 0
+  Headed = lts.After-head (cs t) (branch-at t) branch.Post
 
-pub enum-known-brace : (t : ℕ) → lts.Need-enum-known-brace (cs t) (branch-at t) branch.Post
-enum-known-brace t c = search needs
+  abbrev Braced : Type 0
+  Braced = lts.After-brace (cs t) (branch-at t) branch.Post
 
-pub add-name : (t : ℕ) → lts.Need-add-name (cs t) (branch-at t) branch.Post
-add-name t c = omega (arith, c .before .before .before .before .before .before .pre .1)
+  abbrev Called : Type 0
+  Called = lts.After-body (cs t) (branch-at t) branch.Post
 
-pub close-requires : (t : ℕ) → lts.Need-close-requires (cs t) (branch-at t) branch.Post
-close-requires t c κs = let h = told t (c .before .before) in omega (arith, h .0, h .1, c .before .before .before .before .before .before .before .pre .1)
+  abbrev Read : Type 0
+  Read = lts.After-t (cs t) (branch-at t) branch.Post
 
-pub add-body : (t : ℕ) → lts.Need-add-body (cs t) (branch-at t) branch.Post
-add-body t c = omega (arith, c .before .before .before .before .before .before .before .before .before .before .before .pre .1)
+  abbrev entry : Headed → Entry
+  entry c = c .before .before .before
 
-pub body-requires : (t : ℕ) → lts.Need-body-requires (cs t) (branch-at t) branch.Post
-body-requires t c κs = let h = told t (c .before .before .before .before .before .before) in omega (arith, h .0, h .1, c .before .before .before .before .before .before .before .before .before .before .before .pre)
+  abbrev headed : Braced → Headed
+  headed c = c .before .before
 
-pub enum-known-t : (t : ℕ) → lts.Need-enum-known-t (cs t) (branch-at t) branch.Post
-enum-known-t t c = search needs
+  -- the entry, from the brace
+  abbrev at-brace : Braced → Entry
+  at-brace c = entry (headed c)
 
-pub add-otherwise : (t : ℕ) → lts.Need-add-otherwise (cs t) (branch-at t) branch.Post
-add-otherwise t c = omega (arith, c .before .before .before .before .before .before .before .before .before .before .before .before .before .before .before .before .before .before .pre .1)
+  -- the brace, from behind the name's node
+  abbrev braced : lts.After-close (cs t) (branch-at t) branch.Post → Braced
+  braced c = c .before .before .before
 
-pub otherwise-requires : (t : ℕ) → lts.Need-otherwise-requires (cs t) (branch-at t) branch.Post
-otherwise-requires t c κs =
-    let a = c .before .before .before .before .before .before .before .before .before .before .before .before .before .before .before .before .before .before .args in
-    let l = tells-some (a .rows .now) (a .count) .long in
-    let w = got t (c .before .before) (tokens (a .rows .now) (a .count)) (tells-some (a .rows .now) (a .count)) in
-    let h = told t (c .before .before .before .before .before .before .before .before .before .before .before .before .before) in
-    omega (arith, h .0, w .rows, w .nodes, w .few, w .inside, c .before .before .before .before .before .before .before .before .before .before .before .before .before .before .before .before .before .before .pre)
+  -- that node, from behind the call for the then body
+  abbrev named : Called → lts.After-close (cs t) (branch-at t) branch.Post
+  named c = c .before .before .before .before
 
-pub enum-known-why : (t : ℕ) → lts.Need-enum-known-why (cs t) (branch-at t) branch.Post
-enum-known-why t c = search needs
+  abbrev at-body : Called → Braced
+  at-body c = braced (named c)
 
-pub enum-known-why-2 : (t : ℕ) → lts.Need-enum-known-why-2 (cs t) (branch-at t) branch.Post
-enum-known-why-2 t c = search needs
+  -- that call, from behind its state, and from behind its refusal
+  abbrev called : Read → Called
+  called c = c .before .before .before .before
 
-pub cast-t27 : (t : ℕ) → lts.Need-cast-t27 (cs t) (branch-at t) branch.Post
-cast-t27 t c = search needs
+  abbrev refusing : lts.After-why (cs t) (branch-at t) branch.Post → Called
+  refusing c = c .before .before .before .before
 
-pub same-length : (t : ℕ) → lts.Need-same-length (cs t) (branch-at t) branch.Post
-same-length t c = search needs
+  abbrev Told : List Tok → Entry → Type 0
+  Told ts e = Tells ts (e .args .rows .now) (e .args .count)
 
-pub returns : (t : ℕ) → lts.Need-returns (cs t) (branch-at t) branch.Post
-returns t c = λ ts tl.
-    let a = c .before .before .before .before .before .before .before .before .before .before .before .before .before .before .before .before .before .before .before .before .before .args in
-    let x : At = c .before .before .before .before .before .t .given .0 .0 in
-    let v = got t (c .before .before .before .before .before) ts tl in
-    let h = told t (c .before .before .before .before .before .before .before .before .before .before .before .before .before .before .before .before) in
-    rw (h .2 ts tl (a .left) (Parse.body ts (a .left)) ∙ then-ok _ _ (v .list) (x .row) (v .is))
-    (c .before .before .otherwise .ensures ts tl (a .row) (a .node) (spellingOf (tokAt ts (a .row + 3))) (v .list) (a .nodes .now) refl
-    (guarded ts (a .row) (a .node) (a .nodes .now) (c .before .before .before .before .before .before .before .before .before .body .last .1 .1 .0) x (Parse.body ts (a .left) (c .before .before .before .before .before .before .before .before .before .before .before .before .before .before .before .before .brace .given .0 .0)) (c .before .before .before .before .before .before .before .before .before .before .before .before .before .before .before .before .brace .given .0 .0) (c .before .before .before .before .before .before .before .before .before .before .before .before .before .close .last .0) v (h .0) (c .before .before .before .before .before .before .before .before .before .before .before .before .before .close .ensures)))
+  -- ---- what holds there
 
-pub same-length-2 : (t : ℕ) → lts.Need-same-length-2 (cs t) (branch-at t) branch.Post
-same-length-2 t c = search needs
+  abbrev whole : List Tok → Entry → Out
+  whole ts e = Parse.stmtBy ts (e .args .left) (Parse.body ts (e .args .left)) branching (e .args .row)
 
-pub returns-2 : (t : ℕ) → lts.Need-returns-2 (cs t) (branch-at t) branch.Post
-returns-2 t c = λ ts tl.
-    let a = c .before .before .before .before .before .before .before .before .before .before .before .before .before .before .before .before .before .args in
-    let o : ℕ = c .before .before .before .before .before .before .before .before .before .before .before .before .brace .given .0 .0 in
-    met-no _ (a .row) (a .node) (c .before .why .given .0 .0) (c .before .why .given .0 .1 .0) (a .nodes .now) (c .before .before .before .before .before .body .last .1 .1 .0)
-    (told t (c .before .before .before .before .before .before .before .before .before .before .before .before) .2 ts tl (a .left) (Parse.body ts (a .left)) ∙ then-no _ _ (c .before .why .given .0 .0) (c .before .why .given .0 .1 .0)
-    (body-refused (Parse.body ts (a .left) o) 21 o (a .node + 1) (c .before .before .before .before .before .before .before .before .before .close .last .0) (c .before .before .before .before .before .body .last .1 .1 .0) (c .before .before .before .before .before .body .result) (c .before .why .given .0 .0) (c .before .why .given .0 .1 .0) (c .before .before .before .before .before .body .ensures ts tl) (c .before .why .given .1)))
+  -- the brace's row
+  abbrev brace : Braced → ℕ
+  brace c = c .brace .given .0 .0
 
-pub returns-3 : (t : ℕ) → lts.Need-returns-3 (cs t) (branch-at t) branch.Post
-returns-3 t c = λ ts tl.
-    let a = c .before .before .before .before .before .before .args in
-    let h : HeadSays (a .rows .now) (a .count) (a .row) (Refused (c .before .why2 .given .0 .0) (c .before .why2 .given .0 .1 .0)) = subst (HeadSays (a .rows .now) (a .count) (a .row)) (c .before .why2 .given .1) (c .before .before .before .head .ensures) in
-    met-no _ (a .row) (a .node) (c .before .why2 .given .0 .0) (c .before .why2 .given .0 .1 .0) (a .nodes .now) (a .nodes .now) (h ts tl (a .left) (Parse.body ts (a .left)))
+  -- what the rows of the guard say
+  says : (c : Braced) → HeadSays (at-brace c .args .rows .now) (at-brace c .args .count) (at-brace c .args .row) (Brace (brace c))
+  says c =
+      let a = at-brace c .args in
+      subst (HeadSays (a .rows .now) (a .count) (a .row)) (c .brace .given .1) (headed c .head .ensures)
+
+  -- what the call for the then body gave
+  got : (c : Read) (ts : List Tok) → Told ts (at-brace (at-body (called c)))
+      → (let b = at-body (called c) in
+         let a = at-brace b .args in
+         Bodied ts (Parse.body ts (a .left) (brace b)) 21 (brace b) (a .node + 1) (named (called c) .close .last .0) (c .t .given .0 .0)
+         (called c .body .last .1 .1 .0))
+  got c ts h =
+      let f = called c .body in
+      let b = at-body (called c) in
+      let a = at-brace b .args in
+      bodied ts (Parse.body ts (a .left) (brace b)) 21 (brace b) (a .node + 1) (named (called c) .close .last .0) (f .last .1 .1 .0) (f .result)
+      (c .t .given .0 .0) (ends-body ts (a .left) (brace b) (omega (arith, h .long, says b .1))) (f .ensures ts h) (c .t .given .1)
+
+  -- ---- the needs
+
+  pub head-requires : lts.Need-head-requires (cs t) (branch-at t) branch.Post
+  head-requires c κs = omega (arith, c .before .before .pre .1)
+
+  pub enum-known-brace : lts.Need-enum-known-brace (cs t) (branch-at t) branch.Post
+  enum-known-brace c = search needs
+
+  pub add-name : lts.Need-add-name (cs t) (branch-at t) branch.Post
+  add-name c = omega (arith, at-brace (c .before) .pre .1)
+
+  pub close-requires : lts.Need-close-requires (cs t) (branch-at t) branch.Post
+  close-requires c κs = omega (arith, at-brace (c .before .before) .pre .1)
+
+  pub add-body : lts.Need-add-body (cs t) (branch-at t) branch.Post
+  add-body c = omega (arith, at-brace (braced (c .before .before .before)) .pre .1)
+
+  pub body-requires : lts.Need-body-requires (cs t) (branch-at t) branch.Post
+  body-requires c κs =
+      let b = braced (c .before .before .before) in
+      let h = says b in
+      omega (arith, h .0, h .1, at-brace b .pre)
+
+  pub enum-known-t : lts.Need-enum-known-t (cs t) (branch-at t) branch.Post
+  enum-known-t c = search needs
+
+  pub add-otherwise : lts.Need-add-otherwise (cs t) (branch-at t) branch.Post
+  add-otherwise c = omega (arith, at-brace (at-body (called (c .before .before))) .pre .1)
+
+  pub otherwise-requires : lts.Need-otherwise-requires (cs t) (branch-at t) branch.Post
+  otherwise-requires c κs =
+      let p = c .before .before in
+      let b = at-body (called p) in
+      let e = at-brace b in
+      let l = tells-some (e .args .rows .now) (e .args .count) in
+      let w = got p _ l in
+      let n = l .long in
+      omega (arith, says b .0, w .rows, w .nodes, w .few, w .inside, e .pre)
+
+  pub enum-known-why : lts.Need-enum-known-why (cs t) (branch-at t) branch.Post
+  enum-known-why c = search needs
+
+  pub enum-known-why-2 : lts.Need-enum-known-why-2 (cs t) (branch-at t) branch.Post
+  enum-known-why-2 c = search needs
+
+  pub cast-t27 : lts.Need-cast-t27 (cs t) (branch-at t) branch.Post
+  cast-t27 c = search needs
+
+  pub same-length : lts.Need-same-length (cs t) (branch-at t) branch.Post
+  same-length c = search needs
+
+  pub returns : lts.Need-returns (cs t) (branch-at t) branch.Post
+  returns c ts h =
+      let o = c .before .before in
+      let p = o .before .before .before in
+      let f = called p .body in
+      let n = named (called p) .close in
+      let b = at-body (called p) in
+      let a = at-brace b .args in
+      let v = got p ts h in
+      let k = says b in
+      met-as (whole ts (at-brace b)) _ _ _ _ _ _
+      (k .2 ts h (a .left) (Parse.body ts (a .left)) ∙ then-ok _ _ (v .list) (p .t .given .0 .0 .row) (v .is))
+      (o .otherwise .ensures ts h (a .row) (a .node) (spellingOf (tokAt ts (a .row + 3))) (v .list) (a .nodes .now) refl
+      (guarded ts (a .row) (a .node) (a .nodes .now) (f .last .1 .1 .0) (p .t .given .0 .0) (Parse.body ts (a .left) (brace b)) (brace b)
+      (n .last .0) v (k .0) (n .ensures)))
+
+  pub same-length-2 : lts.Need-same-length-2 (cs t) (branch-at t) branch.Post
+  same-length-2 c = search needs
+
+  pub returns-2 : lts.Need-returns-2 (cs t) (branch-at t) branch.Post
+  returns-2 c ts h =
+      let q = refusing (c .before) in
+      let f = q .body in
+      let b = at-body q in
+      let a = at-brace b .args in
+      let w = c .before .why .given in
+      met-no (whole ts (at-brace b)) _ _ _ _ _ _
+      (says b .2 ts h (a .left) (Parse.body ts (a .left))
+      ∙ then-no _ _ (w .0 .0) (w .0 .1 .0)
+      (body-refused (Parse.body ts (a .left) (brace b)) 21 (brace b) (a .node + 1) (named q .close .last .0) (f .last .1 .1 .0) (f .result)
+      (w .0 .0) (w .0 .1 .0) (f .ensures ts h) (w .1)))
+
+  pub returns-3 : lts.Need-returns-3 (cs t) (branch-at t) branch.Post
+  returns-3 c ts h =
+      let d = c .before .before .before in
+      let a = entry d .args in
+      let w = c .before .why2 .given in
+      let k : HeadSays (a .rows .now) (a .count) (a .row) (Refused (w .0 .0) (w .0 .1 .0)) =
+          subst (HeadSays (a .rows .now) (a .count) (a .row)) (w .1) (d .head .ensures) in
+      met-no (whole ts (entry d)) _ _ _ _ _ _ (k ts h (a .left) (Parse.body ts (a .left)))
