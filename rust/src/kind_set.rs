@@ -7,6 +7,16 @@ use std::fmt;
 /// A set of row kinds, as a refusal with 21, 22, 23, 25 or 30 tells it: exactly the kinds with which some program of the grammar goes on.
 ///
 /// It is shown as people say it, `';', '.' or an operator`, and with `{:#}` each kind by itself.
+///
+/// ```
+/// use spoonharbor::{Document, Kind};
+///
+/// let document = Document::open("unit u{ a + b }")?;
+/// let fitting = document.tree().unwrap_err().reason.fitting().unwrap();
+/// assert!(fitting.contains(Kind::Semicolon) && fitting.contains(Kind::Star));
+/// assert!(!fitting.contains(Kind::Shl));
+/// # Ok::<(), spoonharbor::Refusal>(())
+/// ```
 #[derive(Clone, Copy, PartialEq, Eq, Hash, Default)]
 pub struct KindSet(u64);
 

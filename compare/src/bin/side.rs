@@ -9,7 +9,7 @@ use std::time::Instant;
 const USAGE: &str = "\
 usage: side scan [TEXTS [SEED]]      rows, values, refusals, every lent word, of so many ASCII texts and as many with characters
        side parse [TEXTS [SEED]]     nodes, refusals, every lent word, of so many ASCII texts and as many with characters
-       side fitting [BEGINNINGS [SEED]]  the kinds that are told, behind every beginning of five rows and so many longer ones
+       side fitting [BEGINNINGS [SEED]]  the kinds that are told, behind every beginning of seven rows and so many longer ones
        side edit [CALLS [SEED]]      random edits at every window length, and as changes
        side small [LENGTH]           every edit of every text of at most LENGTH bytes over 16 bytes, at every window length, and as a change
        side parts [LENGTH]           the same over 11 bytes with parts of characters, old and new bytes together at most LENGTH

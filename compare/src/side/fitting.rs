@@ -9,14 +9,14 @@ use crate::model::scan::scan;
 use spoonharbor::lent;
 
 /// The rows of the beginnings of which every one is asked about, and the most of a longer one.
-const EVERY: usize = 5;
+const EVERY: usize = 7;
 const MOST: usize = 60;
 
 const UNIT: u32 = 0;
 const COLON: u32 = 29;
 const EOF: u32 = 52;
 
-/// Every beginning of at most five rows with every kind behind it; then so many longer ones with every kind behind each.
+/// Every beginning of at most seven rows with every kind behind it; then so many longer ones with every kind behind each.
 pub fn run(count: u64, seed: u64) -> Compared {
     let mut counts = Counts::default();
     hold_every(&mut Chart::default(), &mut Vec::new(), &mut counts)?;
@@ -31,14 +31,14 @@ pub fn run(count: u64, seed: u64) -> Compared {
     Ok(counts)
 }
 
-/// Every beginning that goes on from one, up to five rows.
+/// Every beginning that goes on from one, up to seven rows.
 fn hold_every(
     chart: &mut Chart,
     beginning: &mut Vec<u32>,
     counts: &mut Counts,
 ) -> Result<(), Difference> {
     hold_each_kind_behind(chart, beginning, counts)?;
-    counts.add("every beginning of at most five rows");
+    counts.add("beginnings of at most seven rows");
     if beginning.len() == EVERY {
         return Ok(());
     }
