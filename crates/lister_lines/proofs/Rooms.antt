@@ -79,7 +79,7 @@ module _ (t ws : List ℕ) (tbl : Table) (m : List ℕ) (n : ℕ) where
   unfolding endingTold endingLeaves
   ending-few ending.None e l = by (ltb (nodeRoom m) (tbl .count)) e l
     where
-      by : (b : Bool) → cond b (parsed.Refused (reason.Outer NoNodeRoom) startPlace) (outTold ws (reading t ws tbl)) ≡ parsed.Nodes n
+      by : (b : Bool) → cond b (parsed.Refused (reason.Outer NoNodeRoom) startPlace 0) (outTold ws (reading t ws tbl)) ≡ parsed.Nodes n
           → length (cond b m (outLeaves (reading t ws tbl) m)) ≡ length m
           → n * 8 ≤ length m
       by true e l = let z : _≡_ {A = ℕ} 0 1 = cc in absurd (omega arith)
@@ -91,7 +91,8 @@ module _ (t ws : List ℕ) (tbl : Table) (m : List ℕ) (n : ℕ) where
   parse-few e l = by (judged t ws tbl) e l
     where
       by : (v : Judged)
-          → elim v [ verdict.Fine ↦ endingTold t ws tbl (tbl .ending) (nodeRoom m) | verdict.Refused why p ↦ parsed.Refused (reason.Outer why) p ] ≡ parsed.Nodes n
+          → elim v [ verdict.Fine ↦ endingTold t ws tbl (tbl .ending) (nodeRoom m) | verdict.Refused why p ↦ parsed.Refused (reason.Outer why) p 0 ]
+          ≡ parsed.Nodes n
           → length {A = ℕ} (elim v [ verdict.Fine ↦ endingLeaves t ws tbl (tbl .ending) m | verdict.Refused why p ↦ m ]) ≡ length m
           → n * 8 ≤ length m
       by verdict.Fine e l = ending-few (tbl .ending) e l
@@ -108,9 +109,9 @@ module _ (t ws : List ℕ) (tbl : Table) (r : Parsed) (ns : List ℕ) (e : r ≡
   unfolding listedParse
   tree-nodes n q = tree-is ∙ ap (λ (x : Parsed). listedParse x ns) q
 
-  pub tree-refused : (why : Reason) (p : Cursor) → r ≡ parsed.Refused why p → listedTree t ws tbl ≡ refusalLine (reasonNumber why) p
+  pub tree-refused : (why : Reason) (p : Cursor) (found : ℕ) → r ≡ parsed.Refused why p found → listedTree t ws tbl ≡ refusalLine (reasonNumber why) p
   unfolding listedParse
-  tree-refused why p q = tree-is ∙ ap (λ (x : Parsed). listedParse x ns) q
+  tree-refused why p found q = tree-is ∙ ap (λ (x : Parsed). listedParse x ns) q
 
   pub tree-few : (n : ℕ) → r ≡ parsed.Nodes n → length ns ≡ length room → n * 8 ≤ mostLines * 8
   tree-few n q k = omega (arith, parse-few t ws tbl room n (sym e ∙ q) (ap length (sym l) ∙ k), room-length)

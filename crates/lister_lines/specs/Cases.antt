@@ -3,6 +3,7 @@ use mathlib.Core.Path.{_≡_, refl}
 use mathlib.Core.List.{List, [], _∷_, _++_, map}
 use Prim.Native.Nat.{ℕ}
 use Rattle.rules.specs.Calls
+use Rattle.rules.specs.Fits
 use Rattle.rules.specs.Kinds
 use Rattle.rules.specs.Lex
 use Rattle.rules.specs.Nodes
@@ -81,17 +82,19 @@ unfolding
     Lex.lineComment Lex.beforeClose Lex.blockComment Lex.isDigit
     Lex.isLetter Lex.isWord Lex.word Lex.isHexDigit Lex.digitValue Lex.spelt Lex.numberOf Lex.decimal Lex.hex Lex.number Lex.isEscape Lex.string
     Lex.maybeTwo Lex.single Lex.sign Lex.slashed Lex.dashed Lex.beginning Lex.piece Lex.decidedAt Lex.item Scan.readRows Scan.readEnding Scan.read
-    Scan.scan Scan.roomOf Scan.told Scan.laid Scan.scanTold Scan.scanLeaves Sets.sections Sets.fits Sets.kindOfSection Sets.fromSection Sets.allowed
-    Sets.member Sets.allows Sets.setSize Tree.kindOf Tree.spellingOf Tree.bitsIn Tree.tokOf Tree.yield Tree.isVariable Tree.count Tree.sectionsOf
-    Tree.content Tree.sectionText Tree.kindOfFirst Tree.unitKind Tree.mapTypes Tree.mapTypeNumber Tree.shiftRight Tree.shiftBits Tree.maxBits
-    Tree.typeOf Tree.typedBy Tree.limitOf Tree.lacking Nodes.width Nodes.placeOf Nodes.licenceRow Nodes.binaryNode Nodes.declNode Nodes.assignNode
-    Nodes.textNode Nodes.nodesOf Nodes.size Nodes.nodeWords Nodes.wordsOfNodes Nodes.treeWords Parse.then Parse.many Parse.lead Parse.stmtLead
-    Parse.fieldLead Parse.eventLead Parse.topLead Parse.wantBy Parse.want Parse.needBy Parse.need Parse.named Parse.quoted Parse.valued Parse.loop
-    Parse.listStep Parse.listTo Parse.braced Parse.called Parse.atomBy Parse.atom Parse.argStep Parse.args Parse.callBy Parse.openBy Parse.post
-    Parse.prim Parse.unaryBy Parse.unary Parse.binStep Parse.mul Parse.shift Parse.add Parse.inner Parse.expr Parse.elseBy Parse.assignBy Parse.bodies
-    Parse.stmtBy Parse.stmt Parse.body Parse.itemBy Parse.item Parse.unitAt Parse.typeBy Parse.keyBy Parse.countBy Parse.chainStep Parse.chain
-    Parse.limitBy Parse.mapFieldBy Parse.mapField Parse.mapEnd Parse.mapAt Parse.lengthBy Parse.lengthAt Parse.arrayBy Parse.eventTypeBy
-    Parse.eventField Parse.eventAt Parse.topBy Parse.top Parse.parse Calls.judged Calls.spellingJudged Calls.spellingPart Calls.memberAsked
-    Calls.sizeAsked Calls.tokens Calls.placeOfRow Calls.nodeRoom Calls.outTold Calls.outLeaves Calls.reading Calls.endingTold Calls.endingLeaves
-    Calls.parseTold Calls.parseLeaves
+    Scan.scan Scan.roomOf Scan.told Scan.laid Scan.scanTold Scan.scanLeaves Sets.sections Sets.fits Sets.kindOfSection Sets.fromSection
+    Sets.allowed Sets.member Sets.allows Sets.setSize Tree.kindOf Tree.spellingOf Tree.bitsIn Tree.tokOf Tree.yield Tree.isVariable
+    Tree.isSum Tree.hangs Tree.count Tree.sectionsOf Tree.content Tree.sectionText Tree.kindOfFirst Tree.unitKind Tree.mapTypes
+    Tree.mapTypeNumber Tree.shiftRight Tree.shiftBits Tree.maxBits Tree.typeOf Tree.typedBy Tree.limitOf Tree.lacking Nodes.width
+    Nodes.placeOf Nodes.licenceRow Nodes.binaryNode Nodes.declNode Nodes.assignNode Nodes.textNode Nodes.nodesOf Nodes.size
+    Nodes.nodeWords Nodes.wordsOfNodes Nodes.treeWords Fits.retold Parse.then Parse.or Parse.many Parse.lead Parse.stmtLead
+    Parse.elseBehind Parse.onward Parse.endIn Parse.end Parse.fieldLead Parse.eventLead Parse.topLead Parse.wantBy Parse.wantIn Parse.want
+    Parse.needBy Parse.need Parse.named Parse.quoted Parse.valued Parse.loop Parse.listStep Parse.listTo Parse.braced Parse.called
+    Parse.atomBy Parse.atom Parse.argStep Parse.args Parse.callBy Parse.openBy Parse.post Parse.prim Parse.unaryBy Parse.unary
+    Parse.binStep Parse.mul Parse.shift Parse.add Parse.inner Parse.expr Parse.elseBy Parse.assignBy Parse.bodies Parse.stmtBy Parse.stmt
+    Parse.body Parse.itemBy Parse.item Parse.unitAt Parse.typeBy Parse.keyBy Parse.countBy Parse.chainStep Parse.chain Parse.limitBy
+    Parse.mapFieldBy Parse.mapField Parse.mapEnd Parse.mapAt Parse.lengthBy Parse.lengthAt Parse.arrayBy Parse.eventTypeBy
+    Parse.eventField Parse.eventAt Parse.topBy Parse.top Parse.parse Calls.judged Calls.spellingJudged Calls.spellingPart
+    Calls.memberAsked Calls.sizeAsked Calls.tokens Calls.placeOfRow Calls.nodeRoom Calls.outTold Calls.outLeaves Calls.reading
+    Calls.endingTold Calls.endingLeaves Calls.parseTold Calls.parseLeaves
 right = refl

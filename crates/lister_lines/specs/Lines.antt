@@ -85,7 +85,7 @@ listedNodes n ns = heading (bytes "nodes") n ++ lines nodeLine 0 n ns
 -- what is written of a parse that tells so and leaves such nodes
 unfoldable pub listedParse : Parsed → List ℕ → List ℕ
 listedParse (parsed.Nodes n) ns = listedNodes n ns
-listedParse (parsed.Refused why p) ns = refusalLine (reasonNumber why) p
+listedParse (parsed.Refused why p found) ns = refusalLine (reasonNumber why) p
 
 -- what is written of a text's rows and their table, behind the rows
 unfoldable pub listedTree : List ℕ → List ℕ → Table → List ℕ

@@ -130,7 +130,7 @@ fn list_tree(out: &mut [u8], at: usize, text: &[u8], rows: &[u32], table: Table)
     let mut nodes = [0u32; 16000];
     match parse::parse(text, rows, table, &mut nodes) {
         Parsed::Nodes(count) => list_nodes(out, at, &nodes, count),
-        Parsed::Refused(why, place) => refusal_line(out, at, reason_number(why), place),
+        Parsed::Refused(why, place, _) => refusal_line(out, at, reason_number(why), place),
     }
 }
 

@@ -120,7 +120,8 @@ module _ (ws : List ℕ) (o : Out) (m m′ : List ℕ) where
       let w : Met (ok t j) 0 0 m m′ r = subst (λ (y : Out). Met y 0 0 m m′ r) e met in
       rw e (ap parsed.Nodes q, w .1 ∙ written m t h)
 
-  pub final-no : (why : Syntax) (p : ℕ) (x : Cursor) (k : ℕ) → o ≡ no why p → x ≡ placeOfRow ws p → k ≡ foundTold why (rowNo ws p .kind) → m′ ≡ m
+  pub final-no : (why : Syntax) (p : ℕ) (x : Cursor) (k : ℕ) → o ≡ no why p → x ≡ placeOfRow ws p
+      → k ≡ foundTold why (rowNo ws p .kind) → m′ ≡ m
       → Final ws o m m′ (parsed.Refused (reason.Syntax why) x k)
   unfolding outTold outLeaves
   final-no why p x k e q f s = rw e ((λ j. parsed.Refused (reason.Syntax why) (q j) (f j)), s)

@@ -146,7 +146,8 @@ body-ok o kind i n l j m m′ s e q h = subst (λ (x : Out). BodyMet x kind i n 
 
 pub body-no : (o : Out) (kind i n : ℕ) (why x : Syntax) (p : ℕ) (m m′ : List ℕ) → o ≡ no why p → x ≡ why
     → BodyMet o kind i n m m′ (Refused x p)
-body-no o kind i n why x p m m′ e q = subst (λ (y : Out). BodyMet y kind i n m m′ (Refused x p)) (sym e) (ap (λ (y : Syntax). Refused y p) q)
+body-no o kind i n why x p m m′ e q =
+    subst (λ (y : Out). BodyMet y kind i n m m′ (Refused x p)) (sym e) (ap (λ (y : Syntax). Refused y p) q)
 
 -- ---- a guard
 
@@ -160,7 +161,8 @@ name-over : (m : List ℕ) (n p : ℕ) (ws : List ℕ)
     → sets m (8 * n) (nodeWords (node 1 p p 0) ++ ws) ≡ sets (sets m (8 * n) (nodeWords (node 1 p p 0))) (8 * (n + 1)) ws
 unfolding nodeWords
 name-over m n p ws =
-    sets-append (nodeWords (node 1 p p 0)) m ws (8 * n) ∙ ap (λ (k : ℕ). sets (sets m (8 * n) (nodeWords (node 1 p p 0))) k ws) (omega arith)
+    sets-append (nodeWords (node 1 p p 0)) m ws (8 * n)
+    ∙ ap (λ (k : ℕ). sets (sets m (8 * n) (nodeWords (node 1 p p 0))) k ws) (omega arith)
 
 module _ (ts : List Tok) (i n : ℕ) (m m₁ : List ℕ) (s : At) where
   -- behind the then body
@@ -216,5 +218,6 @@ module _ (ts : List Tok) (i n : ℕ) (m m₁ : List ℕ) (s : At) where
       stands-otherwise s₃ m₃ e q =
           let r : i + 5 + width (thenBody l) ≡ s .row = sym (a .rows) in
           stands-at i n (guard w (thenBody l) (elseBody (v .list))) m m₃ s₃ e
-          (omega (arith, a .rows, v .rows)) (omega (arith, a .nodes, v .nodes)) refl refl refl refl (sym (else-shuts w (thenBody l) (v .list)))
+          (omega (arith, a .rows, v .rows)) (omega (arith, a .nodes, v .nodes)) refl refl refl refl
+          (sym (else-shuts w (thenBody l) (v .list)))
           (rw (words-guard i w (thenBody l) (elseBody (v .list)), r) (guarded-over m₃ _ (else-over m₃ _ q)))

@@ -20,18 +20,15 @@ use rules::kind::RPAREN;
 use rules::kind::SEMICOLON;
 use rules::node_kind;
 ghost use mathlib.Core.Path.{_≡_};
-ghost use mathlib.Core.Bool.{true, cond};
+ghost use mathlib.Core.Bool.{cond};
 ghost use Prim.Native.Nat.{_+_, _*_, _≤_, _<_};
-ghost use lib.Dec.{eqb};
 ghost use lib.ListN.{length};
-ghost use lib.Seq.{sets};
 ghost use Rattle.rules.specs.Kinds.{KeywordElse};
 ghost use Rattle.rules.specs.Fits.{only, bodyThings};
-ghost use Rattle.rules.specs.Tree.{thenBody};
-ghost use Rattle.rules.specs.Nodes.{NodeIf, declNode, assignNode, node, nodeWords, missing};
-ghost use Rattle.rules.specs.Parse.{isDeclaring, isAssign, declaring, returning, branching, expression, stmtBy, assignBy, elseBy, stmt, body, kindAt};
-ghost use Rattle.parse_nodes.specs.Post.{stateAt, hangingAt, Answers, Onward, Asks, AsksAt, AsksOpen};
-ghost use Rattle.parse_stmt.specs.Bodies.{HeadSays, BodyAnswers, AsksElse, Elsewise};
+ghost use Rattle.rules.specs.Nodes.{declNode, assignNode};
+ghost use Rattle.rules.specs.Parse.{isDeclaring, isAssign, declaring, returning, branching, expression, stmt, body};
+ghost use Rattle.parse_nodes.specs.Post.{Answers, Onward, Asks, AsksAt, AsksOpen};
+ghost use Rattle.parse_stmt.specs.Bodies.{byLead, assignedTo, NamedEnd, HeadSays, BodyAnswers, AsksElse, Elsewise, Hangs};
 
 // Whether a row's kind is reg, imm or heap.
 fn is_declaring(k: u32) -> bool
@@ -78,7 +75,7 @@ fn assign_node(k: u32) -> u32
 // The state behind a named node with one child, over what was read up to t, and behind the row that ends it.
 fn named_end(nodes: &mut [u32], t: At, kind: u32, name: u32) -> At
     requires { ⌜ (t .node ≤ 65537) × (t .row ≤ 65537) ⌝ }
-    ensures { λ r. ⌜ (r ≡ stateAt (t .row + 1) (t .node + 1) name) × (now (nodes .exit) ≡ sets (now (nodes .entry)) (8 * t .node) (nodeWords (node kind name name 1))) ⌝ }
+    ensures { λ r. ⌜ NamedEnd t kind name (now (nodes .entry)) (now (nodes .exit)) r ⌝ }
 {
     let n = t.node;
     parse_nodes::close(nodes, n, kind, name, name, 1);
@@ -96,7 +93,7 @@ fn named_end(nodes: &mut [u32], t: At, kind: u32, name: u32) -> At
 // `reg`, `imm` or `heap` at the row: name `=` expression `;`.
 fn declare(rows: &[u32], count: u32, nodes: &mut [u32], row: u32, node: u32, left: usize) -> Got
     requires { ⌜ AsksOpen (now rows) count row node left ⌝ }
-    ensures { λ r. ⌜ Answers (λ ts. stmtBy ts left (body ts left) declaring row) (now (rows .entry)) count row node (now (nodes .entry)) (now (nodes .exit)) r ⌝ }
+    ensures { λ r. ⌜ Answers (byLead declaring left row) (now (rows .entry)) count row node (now (nodes .entry)) (now (nodes .exit)) r ⌝ }
 {
     let name = row + 1;
     if parse_nodes::kind_at(rows, count, name) != IDENTIFIER {
@@ -110,7 +107,10 @@ fn declare(rows: &[u32], count: u32, nodes: &mut [u32], row: u32, node: u32, lef
         Got::Done(t) => {
             let j = t.row;
             if parse_nodes::kind_at(rows, count, j) != SEMICOLON {
-                return Got::Refused(parse_nodes::unended(rows, count, t, fits::SEMICOLON), j as usize);
+                return Got::Refused(
+                    parse_nodes::unended(rows, count, t, fits::SEMICOLON),
+                    j as usize,
+                );
             }
             let kind = decl_node(parse_nodes::kind_at(rows, count, row));
             Got::Done(named_end(nodes, t, kind, name))
@@ -122,14 +122,17 @@ fn declare(rows: &[u32], count: u32, nodes: &mut [u32], row: u32, node: u32, lef
 // `return` at the row: expression `;`.
 fn give(rows: &[u32], count: u32, nodes: &mut [u32], row: u32, node: u32, left: usize) -> Got
     requires { ⌜ AsksOpen (now rows) count row node left ⌝ }
-    ensures { λ r. ⌜ Answers (λ ts. stmtBy ts left (body ts left) returning row) (now (rows .entry)) count row node (now (nodes .entry)) (now (nodes .exit)) r ⌝ }
+    ensures { λ r. ⌜ Answers (byLead returning left row) (now (rows .entry)) count row node (now (nodes .entry)) (now (nodes .exit)) r ⌝ }
 {
     let place = row + 1;
     match parse_expr::add(rows, count, nodes, place, node, left) {
         Got::Done(t) => {
             let j = t.row;
             if parse_nodes::kind_at(rows, count, j) != SEMICOLON {
-                return Got::Refused(parse_nodes::unended(rows, count, t, fits::SEMICOLON), j as usize);
+                return Got::Refused(
+                    parse_nodes::unended(rows, count, t, fits::SEMICOLON),
+                    j as usize,
+                );
             }
             Got::Done(parse_nodes::ended(nodes, t, node_kind::RETURN, place, 1))
         }
@@ -140,7 +143,7 @@ fn give(rows: &[u32], count: u32, nodes: &mut [u32], row: u32, node: u32, left: 
 // The value and `;` behind the target t, whose sign is at t's row.
 fn assigned(rows: &[u32], count: u32, nodes: &mut [u32], t: At, left: usize) -> Got
     requires { ⌜ AsksAt (now rows) count t left ⌝ }
-    ensures { λ r. ⌜ Onward (λ ts e. assignBy ts left (body ts left) true e (t .row)) (now (rows .entry)) count t (now (nodes .entry)) (now (nodes .exit)) r ⌝ }
+    ensures { λ r. ⌜ Onward (assignedTo left (t .row)) (now (rows .entry)) count t (now (nodes .entry)) (now (nodes .exit)) r ⌝ }
 {
     let sign = t.row;
     let n = t.node;
@@ -149,7 +152,10 @@ fn assigned(rows: &[u32], count: u32, nodes: &mut [u32], t: At, left: usize) -> 
         Got::Done(u) => {
             let j = u.row;
             if parse_nodes::kind_at(rows, count, j) != SEMICOLON {
-                return Got::Refused(parse_nodes::unended(rows, count, u, fits::SEMICOLON), j as usize);
+                return Got::Refused(
+                    parse_nodes::unended(rows, count, u, fits::SEMICOLON),
+                    j as usize,
+                );
             }
             Got::Done(parse_nodes::ended(nodes, u, assign_node(k), t.place, 2))
         }
@@ -160,7 +166,7 @@ fn assigned(rows: &[u32], count: u32, nodes: &mut [u32], t: At, left: usize) -> 
 // An expression, or one and `=` or `+=` and another; then `;`.
 fn effect(rows: &[u32], count: u32, nodes: &mut [u32], row: u32, node: u32, left: usize) -> Got
     requires { ⌜ Asks (now rows) count row node left ⌝ }
-    ensures { λ r. ⌜ Answers (λ ts. stmtBy ts left (body ts left) expression row) (now (rows .entry)) count row node (now (nodes .entry)) (now (nodes .exit)) r ⌝ }
+    ensures { λ r. ⌜ Answers (byLead expression left row) (now (rows .entry)) count row node (now (nodes .entry)) (now (nodes .exit)) r ⌝ }
 {
     match parse_expr::add(rows, count, nodes, row, node, left) {
         Got::Done(t) => {
@@ -170,7 +176,10 @@ fn effect(rows: &[u32], count: u32, nodes: &mut [u32], row: u32, node: u32, left
                 return assigned(rows, count, nodes, t, left);
             }
             if k != SEMICOLON {
-                return Got::Refused(parse_nodes::unended(rows, count, t, fits::EFFECT_ENDS), j as usize);
+                return Got::Refused(
+                    parse_nodes::unended(rows, count, t, fits::EFFECT_ENDS),
+                    j as usize,
+                );
             }
             Got::Done(parse_nodes::ended(nodes, t, node_kind::EXPRESSION, t.place, 1))
         }
@@ -233,7 +242,7 @@ pub fn stmt(rows: &[u32], count: u32, nodes: &mut [u32], row: u32, node: u32, le
 // `if` at the row.
 fn branch(rows: &[u32], count: u32, nodes: &mut [u32], row: u32, node: u32, left: usize) -> Got
     requires { ⌜ AsksOpen (now rows) count row node left ⌝ }
-    ensures { λ r. ⌜ Answers (λ ts. stmtBy ts left (body ts left) branching row) (now (rows .entry)) count row node (now (nodes .entry)) (now (nodes .exit)) r ⌝ }
+    ensures { λ r. ⌜ Answers (byLead branching left row) (now (rows .entry)) count row node (now (nodes .entry)) (now (nodes .exit)) r ⌝ }
 {
     match head(rows, count, row) {
         Opened::Brace(brace) => {
@@ -251,7 +260,7 @@ fn branch(rows: &[u32], count: u32, nodes: &mut [u32], row: u32, node: u32, left
 // The state behind an `if` without `else`, whose then body ends at t and whose guard is at `guard`.
 fn hanging_if(nodes: &mut [u32], t: At, guard: u32) -> At
     requires { ⌜ t .node ≤ 65537 ⌝ }
-    ensures { λ r. ⌜ (r ≡ hangingAt (t .row) (t .node + 1) guard) × (now (nodes .exit) ≡ sets (now (nodes .entry)) (8 * t .node) (nodeWords (node NodeIf guard missing 2))) ⌝ }
+    ensures { λ r. ⌜ Hangs t guard (now (nodes .entry)) (now (nodes .exit)) r ⌝ }
 {
     let s = parse_nodes::shut(nodes, t, node_kind::IF, guard, 2);
     At {
@@ -268,7 +277,7 @@ fn hanging_if(nodes: &mut [u32], t: At, guard: u32) -> At
 // Behind a then body at t: an else body, if there is one, and the node of the `if` whose guard is at `guard`.
 fn otherwise(rows: &[u32], count: u32, nodes: &mut [u32], t: At, guard: u32, left: usize) -> Got
     requires { ⌜ AsksElse (now rows) count t left ⌝ }
-    ensures { λ r. ⌜ Elsewise (λ ts w l. elseBy ts left (body ts left) (eqb (kindAt ts (t .row)) KeywordElse) w (thenBody l) (t .row)) (now (rows .entry)) count t guard (now (nodes .entry)) (now (nodes .exit)) r ⌝ }
+    ensures { λ r. ⌜ Elsewise left (now (rows .entry)) count t guard (now (nodes .entry)) (now (nodes .exit)) r ⌝ }
 {
     let j = t.row;
     let n = t.node;
@@ -306,7 +315,7 @@ fn body(
     kind: u32,
 ) -> Got
     requires { ⌜ AsksOpen (now rows) count row node left ⌝ }
-    ensures { λ r. ⌜ BodyAnswers (λ ts. body ts left row) kind (now (rows .entry)) count row node (now (nodes .entry)) (now (nodes .exit)) r ⌝ }
+    ensures { λ r. ⌜ BodyAnswers left kind (now (rows .entry)) count row node (now (nodes .entry)) (now (nodes .exit)) r ⌝ }
 {
     if left == 0 {
         return Got::Refused(Syntax::TooDeep, row as usize);

@@ -51,7 +51,8 @@ module _ (ts : List Tok) (ws : List ℕ) (n : ℕ) (tells : Tells ts ws n) (i x 
 -- ---- one thing more
 
 module _ (u : Contents) (o : Out) (m m′ : List ℕ) where
-  pub adds-ok : (t : Tree) (j : ℕ) (v : Contents) → o ≡ ok t j → v ≡ over u t j → m′ ≡ sets m (8 * u .at .node) (treeWords (u .at .row) t) → Adds u o m m′ (Done v)
+  pub adds-ok : (t : Tree) (j : ℕ) (v : Contents) → o ≡ ok t j → v ≡ over u t j
+      → m′ ≡ sets m (8 * u .at .node) (treeWords (u .at .row) t) → Adds u o m m′ (Done v)
   adds-ok t j v e s q = subst (λ (x : Out). Adds u x m m′ (Done v)) (sym e) (ap Done s, q)
 
   pub adds-no : (why : Syntax) (p : ℕ) → o ≡ no why p → Adds u o m m′ (Refused why p)
@@ -78,7 +79,8 @@ added u (ok t j) m m′ r v h e =
     record { tree = t; is = ap (λ (x : ℕ). ok t x) (sym k); same = q ∙ ap (λ (x : ℕ). over u t x) (sym k); mem = h .1 }
 added u (no why p) m m′ r v h e = let z : _≡_ {A = ℕ} 0 1 = cc (h, e) in absurd (omega arith)
 
-pub add-refused : (u : Contents) (o : Out) (m m′ : List ℕ) (r : Went) (why : Syntax) (p : ℕ) → Adds u o m m′ r → r ≡ Refused why p → o ≡ no why p
+pub add-refused : (u : Contents) (o : Out) (m m′ : List ℕ) (r : Went) (why : Syntax) (p : ℕ)
+    → Adds u o m m′ r → r ≡ Refused why p → o ≡ no why p
 add-refused u (ok t j) m m′ r why p h e = let z : _≡_ {A = ℕ} 0 1 = cc (h .0, e) in absurd (omega arith)
 add-refused u (no why′ p′) m m′ r why p h e = cc (h, e)
 
@@ -105,11 +107,14 @@ stmt-licence i (i-if-else b e) = refl
 pub with-stmt : (u : Contents) (t : Tree) (s : At) (j : ℕ) {d : ℕ} → Is true Stmt d t → s ≡ overAt u t j
     → record { at = s; kind = u .kind; licence = u .licence } ≡ over u t j
 unfolding kindFrom
-with-stmt u t s j h e = rw (stmt-sections h, stmt-licence (u .at .row) h) (λ k. record { at = e k; kind = sym (first-unset (u .kind)) k; licence = u .licence })
+with-stmt u t s j h e =
+    rw (stmt-sections h, stmt-licence (u .at .row) h)
+    (λ k. record { at = e k; kind = sym (first-unset (u .kind)) k; licence = u .licence })
 
 -- a licence more, and a section more
 module _ (t ws : List ℕ) (u : Contents) (k : ℕ) (m m′ : List ℕ) where
-  pub with-licence : k ≡ KeywordLicense → u .at .row ≤ 65534 → m′ ≡ sets m (8 * u .at .node) (nodeWords (node 24 (u .at .row + 1) (u .at .row + 1) 0))
+  pub with-licence : k ≡ KeywordLicense → u .at .row ≤ 65534
+      → m′ ≡ sets m (8 * u .at .node) (nodeWords (node 24 (u .at .row + 1) (u .at .row + 1) 0))
       → Texted t ws u k m m′ (record { at = textAt u; kind = u .kind; licence = u .at .row + 1 })
   unfolding kindFrom sectionsOf licenceRow size isSum hangs textNode
   with-licence e h q =
@@ -122,7 +127,8 @@ module _ (t ws : List ℕ) (u : Contents) (k : ℕ) (m m′ : List ℕ) where
         q ∙ ap (sets m (8 * u .at .node)) (sym (words-text (u .at .row) KeywordLicense (spelt t ws (u .at .row + 1)))),
       )
 
-  pub with-section : isText k ≡ true → (k ≡ KeywordLicense → ⊥) → (x : ℕ) → x ≡ firstOf (u .kind) (fromSection (sectionText (spelt t ws (u .at .row + 1))))
+  pub with-section : isText k ≡ true → (k ≡ KeywordLicense → ⊥) → (x : ℕ)
+      → x ≡ firstOf (u .kind) (fromSection (sectionText (spelt t ws (u .at .row + 1))))
       → m′ ≡ sets m (8 * u .at .node) (nodeWords (node 23 (u .at .row + 1) (u .at .row + 1) 0))
       → Texted t ws u k m m′ (record { at = textAt u; kind = x; licence = u .licence })
   unfolding kindFrom sectionsOf licenceRow size isSum hangs textNode
@@ -166,16 +172,32 @@ module _ (ts : List Tok) (u : Contents) (m m′ : List ℕ) (v : Contents) (g : 
   item-ends = all-ok (Ends ts (u .at .row)) (Parse.item ts (u .at .row)) (g .tree) (v .at .row) (ends-item ts (u .at .row)) (g .is)
 
   pub item-up : u .at .row < v .at .row
-  item-up = omega (arith, item-ends .0, all-ok (λ t j. 1 ≤ width t) (Parse.item ts (u .at .row)) (g .tree) (v .at .row) (wide-item ts (u .at .row)) (g .is))
+  item-up =
+      omega (
+        arith,
+        item-ends .0,
+        all-ok (λ t j. 1 ≤ width t) (Parse.item ts (u .at .row)) (g .tree) (v .at .row)
+            (wide-item ts (u .at .row)) (g .is),
+      )
 
   pub item-inside : v .at .row ≤ length ts
   item-inside = item-ends .1
 
-  item-came : Came (Ends ts (u .at .row)) ts (Parse.item ts (u .at .row)) (u .at .row) (u .at .node) m (behind (u .at .row) (u .at .node) (g .tree) (v .at .row)) m′
+  item-came : Came (Ends ts (u .at .row)) ts (Parse.item ts (u .at .row)) (u .at .row) (u .at .node) m
+      (behind (u .at .row) (u .at .node) (g .tree) (v .at .row)) m′
   item-came = record {
     tree = g .tree;
     is = g .is;
-    stands = record { rows = item-ends .0; nodes = refl; place = refl; things = refl; variable = refl; summed = refl; hanging = refl; mem = g .mem };
+    stands = record {
+      rows = item-ends .0;
+      nodes = refl;
+      place = refl;
+      things = refl;
+      variable = refl;
+      summed = refl;
+      hanging = refl;
+      mem = g .mem;
+    };
     inside = item-ends .1;
     few = nodes-within-rows (g .tree);
     near = place-width (u .at .row) (g .tree);
@@ -263,7 +285,8 @@ held (ok l j) i n m m′ r u h e =
     record { list = l; is = ap (λ (x : ℕ). ok l x) (sym k); same = q ∙ ap (λ (x : ℕ). contentsOf i n l x) (sym k); mem = h .1 }
 held (no why p) i n m m′ r u h e = let z : _≡_ {A = ℕ} 0 1 = cc (h, e) in absurd (omega arith)
 
-pub held-refused : (o : Out) (i n : ℕ) (m m′ : List ℕ) (r : Went) (why : Syntax) (p : ℕ) → Holds o i n m m′ r → r ≡ Refused why p → o ≡ no why p
+pub held-refused : (o : Out) (i n : ℕ) (m m′ : List ℕ) (r : Went) (why : Syntax) (p : ℕ)
+    → Holds o i n m m′ r → r ≡ Refused why p → o ≡ no why p
 held-refused (ok l j) i n m m′ r why p h e = let z : _≡_ {A = ℕ} 0 1 = cc (h .0, e) in absurd (omega arith)
 held-refused (no why′ p′) i n m m′ r why p h e = cc (h, e)
 
@@ -273,9 +296,11 @@ pub held-ends : (ts : List Tok) (i n : ℕ) (m m′ : List ℕ) (u : Contents) (
 held-ends ts i n m m′ u v h =
     all-ok (λ l j. Ends ts i l j × (kindAt ts j ≡ RBrace)) (thingsFrom ts i) (v .list) (u .at .row) (ends-items ts i h) (v .is)
 
-pub stands-unit : (o : Out) (i n : ℕ) (m m₁ m₂ : List ℕ) (u : Contents) (s : At) (w : List ℕ) (v : Held o (i + 1 + 1 + 1) n m m₁ u) → u .at .row ≡ i + 1 + 1 + 1 + width (v .list)
+pub stands-unit : (o : Out) (i n : ℕ) (m m₁ m₂ : List ℕ) (u : Contents) (s : At) (w : List ℕ) (v : Held o (i + 1 + 1 + 1) n m m₁ u)
+    → u .at .row ≡ i + 1 + 1 + 1 + width (v .list)
     → s ≡ stateAt (u .at .row + 1) (u .at .node + 1) i
-    → m₂ ≡ sets m₁ (8 * u .at .node) (nodeWords (factNode 25 i (i + 1) (u .at .things) (cond (eqb (u .kind) unset) 10 (u .kind)) (u .licence) 0 0))
+    → m₂ ≡ sets m₁ (8 * u .at .node)
+    (nodeWords (factNode 25 i (i + 1) (u .at .things) (cond (eqb (u .kind) unset) 10 (u .kind)) (u .licence) 0 0))
     → Stands i n (unit w (v .list)) m s m₂
 unfolding width size placeOf isVariable isSum hangs count unitKind
 stands-unit o i n m m₁ m₂ u s w v r e q =
@@ -285,4 +310,14 @@ stands-unit o i n m m₁ m₂ u s w v r e q =
     let kind : u .kind ≡ kindFrom (sectionsOf (v .list)) = ap (λ (x : Contents). x .kind) (v .same) in
     let licence : u .licence ≡ licenceRow (i + 1 + 1 + 1) (v .list) = ap (λ (x : Contents). x .licence) (v .same) in
     stands-at i n (unit w (v .list)) m m₂ s e (omega (arith, r)) (omega (arith, nodes)) refl refl refl refl refl
-    (rw (words-unit i w (v .list), ← three, kind-known (sectionsOf (v .list)), ← kind, ← things, ← licence, sets-tree m n (i + 1 + 1 + 1) (v .list), ← v .mem, ← nodes) q)
+    (rw (
+      words-unit i w (v .list),
+      ← three,
+      kind-known (sectionsOf (v .list)),
+      ← kind,
+      ← things,
+      ← licence,
+      sets-tree m n (i + 1 + 1 + 1) (v .list),
+      ← v .mem,
+      ← nodes,
+    ) q)

@@ -26,7 +26,8 @@ kinds-known (e ∷ es) h w =
     let k = and-eq-true-iff (not (eqb (e .kind) unset)) (allKnown es) .0 h in
     go (fits e w) (not-true (eqb (e .kind) unset) (k .0)) (kinds-known es (k .1) w)
   where
-    go : (b : Bool) → eqb (e .kind) unset ≡ false → eqb (kindOfSection es w) unset ≡ false → eqb (elim b [ true ↦ e .kind | false ↦ kindOfSection es w ]) unset ≡ false
+    go : (b : Bool) → eqb (e .kind) unset ≡ false → eqb (kindOfSection es w) unset ≡ false
+        → eqb (elim b [ true ↦ e .kind | false ↦ kindOfSection es w ]) unset ≡ false
     go true p q = p
     go false p q = q
 
@@ -90,7 +91,9 @@ module _ (t : List ℕ) (a e : ℕ) (two : a + 2 ≤ e) (inside : e ≤ length t
       ∙ take-take (e - 1 - (a + 1)) (e - a - 1) (drop 1 (drop a t)) (omega arith)
       ∙ ap (take (e - 1 - (a + 1))) (drop-drop 1 a t))
 
-  text-is : sectionText (take (e - a) (drop a t)) ≡ cond (ltb 0 (length between)) (cond (eqb (getD between (length between - 1) 0) 34) (take (length between - 1) between) between) between
+  text-is : sectionText (take (e - a) (drop a t))
+      ≡ cond (ltb 0 (length between)) (cond (eqb (getD between (length between - 1) 0) 34)
+      (take (length between - 1) between) between) between
   text-is = section-of (take (e - a) (drop a t)) between content-is
 
   pub text-empty : e - 1 ≤ a + 1 → sectionText (take (e - a) (drop a t)) ≡ between
@@ -100,7 +103,8 @@ module _ (t : List ℕ) (a e : ℕ) (two : a + 2 ≤ e) (inside : e ≤ length t
     last-byte : getD between (length between - 1) 0 ≡ getD t (e - 1 - 1) 0
     last-byte =
         let k : a + 1 + (length between - 1) ≡ e - 1 - 1 = omega (arith, between-long) in
-        getD-take (e - 1 - (a + 1)) (drop (a + 1) t) (length between - 1) 0 (omega (arith, between-long)) ∙ getD-drop (a + 1) t (length between - 1) 0 ∙ ap (λ (i : ℕ). getD t i 0) k
+        getD-take (e - 1 - (a + 1)) (drop (a + 1) t) (length between - 1) 0 (omega (arith, between-long))
+        ∙ getD-drop (a + 1) t (length between - 1) 0 ∙ ap (λ (i : ℕ). getD t i 0) k
 
     some : ltb 0 (length between) ≡ true
     some = lt-ltb 0 (length between) (omega (arith, between-long))
@@ -111,4 +115,6 @@ module _ (t : List ℕ) (a e : ℕ) (two : a + 2 ≤ e) (inside : e ≤ length t
     pub text-quoted : getD t (e - 1 - 1) 0 ≡ 34 → sectionText (take (e - a) (drop a t)) ≡ take (e - 1 - 1 - (a + 1)) (drop (a + 1) t)
     text-quoted q =
         let k : length between - 1 ≡ e - 1 - 1 - (a + 1) = omega (arith, between-long) in
-        text-is ∙ rw (some, eq-eqb (getD between (length between - 1) 0) 34 (last-byte ∙ q)) (ap (λ (x : ℕ). take x between) k ∙ take-take (e - 1 - 1 - (a + 1)) (e - 1 - (a + 1)) (drop (a + 1) t) (omega arith))
+        text-is ∙ rw (some, eq-eqb (getD between (length between - 1) 0) 34 (last-byte ∙ q))
+        (ap (λ (x : ℕ). take x between) k
+        ∙ take-take (e - 1 - 1 - (a + 1)) (e - 1 - (a + 1)) (drop (a + 1) t) (omega arith))

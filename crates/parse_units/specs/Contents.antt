@@ -142,8 +142,9 @@ abbrev pub Holds : Out → ℕ → ℕ → List ℕ → List ℕ → Went → Ty
 Holds (ok l j) i n m m′ r = (r ≡ Done (contentsOf i n l j)) × (m′ ≡ sets m (8 * n) (treeWords i l))
 Holds (no why p) i n m m′ r = r ≡ Refused why p
 
-abbrev pub ItemsMet : List ℕ → List ℕ → ℕ → ℕ → ℕ → List ℕ → List ℕ → Went → Type 0
-ItemsMet t ws n i nd m m′ r = (ts : List Tok) → Names ts t ws n → Holds (thingsFrom ts i) i nd m m′ r
+-- the same from the state s on
+abbrev pub ItemsMet : List ℕ → List ℕ → ℕ → At → List ℕ → List ℕ → Went → Type 0
+ItemsMet t ws n s m m′ r = (ts : List Tok) → Names ts t ws n → Holds (thingsFrom ts (s .row)) (s .row) (s .node) m m′ r
 
 -- the unit whose word is at row i
 abbrev pub UnitMet : List ℕ → List ℕ → ℕ → ℕ → ℕ → List ℕ → List ℕ → Got → Type 0

@@ -27,7 +27,8 @@ ghost use Rattle.rules.specs.Tree.{sectionText};
 ghost use Rattle.rules.specs.Nodes.{NodeUnit, factNode, nodeWords};
 ghost use Rattle.parse_nodes.specs.Post.{stateAt, AsksOpen};
 ghost use Rattle.parse_nodes.specs.Names.{Spans};
-ghost use Rattle.parse_units.specs.Contents.{unset, firstOf, spelt, AsksItem, AsksItems, AsksString, AsksText, AsksQuoted, Texted, ItemMet, ItemsMet, UnitMet};
+ghost use Rattle.parse_units.specs.Contents.{unset, firstOf, spelt, Texted, ItemMet, ItemsMet, UnitMet};
+ghost use Rattle.parse_units.specs.Contents.{AsksItem, AsksItems, AsksString, AsksText, AsksQuoted};
 
 const QUOTE: u8 = b'"';
 
@@ -172,7 +173,7 @@ fn things(hanging: bool) -> u64
 // The contents from the first thing on, up to `}`, which is not taken.
 fn items(text: &[u8], rows: &[u32], count: u32, nodes: &mut [u32], start: At) -> Went
     requires { ⌜ AsksItems (now text) (now rows) count start ⌝ }
-    ensures { λ r. ⌜ ItemsMet (now (text .entry)) (now (rows .entry)) count (start .row) (start .node) (now (nodes .entry)) (now (nodes .exit)) r ⌝ }
+    ensures { λ r. ⌜ ItemsMet (now (text .entry)) (now (rows .entry)) count start (now (nodes .entry)) (now (nodes .exit)) r ⌝ }
 {
     let mut u = Contents {
         at: start,

@@ -30,7 +30,7 @@ use rules::node_kind;
 fn refusal_words(parsed: Parsed) -> [u32; 7] {
     match parsed {
         Parsed::Nodes(_) => [0, 0, 0, 0, 0, 0, 0],
-        Parsed::Refused(why, place) => {
+        Parsed::Refused(why, place, _) => {
             let number = reason_number(why);
             let mut first = 0;
             let mut second = 0;
@@ -55,7 +55,7 @@ fn refusal_words(parsed: Parsed) -> [u32; 7] {
 fn node_count(parsed: Parsed) -> usize {
     match parsed {
         Parsed::Nodes(n) => n as usize,
-        Parsed::Refused(_, _) => 0,
+        Parsed::Refused(_, _, _) => 0,
     }
 }
 

@@ -60,7 +60,7 @@ returns-2 c =
     let p = c .before .before .before .before .before .before .before .before .before .parse in
     let w = c .before .before .before .before .before .before .why .given in
     let h = c .before .before .refusal-line .ensures in
-    let e = tree-refused _ _ _ (p .result) (p .last .1 .1 .1 .0) (p .ensures .0) (p .ensures .1) (w .0 .0) (w .0 .1 .0) (w .1) in
+    let e = tree-refused _ _ _ (p .result) (p .last .1 .1 .1 .0) (p .ensures .0) (p .ensures .1) (w .0 .0) (w .0 .1 .0) (w .0 .1 .1 .0) (w .1) in
     let f = ap (λ (k : ℕ). refusalLine k (w .0 .1 .0)) (c .before .before .before .reason-number .ensures) ∙ sym e in
     (adds-same f (h .0), omega (arith, ap length f, h .1))
 

@@ -66,7 +66,8 @@ returns-3 c =
     let e = c .before .before .before in
     let d = unrefused e in
     let a = entry d .args in
-    whole-tight (a .text .now) (a .rows .now) (a .table) (a .nodes .now) (well d) (e .enum-told2 .given .1) (c .before .if1 .taken) _ (c .outer .ensures)
+    whole-tight (a .text .now) (a .rows .now) (a .table) (a .nodes .now) (well d) (e .enum-told2 .given .1)
+    (c .before .if1 .taken) _ (c .outer .ensures)
 
 twice-requires : tie.Need-twice-requires
 unfolding nodeRoom
@@ -75,7 +76,8 @@ twice-requires c κs =
     let d = unrefused e in
     let a = entry d .args in
     let w = judged-fine (a .text .now) (a .rows .now) (a .table) (well d) in
-    asks-whole (fine (a .rows .now) (a .table) (w .0)) (a .text .now) (w .1) (e .enum-told2 .given .1) (a .nodes .now) (c .before .if1 .left)
+    asks-whole (fine (a .rows .now) (a .table) (w .0)) (a .text .now) (w .1) (e .enum-told2 .given .1)
+    (a .nodes .now) (c .before .if1 .left)
 
 same-length : tie.Need-same-length
 same-length c = search needs
@@ -88,7 +90,8 @@ returns-4 c =
     let e = r .before .before in
     let d = unrefused e in
     let a = entry d .args in
-    whole-read (a .text .now) (a .rows .now) (a .table) (a .nodes .now) (well d) (e .enum-told2 .given .1) (r .if1 .left) _ _ (t .twice .ensures)
+    whole-read (a .text .now) (a .rows .now) (a .table) (a .nodes .now) (well d) (e .enum-told2 .given .1)
+    (r .if1 .left) _ _ (t .twice .ensures)
 
 pub parse-spec : {M : Type 1} → statement M
 parse-spec =

@@ -74,12 +74,14 @@ some : (c : Turning) → Reading (own c) (entry c .args .nodes .now) (c .loop .s
 some c = c .loop .inv _ (told c)
 
 -- the kind of the row at the loop's head
-head-is : (c : tie.After-kind-at Inv-loop μ-loop) (ts : List Tok) → Told ts (c .before) → c .kind-at .result ≡ kindAt ts (c .before .loop .s .row)
+head-is : (c : tie.After-kind-at Inv-loop μ-loop) (ts : List Tok) → Told ts (c .before)
+    → c .kind-at .result ≡ kindAt ts (c .before .loop .s .row)
 head-is c ts h =
     let a = entry (c .before) .args in
     seen ts (a .rows .now) (a .count) (h .tells) (c .before .loop .s .row) (c .kind-at .result) (c .kind-at .ensures)
 
-goes-on : (c : tie.Else1 Inv-loop μ-loop) (ts : List Tok) → Told ts (c .before .before) → kindAt ts (c .before .before .loop .s .row) ≡ Eof → ⊥
+goes-on : (c : tie.Else1 Inv-loop μ-loop) (ts : List Tok) → Told ts (c .before .before)
+    → kindAt ts (c .before .before .loop .s .row) ≡ Eof → ⊥
 goes-on c ts h e = c .if1 .left (head-is (c .before) ts h ∙ e)
 
 -- the declaration that was read there
@@ -96,7 +98,8 @@ got c ts h =
 
 loop-holds : tie.Need-loop-holds Inv-loop μ-loop
 loop-holds c ts h =
-    list-start Flat ts Eof tops (Parse.top ts) (Parse.listTo ts Eof tops (Parse.top ts) 0) 0 0 (c .before .before .before .args .nodes .now) _ refl
+    list-start Flat ts Eof tops (Parse.top ts) (Parse.listTo ts Eof tops (Parse.top ts) 0) 0 0
+    (c .before .before .before .args .nodes .now) _ refl
     (omega arith) refl flat-none
 
 kind-at-requires : tie.Need-kind-at-requires Inv-loop μ-loop
@@ -120,11 +123,13 @@ returns c ts h =
     let l = d .before .loop in
     let a = entry (d .before) .args in
     let v = l .inv ts h in
-    let f = list-ends Flat ts Eof tops (Parse.top ts) _ 0 0 (a .nodes .now) (l .s) (l .nodes) v (sym (head-is d ts h) ∙ e .before .before .if1 .taken) in
+    let f = list-ends Flat ts Eof tops (Parse.top ts) _ 0 0 (a .nodes .now) (l .s) (l .nodes) v
+    (sym (head-is d ts h) ∙ e .before .before .if1 .taken) in
     let r = ap (λ (x : At). x .row) (e .ended .ensures .0) in
     met-ok _ _ _ (program (v .tree)) _ _ (e .ended .result)
     (parse-is ts ∙ then-ok _ _ (v .tree) (l .s .row) f ∙ ap (ok (program (v .tree))) (sym r))
-    (stands-program (a .nodes .now) (l .nodes) (e .ended .last .0) (l .s) (e .ended .result) (v .tree) (v .stands) (e .ended .ensures .0) (e .ended .ensures .1))
+    (stands-program (a .nodes .now) (l .nodes) (e .ended .last .0) (l .s) (e .ended .result)
+    (v .tree) (v .stands) (e .ended .ensures .0) (e .ended .ensures .1))
 
 top-requires : tie.Need-top-requires Inv-loop μ-loop
 top-requires c κs =
@@ -185,7 +190,7 @@ returns-2 c ts h =
     let v = l .inv ts h in
     let n : l .s .hanging ≡ false = v .stands .hanging ∙ v .known .known in
     let q = list-fails-flat Flat ts Eof tops (Parse.top ts) _ 0 0 (a .nodes .now) (l .s) (l .nodes) v (goes-on (at-top f) ts h) n
-      (y .0 .0) (y .0 .1 .0) (f .top .last .1 .1 .1 .0) e in
+    (y .0 .0) (y .0 .1 .0) (f .top .last .1 .1 .1 .0) e in
     met-told _ _ _ _ _ _ _ _ (parse-is ts ∙ then-no _ _ _ _ (refused _ _ _ _ _ _ _ _ q refl)) (c .instead .ensures)
 
 pub program-spec : {M : Type 1} → statement M

@@ -46,7 +46,8 @@ same-length c = search needs
 returns : tie.Need-returns
 returns c ts h =
     let d = c .before .before .before .before in
-    met-as _ _ _ _ _ _ _ (top-map ts (start (at-map d) .args .row) (sym (kind-is (at-map d) ts h) ∙ d .if1 .taken)) (c .before .before .map .ensures ts h)
+    met-as _ _ _ _ _ _ _ (top-map ts (start (at-map d) .args .row) (sym (kind-is (at-map d) ts h) ∙ d .if1 .taken))
+    (c .before .before .map .ensures ts h)
 
 unit-requires : tie.Need-unit-requires
 unit-requires c κs = search needs
@@ -57,7 +58,8 @@ same-length-2 c = search needs
 returns-2 : tie.Need-returns-2
 returns-2 c ts h =
     let d = c .before .before .before .before in
-    met-as _ _ _ _ _ _ _ (top-unit ts (start (at-unit d) .args .row) (sym (kind-is (at-unit d) ts h) ∙ d .if2 .taken)) (c .before .before .unit .ensures ts h)
+    met-as _ _ _ _ _ _ _ (top-unit ts (start (at-unit d) .args .row) (sym (kind-is (at-unit d) ts h) ∙ d .if2 .taken))
+    (c .before .before .unit .ensures ts h)
 
 event-requires : tie.Need-event-requires
 event-requires c κs = search needs
@@ -76,7 +78,8 @@ returns-4 c ts h =
     let d = c .before .before .before in
     let q = kind-is d ts h in
     met-no _ _ _ _ _ _ _
-    (top-other ts (start d .args .row) (λ e. c .before .before .if1 .left (q ∙ e)) (λ e. c .before .if2 .left (q ∙ e)) (λ e. c .if3 .left (q ∙ e)))
+    (top-other ts (start d .args .row) (λ e. c .before .before .if1 .left (q ∙ e))
+    (λ e. c .before .if2 .left (q ∙ e)) (λ e. c .if3 .left (q ∙ e)))
 
 pub top-spec : {M : Type 1} → statement M
 top-spec =

@@ -37,14 +37,16 @@ first : (c : tie.After-t) → Wrote (whole (start (behind-first c))) (c .t .give
 first c =
     let p = behind-first c .program in
     let a = start (behind-first c) .args in
-    wrote _ _ (p .last .1 .1 .1 .0) (p .result) (c .t .given .0 .0) (p .ensures _ (names-told (a .text .now) (a .rows .now) (a .count))) (c .t .given .1)
+    wrote _ _ (p .last .1 .1 .1 .0) (p .result) (c .t .given .0 .0)
+    (p .ensures _ (names-told (a .text .now) (a .rows .now) (a .count))) (c .t .given .1)
 
 stopped : (c : tie.After-why) → whole (start (stopping c)) ≡ no (c .why .given .0 .0) (c .why .given .0 .1 .0)
 stopped c =
     let p = stopping c .program in
     let a = start (stopping c) .args in
     let y = c .why .given in
-    refused _ 0 0 _ (p .last .1 .1 .1 .0) (p .result) (y .0 .0) (y .0 .1 .0) (p .ensures _ (names-told (a .text .now) (a .rows .now) (a .count))) (y .1)
+    refused _ 0 0 _ (p .last .1 .1 .1 .0) (p .result) (y .0 .0) (y .0 .1 .0)
+    (p .ensures _ (names-told (a .text .now) (a .rows .now) (a .count))) (y .1)
 
 -- the first pass leaves node memory as it was
 untouched : (c : tie.After-program) → c .program .last .1 .1 .1 .0 ++ start c .args .nodes .now ≡ start c .args .nodes .now

@@ -1,7 +1,6 @@
 -- `stmt::assigned` meets its contract: behind a target and its sign, a value and `;`.
 use Prim.Native.Nat.{ℕ, _+_}
 use mathlib.Core.Path.{_≡_, sym, ap, _∙_}
-use mathlib.Core.Bool.{true}
 use mathlib.Core.List.{List}
 use native.Mathlib.Omega.{arith}
 use borrow.Author.Needs.{needs}
@@ -17,6 +16,7 @@ use Rattle.parse_nodes.specs.declared.At.{At}
 use Rattle.parse_nodes.proofs.Rows.{tells-some}
 use Rattle.parse_nodes.proofs.Seen.{seen}
 use Rattle.parse_nodes.proofs.Turn.{Came, met-ok, met-no, met-told}
+use Rattle.parse_stmt.specs.Bodies.{assignedTo}
 use Rattle.parse_stmt.proofs.Trees.{expr-came, expr-refused, expr-ends, expr-open, assign-is, stands-assign}
 use Rattle.parse_stmt.proofs.assigned.Statement.{statement}
 use Rattle.parse_stmt.proofs.assigned.Tie as tie
@@ -41,13 +41,16 @@ at-end c = c .before .before
 abbrev ending : tie.After-assign-node → tie.After-kind-at2
 ending c = c .before .before .before
 
+abbrev refusing : tie.After-why → tie.After-add
+refusing c = c .before .before .before .before
+
 abbrev Told : List Tok → tie.Start → Type 0
 Told ts s = Tells ts (s .args .rows .now) (s .args .count)
 
 -- ---- the parser's answer behind the target e
 
 abbrev whole : List Tok → tie.Start → Tree → Out
-whole ts s e = Parse.assignBy ts (s .args .left) (Parse.body ts (s .args .left)) true e (s .args .t .row)
+whole ts s e = assignedTo (s .args .left) (s .args .t .row) ts e
 
 -- the assignment of a value to it
 abbrev assigning : List Tok → tie.Start → Tree → Tree → Tree
@@ -61,8 +64,8 @@ asked s ts e = assign-is ts (s .args .left) (Parse.body ts (s .args .left)) e (s
 -- the value
 got : (c : tie.After-u) (ts : List Tok) → Told ts (entry c)
     → (let a = entry c .args in
-       Came (Reads ts Add (a .left) (a .t .row + 1)) ts (Parse.expr ts (a .left) (a .t .row + 1)) (a .t .row + 1) (a .t .node) (a .nodes .now)
-       (c .u .given .0 .0) (called c .add .last .1 .1 .0))
+    Came (Reads ts Add (a .left) (a .t .row + 1)) ts (Parse.expr ts (a .left) (a .t .row + 1)) (a .t .row + 1) (a .t .node)
+    (a .nodes .now) (c .u .given .0 .0) (called c .add .last .1 .1 .0))
 got c ts h = expr-came (called c .add .ensures ts h) (c .u .given .1)
 
 -- ---- needs
@@ -129,7 +132,7 @@ returns-2 c ts h i n e m₀ st =
     let v = got p ts h in
     let r = o .ended .ensures in
     let k : g .assign-node .result ≡ assignNode (kindAt ts (a .t .row)) = g .assign-node .ensures
-      ∙ ap assignNode (seen ts (a .rows .now) (a .count) h (a .t .row) (b .result) (b .ensures)) in
+    ∙ ap assignNode (seen ts (a .rows .now) (a .count) h (a .t .row) (b .result) (b .ensures)) in
     met-ok (whole ts s e) _ _ (assigning ts s e (v .tree)) _ _ _
     (asked s ts e ∙ expr-ends h _ v (assigning ts s e) (sym (d .kind-at2 .ensures) ∙ g .before .before .if1 .left)
     ∙ ap (λ (y : ℕ). ok (assigning ts s e (v .tree)) y) (sym (ap (λ (y : At). y .row) (r .0))))
@@ -141,9 +144,10 @@ same-length-3 c = search needs
 
 returns-3 : tie.Need-returns-3
 returns-3 c ts h i n e m₀ st =
-    let d = c .before .before .before .before .before in
+    let d = refusing (c .before) in
     let s = start (at-sign d) in
-    met-no (whole ts s e) _ _ _ _ _ _ (asked s ts e ∙ expr-refused ts _ _ _ _ _ _ _ _ (d .add .ensures ts h) (c .before .why .given .1) _)
+    met-no (whole ts s e) _ _ _ _ _ _
+    (asked s ts e ∙ expr-refused ts _ _ _ _ _ _ _ _ (d .add .ensures ts h) (c .before .why .given .1) _)
 
 pub assigned-spec : {M : Type 1} → statement M
 assigned-spec =

@@ -1,10 +1,10 @@
 -- `stmt::declare` meets its contract: a name, `=`, an expression and `;`.
-use Prim.Native.Nat.{ℕ, _+_, _<_}
+use Prim.Native.Nat.{ℕ, _+_}
 use mathlib.Core.Path.{_≡_, refl, sym, ap, _∙_}
 use mathlib.Core.List.{List}
 use native.Mathlib.Omega.{arith}
 use borrow.Author.Needs.{needs}
-use Rattle.rules.specs.Kinds.{Identifier, Equals, Semicolon}
+use Rattle.rules.specs.Kinds.{Equals, Semicolon}
 use Rattle.rules.specs.Tree.{Tok, Tree, decl, spellingOf}
 use Rattle.rules.specs.Nodes.{declNode}
 use Rattle.rules.specs.Parse
@@ -17,6 +17,7 @@ use Rattle.parse_nodes.specs.declared.At.{At}
 use Rattle.parse_nodes.proofs.Rows.{tells-some, word-here}
 use Rattle.parse_nodes.proofs.Seen.{seen, want-met, want-unmet, named-met, named-unmet}
 use Rattle.parse_nodes.proofs.Turn.{Came, met-ok, met-no, met-told}
+use Rattle.parse_stmt.specs.Bodies.{byLead}
 use Rattle.parse_stmt.proofs.Trees.{expr-came, expr-refused, expr-ends, expr-open, stands-decl}
 use Rattle.parse_stmt.proofs.declare.Statement.{statement}
 use Rattle.parse_stmt.proofs.declare.Tie as tie
@@ -44,13 +45,16 @@ at-end c = c .before .before
 abbrev at-lead : tie.After-kind-at4 → tie.After-t
 at-lead c = at-end (c .before .before)
 
+abbrev refusing : tie.After-why → tie.After-add
+refusing c = c .before .before .before .before
+
 abbrev Told : List Tok → tie.Start → Type 0
 Told ts s = Tells ts (s .args .rows .now) (s .args .count)
 
 -- ---- the parser's answer
 
 abbrev whole : List Tok → tie.Start → Out
-whole ts s = Parse.stmtBy ts (s .args .left) (Parse.body ts (s .args .left)) declaring (s .args .row)
+whole ts s = byLead declaring (s .args .left) (s .args .row) ts
 
 -- the declaration of an expression
 abbrev declared : List Tok → tie.Start → Tree → Tree
@@ -74,13 +78,14 @@ asked c ts h =
     let a = entry c .args in
     let k = at-sign c .kind-at2 in
     named (at-sign c) ts h
-    ∙ want-met ts (a .rows .now) (a .count) h (a .row + 1 + 1) (k .result) (k .ensures) Equals (value ts (entry c)) (c .before .before .if2 .left)
+    ∙ want-met ts (a .rows .now) (a .count) h (a .row + 1 + 1) (k .result) (k .ensures) Equals (value ts (entry c))
+    (c .before .before .if2 .left)
 
 -- the expression
 got : (c : tie.After-t) (ts : List Tok) → Told ts (entry (called c))
     → (let a = entry (called c) .args in
-       Came (Reads ts Add (a .left) (a .row + 1 + 1 + 1)) ts (Parse.expr ts (a .left) (a .row + 1 + 1 + 1))
-       (a .row + 1 + 1 + 1) (a .node) (a .nodes .now) (c .t .given .0 .0) (called c .add .last .1 .1 .0))
+    Came (Reads ts Add (a .left) (a .row + 1 + 1 + 1)) ts (Parse.expr ts (a .left) (a .row + 1 + 1 + 1))
+    (a .row + 1 + 1 + 1) (a .node) (a .nodes .now) (c .t .given .0 .0) (called c .add .last .1 .1 .0))
 got c ts h = expr-came (called c .add .ensures ts h) (c .t .given .1)
 
 -- ---- needs
@@ -192,7 +197,7 @@ returns-4 c ts h =
     let v = got p ts h in
     let r = n .named-end .ensures in
     let k : n .before .before .decl-node .result ≡ declNode (kindAt ts (a .row)) = n .before .before .decl-node .ensures
-      ∙ ap declNode (seen ts (a .rows .now) (a .count) h (a .row) (l .kind-at4 .result) (l .kind-at4 .ensures)) in
+    ∙ ap declNode (seen ts (a .rows .now) (a .count) h (a .row) (l .kind-at4 .result) (l .kind-at4 .ensures)) in
     met-ok (whole ts s) _ _ (declared ts s (v .tree)) _ _ _
     (asked (called p) ts h ∙ expr-ends h _ v (declared ts s) (sym (l .before .before .kind-at3 .ensures) ∙ l .before .if3 .left)
     ∙ ap (λ (y : ℕ). ok (declared ts s (v .tree)) y) (sym (ap (λ (y : At). y .row) (r .0))))
@@ -204,8 +209,9 @@ same-length-3 c = search needs
 
 returns-5 : tie.Need-returns-5
 returns-5 c ts h =
-    let d = c .before .before .before .before .before in
-    met-no (whole ts (entry d)) _ _ _ _ _ _ (asked d ts h ∙ expr-refused ts _ _ _ _ _ _ _ _ (d .add .ensures ts h) (c .before .why .given .1) _)
+    let d = refusing (c .before) in
+    met-no (whole ts (entry d)) _ _ _ _ _ _
+    (asked d ts h ∙ expr-refused ts _ _ _ _ _ _ _ _ (d .add .ensures ts h) (c .before .why .given .1) _)
 
 pub declare-spec : {M : Type 1} → statement M
 declare-spec =

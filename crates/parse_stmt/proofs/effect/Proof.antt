@@ -1,6 +1,6 @@
 -- `stmt::effect` meets its contract: an expression, and behind it an assignment's sign or `;`.
 use Prim.Native.Nat.{ℕ, _+_}
-use mathlib.Core.Path.{_≡_, refl, sym, ap, _∙_, subst}
+use mathlib.Core.Path.{_≡_, refl, sym, ap, _∙_}
 use mathlib.Core.Bool.{Bool, true}
 use mathlib.Core.List.{List}
 use native.Mathlib.Omega.{arith}
@@ -19,6 +19,7 @@ use Rattle.parse_nodes.proofs.Rows.{tells-some, word-test}
 use Rattle.parse_nodes.proofs.Seen.{seen}
 use Rattle.parse_nodes.proofs.Turn.{Came, met-ok, met-no, met-told, met-as}
 use Rattle.parse_nodes.proofs.Fitting.{end-met, end-unmet}
+use Rattle.parse_stmt.specs.Bodies.{byLead}
 use Rattle.parse_stmt.proofs.Trees.{expr-came, expr-refused, stands-plain}
 use Rattle.parse_stmt.proofs.effect.Statement.{statement}
 use Rattle.parse_stmt.proofs.effect.Tie as tie
@@ -46,26 +47,29 @@ signless c = c .before
 abbrev at-end : tie.Else2 → tie.Else1
 at-end c = c .before
 
+abbrev refusing : tie.After-why → tie.After-add
+refusing c = c .before .before .before .before
+
 abbrev Told : List Tok → tie.Start → Type 0
 Told ts s = Tells ts (s .args .rows .now) (s .args .count)
 
 -- ---- the parser's answer
 
 abbrev whole : List Tok → tie.Start → Out
-whole ts s = Parse.stmtBy ts (s .args .left) (Parse.body ts (s .args .left)) expression (s .args .row)
+whole ts s = byLead expression (s .args .left) (s .args .row) ts
 
 -- the expression
 got : (c : tie.After-t) (ts : List Tok) → Told ts (entry c)
     → (let a = entry c .args in
-       Came (Reads ts Add (a .left) (a .row)) ts (Parse.expr ts (a .left) (a .row)) (a .row) (a .node) (a .nodes .now)
-       (c .t .given .0 .0) (called c .add .last .1 .1 .0))
+    Came (Reads ts Add (a .left) (a .row)) ts (Parse.expr ts (a .left) (a .row)) (a .row) (a .node) (a .nodes .now)
+    (c .t .given .0 .0) (called c .add .last .1 .1 .0))
 got c ts h = expr-came (called c .add .ensures ts h) (c .t .given .1)
 
 -- the answer behind it
 read : (c : tie.After-t) (ts : List Tok) (h : Told ts (entry c))
     → (let a = entry c .args in
-       let j = c .t .given .0 .0 .row in
-       whole ts (entry c) ≡ Parse.assignBy ts (a .left) (Parse.body ts (a .left)) (isAssign (kindAt ts j)) (got c ts h .tree) j)
+    let j = c .t .given .0 .0 .row in
+    whole ts (entry c) ≡ Parse.assignBy ts (a .left) (Parse.body ts (a .left)) (isAssign (kindAt ts j)) (got c ts h .tree) j)
 read c ts h =
     let a = entry c .args in
     let v = got c ts h in
@@ -82,13 +86,14 @@ test-is c ts h =
 -- none does
 ends : (c : tie.Else1) (ts : List Tok) (h : Told ts (entry (behind (signless c))))
     → (let p = behind (signless c) in
-       let v = got p ts h in
-       whole ts (entry p) ≡ Parse.endIn ts (only Semicolon + assigns) Semicolon (v .tree) (ok (plain (v .tree))) (p .t .given .0 .0 .row))
+    let v = got p ts h in
+    whole ts (entry p) ≡ Parse.endIn ts (only Semicolon + assigns) Semicolon (v .tree) (ok (plain (v .tree))) (p .t .given .0 .0 .row))
 ends c ts h =
     let p = behind (signless c) in
     let a = entry p .args in
     read p ts h
-    ∙ assign-no ts (a .left) (Parse.body ts (a .left)) (got p ts h .tree) (p .t .given .0 .0 .row) (sym (test-is (signless c) ts h) ∙ c .if1 .left)
+    ∙ assign-no ts (a .left) (Parse.body ts (a .left)) (got p ts h .tree) (p .t .given .0 .0 .row)
+    (sym (test-is (signless c) ts h) ∙ c .if1 .left)
 
 -- ---- needs
 
@@ -112,7 +117,7 @@ assigned-requires c κs =
     let a = s .args in
     let w = got p _ (tells-some (a .rows .now) (a .count)) in
     let h = word-test (a .rows .now) (a .count) (p .t .given .0 .0 .row) isAssign refl
-      (ap isAssign (sym (looked d .kind-at .ensures)) ∙ sym (d .is-assign .ensures) ∙ c .before .if1 .taken) in
+    (ap isAssign (sym (looked d .kind-at .ensures)) ∙ sym (d .is-assign .ensures) ∙ c .before .if1 .taken) in
     omega (arith, h, w .stands, w .few, s .pre)
 
 same-length : tie.Need-same-length
@@ -190,10 +195,11 @@ same-length-4 c = search needs
 
 returns-4 : tie.Need-returns-4
 returns-4 c ts h =
-    let d = c .before .before .before .before .before in
+    let d = refusing (c .before) in
     let a = start d .args in
     met-no (whole ts (start d)) _ _ _ _ _ _
-    (expression-is ts (a .left) (Parse.body ts (a .left)) (a .row) ∙ expr-refused ts _ _ _ _ _ _ _ _ (d .add .ensures ts h) (c .before .why .given .1) _)
+    (expression-is ts (a .left) (Parse.body ts (a .left)) (a .row)
+    ∙ expr-refused ts _ _ _ _ _ _ _ _ (d .add .ensures ts h) (c .before .why .given .1) _)
 
 pub effect-spec : {M : Type 1} → statement M
 effect-spec =

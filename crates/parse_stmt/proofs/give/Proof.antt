@@ -15,6 +15,7 @@ use Rattle.parse_nodes.specs.Post.{Tells}
 use Rattle.parse_nodes.specs.declared.At.{At}
 use Rattle.parse_nodes.proofs.Rows.{tells-some}
 use Rattle.parse_nodes.proofs.Turn.{Came, met-ok, met-no, met-told}
+use Rattle.parse_stmt.specs.Bodies.{byLead}
 use Rattle.parse_stmt.proofs.Trees.{expr-came, expr-refused, expr-ends, expr-open, stands-ret}
 use Rattle.parse_stmt.proofs.give.Statement.{statement}
 use Rattle.parse_stmt.proofs.give.Tie as tie
@@ -36,13 +37,16 @@ at-end c = c .before .before
 abbrev ending : tie.After-ended → tie.After-kind-at
 ending c = c .before .before .before
 
+abbrev refusing : tie.After-why → tie.After-add
+refusing c = c .before .before .before .before
+
 abbrev Told : List Tok → tie.Start → Type 0
 Told ts s = Tells ts (s .args .rows .now) (s .args .count)
 
 -- ---- the parser's answer
 
 abbrev whole : List Tok → tie.Start → Out
-whole ts s = Parse.stmtBy ts (s .args .left) (Parse.body ts (s .args .left)) returning (s .args .row)
+whole ts s = byLead returning (s .args .left) (s .args .row) ts
 
 asked : (s : tie.Start) (ts : List Tok)
     → whole ts s ≡ then (Parse.expr ts (s .args .left) (s .args .row + 1)) (λ e k. Parse.end ts Semicolon e (ok (ret e)) k)
@@ -51,8 +55,8 @@ asked s ts = returning-is ts (s .args .left) (Parse.body ts (s .args .left)) (s 
 -- the expression
 got : (c : tie.After-t) (ts : List Tok) → Told ts (entry c)
     → (let a = entry c .args in
-       Came (Reads ts Add (a .left) (a .row + 1)) ts (Parse.expr ts (a .left) (a .row + 1)) (a .row + 1) (a .node) (a .nodes .now)
-       (c .t .given .0 .0) (called c .add .last .1 .1 .0))
+    Came (Reads ts Add (a .left) (a .row + 1)) ts (Parse.expr ts (a .left) (a .row + 1)) (a .row + 1) (a .node) (a .nodes .now)
+    (c .t .given .0 .0) (called c .add .last .1 .1 .0))
 got c ts h = expr-came (called c .add .ensures ts h) (c .t .given .1)
 
 -- ---- needs
@@ -119,8 +123,9 @@ same-length-3 c = search needs
 
 returns-3 : tie.Need-returns-3
 returns-3 c ts h =
-    let d = c .before .before .before .before .before in
-    met-no (whole ts (start d)) _ _ _ _ _ _ (asked (start d) ts ∙ expr-refused ts _ _ _ _ _ _ _ _ (d .add .ensures ts h) (c .before .why .given .1) _)
+    let d = refusing (c .before) in
+    met-no (whole ts (start d)) _ _ _ _ _ _
+    (asked (start d) ts ∙ expr-refused ts _ _ _ _ _ _ _ _ (d .add .ensures ts h) (c .before .why .given .1) _)
 
 pub give-spec : {M : Type 1} → statement M
 give-spec =

@@ -3,16 +3,16 @@ use Prim.Native.Nat.{ℕ, _+_}
 use mathlib.Core.Path.{_≡_, refl, sym, ap, _∙_}
 use mathlib.Core.List.{List}
 use native.Mathlib.Omega.{arith}
-use lib.Dec.{eqb}
 use borrow.Author.Needs.{needs}
-use Rattle.rules.specs.Kinds.{KeywordGuard, KeywordElse, LParen, RParen, LBrace}
-use Rattle.rules.specs.Tree.{Tok, spellingOf, thenBody}
+use Rattle.rules.specs.Kinds.{KeywordGuard, LParen, RParen, LBrace}
+use Rattle.rules.specs.Tree.{Tok, spellingOf}
 use Rattle.rules.specs.Parse
 use Rattle.rules.specs.Parse.{Out, P, then, branching, tokAt, kindAt}
 use Rattle.theory_grammar.proofs.Cases.{need-yes, need-no, branching-is, bodies-is, then-no}
 use Rattle.parse_nodes.specs.Post.{Tells}
 use Rattle.parse_nodes.proofs.Rows.{word-here}
 use Rattle.parse_nodes.proofs.Seen.{seen, want-met, want-unmet, named-met, named-unmet}
+use Rattle.parse_stmt.specs.Bodies.{elseAt}
 use Rattle.parse_stmt.proofs.Trees.{refusal}
 use Rattle.parse_stmt.proofs.head.Statement.{statement}
 use Rattle.parse_stmt.proofs.head.Tie as tie
@@ -76,7 +76,7 @@ open-read c ts h d p =
 
 name-read : (c : tie.After-kind-at4) (ts : List Tok) → Told ts (from-close c) → (d : ℕ) (p : P)
     → (let i = from-close c .args .row in
-       whole ts (from-close c) d p ≡ Parse.want ts RParen (Parse.bodies ts d p (spellingOf (tokAt ts (i + 1 + 1 + 1)))) (i + 1 + 1 + 1 + 1))
+    whole ts (from-close c) d p ≡ Parse.want ts RParen (Parse.bodies ts d p (spellingOf (tokAt ts (i + 1 + 1 + 1)))) (i + 1 + 1 + 1 + 1))
 name-read c ts h d p =
     let a = from-close c .args in
     let k = at-name c .kind-at3 in
@@ -85,7 +85,7 @@ name-read c ts h d p =
 
 close-read : (c : tie.After-kind-at5) (ts : List Tok) → Told ts (from-brace c) → (d : ℕ) (p : P)
     → (let i = from-brace c .args .row in
-       whole ts (from-brace c) d p ≡ Parse.bodies ts d p (spellingOf (tokAt ts (i + 1 + 1 + 1))) (i + 1 + 1 + 1 + 1 + 1))
+    whole ts (from-brace c) d p ≡ Parse.bodies ts d p (spellingOf (tokAt ts (i + 1 + 1 + 1))) (i + 1 + 1 + 1 + 1 + 1))
 close-read c ts h d p =
     let a = from-brace c .args in
     let k = at-close c .kind-at4 in
@@ -114,9 +114,10 @@ returns : tie.Need-returns
 returns c ts h d p =
     let k = c .before .before in
     let a = from-guard k .args in
+    let l = k .kind-at in
     refusal
     (branching-is ts d p (a .row)
-    ∙ want-unmet ts (a .rows .now) (a .count) h (a .row + 1) (k .kind-at .result) (k .kind-at .ensures) KeywordGuard _ (c .before .if1 .taken))
+    ∙ want-unmet ts (a .rows .now) (a .count) h (a .row + 1) (l .result) (l .ensures) KeywordGuard _ (c .before .if1 .taken))
     (c .wanted .ensures)
 
 add-open : tie.Need-add-open
@@ -132,9 +133,10 @@ returns-2 : tie.Need-returns-2
 returns-2 c ts h d p =
     let k = c .before .before in
     let a = from-open k .args in
+    let l = k .kind-at2 in
     refusal
     (guard-read k ts h d p
-    ∙ want-unmet ts (a .rows .now) (a .count) h (a .row + 1 + 1) (k .kind-at2 .result) (k .kind-at2 .ensures) LParen _ (c .before .if2 .taken))
+    ∙ want-unmet ts (a .rows .now) (a .count) h (a .row + 1 + 1) (l .result) (l .ensures) LParen _ (c .before .if2 .taken))
     (c .wanted2 .ensures)
 
 add-name : tie.Need-add-name
@@ -150,9 +152,10 @@ returns-3 : tie.Need-returns-3
 returns-3 c ts h d p =
     let k = c .before .before in
     let a = from-name k .args in
+    let l = k .kind-at3 in
     refusal
     (open-read k ts h d p
-    ∙ named-unmet ts (a .rows .now) (a .count) h (a .row + 1 + 1 + 1) (k .kind-at3 .result) (k .kind-at3 .ensures) _ (c .before .if3 .taken))
+    ∙ named-unmet ts (a .rows .now) (a .count) h (a .row + 1 + 1 + 1) (l .result) (l .ensures) _ (c .before .if3 .taken))
     (c .wanted3 .ensures)
 
 add-close : tie.Need-add-close
@@ -202,9 +205,9 @@ returns-6 c =
       word-here (a .rows .now) (a .count) o LBrace (sym (k .kind-at5 .ensures) ∙ c .if5 .left) refl,
       λ ts h d p.
           close-read k ts h d p ∙ bodies-is ts d p _ o
-          ∙ ap (λ (x : Out). then x (λ l j. Parse.elseBy ts d p (eqb (kindAt ts j) KeywordElse) (spellingOf (tokAt ts (a .row + 1 + 1 + 1))) (thenBody l) j))
-            (need-yes ts LBrace p o (sym (brace-is k ts h) ∙ c .if5 .left))
-          ∙ ap (λ (x : ℕ). then (p o) (λ l j. Parse.elseBy ts d p (eqb (kindAt ts j) KeywordElse) (spellingOf (tokAt ts x)) (thenBody l) j)) three,
+          ∙ ap (λ (x : Out). then x (λ l j. elseAt ts d p (spellingOf (tokAt ts (a .row + 1 + 1 + 1))) l j))
+          (need-yes ts LBrace p o (sym (brace-is k ts h) ∙ c .if5 .left))
+          ∙ ap (λ (x : ℕ). then (p o) (λ l j. elseAt ts d p (spellingOf (tokAt ts x)) l j)) three,
     )
 
 pub head-spec : {M : Type 1} → statement M

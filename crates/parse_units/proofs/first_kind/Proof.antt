@@ -39,7 +39,9 @@ kind-of-string-requires : tie.Need-kind-of-string-requires
 kind-of-string-requires c κs = search needs
 
 returns-2 : tie.Need-returns-2
-returns-2 c = rw (eq-eqb (c .before .before .before .before .before .before .args .kind) unset (c .before .before .before .if1 .left)) (c .kind-of-string .ensures)
+returns-2 c =
+    let d = c .before .before .before in
+    rw (eq-eqb (d .before .before .before .args .kind) unset (d .if1 .left)) (c .kind-of-string .ensures)
 
 pub first-kind-spec : {M : Type 1} → statement M
 first-kind-spec =

@@ -85,18 +85,20 @@ returns-2 c ts h =
     let a = entry (at-stmt f) .args in
     let u = a .u in
     let t = b .t .given .0 .0 in
-    let g = came-reads ts Stmt mostOpen (Parse.stmt ts mostOpen (Parse.body ts mostOpen) (u .at .row)) (u .at .row) (u .at .node) (a .nodes .now)
-      (f .stmt .last .1 .1 .0) (f .stmt .result) t (stmt-sound ts mostOpen (u .at .row)) (f .stmt .ensures ts (h .tells)) (b .t .given .1) in
+    let g = came-reads ts Stmt mostOpen (Parse.stmt ts mostOpen (Parse.body ts mostOpen) (u .at .row))
+    (u .at .row) (u .at .node) (a .nodes .now)
+    (f .stmt .last .1 .1 .0) (f .stmt .result) t (stmt-sound ts mostOpen (u .at .row))
+    (f .stmt .ensures ts (h .tells)) (b .t .given .1) in
     let e : countedAt t (u .at .place) (u .at .things + 1) ≡ overAt u (g .tree) (t .row) =
-      λ k. record {
-        row = t .row;
-        node = g .stands .nodes k;
-        place = u .at .place;
-        things = u .at .things + 1;
-        variable = false;
-        summed = g .stands .summed k;
-        hanging = g .stands .hanging k;
-      } in
+    λ k. record {
+      row = t .row;
+      node = g .stands .nodes k;
+      place = u .at .place;
+      things = u .at .things + 1;
+      variable = false;
+      summed = g .stands .summed k;
+      hanging = g .stands .hanging k;
+    } in
     adds-ok u _ _ _ (g .tree) (t .row) _ (plainly (at-stmt f) ts h ∙ g .is)
     (with-stmt u (g .tree) (c .counted .result) (t .row) (g .known .is) (c .counted .ensures ∙ e)) (g .stands .mem)
 

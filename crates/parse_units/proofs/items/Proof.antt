@@ -15,12 +15,14 @@ use Rattle.parse_nodes.specs.Names.{Names}
 use Rattle.parse_nodes.proofs.Turn.{same-len}
 use Rattle.parse_nodes.proofs.Seen.{seen}
 use Rattle.parse_nodes.proofs.Told.{names-told}
-use Rattle.parse_units.proofs.Answers.{Added, added, add-refused, Gathering, items-start, item-up, item-inside, items-again, items-end, items-fail}
+use Rattle.parse_units.proofs.Answers.{Added, added, add-refused, item-up, item-inside}
+use Rattle.parse_units.proofs.Answers.{Gathering, items-start, items-again, items-end, items-fail}
 use Rattle.parse_units.proofs.items.Statement.{statement}
 use Rattle.parse_units.proofs.items.Tie as tie
 
 abbrev Inv-loop : tie.InvT-loop
-Inv-loop text rows count nodes₀ u₀ nodes u = (ts : List Tok) → Names ts text rows count → Gathering ts (u₀ .at .row) (u₀ .at .node) nodes₀ u nodes
+Inv-loop text rows count nodes₀ u₀ nodes u =
+    (ts : List Tok) → Names ts text rows count → Gathering ts (u₀ .at .row) (u₀ .at .node) nodes₀ u nodes
 
 abbrev μ-loop : tie.MeasureT-loop
 μ-loop text rows count nodes₀ u₀ nodes u = count - u .at .row
@@ -58,16 +60,19 @@ own c = tokens (entry c .args .text .now) (rowsIn (entry c .args .count) (entry 
 told : (c : Turning) → Told (own c) c
 told c = names-told (entry c .args .text .now) (entry c .args .rows .now) (entry c .args .count)
 
-some : (c : Turning) → Gathering (own c) (entry c .args .start .row) (entry c .args .start .node) (entry c .args .nodes .now) (c .loop .u) (c .loop .nodes)
+some : (c : Turning) → Gathering (own c) (entry c .args .start .row) (entry c .args .start .node) (entry c .args .nodes .now)
+    (c .loop .u) (c .loop .nodes)
 some c = c .loop .inv _ (told c)
 
 -- the kind of the row at the loop's head
-head-is : (c : tie.After-kind-at Inv-loop μ-loop) (ts : List Tok) → Told ts (at-head c) → c .kind-at .result ≡ kindAt ts (at-head c .loop .u .at .row)
+head-is : (c : tie.After-kind-at Inv-loop μ-loop) (ts : List Tok) → Told ts (at-head c)
+    → c .kind-at .result ≡ kindAt ts (at-head c .loop .u .at .row)
 head-is c ts h =
     let a = entry (at-head c) .args in
     seen ts (a .rows .now) (a .count) (h .tells) (at-head c .loop .u .at .row) (c .kind-at .result) (c .kind-at .ensures)
 
-goes-on : (c : tie.Else1 Inv-loop μ-loop) (ts : List Tok) → Told ts (at-head (c .before)) → kindAt ts (at-head (c .before) .loop .u .at .row) ≡ RBrace → ⊥
+goes-on : (c : tie.Else1 Inv-loop μ-loop) (ts : List Tok) → Told ts (at-head (c .before))
+    → kindAt ts (at-head (c .before) .loop .u .at .row) ≡ RBrace → ⊥
 goes-on c ts h e = c .if1 .left (head-is (c .before) ts h ∙ e)
 
 -- the thing that was read there
@@ -77,7 +82,8 @@ got : (c : tie.After-v Inv-loop μ-loop) (ts : List Tok) → Told ts (turn (behi
 got c ts h =
     let f = behind-thing c .item in
     let l = turn (behind-thing c) .loop in
-    added (l .u) (Parse.item ts (l .u .at .row)) (l .nodes) (f .last .1 .1 .1 .0) (f .result) (c .v .given .0 .0) (f .ensures ts h) (c .v .given .1)
+    added (l .u) (Parse.item ts (l .u .at .row)) (l .nodes) (f .last .1 .1 .1 .0) (f .result) (c .v .given .0 .0)
+    (f .ensures ts h) (c .v .given .1)
 
 -- ---- needs
 

@@ -6,6 +6,17 @@ use Rattle.parse_units.proofs.Sections.{text-empty, text-plain, text-qu
 use Rattle.parse_units.proofs.kind_of_string.Statement.{statement}
 use Rattle.parse_units.proofs.kind_of_string.Tie as tie
 
+-- ---- the places on the way
+
+abbrev entry : tie.Else1 → tie.Start
+entry c = c .before .before
+
+abbrev at-quote : tie.Then2 → tie.Else1
+at-quote c = c .before .before
+
+abbrev at-plain : tie.Else2 → tie.Else1
+at-plain c = c .before .before
+
 add-from : tie.Need-add-from
 add-from c = search needs
 
@@ -26,8 +37,10 @@ section-kind-requires c κs = search needs
 
 returns : tie.Need-returns
 returns c =
-    let a = c .before .before .before .before .args in
-    c .section-kind .ensures ∙ ap fromSection (sym (text-empty (a .text .now) (a .a) (a .e) (c .before .before .before .before .pre .0) (c .before .before .before .before .pre .1) (c .before .before .if1 .taken)))
+    let d = c .before .before in
+    let s = d .before .before in
+    let a = s .args in
+    c .section-kind .ensures ∙ ap fromSection (sym (text-empty (a .text .now) (a .a) (a .e) (s .pre .0) (s .pre .1) (d .if1 .taken)))
 
 sub-last : tie.Need-sub-last
 sub-last c = search needs
@@ -49,8 +62,11 @@ section-kind-requires-2 c κs = search needs
 
 returns-2 : tie.Need-returns-2
 returns-2 c =
-    let a = c .before .before .before .before .before .before .args in
-    c .section-kind2 .ensures ∙ ap fromSection (sym (text-quoted (a .text .now) (a .a) (a .e) (c .before .before .before .before .before .before .pre .0) (c .before .before .before .before .before .before .pre .1) (c .before .before .before .before .if1 .left) (c .before .before .if2 .taken)))
+    let d = c .before .before in
+    let s = entry (at-quote d) in
+    let a = s .args in
+    c .section-kind2 .ensures
+    ∙ ap fromSection (sym (text-quoted (a .text .now) (a .a) (a .e) (s .pre .0) (s .pre .1) (at-quote d .if1 .left) (d .if2 .taken)))
 
 sub-section-kind-3 : tie.Need-sub-section-kind-3
 sub-section-kind-3 c = search needs
@@ -66,8 +82,11 @@ section-kind-requires-3 c κs = search needs
 
 returns-3 : tie.Need-returns-3
 returns-3 c =
-    let a = c .before .before .before .before .before .before .args in
-    c .section-kind3 .ensures ∙ ap fromSection (sym (text-plain (a .text .now) (a .a) (a .e) (c .before .before .before .before .before .before .pre .0) (c .before .before .before .before .before .before .pre .1) (c .before .before .before .before .if1 .left) (c .before .before .if2 .left)))
+    let d = c .before .before in
+    let s = entry (at-plain d) in
+    let a = s .args in
+    c .section-kind3 .ensures
+    ∙ ap fromSection (sym (text-plain (a .text .now) (a .a) (a .e) (s .pre .0) (s .pre .1) (at-plain d .if1 .left) (d .if2 .left)))
 
 pub kind-of-string-spec : {M : Type 1} → statement M
 kind-of-string-spec =

@@ -109,7 +109,8 @@ returns-2 c ts h =
     let k = c .before .before .kind-at2 in
     adds-told (a .u) _ _ _ _ _ _
     (quoted d ts h
-    ∙ want-unmet ts (a .rows .now) (a .count) (h .tells) (string (entry d) + 1) (k .result) (k .ensures) Semicolon _ (c .before .if2 .taken))
+    ∙ want-unmet ts (a .rows .now) (a .count) (h .tells) (string (entry d) + 1) (k .result)
+    (k .ensures) Semicolon _ (c .before .if2 .taken))
     (c .wanted2 .ensures)
 
 with-text-requires : tie.Need-with-text-requires

@@ -78,9 +78,11 @@ inside c =
 
 -- what the contents give, from the first thing on
 holds : (c : tie.After-items) (ts : List Tok) → Told ts (entry c)
-    → Holds (thingsFrom ts (first (entry c))) (first (entry c)) (entry c .args .node) (entry c .args .nodes .now) (c .items .last .1 .1 .1 .0) (c .items .result)
+    → Holds (thingsFrom ts (first (entry c))) (first (entry c)) (entry c .args .node) (entry c .args .nodes .now)
+    (c .items .last .1 .1 .1 .0) (c .items .result)
 holds c ts h =
-    subst (λ (x : At). Holds (thingsFrom ts (x .row)) (x .row) (x .node) (entry c .args .nodes .now) (c .items .last .1 .1 .1 .0) (c .items .result))
+    subst (λ (x : At). Holds (thingsFrom ts (x .row)) (x .row) (x .node) (entry c .args .nodes .now)
+    (c .items .last .1 .1 .1 .0) (c .items .result))
     (opens (c .before) .state) (c .items .ensures ts h)
 
 got : (c : tie.After-u) (ts : List Tok) → Told ts (entry (behind-contents c))
@@ -108,7 +110,8 @@ returns c ts h =
     let y = c .before .why .given in
     met-no _ _ _ _ _ _ _
     (unit-is ts (a .row)
-    ∙ header-refused (a .rows .now) (a .count) (a .row) (a .node) (d .opened .result) ts (h .tells) (y .0 .0) (y .0 .1 .0) (d .opened .ensures) (y .1)
+    ∙ header-refused (a .rows .now) (a .count) (a .row) (a .node) (d .opened .result) ts (h .tells)
+    (y .0 .0) (y .0 .1 .0) (d .opened .ensures) (y .1)
     unitThings (Parse.item ts) _)
 
 items-requires : tie.Need-items-requires
@@ -149,8 +152,10 @@ returns-2 c ts h =
     let f = held-ends _ _ _ _ _ _ v (omega (arith, h .tells .long)) in
     let w : List ℕ = spellingOf (tokAt ts (a .row + 1)) in
     let r = ap (λ (x : At). x .row) (n .ensures .0) in
-    met-ok _ _ _ (unit w (v .list)) _ _ (n .result) (listed b ts h ∙ then-ok _ _ (v .list) (u .at .row) (v .is) ∙ ap (ok (unit w (v .list))) (sym r))
-    (stands-unit _ (a .row) (a .node) (a .nodes .now) (b .items .last .1 .1 .1 .0) _ u (n .result) w v (f .0 .0) (n .ensures .0) (n .ensures .1))
+    met-ok _ _ _ (unit w (v .list)) _ _ (n .result)
+    (listed b ts h ∙ then-ok _ _ (v .list) (u .at .row) (v .is) ∙ ap (ok (unit w (v .list))) (sym r))
+    (stands-unit _ (a .row) (a .node) (a .nodes .now) (b .items .last .1 .1 .1 .0) _ u (n .result)
+    w v (f .0 .0) (n .ensures .0) (n .ensures .1))
 
 same-length-2 : tie.Need-same-length-2
 same-length-2 c = search needs

@@ -4,6 +4,17 @@ use Rattle.parse_units.proofs.Answers.{with-licence, with-section}
 use Rattle.parse_units.proofs.with_text.Statement.{statement}
 use Rattle.parse_units.proofs.with_text.Tie as tie
 
+-- ---- the places on the way, as they are seen from the function's entry
+
+abbrev entry : tie.After-struct-known2 → tie.Start
+entry c = c .before .before .before .before .before .before
+
+abbrev at-licence : tie.After-close → tie.Then1
+at-licence c = c .before .before
+
+abbrev at-section : tie.After-close2 → tie.Else1
+at-section c = c .before .before
+
 add-string : tie.Need-add-string
 add-string c = search needs
 
@@ -27,8 +38,11 @@ same-length c = search needs
 
 returns : tie.Need-returns
 returns c =
-    let a = c .before .before .before .before .before .before .before .before .before .before .before .args in
-    with-licence (a .text .now) (a .rows .now) (a .u) (a .word) (a .nodes .now) _ (c .before .before .before .before .if1 .taken) (c .before .before .before .before .before .before .before .before .before .before .before .pre .inside) (c .before .before .close .ensures)
+    let k = c .before .before in
+    let d = at-licence k in
+    let s = entry (d .before) in
+    let a = s .args in
+    with-licence (a .text .now) (a .rows .now) (a .u) (a .word) (a .nodes .now) _ (d .if1 .taken) (s .pre .inside) (k .close .ensures)
 
 close-requires-2 : tie.Need-close-requires-2
 close-requires-2 c κs = search needs
@@ -41,8 +55,12 @@ same-length-2 c = search needs
 
 returns-2 : tie.Need-returns-2
 returns-2 c =
-    let a = c .before .before .before .before .before .before .before .before .before .before .before .before .args in
-    with-section (a .text .now) (a .rows .now) (a .u) (a .word) (a .nodes .now) _ (c .before .before .before .before .before .before .before .before .before .before .before .before .pre .text) (c .before .before .before .before .before .if1 .left) _ (c .first-kind .ensures) (c .before .before .before .close2 .ensures)
+    let k = c .before .before .before in
+    let d = at-section k in
+    let s = entry (d .before) in
+    let a = s .args in
+    with-section (a .text .now) (a .rows .now) (a .u) (a .word) (a .nodes .now) _ (s .pre .text) (d .if1 .left) _ (c .first-kind .ensures)
+    (k .close2 .ensures)
 
 pub with-text-spec : {M : Type 1} → statement M
 with-text-spec =

@@ -80,9 +80,9 @@ module _ (t : ℕ) where
   abbrev entry : First → Entry
   entry c = c .before .before .before .before .before .before
 
-  -- the entry, from behind a lone operand
-  abbrev at-leaf : lts.After-leaf (cs t) (mul-at t) mul.Post Inv-loop μ-loop → Entry
-  at-leaf c = c .before .before .before .before .before .before
+  -- the entry, from where a lone operand is written
+  abbrev at-leaf : lts.After-leaf-arg (cs t) (mul-at t) mul.Post Inv-loop μ-loop → Entry
+  at-leaf c = c .before .before .before .before .before
 
   -- the first call, from behind its state and from behind its refusal
   abbrev first-done : lts.After-known-told (cs t) (mul-at t) mul.Post Inv-loop μ-loop → First
@@ -154,7 +154,7 @@ module _ (t : ℕ) where
   is-lone-requires c κs = omega (arith, c .before .before .pre .1)
 
   pub leaf-requires : lts.Need-leaf-requires (cs t) (mul-at t) mul.Post Inv-loop μ-loop
-  leaf-requires c κs = omega (arith, c .before .before .before .before .before .pre .1)
+  leaf-requires c κs = omega (arith, at-leaf c .pre .1)
 
   pub same-length : lts.Need-same-length (cs t) (mul-at t) mul.Post Inv-loop μ-loop
   same-length c = search needs
@@ -162,7 +162,7 @@ module _ (t : ℕ) where
   pub returns : lts.Need-returns (cs t) (mul-at t) mul.Post Inv-loop μ-loop
   returns c = λ ts tl.
       let l = c .before .before in
-      let a = at-leaf l .args in
+      let a = at-leaf (l .before) .args in
       let o = l .before .before in
       met-lone ts (Parse.inner ts (a .left)) (a .row) (a .node) (a .nodes .now) (l .leaf .last .1 .1 .0) (l .leaf .result)
       (rw (← tells-kind ts _ _ tl (a .row), ← tells-kind ts _ _ tl (a .row + 1)) (sym (o .before .is-lone .ensures) ∙ o .if1 .taken))

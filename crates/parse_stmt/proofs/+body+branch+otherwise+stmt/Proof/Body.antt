@@ -35,12 +35,18 @@ use Rattle.parse_stmt.proofs.+body+branch+otherwise+stmt.Proof.Measures
 
 abbrev pub cs : ℕ → lts.Claims
 cs t = (
-  kind-at-reads.Asked, kind-at-reads.Learnt,
-  ended-reads.Asked, ended-reads.Learnt,
-  stmt-below t, stmt.Post,
-  counted-reads.Asked, counted-reads.Learnt,
-  things-reads.Asked, things-reads.Learnt,
-  instead-reads.Asked, instead-reads.Learnt,
+  kind-at-reads.Asked,
+  kind-at-reads.Learnt,
+  ended-reads.Asked,
+  ended-reads.Learnt,
+  stmt-below t,
+  stmt.Post,
+  counted-reads.Asked,
+  counted-reads.Learnt,
+  things-reads.Asked,
+  things-reads.Learnt,
+  instead-reads.Asked,
+  instead-reads.Learnt,
 )
 
 -- a statement of a body, which is one of the d constructs left
@@ -119,7 +125,7 @@ module _ (t : ℕ) where
 
   some : (c : Turning)
       → (let a = entry c .args in
-         Reading (tokens (a .rows .now) (a .count)) (a .row) (a .node) (a .left) (a .nodes .now) (c .loop .s) (c .loop .nodes))
+      Reading (tokens (a .rows .now) (a .count)) (a .row) (a .node) (a .left) (a .nodes .now) (c .loop .s) (c .loop .nodes))
   some c = c .loop .inv _ (told c)
 
   -- the row's kind
@@ -135,15 +141,15 @@ module _ (t : ℕ) where
   -- the statement that was read there has a row or more
   got : (c : Read) (ts : List Tok) → Told ts (at-call (called c))
       → (let a = entry (at-call (called c)) .args in
-         let l = at-call (called c) .loop in
-         Came (Reads ts Stmt (a .left - 1) (l .s .row)) ts (statement ts (a .left) (l .s .row)) (l .s .row) (l .s .node) (l .nodes)
-         (c .t .given .0 .0) (called c .stmt .last .1 .1 .0))
+      let l = at-call (called c) .loop in
+      Came (Reads ts Stmt (a .left - 1) (l .s .row)) ts (statement ts (a .left) (l .s .row)) (l .s .row) (l .s .node) (l .nodes)
+      (c .t .given .0 .0) (called c .stmt .last .1 .1 .0))
   got c ts h =
       let a = entry (at-call (called c)) .args in
       let l = at-call (called c) .loop in
       let f = called c .stmt in
-      came-reads ts Stmt (a .left - 1) (statement ts (a .left) (l .s .row)) (l .s .row) (l .s .node) (l .nodes) (f .last .1 .1 .0) (f .result)
-      (c .t .given .0 .0) (stmt-sound ts (a .left - 1) (l .s .row)) (f .ensures ts h) (c .t .given .1)
+      came-reads ts Stmt (a .left - 1) (statement ts (a .left) (l .s .row)) (l .s .row) (l .s .node) (l .nodes) (f .last .1 .1 .0)
+      (f .result) (c .t .given .0 .0) (stmt-sound ts (a .left - 1) (l .s .row)) (f .ensures ts h) (c .t .given .1)
 
   up : (c : Read) (ts : List Tok) → Told ts (at-call (called c)) → at-call (called c) .loop .s .row < c .t .given .0 .0 .row
   up c ts h = let v = got c ts h in omega (arith, v .stands .rows, is-wide (v .known .is))
@@ -196,8 +202,9 @@ module _ (t : ℕ) where
       let s : At = l .s in
       let r = o .ended .ensures in
       let e = list-ends Any ts RBrace bodyThings (statement ts (a .left)) _ (a .row + 1) (a .node) (a .nodes .now) s (l .nodes) w
-        (sym (kind-is k ts h) ∙ f .if2 .taken) in
-      body-ok (whole ts (entry (turn k))) (a .kind) (a .row) (a .node) (w .tree) (s .row + 1) (a .nodes .now) (o .ended .last .0) (o .ended .result)
+      (sym (kind-is k ts h) ∙ f .if2 .taken) in
+      body-ok (whole ts (entry (turn k))) (a .kind) (a .row) (a .node) (w .tree) (s .row + 1) (a .nodes .now) (o .ended .last .0)
+      (o .ended .result)
       (body-some ts (a .row) (a .left) (turn k .before .if1 .left) ∙ then-ok _ _ (w .tree) (s .row) e)
       (r .0 ∙ ap (λ (x : ℕ). stateAt (s .row + 1) (x + 1) (a .row)) (w .stands .nodes))
       (mem-over (a .nodes .now) (a .row + 1) (a .node) (w .tree) s (l .nodes) (w .stands) (o .ended .last .0)
@@ -240,7 +247,8 @@ module _ (t : ℕ) where
       let l = at-call f .loop in
       let a = entry (at-call f) .args in
       list-again Any ts RBrace bodyThings (statement ts (a .left)) _ (a .row + 1) (a .node) (a .nodes .now) (l .s) (l .nodes) (l .inv ts h)
-      (goes-on f ts h) Any _ (p .t .given .0 .0) (f .stmt .last .1 .1 .0) (c .counted .result) (got p ts h) (up p ts h) (c .counted .ensures) tt
+      (goes-on f ts h) Any _ (p .t .given .0 .0) (f .stmt .last .1 .1 .0) (c .counted .result) (got p ts h) (up p ts h)
+      (c .counted .ensures) tt
 
   pub enum-known-why : lts.Need-enum-known-why (cs t) (body-at t) body.Post Inv-loop μ-loop
   enum-known-why c = search needs
@@ -265,8 +273,8 @@ module _ (t : ℕ) where
       let y = why c .why .given in
       let m : List ℕ = f .stmt .last .1 .1 .0 in
       let e = refused _ _ _ _ _ _ _ _ (f .stmt .ensures ts h) (y .1) in
-      let q = list-fails Any ts RBrace bodyThings (statement ts (a .left)) (listing ts (a .left) (a .row)) (a .row + 1) (a .node) (a .nodes .now)
-        (l .s) (l .nodes) (l .inv ts h) (goes-on f ts h) (y .0 .0) (y .0 .1 .0) m e in
+      let q = list-fails Any ts RBrace bodyThings (statement ts (a .left)) (listing ts (a .left) (a .row)) (a .row + 1) (a .node)
+      (a .nodes .now) (l .s) (l .nodes) (l .inv ts h) (goes-on f ts h) (y .0 .0) (y .0 .1 .0) m e in
       body-no (whole ts (entry d)) (a .kind) (a .row) (a .node) _ _ _ (a .nodes .now) m
       (body-some ts (a .row) (a .left) (d .before .if1 .left) ∙ then-no _ _ _ _ (refused _ _ _ _ _ _ _ _ q refl))
       (c .instead .ensures ∙ ap (λ (z : ℕ). retoldAt z (l .s .row) (y .0 .0) (y .0 .1 .0)) (c .before .things .ensures))

@@ -13,7 +13,7 @@ use Rattle.parse_nodes.specs.Post.{Tells}
 use Rattle.parse_nodes.proofs.Rows.{tells-some}
 use Rattle.parse_nodes.proofs.Turn.{met-no, met-as}
 use Rattle.parse_stmt.specs.declared.Opened.the-variants.{Brace, Refused}
-use Rattle.parse_stmt.specs.Bodies.{HeadSays}
+use Rattle.parse_stmt.specs.Bodies.{byLead, HeadSays}
 use Rattle.parse_stmt.proofs.Trees.{Bodied, bodied, body-refused, guarded}
 use Rattle.parse_stmt.proofs.+body+branch+otherwise+stmt.Lts-branch as lts
 use Rattle.parse_stmt.proofs.body.Reads as body
@@ -25,10 +25,14 @@ use Rattle.parse_stmt.proofs.+body+branch+otherwise+stmt.Proof.Measures
 
 abbrev pub cs : ℕ → lts.Claims
 cs t = (
-  head-reads.Asked, head-reads.Learnt,
-  close-reads.Asked, close-reads.Learnt,
-  body-below t, body.Post,
-  otherwise-below t, otherwise.Post,
+  head-reads.Asked,
+  head-reads.Learnt,
+  close-reads.Asked,
+  close-reads.Learnt,
+  body-below t,
+  body.Post,
+  otherwise-below t,
+  otherwise.Post,
 )
 
 module _ (t : ℕ) where
@@ -83,7 +87,7 @@ module _ (t : ℕ) where
   -- ---- what holds there
 
   abbrev whole : List Tok → Entry → Out
-  whole ts e = Parse.stmtBy ts (e .args .left) (Parse.body ts (e .args .left)) branching (e .args .row)
+  whole ts e = byLead branching (e .args .left) (e .args .row) ts
 
   -- the brace's row
   abbrev brace : Braced → ℕ
@@ -98,15 +102,16 @@ module _ (t : ℕ) where
   -- what the call for the then body gave
   got : (c : Read) (ts : List Tok) → Told ts (at-brace (at-body (called c)))
       → (let b = at-body (called c) in
-         let a = at-brace b .args in
-         Bodied ts (Parse.body ts (a .left) (brace b)) 21 (brace b) (a .node + 1) (named (called c) .close .last .0) (c .t .given .0 .0)
-         (called c .body .last .1 .1 .0))
+      let a = at-brace b .args in
+      Bodied ts (Parse.body ts (a .left) (brace b)) 21 (brace b) (a .node + 1) (named (called c) .close .last .0) (c .t .given .0 .0)
+      (called c .body .last .1 .1 .0))
   got c ts h =
       let f = called c .body in
       let b = at-body (called c) in
       let a = at-brace b .args in
-      bodied ts (Parse.body ts (a .left) (brace b)) 21 (brace b) (a .node + 1) (named (called c) .close .last .0) (f .last .1 .1 .0) (f .result)
-      (c .t .given .0 .0) (ends-body ts (a .left) (brace b) (omega (arith, h .long, says b .1))) (f .ensures ts h) (c .t .given .1)
+      bodied ts (Parse.body ts (a .left) (brace b)) 21 (brace b) (a .node + 1) (named (called c) .close .last .0) (f .last .1 .1 .0)
+      (f .result) (c .t .given .0 .0) (ends-body ts (a .left) (brace b) (omega (arith, h .long, says b .1)))
+      (f .ensures ts h) (c .t .given .1)
 
   -- ---- the needs
 
@@ -197,5 +202,5 @@ module _ (t : ℕ) where
       let a = entry d .args in
       let w = c .before .why2 .given in
       let k : HeadSays (a .rows .now) (a .count) (a .row) (Refused (w .0 .0) (w .0 .1 .0)) =
-          subst (HeadSays (a .rows .now) (a .count) (a .row)) (w .1) (d .head .ensures) in
+      subst (HeadSays (a .rows .now) (a .count) (a .row)) (w .1) (d .head .ensures) in
       met-no (whole ts (entry d)) _ _ _ _ _ _ (k ts h (a .left) (Parse.body ts (a .left)))

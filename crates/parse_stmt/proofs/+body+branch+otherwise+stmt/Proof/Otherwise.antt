@@ -3,7 +3,6 @@ use Prim.Native.Nat.{ℕ, _+_, _<_}
 use mathlib.Core.Path.{_≡_, refl, sym, ap, _∙_}
 use mathlib.Core.List.{List}
 use native.Mathlib.Omega.{arith}
-use lib.Dec.{eqb}
 use borrow.Author.Needs.{needs}
 use Rattle.rules.specs.Kinds.{KeywordElse, LBrace}
 use Rattle.rules.specs.Tree.{Tok, Tree, none, guard, thenBody, elseBody}
@@ -17,6 +16,7 @@ use Rattle.parse_nodes.specs.declared.At.{At}
 use Rattle.parse_nodes.proofs.Rows.{tells-some, word-here}
 use Rattle.parse_nodes.proofs.Seen.{seen}
 use Rattle.parse_nodes.proofs.Turn.{met-ok, met-no, met-told}
+use Rattle.parse_stmt.specs.Bodies.{elseAt}
 use Rattle.parse_stmt.proofs.Trees.{Bodied, bodied, body-refused, stands-guard, stands-otherwise}
 use Rattle.parse_stmt.proofs.+body+branch+otherwise+stmt.Lts-otherwise as lts
 use Rattle.parse_stmt.proofs.body.Reads as body
@@ -29,11 +29,16 @@ use Rattle.parse_stmt.proofs.+body+branch+otherwise+stmt.Proof.Measures
 
 abbrev pub cs : ℕ → lts.Claims
 cs t = (
-  kind-at-reads.Asked, kind-at-reads.Learnt,
-  hanging-if-reads.Asked, hanging-if-reads.Learnt,
-  wanted-reads.Asked, wanted-reads.Learnt,
-  body-below t, body.Post,
-  shut-reads.Asked, shut-reads.Learnt,
+  kind-at-reads.Asked,
+  kind-at-reads.Learnt,
+  hanging-if-reads.Asked,
+  hanging-if-reads.Learnt,
+  wanted-reads.Asked,
+  wanted-reads.Learnt,
+  body-below t,
+  body.Post,
+  shut-reads.Asked,
+  shut-reads.Learnt,
 )
 
 module _ (t : ℕ) where
@@ -84,9 +89,7 @@ module _ (t : ℕ) where
   -- ---- what holds there, behind the name w and the statements l
 
   abbrev whole : List Tok → Entry → List ℕ → Tree → Out
-  whole ts e w l =
-      let a = e .args in
-      Parse.elseBy ts (a .left) (Parse.body ts (a .left)) (eqb (kindAt ts (a .t .row)) KeywordElse) w (thenBody l) (a .t .row)
+  whole ts e w l = elseAt ts (e .args .left) (Parse.body ts (e .args .left)) w l (e .args .t .row)
 
   -- the kinds of the next row, and of the row behind `else`
   kind-is : (c : Looked) (ts : List Tok) → Told ts (entry c) → c .kind-at .result ≡ kindAt ts (entry c .args .t .row)
@@ -107,26 +110,26 @@ module _ (t : ℕ) where
   -- the parser's answer, up to the brace and up to the body
   asked : (c : Behind) (ts : List Tok) → Told ts (at-brace c) → (w : List ℕ) (l : Tree)
       → (let a = at-brace c .args in
-         whole ts (at-brace c) w l
-         ≡ then (Parse.need ts LBrace (Parse.body ts (a .left)) (a .t .row + 1)) (λ e r. ok (guard w (thenBody l) (elseBody e)) r))
+      whole ts (at-brace c) w l
+      ≡ then (Parse.need ts LBrace (Parse.body ts (a .left)) (a .t .row + 1)) (λ e r. ok (guard w (thenBody l) (elseBody e)) r))
   asked c ts h w l =
       let a = at-brace c .args in
       else-yes ts (a .left) (Parse.body ts (a .left)) w (thenBody l) (a .t .row) (sym (kind-is (at-else c) ts h) ∙ c .before .if1 .left)
 
   opened : (c : Called) (ts : List Tok) → Told ts (at-body c) → (w : List ℕ) (l : Tree)
       → (let a = at-body c .args in
-         whole ts (at-body c) w l ≡ then (Parse.body ts (a .left) (a .t .row + 1)) (λ e r. ok (guard w (thenBody l) (elseBody e)) r))
+      whole ts (at-body c) w l ≡ then (Parse.body ts (a .left) (a .t .row + 1)) (λ e r. ok (guard w (thenBody l) (elseBody e)) r))
   opened c ts h w l =
       let a = at-body c .args in
       asked (braced c) ts h w l
       ∙ ap (λ (x : Out). then x (λ e r. ok (guard w (thenBody l) (elseBody e)) r))
-        (need-yes ts LBrace (Parse.body ts (a .left)) (a .t .row + 1) (sym (brace-is (braced c) ts h) ∙ c .before .before .if2 .left))
+      (need-yes ts LBrace (Parse.body ts (a .left)) (a .t .row + 1) (sym (brace-is (braced c) ts h) ∙ c .before .before .if2 .left))
 
   -- what the call for the body gave
   got : (c : Read) (ts : List Tok) → Told ts (at-body (called c))
       → (let a = at-body (called c) .args in
-         Bodied ts (Parse.body ts (a .left) (a .t .row + 1)) 22 (a .t .row + 1) (a .t .node) (a .nodes .now) (c .u .given .0 .0)
-         (called c .body .last .1 .1 .0))
+      Bodied ts (Parse.body ts (a .left) (a .t .row + 1)) 22 (a .t .row + 1) (a .t .node) (a .nodes .now) (c .u .given .0 .0)
+      (called c .body .last .1 .1 .0))
   got c ts h =
       let a = at-body (called c) .args in
       let f = called c .body in
@@ -156,7 +159,8 @@ module _ (t : ℕ) where
       met-ok (whole ts (entry (f .before)) w l) i n (guard w (thenBody l) none) m₀ _ _
       (else-no ts (a .left) (Parse.body ts (a .left)) w (thenBody l) (a .t .row) (λ e. f .if1 .taken (kind-is (f .before) ts h ∙ e))
       ∙ ap (λ (y : ℕ). ok (guard w (thenBody l) none) y) (sym (ap (λ (y : At). y .row) (r .0))))
-      (stands-guard ts i n m₀ (a .nodes .now) (a .t) l st w (o .hanging-if .result) (o .hanging-if .last .0) (rw (← g) (r .0)) (rw (← g) (r .1)))
+      (stands-guard ts i n m₀ (a .nodes .now) (a .t) l st w (o .hanging-if .result) (o .hanging-if .last .0)
+      (rw (← g) (r .0)) (rw (← g) (r .1)))
 
   pub add-brace : lts.Need-add-brace (cs t) (otherwise-at t) otherwise.Post
   add-brace c = omega (arith, else-here c, entry (c .before) .pre .1)
@@ -215,8 +219,8 @@ module _ (t : ℕ) where
       met-ok (whole ts (at-body (called p)) w l) i n (guard w (thenBody l) (elseBody (v .list))) m₀ _ _
       (opened (called p) ts h w l ∙ then-ok _ _ (v .list) (u .row) (v .is)
       ∙ ap (λ (y : ℕ). ok (guard w (thenBody l) (elseBody (v .list))) y) (sym (ap (λ (y : At). y .row) (r .0))))
-      (stands-otherwise ts i n m₀ (a .nodes .now) (a .t) l st w (Parse.body ts (a .left) (a .t .row + 1)) u (called p .body .last .1 .1 .0) v
-      (o .shut .result) (o .shut .last .0) (rw (← g) (r .0)) (rw (← g) (r .1)))
+      (stands-otherwise ts i n m₀ (a .nodes .now) (a .t) l st w (Parse.body ts (a .left) (a .t .row + 1)) u (called p .body .last .1 .1 .0)
+      v (o .shut .result) (o .shut .last .0) (rw (← g) (r .0)) (rw (← g) (r .1)))
 
   pub same-length-3 : lts.Need-same-length-3 (cs t) (otherwise-at t) otherwise.Post
   same-length-3 c = search needs

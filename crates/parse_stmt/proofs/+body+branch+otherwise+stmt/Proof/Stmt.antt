@@ -25,12 +25,18 @@ use Rattle.parse_stmt.proofs.+body+branch+otherwise+stmt.Proof.Measures
 
 abbrev pub cs : ℕ → lts.Claims
 cs t = (
-  kind-at-reads.Asked, kind-at-reads.Learnt,
-  is-declaring-reads.Asked, is-declaring-reads.Learnt,
-  declare-reads.Asked, declare-reads.Learnt,
-  give-reads.Asked, give-reads.Learnt,
-  branch-below t, branch.Post,
-  effect-reads.Asked, effect-reads.Learnt,
+  kind-at-reads.Asked,
+  kind-at-reads.Learnt,
+  is-declaring-reads.Asked,
+  is-declaring-reads.Learnt,
+  declare-reads.Asked,
+  declare-reads.Learnt,
+  give-reads.Asked,
+  give-reads.Learnt,
+  branch-below t,
+  branch.Post,
+  effect-reads.Asked,
+  effect-reads.Learnt,
 )
 
 module _ (t : ℕ) where
@@ -89,7 +95,7 @@ module _ (t : ℕ) where
       let d = c .before .before in
       let a = entry d .args in
       let h : a .row < a .count = word-test (a .rows .now) (a .count) (a .row) isDeclaring refl
-        (ap isDeclaring (sym (looked d .kind-at .ensures)) ∙ sym (d .is-declaring .ensures) ∙ c .before .if1 .taken) in
+      (ap isDeclaring (sym (looked d .kind-at .ensures)) ∙ sym (d .is-declaring .ensures) ∙ c .before .if1 .taken) in
       omega (arith, entry d .pre .1)
 
   pub same-length : lts.Need-same-length (cs t) (stmt-at t) stmt.Post
@@ -109,7 +115,7 @@ module _ (t : ℕ) where
       let d = no-decl (c .before .before) in
       let a = entry d .args in
       let h : a .row < a .count = word-here (a .rows .now) (a .count) (a .row) KeywordReturn
-        (sym (looked d .kind-at .ensures) ∙ c .before .if2 .taken) refl in
+      (sym (looked d .kind-at .ensures) ∙ c .before .if2 .taken) refl in
       omega (arith, entry d .pre .1)
 
   pub same-length-2 : lts.Need-same-length-2 (cs t) (stmt-at t) stmt.Post
@@ -129,7 +135,7 @@ module _ (t : ℕ) where
       let d = no-decl (no-return (c .before .before)) in
       let a = entry d .args in
       let h : a .row < a .count = word-here (a .rows .now) (a .count) (a .row) KeywordIf
-        (sym (looked d .kind-at .ensures) ∙ c .before .if3 .taken) refl in
+      (sym (looked d .kind-at .ensures) ∙ c .before .if3 .taken) refl in
       omega (arith, entry d .pre)
 
   pub same-length-3 : lts.Need-same-length-3 (cs t) (stmt-at t) stmt.Post
