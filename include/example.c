@@ -112,11 +112,22 @@ static void print_rows(void) {
     print_refusal(opened->table);
 }
 
+/* The row kinds that would have fitted where another was wanted, and the one that was found. */
+static void print_fitting(const uint32_t answer[SH_WORDS]) {
+    if (answer[SH_NUMBER] != SH_REFUSED_WANTED) return;
+    printf("fitting");
+    for (uint32_t kind = 0; kind <= SH_ROW_KIND_EOF; kind++) {
+        if (SH_FITS(answer, kind)) printf(" %" PRIu32, kind);
+    }
+    printf(", found %" PRIu32 "\n", answer[SH_LENGTH]);
+}
+
 static void print_nodes(void) {
     static uint32_t nodes[NODE_ROOM];
     uint32_t answer[SH_WORDS];
     spoonharbor_parse(opened->text, opened->length, opened->rows, ROW_ROOM, opened->table, nodes, NODE_ROOM, answer);
     print_refusal(answer);
+    print_fitting(answer);
     printf("nodes %" PRIu32 "\n", answer[SH_COUNT]);
     for (uint32_t node = 0; node < answer[SH_COUNT]; node++) {
         for (int word = 0; word < SH_NODE_WORDS; word++) {
@@ -188,6 +199,8 @@ int main(void) {
     print_nodes();
 
     printf("replace 99 to 99: %" PRIu32 "\n", replace(99, 99, "x"));
+    open_text("unit u{ a + b }");
+    print_nodes();
     open_characters();
     open_comment();
     print_methods("kprobe/encoder_read");

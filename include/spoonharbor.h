@@ -49,11 +49,12 @@ enum sh_answer_word {
     SH_OFFSET = 1, /* the refusal's place: offset, line and column; 0 1 1 where the place is 0; beside number 0 the restart place, else all 0 */
     SH_LINE = 2,
     SH_COLUMN = 3, /* one more than the bytes since the last newline: characters of two to four bytes count two to four, a tab one */
-    SH_FIRST = 4,  /* SH_REFUSED_WANTED: the kind that was wanted; SH_REFUSED_MAP_LACKS: the field; SH_FILE_BAD_BLOCK: the block;
+    SH_FIRST = 4,  /* refusals that tell kinds: those of 0 to 31; SH_REFUSED_MAP_LACKS: the field; SH_FILE_BAD_BLOCK: the block;
                     * spelling: start; sets: the number */
-    SH_SECOND = 5, /* SH_REFUSED_WANTED: the kind that was found; spelling: end */
+    SH_SECOND = 5, /* refusals that tell kinds: those of 32 to 52; spelling: end */
     SH_COUNT = 6,  /* rows, nodes or blocks written */
-    SH_LENGTH = 7, /* scan, change, edit, load: the text's length; 0 where refused below 11 or from 40 on; store: the file's length */
+    SH_LENGTH = 7, /* scan, change, edit, load: the text's length; 0 where refused below 11 or from 40 on; store: the file's length;
+                    * SH_REFUSED_WANTED: the kind that was found */
     SH_WORDS = 8
 };
 
@@ -251,19 +252,23 @@ enum sh_refusal {
     SH_REFUSED_NUMBER_TOO_LARGE = 15, /* digits over 2^63 - 1 */
     SH_REFUSED_LONE_SIGN = 16,        /* a lone < or > */
     SH_REFUSED_NO_HEX_DIGIT = 17,     /* 0x without a hex digit */
-    SH_REFUSED_WANTED = 21,           /* another kind was wanted: both are told */
-    SH_REFUSED_NOT_TOP_LEVEL = 22,    /* not a top-level word */
-    SH_REFUSED_NOT_MAP_FIELD = 23,
+    SH_REFUSED_WANTED = 21,           /* another kind was wanted; tells kinds, and the one that was found */
+    SH_REFUSED_NOT_TOP_LEVEL = 22,    /* not a top-level word; tells kinds */
+    SH_REFUSED_NOT_MAP_FIELD = 23,    /* tells kinds */
     SH_REFUSED_MAP_TYPE_UNKNOWN = 24,
-    SH_REFUSED_NOT_TYPE = 25,
+    SH_REFUSED_NOT_TYPE = 25,         /* tells kinds, of the row that should have been the type, one before the place (but Eof itself) */
     SH_REFUSED_MAX_NEGATIVE = 26,
     SH_REFUSED_OUT_OF_RANGE = 27,     /* max or length */
     SH_REFUSED_SHIFT_COUNT = 28,      /* outside 0 to 63 */
     SH_REFUSED_MAP_LACKS = 29,        /* a field, which is told */
-    SH_REFUSED_NOT_EVENT_TYPE = 30,
+    SH_REFUSED_NOT_EVENT_TYPE = 30,   /* tells kinds */
     SH_REFUSED_CALL_ON_OTHER = 31,    /* a call on anything but a variable */
     SH_REFUSED_TOO_DEEP = 32          /* the 65th open construct */
 };
+
+/* Whether a row kind is one of those that a refused parse tells: exactly the kinds with which some program of the grammar goes on behind
+ * the rows in front, of any nesting and with the checks of 24, 26 to 29 and 31 left aside. Only 21, 22, 23, 25 and 30 tell kinds. */
+#define SH_FITS(answer, kind) ((answer)[(kind) < 32 ? SH_FIRST : SH_SECOND] >> ((kind) % 32) & 1)
 
 /* Refusal numbers of the calls over files, beside 3 and 4; their place is 0 1 1. */
 enum sh_file_refusal {

@@ -10,12 +10,15 @@
 //!   `scan` says how its place is found. Where a character of two bytes or more
 //!   stands outside comments and strings, the original is asked about what stands
 //!   in front of it, and 11 stands there (`differences`).
-//! - The parse: its refusal with number, place and what is told (21: wanted and
-//!   found kind, 29: the field), or its nodes. `parse` says how the places of
+//! - The parse: its refusal with number, place and what is told (21: the found
+//!   kind, 29: the field), or its nodes. `parse` says how the places of
 //!   the panics 28, 29 (type) and 31 are found, `nodes` which words are known.
+//!   Of the kinds that would have fitted the original tells one, for 21; the
+//!   chart tells all of them, and that one must be among them.
 //! - Not compared: texts that LANGUAGE.md answers with 1 or 2, and parse
 //!   outcomes of texts that it refuses with 27 or 32 (`differences`).
 
+use crate::chart::Set;
 use crate::deep::on_deep_stack;
 use crate::nodes::Tree;
 use crate::parse::parse;
@@ -54,13 +57,51 @@ impl Row {
     }
 }
 
-/// A refusal: its number, its place, and the two numbers it tells: wanted and
-/// found kind for 21, the field and zero for 29, two zeros for all others.
+/// A refusal: its number, its place, and what it tells besides. For 21, 22, 23,
+/// 25 and 30 that are the kinds that would have fitted, 0 to 31 in one word and
+/// the others in the next, bit by bit; for 29 the field and zero; else two zeros.
+/// 21 tells the kind that was found, too; for all others that is 0.
 #[derive(Debug, Clone, Copy, PartialEq, Eq)]
 pub struct Refusal {
     pub number: u32,
     pub place: Place,
     pub told: [u32; 2],
+    pub found: u32,
+}
+
+impl Refusal {
+    /// A refusal that tells nothing besides.
+    pub fn bare(number: u32, place: Place) -> Refusal {
+        Refusal {
+            number,
+            place,
+            told: [0, 0],
+            found: 0,
+        }
+    }
+
+    /// The same with the kinds that would have fitted, where its number tells them; 21 tells the kind that was found.
+    pub fn with_set(self, set: Set, found: u32) -> Refusal {
+        let told = [set as u32, (set >> 32) as u32];
+        match self.number {
+            21 => Refusal {
+                told,
+                found,
+                ..self
+            },
+            22 | 23 | 25 | 30 => Refusal { told, ..self },
+            _ => self,
+        }
+    }
+
+    /// The kinds that would have fitted.
+    pub fn set(&self) -> Set {
+        let [low, high] = self.told.map(Set::from);
+        match self.number {
+            21 | 22 | 23 | 25 | 30 => high << 32 | low,
+            _ => 0,
+        }
+    }
 }
 
 /// What comes of parsing a text.

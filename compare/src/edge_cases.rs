@@ -4,6 +4,8 @@
 //! edit is no part of the original: its example is here as the edited text only.
 
 use crate::answer::{Answer, Parsed, Refusal, Row};
+use crate::chart::grammar::kind_of;
+use crate::chart::Set;
 use crate::generate::nesting::Construct::{Group, Star, Then};
 use crate::generate::nesting::{nested, opened, repeated};
 use crate::nodes::{Word, MISSING};
@@ -15,8 +17,8 @@ pub enum Expected {
     Rows(Vec<[i64; 6]>),
     /// The scan is refused behind rows of these kinds: number, offset, line, column.
     Ending(Vec<u32>, [u32; 4]),
-    /// The parse is refused: number, offset, line, column and what is told.
-    Refused([u32; 6]),
+    /// The parse is refused: number, offset, line, column, the two words that are told, and the kind that was found.
+    Refused([u32; 7]),
     /// The parse is accepted.
     Accepted,
     /// The parse is accepted, and these are the declarations' nodes.
@@ -85,7 +87,7 @@ fn parse_is_met(expected: &Expected, parsed: &Parsed) -> bool {
         (Refused(expected), Parsed::Refused(refusal)) => {
             let [number, offset, line, column] = number_and_place(refusal);
             let [a, b] = refusal.told;
-            *expected == [number, offset, line, column, a, b]
+            *expected == [number, offset, line, column, a, b, refusal.found]
         }
         (Accepted, Parsed::Accepted(_)) => true,
         (Nodes(expected), Parsed::Accepted(tree)) => {
@@ -124,19 +126,40 @@ fn known(words: &[u32]) -> [Word; 8] {
     std::array::from_fn(|index| Some(words.get(index).copied().unwrap_or(0)))
 }
 
-/// A refusal with nothing told, on line 1.
+/// What begins an expression, what begins a statement, what goes on with an expression, and what does unless a sum was read.
+const OPERAND: &str = "( * name number";
+const STATEMENT: &str = "return reg imm if heap ( * name number";
+const ON: &str = ". * / % + -";
+const SHIFTS: &str = "<< >>";
+
+/// A refusal on line 1 with nothing told but the one set of 22, 23, 25 and 30.
 fn refused(number: u32, offset: u32) -> Expected {
-    Refused([number, offset, 1, offset + 1, 0, 0])
+    let fitting = match number {
+        22 => "unit map event end",
+        23 => "type key value max }",
+        25 => "u32 u64 i32 i64",
+        30 => "u32 u64 i32 i64 bytes",
+        _ => "",
+    };
+    misfit([number, offset, 1, offset + 1], [fitting], 0)
 }
 
-/// 21 on line 1.
-fn unwanted(offset: u32, wanted: u32, found: u32) -> Expected {
-    Refused([21, offset, 1, offset + 1, wanted, found])
+/// 21 on line 1, with what would have fitted as the chart's grammar writes it, and the kind that was found.
+fn unwanted<const N: usize>(offset: u32, fitting: [&str; N], found: u32) -> Expected {
+    misfit([21, offset, 1, offset + 1], fitting, found)
+}
+
+fn misfit<const N: usize>(at: [u32; 4], fitting: [&str; N], found: u32) -> Expected {
+    let [number, offset, line, column] = at;
+    let letters = fitting.iter().flat_map(|part| part.split_whitespace());
+    let set: Set = letters.fold(0, |set, letter| set | 1 << kind_of(letter));
+    let (low, high) = (set as u32, (set >> 32) as u32);
+    Refused([number, offset, line, column, low, high, found])
 }
 
 /// 29 on line 1.
 fn lacking(field: u32, offset: u32) -> Expected {
-    Refused([29, offset, 1, offset + 1, field, 0])
+    Refused([29, offset, 1, offset + 1, field, 0, 0])
 }
 
 /// A refused scan on line 1 with no rows before it.
@@ -231,8 +254,8 @@ fn document_edges() -> Vec<EdgeCase> {
                 &[25, 0, 1, 1, 10, m],
             ]),
         ),
-        case(from, unit("a + b << 1;"), unwanted(13, 32, 47)),
-        case(from, unit("x -1;"), unwanted(9, 32, 50)),
+        case(from, unit("a + b << 1;"), unwanted(13, [ON, "; = +="], 47)),
+        case(from, unit("x -1;"), unwanted(9, [ON, SHIFTS, "; = +="], 50)),
         case(
             from,
             unit("a--1;"),
@@ -307,7 +330,7 @@ fn scan_readings() -> Vec<EdgeCase> {
         case(
             "DECISIONS, line and column of Eof",
             "unit",
-            unwanted(4, 48, 52),
+            unwanted(4, ["name"], 52),
         ),
         case(
             "DECISIONS, a backslash before a newline",
@@ -420,7 +443,7 @@ fn character_readings() -> Vec<EdgeCase> {
         case(
             inside,
             unit("\n \"\u{e9}\""),
-            Refused([21, 9, 2, 2, 48, 49]),
+            misfit([21, 9, 2, 2], [STATEMENT, "section license }"], 49),
         ),
         case(
             inside,
@@ -444,55 +467,63 @@ fn character_readings() -> Vec<EdgeCase> {
     ]
 }
 
-/// Points of DECISIONS: what 21 tells.
+/// What 21 tells.
 fn wanted_readings() -> Vec<EdgeCase> {
-    let from = "DECISIONS, 21's wanted kind";
+    let from = "LANGUAGE, what would have fitted";
     vec![
-        case(from, unit("a-=1;"), unwanted(8, 32, 37)),
-        case(from, unit("a=b=c;"), unwanted(10, 32, 35)),
-        case(from, unit("else"), unwanted(7, 48, 12)),
-        case(from, unit("a.m(1,);"), unwanted(13, 48, 28)),
-        case(from, unit("a.m(1 2);"), unwanted(13, 28, 50)),
-        case(from, unit("(a;"), unwanted(9, 28, 32)),
-        case(from, unit("a.1;"), unwanted(9, 48, 50)),
-        case(from, unit("return;"), unwanted(13, 48, 32)),
-        case(from, unit("if a"), unwanted(10, 13, 48)),
-        case(from, unit("if guard a"), unwanted(16, 27, 48)),
-        case(from, unit("if guard(1"), unwanted(16, 48, 50)),
-        case(from, unit("if guard(a;"), unwanted(17, 28, 32)),
-        case(from, unit("if guard(a)a"), unwanted(18, 25, 48)),
+        case(from, unit("a-=1;"), unwanted(8, [ON, SHIFTS, "; = +="], 37)),
+        case(from, unit("a=b=c;"), unwanted(10, [ON, SHIFTS, ";"], 35)),
+        case(
+            from,
+            unit("else"),
+            unwanted(7, [STATEMENT, "section license }"], 12),
+        ),
+        case(from, unit("a.m(1,);"), unwanted(13, [OPERAND], 28)),
+        case(
+            from,
+            unit("a.m(1 2);"),
+            unwanted(13, [ON, SHIFTS, ", )"], 50),
+        ),
+        case(from, unit("(a;"), unwanted(9, [ON, SHIFTS, ")"], 32)),
+        case(from, unit("a.1;"), unwanted(9, ["name"], 50)),
+        case(from, unit("return;"), unwanted(13, [OPERAND], 32)),
+        case(from, unit("if a"), unwanted(10, ["guard"], 48)),
+        case(from, unit("if guard a"), unwanted(16, ["("], 48)),
+        case(from, unit("if guard(1"), unwanted(16, ["name"], 50)),
+        case(from, unit("if guard(a;"), unwanted(17, [")"], 32)),
+        case(from, unit("if guard(a)a"), unwanted(18, ["{"], 48)),
         case(
             from,
             unit("if guard(a){}else if guard(a){}"),
-            unwanted(25, 25, 11),
+            unwanted(25, ["{"], 11),
         ),
         case(
             from,
             unit("if guard(a){section \"\";}"),
-            unwanted(19, 48, 1),
+            unwanted(19, [STATEMENT, "}"], 1),
         ),
-        case(from, unit("section x;"), unwanted(15, 49, 48)),
-        case(from, unit("license \"\"}"), unwanted(17, 32, 26)),
-        case(from, "map {", unwanted(4, 48, 25)),
-        case(from, "event e;", unwanted(7, 25, 32)),
-        case(from, "map m{key u32;", unwanted(10, 29, 21)),
-        case(from, "map m{type:hash;", unwanted(11, 30, 48)),
-        case(from, "map m{max:a;", unwanted(10, 50, 48)),
+        case(from, unit("section x;"), unwanted(15, ["string"], 48)),
+        case(from, unit("license \"\"}"), unwanted(17, [";"], 26)),
+        case(from, "map {", unwanted(4, ["name"], 25)),
+        case(from, "event e;", unwanted(7, ["{"], 32)),
+        case(from, "map m{key u32;", unwanted(10, [":"], 21)),
+        case(from, "map m{type:hash;", unwanted(11, ["."], 48)),
+        case(from, "map m{max:a;", unwanted(10, ["number"], 48)),
         case("DECISIONS, what is not closed", "map m{", refused(23, 6)),
         case(
             "DECISIONS, what is not closed",
             "unit u{",
-            unwanted(7, 48, 52),
+            unwanted(7, [STATEMENT, "section license }"], 52),
         ),
         case(
             "DECISIONS, what is not closed",
             "event e{",
-            unwanted(8, 48, 52),
+            unwanted(8, ["name }"], 52),
         ),
         case(
             "DECISIONS, what is not closed",
             "unit u{if guard(a){",
-            unwanted(19, 48, 52),
+            unwanted(19, [STATEMENT, "}"], 52),
         ),
     ]
 }
@@ -502,7 +533,11 @@ fn map_readings() -> Vec<EdgeCase> {
     vec![
         case("DECISIONS, 24", "map m{type:.q}", refused(24, 13)),
         case("DECISIONS, 24", "map m{type:.q", refused(24, 13)),
-        case("DECISIONS, 24", "map m{type:.key;}", unwanted(12, 48, 8)),
+        case(
+            "DECISIONS, 24",
+            "map m{type:.key;}",
+            unwanted(12, ["name"], 8),
+        ),
         case("DECISIONS, 25", "map m{key:}", refused(25, 11)),
         case("DECISIONS, 25", "map m{key:", refused(25, 10)),
         case("DECISIONS, 25", "map m{key:bytes;}", refused(25, 15)),
@@ -547,7 +582,7 @@ fn map_readings() -> Vec<EdgeCase> {
         case(
             "DECISIONS, 29",
             "map m{type:.hash;}\nunit u{}",
-            Refused([29, 19, 2, 1, 2, 0]),
+            Refused([29, 19, 2, 1, 2, 0, 0]),
         ),
         case(
             "DECISIONS, 29",
@@ -578,7 +613,11 @@ fn event_readings() -> Vec<EdgeCase> {
         ),
         case("DECISIONS, 30", "event e{a:", refused(30, 10)),
         case("DECISIONS, 30", "event e{a:q;}", refused(30, 10)),
-        case("DECISIONS, 30", "event e{a:bytes;}", unwanted(15, 33, 32)),
+        case(
+            "DECISIONS, 30",
+            "event e{a:bytes;}",
+            unwanted(15, ["["], 32),
+        ),
         case(
             "LANGUAGE, event fields",
             "event e{a:i32;b:bytes[9];c:u64[7];}",
@@ -596,8 +635,8 @@ fn event_readings() -> Vec<EdgeCase> {
 fn call_readings() -> Vec<EdgeCase> {
     let from = "DECISIONS, 31";
     vec![
-        case(from, unit("a.b.c(;"), unwanted(13, 48, 32)),
-        case(from, unit("a.b.c(1,);"), unwanted(15, 48, 28)),
+        case(from, unit("a.b.c(;"), unwanted(13, [OPERAND, ")"], 32)),
+        case(from, unit("a.b.c(1,);"), unwanted(15, [OPERAND], 28)),
         case(from, unit("a.m(x.y.z());"), refused(31, 15)),
         case(from, unit("1.m();"), refused(31, 9)),
         case(from, unit("a.m().n();"), refused(31, 13)),
@@ -640,7 +679,7 @@ fn nesting_readings() -> Vec<EdgeCase> {
         case(
             "DECISIONS, what nesting counts",
             nested(&bodies, "if guard(1"),
-            unwanted(behind_bodies + 9, 48, 50),
+            unwanted(behind_bodies + 9, ["name"], 50),
         ),
         case(
             "DECISIONS, what nesting counts",
@@ -777,7 +816,7 @@ fn node_readings() -> Vec<EdgeCase> {
         case(
             "DECISIONS, signs that no statement takes",
             unit("a*=2;"),
-            unwanted(8, 32, 38),
+            unwanted(8, [ON, SHIFTS, "; = +="], 38),
         ),
         case(
             "LANGUAGE, licence",

@@ -4,7 +4,8 @@
 //! `answer` is the way in; `generate` makes texts to ask about; `edge_cases`
 //! has the texts whose answers LANGUAGE.md and DECISIONS.md state; `sample` and
 //! `edits` write answers down for programs that cannot run Rust. `model` is
-//! LANGUAGE.md written down a second time, for what the original does not say.
+//! LANGUAGE.md written down a second time, for what the original does not say, and
+//! `chart` has the kinds that fit behind some rows, which it does not say either.
 
 #[allow(clippy::all)]
 pub mod original;
@@ -15,6 +16,7 @@ pub mod agree;
 pub mod answer;
 #[cfg(feature = "library")]
 pub mod bench;
+pub mod chart;
 pub mod deep;
 pub mod differences;
 pub mod edge_cases;
@@ -33,3 +35,4 @@ pub mod search;
 pub mod show;
 #[cfg(feature = "library")]
 pub mod side;
+pub mod told_sets;

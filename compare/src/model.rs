@@ -68,7 +68,7 @@ impl Told {
     }
 }
 
-/// Number, place and what is told in the C face's layout, with count and length 0.
+/// Number, place and what is told in the C face's layout, with count 0; the length is 0 too, unless 21 tells a kind there.
 pub fn refusal_words(refusal: Option<Refusal>) -> [u32; 8] {
     match refusal {
         None => [0; 8],
@@ -76,17 +76,23 @@ pub fn refusal_words(refusal: Option<Refusal>) -> [u32; 8] {
             number,
             place,
             told: [x, y],
-        }) => [number, place.offset, place.line, place.column, x, y, 0, 0],
+            found,
+        }) => [
+            number,
+            place.offset,
+            place.line,
+            place.column,
+            x,
+            y,
+            0,
+            found,
+        ],
     }
 }
 
 /// A refusal that tells nothing besides.
 pub fn refusal(number: u32, place: Place) -> Refusal {
-    Refusal {
-        number,
-        place,
-        told: [0, 0],
-    }
+    Refusal::bare(number, place)
 }
 
 /// The eight words of a row.

@@ -7,9 +7,13 @@
 //! that row. For 28 that row is the count itself; for 29 it is the map's `}`, and
 //! the place is the row behind it; for 31 it is the call's `)`, and the place is
 //! the row before the `(` that belongs to it.
+//!
+//! The kinds that would have fitted are the chart's. The row that the original
+//! refuses must be none of them, and the kind that it wants one.
 
 use crate::answer::{Parsed, Refusal, Row};
 use crate::ast::Program;
+use crate::chart::{fitting, has, Set};
 use crate::differences::first_named_difference;
 use crate::kinds::{number_of, KINDS};
 use crate::nodes::tree_of;
@@ -58,15 +62,43 @@ fn run(tokens: Vec<Token>) -> Result<Result<Program, ParseError>, String> {
 
 fn refused((loc, message): ParseError, tokens: &[Token], rows: &[Row]) -> Outcome {
     let row = row_at(tokens, loc.offset);
-    let (number, told) = number_and_told(&message, tokens[row].kind);
+    let found = tokens[row].kind;
+    let (number, field) = number_and_field(&message);
+    let mut refusal = Refusal::bare(number, rows[row].place());
+    refusal.told = [field, 0];
+    if let 21 | 22 | 23 | 25 | 30 = number {
+        let set = fitting_in_place_of(lost_row(number, tokens, row), tokens);
+        if number == 21 {
+            let wanted = wanted_in(&message, found);
+            assert!(has(set, number_of(wanted)), "{message} does not fit");
+        }
+        refusal = refusal.with_set(set, number_of(found));
+    }
     Outcome::Refused {
-        refusal: Refusal {
-            number,
-            place: rows[row].place(),
-            told,
-        },
+        refusal,
         decided_at: row,
     }
+}
+
+/// The row that a refusal at `row` is about: of 25 the one that should have been
+/// the type, which stands in front unless it is Eof.
+fn lost_row(number: u32, tokens: &[Token], row: usize) -> usize {
+    match number {
+        25 if tokens[row - 2].kind == TokenKind::Colon => row - 1,
+        _ => row,
+    }
+}
+
+/// What the chart says of the rows in front of one that the original refuses:
+/// programs begin with them, and none goes on with that row.
+fn fitting_in_place_of(lost: usize, tokens: &[Token]) -> Set {
+    let kinds = tokens[..lost].iter().map(|token| number_of(token.kind));
+    let set = fitting(kinds).expect("programs begin with what the original reads");
+    assert!(
+        !has(set, number_of(tokens[lost].kind)),
+        "what the original refuses fits"
+    );
+    set
 }
 
 /// The row that starts at `offset`.
@@ -76,18 +108,19 @@ pub fn row_at(tokens: &[Token], offset: usize) -> usize {
         .expect("the original's places are starts of rows")
 }
 
-fn number_and_told(message: &str, found: TokenKind) -> (u32, [u32; 2]) {
+/// The number that a message stands for, and the field that a map lacks.
+fn number_and_field(message: &str) -> (u32, u32) {
     match message {
-        "Expected 'map', 'unit', or 'event'" => (22, [0, 0]),
-        "Expected type (u32, u64, i32, i64)" => (25, [0, 0]),
-        "max_entries must be >= 0" => (26, [0, 0]),
-        "Map missing required field: key" => (29, [2, 0]),
-        "Map missing required field: value" => (29, [3, 0]),
-        "Map missing required field: max" | "Ringbuf map requires: max" => (29, [4, 0]),
-        "Invalid event field type" => (30, [0, 0]),
-        _ if message.starts_with("Unexpected token inside map: ") => (23, [0, 0]),
-        _ if message.starts_with("Unknown map type: ") => (24, [0, 0]),
-        _ => (21, [number_of(wanted_in(message, found)), number_of(found)]),
+        "Expected 'map', 'unit', or 'event'" => (22, 0),
+        "Expected type (u32, u64, i32, i64)" => (25, 0),
+        "max_entries must be >= 0" => (26, 0),
+        "Map missing required field: key" => (29, 2),
+        "Map missing required field: value" => (29, 3),
+        "Map missing required field: max" | "Ringbuf map requires: max" => (29, 4),
+        "Invalid event field type" => (30, 0),
+        _ if message.starts_with("Unexpected token inside map: ") => (23, 0),
+        _ if message.starts_with("Unknown map type: ") => (24, 0),
+        _ => (21, 0),
     }
 }
 
@@ -111,9 +144,8 @@ fn panicked(message: &str, tokens: &[Token], rows: &[Row]) -> Outcome {
     };
     Outcome::Refused {
         refusal: Refusal {
-            number,
-            place: rows[row].place(),
             told: [field, 0],
+            ..Refusal::bare(number, rows[row].place())
         },
         decided_at,
     }

@@ -150,7 +150,7 @@ mod tests {
         assert_eq!(
             written(b"unit"),
             "spoonharbor-sample 1 1\nT 4 117 110 105 116\nR 2\n0 0 4 1 1 0 0\n\
-             52 4 4 1 5 0 0\nE 0 0 0 0\nP 1 21 4 1 5 48 52 1\n"
+             52 4 4 1 5 0 0\nE 0 0 0 0\nP 1 21 4 1 5 0 65536 1\n"
         );
         assert!(written(b"unit u{license \"\";if guard(a){}}").ends_with(
             "P 2 1\nD 4\n1 9 9 0 0 0 0 0\n21 ? 4294967295 0 0 0 0 0\n\

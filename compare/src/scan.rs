@@ -124,11 +124,7 @@ fn place_of(loc: SourceLoc) -> Place {
 }
 
 fn lexical(number: u32, place: Place) -> Refusal {
-    Refusal {
-        number,
-        place,
-        told: [0, 0],
-    }
+    Refusal::bare(number, place)
 }
 
 fn refusal_of(text: &str, (loc, message): LexError) -> Refusal {

@@ -1,6 +1,7 @@
 //! Answers as text: LANGUAGE.md's lister form, and a short form on one line.
 
 use crate::answer::{Answer, Parsed, Refusal, Row};
+use crate::chart::kinds;
 use crate::nodes::{Node, Tree, Word};
 
 /// The rows and nodes, or the refusal, as the lister prints them; `?` where the
@@ -121,13 +122,20 @@ fn parsed_told(parsed: &Parsed) -> String {
 
 fn refusal_told(refusal: &Refusal) -> String {
     let place = refusal.place;
-    let told = match (refusal.number, refusal.told) {
-        (21, [wanted, found]) => format!(" wanted {wanted} found {found}"),
-        (29, [field, _]) => format!(" field {field}"),
+    let told = match refusal.number {
+        21 => format!(" fitting {} found {}", kinds_told(refusal), refusal.found),
+        22 | 23 | 25 | 30 => format!(" fitting {}", kinds_told(refusal)),
+        29 => format!(" field {}", refusal.told[0]),
         _ => String::new(),
     };
     format!(
         "refused {} at {} {}:{}{told}",
         refusal.number, place.offset, place.line, place.column
     )
+}
+
+/// The kinds that would have fitted.
+fn kinds_told(refusal: &Refusal) -> String {
+    let kinds: Vec<String> = kinds(refusal.set()).map(|kind| kind.to_string()).collect();
+    format!("[{}]", kinds.join(" "))
 }

@@ -6,6 +6,7 @@
 pub mod chains;
 pub mod edit;
 pub mod files;
+pub mod fitting;
 pub mod parse;
 pub mod scan;
 pub mod tables;

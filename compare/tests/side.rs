@@ -1,7 +1,7 @@
 //! Short runs of every part of `side`.
 
 use compare::deep::on_deep_stack;
-use compare::side::{chains, edit, files, parse, scan, tables, Compared, Counts};
+use compare::side::{chains, edit, files, fitting, parse, scan, tables, Compared, Counts};
 
 fn no_difference(part: impl FnOnce() -> Compared + Send) -> Counts {
     match on_deep_stack(part) {
@@ -30,6 +30,14 @@ fn parses_are_the_originals() {
     }
     for number in [27, 32] {
         assert!(counts.get(&format!("named difference {number}")) > 0);
+    }
+}
+
+#[test]
+fn the_kinds_that_fit_are_told() {
+    let counts = no_difference(|| fitting::run(1_000, 3));
+    for number in [0, 21, 22, 23, 25, 30] {
+        assert!(counts.get(&format!("answered {number}")) > 0, "{number}");
     }
 }
 

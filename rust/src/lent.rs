@@ -16,13 +16,15 @@ pub const OFFSET: usize = 1;
 pub const LINE: usize = 2;
 /// The column of the refusal's place, which counts bytes.
 pub const COLUMN: usize = 3;
-/// The wanted kind of 21, the field of 29, the block of 41, a spelling's start, or the number that was asked for.
+/// Of 21, 22, 23, 25 and 30 the kinds 0 to 31 that would have fitted, bit k for kind k; the field of 29, the block of 41, a spelling's start,
+/// or the number that was asked for.
 pub const FIRST: usize = 4;
-/// The found kind of 21, or a spelling's end.
+/// Of 21, 22, 23, 25 and 30 the kinds from 32 on that would have fitted, bit 0 for kind 32; or a spelling's end.
 pub const SECOND: usize = 5;
 /// How many rows, nodes or blocks were written.
 pub const COUNT: usize = 6;
-/// The text's length, of a store the file's; 0 where a call that tells one is refused and told no table.
+/// The text's length, of a store the file's, of a parse that is refused with 21 the kind that was found; 0 where a call that tells a length
+/// is refused and told no table.
 pub const LENGTH: usize = 7;
 
 /// The words of a row: kind, start, end, line, column, value low, value high, comments in the gap before it.

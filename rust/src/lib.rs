@@ -35,6 +35,7 @@
 mod document;
 mod ffi;
 mod kind;
+mod kind_set;
 pub mod lent;
 mod refusal;
 mod row;
@@ -44,6 +45,7 @@ mod tree;
 
 pub use document::Document;
 pub use kind::Kind;
+pub use kind_set::{KindSet, Kinds};
 pub use refusal::{MapField, Place, Reason, Refusal};
 pub use row::{Row, Rows};
 pub use sets::{allows, section_kind, set_size, Method, ProgramKind};

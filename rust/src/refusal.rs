@@ -1,6 +1,7 @@
 //! Refusals: a number, a place, and what is told besides.
 
 use crate::kind::Kind;
+use crate::kind_set::KindSet;
 use crate::lent::{self, Words};
 use std::error::Error;
 use std::fmt;
@@ -58,17 +59,18 @@ pub enum Reason {
     LoneSign,
     /// 17: `0x` without a hex digit; the place is behind the `x`.
     NoHexDigit,
-    /// 21: another kind was wanted.
+    /// 21: rows of other kinds were wanted, one of which would have fitted.
     #[non_exhaustive]
-    Wanted { wanted: Kind, found: Kind },
-    /// 22: none of `map`, `event` and `unit`.
-    NotTopLevel,
-    /// 23: none of `type`, `key`, `value` and `max`.
-    NotMapField,
+    Wanted { fitting: KindSet, found: Kind },
+    /// 22: none of `map`, `event` and `unit`; with what would have fitted.
+    NotTopLevel(KindSet),
+    /// 23: none of `type`, `key`, `value` and `max`; with what would have fitted.
+    NotMapField(KindSet),
     /// 24: the map type behind the dot is unknown.
     MapTypeUnknown,
-    /// 25: a key or a value without a type.
-    NotType,
+    /// 25: a key or a value without a type; with what would have fitted in place of the row that is none. The place is one row on, unless the
+    /// text ends there.
+    NotType(KindSet),
     /// 26: a negative `max`.
     MaxNegative,
     /// 27: a `max` over 2^32 - 1, or a length outside 0 to 2^32 - 1.
@@ -77,8 +79,8 @@ pub enum Reason {
     ShiftCount,
     /// 29: a map without this field.
     MapLacks(MapField),
-    /// 30: an event field without a type.
-    NotEventType,
+    /// 30: an event field without a type; with what would have fitted.
+    NotEventType(KindSet),
     /// 31: a method called on anything but a variable.
     CallOnOther,
     /// 32: the 65th open construct.
@@ -146,15 +148,15 @@ impl Reason {
             Reason::LoneSign => 16,
             Reason::NoHexDigit => 17,
             Reason::Wanted { .. } => 21,
-            Reason::NotTopLevel => 22,
-            Reason::NotMapField => 23,
+            Reason::NotTopLevel(_) => 22,
+            Reason::NotMapField(_) => 23,
             Reason::MapTypeUnknown => 24,
-            Reason::NotType => 25,
+            Reason::NotType(_) => 25,
             Reason::MaxNegative => 26,
             Reason::OutOfRange => 27,
             Reason::ShiftCount => 28,
             Reason::MapLacks(_) => 29,
-            Reason::NotEventType => 30,
+            Reason::NotEventType(_) => 30,
             Reason::CallOnOther => 31,
             Reason::TooDeep => 32,
             Reason::TooManyRows => 40,
@@ -163,6 +165,18 @@ impl Reason {
             Reason::NoTable => 43,
             Reason::OtherForm => 44,
             Reason::Other(number) => number,
+        }
+    }
+
+    /// The kinds that would have fitted, where it tells them: 21, 22, 23, 25 and 30.
+    pub fn fitting(self) -> Option<KindSet> {
+        match self {
+            Reason::Wanted { fitting, .. }
+            | Reason::NotTopLevel(fitting)
+            | Reason::NotMapField(fitting)
+            | Reason::NotType(fitting)
+            | Reason::NotEventType(fitting) => Some(fitting),
+            _ => None,
         }
     }
 
@@ -178,6 +192,7 @@ impl Reason {
 
     /// The reason of an answer whose number is not 0.
     fn from_words(words: &Words) -> Reason {
+        let fitting = KindSet::from_words(words[lent::FIRST], words[lent::SECOND]);
         match words[lent::NUMBER] {
             1 => Reason::TextTooLong,
             2 => Reason::BadByte,
@@ -194,19 +209,19 @@ impl Reason {
             16 => Reason::LoneSign,
             17 => Reason::NoHexDigit,
             21 => Reason::Wanted {
-                wanted: Kind::read(words[lent::FIRST]),
-                found: Kind::read(words[lent::SECOND]),
+                fitting,
+                found: Kind::read(words[lent::LENGTH]),
             },
-            22 => Reason::NotTopLevel,
-            23 => Reason::NotMapField,
+            22 => Reason::NotTopLevel(fitting),
+            23 => Reason::NotMapField(fitting),
             24 => Reason::MapTypeUnknown,
-            25 => Reason::NotType,
+            25 => Reason::NotType(fitting),
             26 => Reason::MaxNegative,
             27 => Reason::OutOfRange,
             28 => Reason::ShiftCount,
             29 => MapField::from_number(words[lent::FIRST])
                 .map_or(Reason::Other(29), Reason::MapLacks),
-            30 => Reason::NotEventType,
+            30 => Reason::NotEventType(fitting),
             31 => Reason::CallOnOther,
             32 => Reason::TooDeep,
             40 => Reason::TooManyRows,
@@ -288,24 +303,21 @@ impl fmt::Display for Reason {
                 out.write_str("a lone '<' or '>': Solnix has no comparisons, and shifts are '<<' and '>>'")
             }
             Reason::NoHexDigit => out.write_str("expected a hex digit behind '0x'"),
-            Reason::Wanted { wanted, found } => write!(out, "expected {wanted}, found {found}"),
-            Reason::NotTopLevel => out.write_str("expected 'map', 'event' or 'unit'"),
-            Reason::NotMapField => out.write_str("expected 'type', 'key', 'value', 'max' or '}'"),
+            Reason::Wanted { fitting, found } => write!(out, "expected {fitting}, found {found}"),
+            Reason::NotTopLevel(fitting) | Reason::NotMapField(fitting) => {
+                write!(out, "expected {fitting}")
+            }
             Reason::MapTypeUnknown => out.write_str(
                 "unknown map type before this: expected 'hash', 'array', 'ringbuf', 'lru_hash' or 'prog_array'",
             ),
-            Reason::NotType => {
-                out.write_str("no type before this: expected 'u32', 'u64', 'i32' or 'i64'")
-            }
+            Reason::NotType(fitting) => write!(out, "no type before this: expected {fitting:#}"),
             Reason::MaxNegative => out.write_str("'max' is negative"),
             Reason::OutOfRange => out.write_str("out of range: expected 0 to 4294967295"),
             Reason::ShiftCount => out.write_str("shift count out of range: expected 0 to 63"),
             Reason::MapLacks(field) => {
                 write!(out, "the map before this has no '{}'", field.word())
             }
-            Reason::NotEventType => {
-                out.write_str("expected 'u32', 'u64', 'i32', 'i64' or 'bytes'")
-            }
+            Reason::NotEventType(fitting) => write!(out, "expected {fitting:#}"),
             Reason::CallOnOther => out.write_str("only a variable has methods"),
             Reason::TooDeep => out.write_str("nested too deeply: at most 64 may be open"),
             Reason::TooManyRows => out.write_str("more rows than a file holds: the most is 65,535"),
@@ -396,8 +408,17 @@ mod tests {
 
     #[test]
     fn what_is_told_is_read_back() {
-        let wanted = Refusal::from_words(&[21, 9, 1, 10, 32, 50, 0, 0]).unwrap();
-        assert_eq!(wanted.to_string(), "1:10: expected ';', found number");
+        let wanted = Refusal::from_words(&[21, 9, 1, 10, 1 << 30, 1, 0, 50]).unwrap();
+        assert_eq!(
+            wanted.to_string(),
+            "1:10: expected ';' or '.', found number"
+        );
+        let types = Refusal::from_words(&[25, 9, 1, 10, 0b1111 << 21, 0, 0, 0]).unwrap();
+        assert_eq!(
+            types.reason.to_string(),
+            "no type before this: expected 'u32', 'u64', 'i32' or 'i64'"
+        );
+        assert_eq!(types.reason.fitting().map(KindSet::len), Some(4));
         let lacking = Refusal::from_words(&[29, 9, 1, 10, 4, 0, 0, 0]).unwrap();
         assert_eq!(lacking.reason, Reason::MapLacks(MapField::Max));
     }
@@ -417,10 +438,10 @@ mod tests {
         assert_eq!(unknown.to_string(), "1:1: refused with 8");
         let lacking = Refusal::from_words(&[29, 0, 1, 1, 5, 0, 0, 0]).unwrap();
         assert_eq!(lacking.reason, Reason::Other(29));
-        let wanted = Refusal::from_words(&[21, 0, 1, 1, 16, 53, 0, 0]).unwrap();
+        let wanted = Refusal::from_words(&[21, 0, 1, 1, 1 << 16, 1 << 21, 0, 53]).unwrap();
         assert_eq!(
             wanted.to_string(),
-            "1:1: expected another kind, found another kind"
+            "1:1: expected nothing, found another kind"
         );
     }
 }

@@ -24,7 +24,7 @@ fn a_refusal_shows_its_line() {
     let ran = folder.run(&["check", "probe.snx"]);
     assert_eq!(
         ran.out,
-        "probe.snx:2:12: expected ';', found number\n    \treg a = b 1;\n    \t          ^\n"
+        "probe.snx:2:12: expected ';', '.' or an operator, found number\n    \treg a = b 1;\n    \t          ^\n"
     );
     assert_eq!((ran.complaints.as_str(), ran.status), ("", 1));
 }
@@ -36,7 +36,7 @@ fn a_line_is_shown_without_its_carriage_return() {
     let ran = folder.run(&["check", "probe.snx"]);
     assert_eq!(
         ran.out,
-        "probe.snx:2:12: expected ';', found number\n     reg a = b 1;\n               ^\n"
+        "probe.snx:2:12: expected ';', '.' or an operator, found number\n     reg a = b 1;\n               ^\n"
     );
     assert_eq!(ran.status, 1);
 }
@@ -109,8 +109,8 @@ fn each_refusal_has_its_words() {
         ("\"a\nb", "1:3: expected '\"' to close the string"),
         ("\"a\\t\"", "1:3: unknown escape: expected '\\\"', '\\\\' or '\\n'"),
         ("99999999999999999999", "1:1: number too large: the most is 9223372036854775807"),
-        ("unit u{\n", "2:1: expected identifier, found end of file"),
-        ("unit u{}\nunits", "2:1: expected 'map', 'event' or 'unit'"),
+        ("unit u{\n", "2:1: expected a statement, 'section', 'license' or '}', found end of file"),
+        ("unit u{}\nunits", "2:1: expected 'unit', 'map', 'event' or end of file"),
         ("map m{unit", "1:7: expected 'type', 'key', 'value', 'max' or '}'"),
         ("map m{type:.tree;", "1:17: unknown map type before this: expected 'hash', 'array', 'ringbuf', 'lru_hash' or 'prog_array'"),
         ("map m{key:u8;", "1:13: no type before this: expected 'u32', 'u64', 'i32' or 'i64'"),
@@ -121,7 +121,7 @@ fn each_refusal_has_its_words() {
         ("event e{a:u8;", "1:11: expected 'u32', 'u64', 'i32', 'i64' or 'bytes'"),
         ("unit u{a.b.c();}", "1:12: only a variable has methods"),
         (&deep, "1:72: nested too deeply: at most 64 may be open"),
-        ("unit u{a-=1;}", "1:9: expected ';', found '-='"),
+        ("unit u{a-=1;}", "1:9: expected ';', '.', an operator, '=' or '+=', found '-='"),
     ];
     let folder = Folder::new("words");
     for (text, message) in cases {
@@ -144,7 +144,10 @@ fn several_files_are_all_checked() {
     let ran = folder.run(&["check", "good", "bad", "good"]);
     let lines: Vec<&str> = ran.out.lines().collect();
     assert_eq!(lines[0], "good: ok, 1 map, 0 events, 1 unit");
-    assert_eq!(lines[1], "bad:1:5: expected identifier, found end of file");
+    assert_eq!(
+        lines[1],
+        "bad:1:5: expected an identifier, found end of file"
+    );
     assert_eq!(lines[2..4], ["    unit", "        ^"]);
     assert_eq!(lines[4], lines[0]);
     assert_eq!(ran.status, 1);
@@ -285,7 +288,7 @@ fn trees_are_printed() {
     let ran = folder.run(&["tree", "t"]);
     assert_eq!(
         ran.out,
-        "t:1:10: expected ';', found identifier\n    unit u{a b;}\n             ^\n"
+        "t:1:10: expected ';', '.', an operator, '=' or '+=', found identifier\n    unit u{a b;}\n             ^\n"
     );
     assert_eq!(ran.status, 1);
 }
@@ -310,7 +313,7 @@ fn standard_input_is_a_file() {
     let ran = folder.run_with_input(&["check", "-"], b"unit");
     assert!(ran
         .out
-        .starts_with("standard input:1:5: expected identifier"));
+        .starts_with("standard input:1:5: expected an identifier"));
     assert_eq!(ran.status, 1);
 }
 

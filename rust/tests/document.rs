@@ -216,7 +216,7 @@ fn a_range_inside_a_character_is_refused() {
 fn the_most_rows_fit() {
     let document = Document::open(vec![b';'; LONGEST_TEXT]).unwrap();
     assert_eq!(document.rows().len(), LONGEST_TEXT + 1);
-    assert_eq!(document.tree().unwrap_err().reason, Reason::NotTopLevel);
+    assert_eq!(document.tree().unwrap_err().number(), 22);
 }
 
 #[test]
@@ -282,9 +282,9 @@ fn a_tree_is_read() {
 #[test]
 fn a_parse_that_is_refused_says_what_was_wanted() {
     let reasons = [
-        ("unit", 21, "expected identifier, found end of file"),
-        ("unit u{x -1;}", 21, "expected ';', found number"),
-        ("u", 22, "expected 'map', 'event' or 'unit'"),
+        ("unit", 21, "expected an identifier, found end of file"),
+        ("unit u{x -1;}", 21, "expected ';', '.', an operator, '=' or '+=', found number"),
+        ("u", 22, "expected 'unit', 'map', 'event' or end of file"),
         ("map m{q", 23, "expected 'type', 'key', 'value', 'max' or '}'"),
         ("map m{type:.q;", 24, "unknown map type before this: expected 'hash', 'array', 'ringbuf', 'lru_hash' or 'prog_array'"),
         ("map m{key:q;", 25, "no type before this: expected 'u32', 'u64', 'i32' or 'i64'"),

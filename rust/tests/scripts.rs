@@ -31,7 +31,7 @@ fn the_first_command_checks_files() {
     let ran = run_in(&folder, "check", &["good.snx", "bad.snx"]);
     assert!(ran
         .out
-        .ends_with("bad.snx:3:1: expected ';', found '}'\n    }\n    ^\n"));
+        .ends_with("bad.snx:3:1: expected ';', '.' or an operator, found '}'\n    }\n    ^\n"));
     assert_eq!(ran.status, 1);
     let ran = run_in(&folder, "check", &["missing.snx"]);
     assert!(ran.complaints.contains("missing.snx"));

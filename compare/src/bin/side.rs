@@ -2,13 +2,14 @@
 //! often; stops at the first difference with status 1.
 
 use compare::deep::on_deep_stack;
-use compare::side::{chains, edit, files, parse, scan, tables, Compared};
+use compare::side::{chains, edit, files, fitting, parse, scan, tables, Compared};
 use std::process::ExitCode;
 use std::time::Instant;
 
 const USAGE: &str = "\
 usage: side scan [TEXTS [SEED]]      rows, values, refusals, every lent word, of so many ASCII texts and as many with characters
        side parse [TEXTS [SEED]]     nodes, refusals, every lent word, of so many ASCII texts and as many with characters
+       side fitting [BEGINNINGS [SEED]]  the kinds that are told, behind every beginning of seven rows and so many longer ones
        side edit [CALLS [SEED]]      random edits at every window length, and as changes
        side small [LENGTH]           every edit of every text of at most LENGTH bytes over 16 bytes, at every window length, and as a change
        side parts [LENGTH]           the same over 11 bytes with parts of characters, old and new bytes together at most LENGTH
@@ -19,9 +20,10 @@ usage: side scan [TEXTS [SEED]]      rows, values, refusals, every lent word, of
 ";
 
 /// The counts of a full run.
-const FULL: [(&str, u64); 8] = [
+const FULL: [(&str, u64); 9] = [
     ("scan", 1_000_000),
     ("parse", 1_000_000),
+    ("fitting", 100_000),
     ("edit", 20_000_000),
     ("small", 3),
     ("parts", 6),
@@ -76,6 +78,7 @@ fn run(part: &str, count: u64, seed: u64) -> Compared {
     match part {
         "scan" => scan::run(count, seed),
         "parse" => parse::run(count, seed),
+        "fitting" => fitting::run(count, seed),
         "edit" => edit::run(count, seed),
         "small" => edit::run_small(count.min(6) as u32),
         "parts" => edit::run_parts(count.min(8) as u32),

@@ -1,8 +1,9 @@
-//! The parse of a table into nodes, every word of which is said.
+//! The parse of a table into nodes, every word of which is said. The kinds that would have fitted are the chart's.
 
 use super::table::Lent;
 use super::{refusal, START};
 use crate::answer::{Refusal, Row};
+use crate::chart::fitting;
 use crate::nodes::MISSING;
 
 /// A node's eight words.
@@ -75,6 +76,15 @@ impl Reader<'_> {
         self.refused_at(number, self.at as u32)
     }
 
+    /// Refused at the row that is next, with the kinds that fit in place of the row `lost`.
+    fn misfit<T>(&self, number: u32, lost: u32) -> Read<T> {
+        let in_front = &self.rows[..lost as usize];
+        let set = fitting(in_front.iter().map(|row| row.kind));
+        let set = set.expect("programs begin with what was read");
+        let stop = refusal(number, self.rows[self.at].place());
+        Err(stop.with_set(set, self.kind()))
+    }
+
     /// Takes the row that is next; Eof stays next.
     fn take(&mut self) -> u32 {
         let row = self.at;
@@ -94,9 +104,7 @@ impl Reader<'_> {
         if let Some(row) = self.taken(wanted) {
             return Ok(row);
         }
-        let mut stop = refusal(21, self.rows[self.at].place());
-        stop.told = [wanted, self.kind()];
-        Err(stop)
+        self.misfit(21, self.at as u32)
     }
 
     fn expect_all(&mut self, wanted: &[u32]) -> Read<()> {
@@ -135,7 +143,7 @@ impl Reader<'_> {
                 0 => self.unit()?,
                 6 => self.map()?,
                 15 => self.event()?,
-                _ => return self.refused(22),
+                _ => return self.misfit(22, self.at as u32),
             }
             children += 1;
         }
@@ -373,7 +381,7 @@ impl Reader<'_> {
                 8 => key = Some(self.field_type()?),
                 9 => value = Some(self.field_type()?),
                 10 => max = Some(self.maximum()?),
-                _ => return self.refused(23),
+                _ => return self.misfit(23, self.at as u32),
             }
             self.expect(32)?;
         }
@@ -412,7 +420,7 @@ impl Reader<'_> {
         let row = self.take();
         match self.rows[row as usize].kind {
             kind @ 21..=24 => Ok(kind - 20),
-            _ => self.refused(25),
+            _ => self.misfit(25, row),
         }
     }
 
@@ -474,7 +482,7 @@ impl Reader<'_> {
                 self.take();
                 [2, 0, self.length()?, 0]
             }
-            _ => return self.refused(30),
+            _ => return self.misfit(30, self.at as u32),
         };
         self.expect(32)?;
         self.node_with(26, name, name, 0, facts);
