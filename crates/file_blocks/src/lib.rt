@@ -11,7 +11,11 @@ ghost use lib.ListN.{length, take, drop, replicate};
 ghost use Rattle.rows.specs.Shape.{LengthTable, asRow};
 ghost use Rattle.file_rules.specs.Bytes.{little, numberAt, bytesOf, wordsIn};
 ghost use Rattle.file_rules.specs.Blocks.{check, block, zeros, sound};
+ghost use Rattle.file_blocks.specs.Columns.{plus, total, Within};
 ghost use Rattle.file_blocks.specs.Standing.{rowFrom, rowsFrom, stand};
+
+// The columns in which the bytes of a block are added up.
+const COLUMNS: usize = 64;
 
 // ---- numbers
 
@@ -20,6 +24,20 @@ fn wide(b: u8) -> u32
     ensures { λ r. ⌜ (r ≡ b) × (r ≤ 255) ⌝ }
 {
     b as u32
+}
+
+// A byte as a sum of few bytes.
+fn narrow(b: u8) -> u16
+    ensures { λ r. ⌜ (r ≡ b) × (r ≤ 255) ⌝ }
+{
+    b as u16
+}
+
+// A sum of few bytes as a word.
+fn wide_sum(x: u16) -> u32
+    ensures { λ r. ⌜ (r ≡ x) × (r ≤ 65535) ⌝ }
+{
+    x as u32
 }
 
 // The number in two bytes.
@@ -61,20 +79,69 @@ fn put_word(bytes: &mut [u8], at: usize, x: u32)
 
 // ---- whether a block is sound
 
-// The check of a block: each byte in front of it times its place, counted from 1.
-fn check_of(bytes: &[u8]) -> u32
-    requires { ⌜ 508 ≤ length (now bytes) ⌝ }
-    ensures { λ r. ⌜ r ≡ check (take 508 (now (bytes .entry))) ⌝ }
+// The bytes of a row of a block, on the sums of their columns.
+fn add_bytes(sums: &mut [u16], bytes: &[u8], at: usize)
+    requires { ⌜ ((length (now sums) ≡ 64) × (at + 64 ≤ length (now bytes))) × Within 65280 (now sums) ⌝ }
+    ensures { λ _. ⌜ (now (sums .exit) ≡ plus (now (sums .entry)) (take 64 (drop at (now (bytes .entry))))) × Within 255 (take 64 (drop at (now (bytes .entry)))) ⌝ }
+{
+    let mut j = 0;
+    while j < COLUMNS {
+        sums[j] = sums[j] + narrow(bytes[at + j]);
+        j += 1;
+    }
+}
+
+// The sums of columns, on others.
+fn add_sums(onto: &mut [u16], sums: &[u16])
+    requires { ⌜ ((length (now onto) ≡ 64) × (length (now sums) ≡ 64)) × (Within 32767 (now onto) × Within 32767 (now sums)) ⌝ }
+    ensures { λ _. ⌜ now (onto .exit) ≡ plus (now (onto .entry)) (now (sums .entry)) ⌝ }
+{
+    let mut j = 0;
+    while j < COLUMNS {
+        onto[j] = onto[j] + sums[j];
+        j += 1;
+    }
+}
+
+// Each sum times its column, counted from 1, and for each row in front of it the sums of the rows behind.
+fn weigh(sums: &[u16], behind: &[u16]) -> u32
+    requires { ⌜ (length (now sums) ≡ 64) × (length (now behind) ≡ 64) ⌝ }
+    ensures { λ r. ⌜ r ≡ check (now (sums .entry)) + 64 * total (now (behind .entry)) ⌝ }
 {
     let mut sum: u32 = 0;
     let mut place: u32 = 1;
-    let mut i = 0;
-    while i < form::CHECKED {
-        sum += wide(bytes[i]) * place;
+    let mut j = 0;
+    while j < COLUMNS {
+        sum += wide_sum(sums[j]) * place + 64 * wide_sum(behind[j]);
         place += 1;
-        i += 1;
+        j += 1;
     }
     sum
+}
+
+// What the four bytes of the check itself would add.
+fn own_part(bytes: &[u8]) -> u32
+    requires { ⌜ length (now bytes) ≡ 512 ⌝ }
+    ensures { λ r. ⌜ check (take 508 (now (bytes .entry))) + r ≡ check (now (bytes .entry)) ⌝ }
+{
+    wide(bytes[508]) * 509 + wide(bytes[509]) * 510 + wide(bytes[510]) * 511 + wide(bytes[511]) * 512
+}
+
+// The check of a block: each byte in front of it times its place, counted from 1. The bytes stand in rows of 64, which are added up from
+// the last to the first, column by column, so that the compiler works on many columns at once and multiplies only at the end.
+fn check_of(bytes: &[u8]) -> u32
+    requires { ⌜ length (now bytes) ≡ 512 ⌝ }
+    ensures { λ r. ⌜ r ≡ check (take 508 (now (bytes .entry))) ⌝ }
+{
+    let mut sums = [0u16; COLUMNS];
+    let mut behind = [0u16; COLUMNS];
+    let mut rows: usize = 8;
+    while 0 < rows {
+        rows -= 1;
+        add_sums(&mut behind, &sums);
+        add_bytes(&mut sums, bytes, COLUMNS * rows);
+    }
+    weigh(&sums, &behind) - own_part(bytes)
 }
 
 // The larger of two bytes.

@@ -1,0 +1,18 @@
+-- Lists of numbers added place by place, and bounds of their numbers.
+use mathlib.Core.List.{List, [], _∷_}
+use Prim.Native.Nat.{ℕ, zero, suc, _+_, _≤_}
+use lib.ListN.{getD}
+
+-- a list on the front of another, place by place
+unfoldable pub plus : List ℕ → List ℕ → List ℕ
+plus [] ys = []
+plus (x ∷ xs) [] = x ∷ xs
+plus (x ∷ xs) (y ∷ ys) = (x + y) ∷ plus xs ys
+
+unfoldable pub total : List ℕ → ℕ
+total [] = 0
+total (x ∷ xs) = x + total xs
+
+-- no number is larger than m
+pub record Within (m : ℕ) (xs : List ℕ) : Type 0 where
+  pub at : (i : ℕ) → getD xs i 0 ≤ m
