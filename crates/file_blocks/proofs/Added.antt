@@ -1,4 +1,4 @@
--- Laws of lists added place by place: one more place, bounds, sums, and the check of bytes that stand in rows.
+-- Laws of lists added place by place: one more place, bounds, sums, and the check of bytes that stand in strips.
 use mathlib.Core.Path.{_≡_, refl, sym, ap, _∙_}
 use mathlib.Core.List.{List, [], _∷_, _++_}
 use Prim.Native.Nat.{ℕ, zero, suc, _+_, _-_, _*_, _≤_, _<_}
@@ -8,7 +8,7 @@ use native.Mathlib.Omega.{arith}
 use lib.ListN.{length, take, drop, getD, set, replicate, length-take, length-drop, take-append-drop, drop-of-length-le}
 use lib.Seq.{take-suc, drop-drop, getD-take, length-take-le, take-all}
 use Rattle.file_rules.specs.Blocks.{sumFrom, check}
-use Rattle.file_blocks.specs.Columns.{plus, total, Within}
+use Rattle.file_blocks.specs.Columns.{plus, strip, total, Within}
 use Rattle.file_blocks.proofs.Laws.{check-more}
 
 -- ---- one place more
@@ -136,46 +136,46 @@ unfolding sumFrom total
 sum-later d p [] = omega arith
 sum-later d p (y ∷ ys) = let e : suc (p + d) ≡ suc p + d = omega arith in rw e (omega (arith, sum-later d (suc p) ys))
 
--- ---- the check of bytes that stand in rows of 64
+-- ---- the check of bytes that stand in strips
 
--- a row in front of bytes
+-- a strip in front of bytes
 module _ (s : List ℕ) (at : ℕ) (h : at + 64 ≤ length s) where
-  row-first : drop at s ≡ take 64 (drop at s) ++ drop (at + 64) s
-  row-first = sym (take-append-drop 64 (drop at s)) ∙ rw drop-drop
+  strip-first : drop at s ≡ strip at s ++ drop (at + 64) s
+  strip-first = sym (take-append-drop 64 (drop at s)) ∙ rw drop-drop
 
-  row-length : length (take 64 (drop at s)) ≡ 64
-  row-length = length-take-le 64 (drop at s) (omega (arith, length-drop at s))
+  strip-length : length (strip at s) ≡ 64
+  strip-length = length-take-le 64 (drop at s) (omega (arith, length-drop at s))
 
-  total-row : total (drop at s) ≡ total (take 64 (drop at s)) + total (drop (at + 64) s)
-  total-row = ap total row-first ∙ total-append (take 64 (drop at s)) (drop (at + 64) s)
+  total-strip : total (drop at s) ≡ total (strip at s) + total (drop (at + 64) s)
+  total-strip = ap total strip-first ∙ total-append (strip at s) (drop (at + 64) s)
 
-  check-row : check (drop at s) ≡ check (take 64 (drop at s)) + (check (drop (at + 64) s) + 64 * total (drop (at + 64) s))
+  check-strip : check (drop at s) ≡ check (strip at s) + (check (drop (at + 64) s) + 64 * total (drop (at + 64) s))
   unfolding check
-  check-row =
+  check-strip =
       let rest : List ℕ = drop (at + 64) s in
-      let row : List ℕ = take 64 (drop at s) in
-      ap (sumFrom 1) row-first ∙ sum-append 1 row rest ∙ rw row-length (ap (λ (z : ℕ). sumFrom 1 row + z) (sum-later 64 1 rest))
+      let top : List ℕ = strip at s in
+      ap (sumFrom 1) strip-first ∙ sum-append 1 top rest ∙ rw strip-length (ap (λ (z : ℕ). sumFrom 1 top + z) (sum-later 64 1 rest))
 
-  -- the row on the sums of those behind it, and these sums on those of the rows further behind
-  module _ (sums behind : List ℕ) (l : length sums ≡ 64) (m : length behind ≡ 64) where
-    pub total-on : total (drop (at + 64) s) ≡ total sums → total (drop at s) ≡ total (plus sums (take 64 (drop at s)))
-    total-on e = omega (arith, total-row, e, total-plus sums (take 64 (drop at s)) (omega (arith, row-length)))
+  -- the strip on the sums of those below it, and these on the sums of what stands below each of them
+  module _ (sums below : List ℕ) (l : length sums ≡ 64) (m : length below ≡ 64) where
+    pub total-on : total (drop (at + 64) s) ≡ total sums → total (drop at s) ≡ total (plus sums (strip at s))
+    total-on e = omega (arith, total-strip, e, total-plus sums (strip at s) (omega (arith, strip-length)))
 
-    pub check-on : total (drop (at + 64) s) ≡ total sums → check (drop (at + 64) s) ≡ check sums + 64 * total behind
-        → check (drop at s) ≡ check (plus sums (take 64 (drop at s))) + 64 * total (plus behind sums)
+    pub check-on : total (drop (at + 64) s) ≡ total sums → check (drop (at + 64) s) ≡ check sums + 64 * total below
+        → check (drop at s) ≡ check (plus sums (strip at s)) + 64 * total (plus below sums)
     unfolding check
     check-on e f =
-        let row : List ℕ = take 64 (drop at s) in
-        omega (arith, check-row, e, f, sum-plus 1 sums row (omega (arith, row-length)), total-plus behind sums (omega arith))
+        let top : List ℕ = strip at s in
+        omega (arith, check-strip, e, f, sum-plus 1 sums top (omega (arith, strip-length)), total-plus below sums (omega arith))
 
--- what the sums of columns say of bytes in rows of 64, from row r on: each column's sum, and the sums of the rows behind each of these rows
-pub record Summed (s : List ℕ) (r : ℕ) (sums behind : List ℕ) : Type 0 where
+-- what sums of columns say of strip r and those below it: each column's sum, and the sums of what stands below each of these strips
+pub record Summed (s : List ℕ) (r : ℕ) (sums below : List ℕ) : Type 0 where
   pub wide : length sums ≡ 64
-  pub wide-behind : length behind ≡ 64
+  pub wide-below : length below ≡ 64
   pub few : Within (255 * (8 - r)) sums
-  pub few-behind : Within (2040 * (8 - r)) behind
+  pub few-below : Within (2040 * (8 - r)) below
   pub totals : total (drop (64 * r) s) ≡ total sums
-  pub checks : check (drop (64 * r) s) ≡ check sums + 64 * total behind
+  pub checks : check (drop (64 * r) s) ≡ check sums + 64 * total below
 
 pub summed-none : (s : List ℕ) → length s ≡ 512 → Summed s 8 (replicate 64 0) (replicate 64 0)
 unfolding check sumFrom total
@@ -183,37 +183,37 @@ summed-none s h =
     let e : drop 512 s ≡ [] = drop-of-length-le s {i = 512} (omega arith) in
     record {
       wide = refl;
-      wide-behind = refl;
+      wide-below = refl;
       few = within-zeros 0 64;
-      few-behind = within-zeros 0 64;
+      few-below = within-zeros 0 64;
       totals = ap total e;
       checks = ap check e;
     }
 
-module _ (s : List ℕ) (r k : ℕ) (sums behind : List ℕ) (h : length s ≡ 512) (e : r ≡ k + 1) (l : r ≤ 8) (z : Summed s r sums behind) where
+module _ (s : List ℕ) (r k : ℕ) (sums below : List ℕ) (h : length s ≡ 512) (e : r ≡ k + 1) (l : r ≤ 8) (z : Summed s r sums below) where
   next : 64 * r ≡ 64 * k + 64
   next = omega arith
 
   inside : 64 * k + 64 ≤ length s
   inside = omega arith
 
-  pub summed-more : Within 255 (take 64 (drop (64 * k) s)) → Summed s k (plus sums (take 64 (drop (64 * k) s))) (plus behind sums)
+  pub summed-more : Within 255 (strip (64 * k) s) → Summed s k (plus sums (strip (64 * k) s)) (plus below sums)
   summed-more b =
-      let row : List ℕ = take 64 (drop (64 * k) s) in
+      let top : List ℕ = strip (64 * k) s in
       let t : total (drop (64 * k + 64) s) ≡ total sums = rw next at (z .totals) in
-      let u : check (drop (64 * k + 64) s) ≡ check sums + 64 * total behind = rw next at (z .checks) in
+      let u : check (drop (64 * k + 64) s) ≡ check sums + 64 * total below = rw next at (z .checks) in
       record {
-        wide = plus-length sums row ∙ z .wide;
-        wide-behind = plus-length behind sums ∙ z .wide-behind;
-        few = within-less _ (255 * (8 - k)) _ (omega arith) (within-plus (255 * (8 - r)) 255 sums row (z .few) b);
-        few-behind = within-less _ (2040 * (8 - k)) _ (omega arith) (within-plus (2040 * (8 - r)) (255 * (8 - r)) behind sums (z .few-behind) (z .few));
-        totals = total-on s (64 * k) inside sums behind (z .wide) (z .wide-behind) t;
-        checks = check-on s (64 * k) inside sums behind (z .wide) (z .wide-behind) t u;
+        wide = plus-length sums top ∙ z .wide;
+        wide-below = plus-length below sums ∙ z .wide-below;
+        few = within-less _ (255 * (8 - k)) _ (omega arith) (within-plus (255 * (8 - r)) 255 sums top (z .few) b);
+        few-below = within-less _ (2040 * (8 - k)) _ (omega arith) (within-plus (2040 * (8 - r)) (255 * (8 - r)) below sums (z .few-below) (z .few));
+        totals = total-on s (64 * k) inside sums below (z .wide) (z .wide-below) t;
+        checks = check-on s (64 * k) inside sums below (z .wide) (z .wide-below) t u;
       }
 
--- no row is left in front
-pub summed-all : (s : List ℕ) (r : ℕ) (sums behind : List ℕ) → r ≡ 0 → Summed s r sums behind → check s ≡ check sums + 64 * total behind
-summed-all s r sums behind e z = rw e at (z .checks)
+-- no strip is left in front
+pub summed-all : (s : List ℕ) (r : ℕ) (sums below : List ℕ) → r ≡ 0 → Summed s r sums below → check s ≡ check sums + 64 * total below
+summed-all s r sums below e z = rw e at (z .checks)
 
 -- the last four bytes of a block
 pub check-own : (s : List ℕ) → length s ≡ 512

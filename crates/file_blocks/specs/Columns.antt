@@ -1,7 +1,11 @@
--- Lists of numbers added place by place, and bounds of their numbers.
+-- The bytes of a block in strips, lists of numbers added place by place, and bounds of their numbers.
 use mathlib.Core.List.{List, [], _∷_}
 use Prim.Native.Nat.{ℕ, zero, suc, _+_, _≤_}
-use lib.ListN.{getD}
+use lib.ListN.{take, drop, getD}
+
+-- the 64 bytes from one on
+abbrev pub strip : ℕ → List ℕ → List ℕ
+strip at s = take 64 (drop at s)
 
 -- a list on the front of another, place by place
 unfoldable pub plus : List ℕ → List ℕ → List ℕ
@@ -9,6 +13,7 @@ plus [] ys = []
 plus (x ∷ xs) [] = x ∷ xs
 plus (x ∷ xs) (y ∷ ys) = (x + y) ∷ plus xs ys
 
+-- all numbers of a list together
 unfoldable pub total : List ℕ → ℕ
 total [] = 0
 total (x ∷ xs) = x + total xs

@@ -11,11 +11,18 @@ ghost use lib.ListN.{length, take, drop, replicate};
 ghost use Rattle.rows.specs.Shape.{LengthTable, asRow};
 ghost use Rattle.file_rules.specs.Bytes.{little, numberAt, bytesOf, wordsIn};
 ghost use Rattle.file_rules.specs.Blocks.{check, block, zeros, sound};
-ghost use Rattle.file_blocks.specs.Columns.{plus, total, Within};
+ghost use Rattle.file_blocks.specs.Columns.{plus, strip, total, Within};
 ghost use Rattle.file_blocks.specs.Standing.{rowFrom, rowsFrom, stand};
 
-// The columns in which the bytes of a block are added up.
+// The bytes of a block as strips of so many bytes, one below the other, in whose columns they are added up.
+const STRIPS: usize = 8;
+
 const COLUMNS: usize = 64;
+
+const STRIP_BYTES: u32 = 64;
+
+// The place of the first byte of the check itself.
+const OWN_PLACE: u32 = 509;
 
 // ---- numbers
 
@@ -79,10 +86,10 @@ fn put_word(bytes: &mut [u8], at: usize, x: u32)
 
 // ---- whether a block is sound
 
-// The bytes of a row of a block, on the sums of their columns.
+// The bytes of a strip, onto the sums of their columns.
 fn add_bytes(sums: &mut [u16], bytes: &[u8], at: usize)
     requires { ⌜ ((length (now sums) ≡ 64) × (at + 64 ≤ length (now bytes))) × Within 65280 (now sums) ⌝ }
-    ensures { λ _. ⌜ (now (sums .exit) ≡ plus (now (sums .entry)) (take 64 (drop at (now (bytes .entry))))) × Within 255 (take 64 (drop at (now (bytes .entry)))) ⌝ }
+    ensures { λ _. ⌜ (now (sums .exit) ≡ plus (now (sums .entry)) (strip at (now (bytes .entry)))) × Within 255 (strip at (now (bytes .entry))) ⌝ }
 {
     let mut j = 0;
     while j < COLUMNS {
@@ -91,7 +98,7 @@ fn add_bytes(sums: &mut [u16], bytes: &[u8], at: usize)
     }
 }
 
-// The sums of columns, on others.
+// The sums of columns, onto others.
 fn add_sums(onto: &mut [u16], sums: &[u16])
     requires { ⌜ ((length (now onto) ≡ 64) × (length (now sums) ≡ 64)) × (Within 32767 (now onto) × Within 32767 (now sums)) ⌝ }
     ensures { λ _. ⌜ now (onto .exit) ≡ plus (now (onto .entry)) (now (sums .entry)) ⌝ }
@@ -103,16 +110,16 @@ fn add_sums(onto: &mut [u16], sums: &[u16])
     }
 }
 
-// Each sum times its column, counted from 1, and for each row in front of it the sums of the rows behind.
-fn weigh(sums: &[u16], behind: &[u16]) -> u32
-    requires { ⌜ (length (now sums) ≡ 64) × (length (now behind) ≡ 64) ⌝ }
-    ensures { λ r. ⌜ r ≡ check (now (sums .entry)) + 64 * total (now (behind .entry)) ⌝ }
+// The check of strips of which each column's sum is known, and the sums of what stands below each strip.
+fn weigh(sums: &[u16], below: &[u16]) -> u32
+    requires { ⌜ (length (now sums) ≡ 64) × (length (now below) ≡ 64) ⌝ }
+    ensures { λ r. ⌜ r ≡ check (now (sums .entry)) + 64 * total (now (below .entry)) ⌝ }
 {
     let mut sum: u32 = 0;
     let mut place: u32 = 1;
     let mut j = 0;
     while j < COLUMNS {
-        sum += wide_sum(sums[j]) * place + 64 * wide_sum(behind[j]);
+        sum += wide_sum(sums[j]) * place + STRIP_BYTES * wide_sum(below[j]);
         place += 1;
         j += 1;
     }
@@ -124,24 +131,27 @@ fn own_part(bytes: &[u8]) -> u32
     requires { ⌜ length (now bytes) ≡ 512 ⌝ }
     ensures { λ r. ⌜ check (take 508 (now (bytes .entry))) + r ≡ check (now (bytes .entry)) ⌝ }
 {
-    wide(bytes[508]) * 509 + wide(bytes[509]) * 510 + wide(bytes[510]) * 511 + wide(bytes[511]) * 512
+    wide(bytes[form::CHECKED]) * OWN_PLACE
+        + wide(bytes[form::CHECKED + 1]) * (OWN_PLACE + 1)
+        + wide(bytes[form::CHECKED + 2]) * (OWN_PLACE + 2)
+        + wide(bytes[form::CHECKED + 3]) * (OWN_PLACE + 3)
 }
 
-// The check of a block: each byte in front of it times its place, counted from 1. The bytes stand in rows of 64, which are added up from
-// the last to the first, column by column, so that the compiler works on many columns at once and multiplies only at the end.
+// The check of a block: each byte in front of it times its place, counted from 1. Strips are added up from the last to the first, column by
+// column, so that the compiler works on many columns at once and multiplies only at the end.
 fn check_of(bytes: &[u8]) -> u32
     requires { ⌜ length (now bytes) ≡ 512 ⌝ }
     ensures { λ r. ⌜ r ≡ check (take 508 (now (bytes .entry))) ⌝ }
 {
     let mut sums = [0u16; COLUMNS];
-    let mut behind = [0u16; COLUMNS];
-    let mut rows: usize = 8;
-    while 0 < rows {
-        rows -= 1;
-        add_sums(&mut behind, &sums);
-        add_bytes(&mut sums, bytes, COLUMNS * rows);
+    let mut below = [0u16; COLUMNS];
+    let mut strips = STRIPS;
+    while 0 < strips {
+        strips -= 1;
+        add_sums(&mut below, &sums);
+        add_bytes(&mut sums, bytes, COLUMNS * strips);
     }
-    weigh(&sums, &behind) - own_part(bytes)
+    weigh(&sums, &below) - own_part(bytes)
 }
 
 // The larger of two bytes.

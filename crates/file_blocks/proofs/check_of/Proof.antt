@@ -1,4 +1,4 @@
--- `check_of` meets its contract: at the loop's head the sums are those of the rows that were passed, from the last one on.
+-- `check_of` meets its contract: at the loop's head the sums are those of the strips that were passed, from the last one on.
 use mathlib.Core.Path.{_≡_, sym, _∙_}
 use Prim.Native.Nat.{_+_, _*_, _-_, _≤_}
 use native.Mathlib.Omega.{arith}
@@ -8,10 +8,10 @@ use Rattle.file_blocks.proofs.check_of.Statement.{statement}
 use Rattle.file_blocks.proofs.check_of.Tie as tie
 
 abbrev Inv-loop : tie.InvT-loop
-Inv-loop bytes sums₀ behind₀ rows₀ sums behind rows = (rows ≤ 8) × Summed bytes rows sums behind
+Inv-loop bytes sums₀ below₀ strips₀ sums below strips = (strips ≤ 8) × Summed bytes strips sums below
 
 abbrev μ-loop : tie.MeasureT-loop
-μ-loop bytes sums₀ behind₀ rows₀ sums behind rows = rows
+μ-loop bytes sums₀ below₀ strips₀ sums below strips = strips
 
 -- ---- the places on the way back to the loop's head, and from there to the function's entry
 
@@ -30,11 +30,11 @@ at-end c = c .before .before .before .before .before
 loop-holds : tie.Need-loop-holds Inv-loop μ-loop
 loop-holds c = (omega arith, summed-none (c .before .args .bytes .now) (c .before .pre))
 
-sub-rows : tie.Need-sub-rows Inv-loop μ-loop
-sub-rows c = omega arith
+sub-strips : tie.Need-sub-strips Inv-loop μ-loop
+sub-strips c = omega arith
 
 slice-aggregate-add-sums : tie.Need-slice-aggregate-add-sums Inv-loop μ-loop
-slice-aggregate-add-sums c = sym (c .before .before .loop .inv .1 .wide-behind)
+slice-aggregate-add-sums c = sym (c .before .before .loop .inv .1 .wide-below)
 
 slice-aggregate-add-sums-2 : tie.Need-slice-aggregate-add-sums-2 Inv-loop μ-loop
 slice-aggregate-add-sums-2 c = sym (c .before .before .before .loop .inv .1 .wide)
@@ -43,7 +43,7 @@ add-sums-requires : tie.Need-add-sums-requires Inv-loop μ-loop
 add-sums-requires c κs =
     let l = c .before .before .before .loop in
     let z = l .inv .1 in
-    ((z .wide-behind, z .wide), (within-less _ 32767 (l .behind) (omega arith) (z .few-behind), within-less _ 32767 (l .sums) (omega arith) (z .few)))
+    ((z .wide-below, z .wide), (within-less _ 32767 (l .below) (omega arith) (z .few-below), within-less _ 32767 (l .sums) (omega arith) (z .few)))
 
 slice-aggregate-add-bytes : tie.Need-slice-aggregate-add-bytes Inv-loop μ-loop
 slice-aggregate-add-bytes c = sym (at-head (at-added c) .loop .inv .1 .wide)
@@ -66,18 +66,18 @@ loop-again c =
     let h = at-head a in
     let l = h .loop in
     let g = c .before .add-bytes .ensures in
-    let e : l .rows ≡ (l .rows - 1) + 1 = omega arith in
-    let z = summed-more (at-start h .args .bytes .now) (l .rows) (l .rows - 1) (l .sums) (l .behind) (at-start h .pre) e (l .inv .0) (l .inv .1) (g .1) in
+    let e : l .strips ≡ (l .strips - 1) + 1 = omega arith in
+    let z = summed-more (at-start h .args .bytes .now) (l .strips) (l .strips - 1) (l .sums) (l .below) (at-start h .pre) e (l .inv .0) (l .inv .1) (g .1) in
     (omega (arith, l .inv .0), rw (g .0, a .add-sums .ensures) z)
 
 slice-aggregate-weigh : tie.Need-slice-aggregate-weigh Inv-loop μ-loop
 slice-aggregate-weigh c = sym (c .before .before .loop .inv .1 .wide)
 
 slice-aggregate-weigh-2 : tie.Need-slice-aggregate-weigh-2 Inv-loop μ-loop
-slice-aggregate-weigh-2 c = sym (c .before .before .before .loop .inv .1 .wide-behind)
+slice-aggregate-weigh-2 c = sym (c .before .before .before .loop .inv .1 .wide-below)
 
 weigh-requires : tie.Need-weigh-requires Inv-loop μ-loop
-weigh-requires c κs = let z = c .before .before .before .loop .inv .1 in (z .wide, z .wide-behind)
+weigh-requires c κs = let z = c .before .before .before .loop .inv .1 in (z .wide, z .wide-below)
 
 own-part-requires : tie.Need-own-part-requires Inv-loop μ-loop
 own-part-requires c κs = at-start (c .before .before .before .before) .pre
@@ -87,7 +87,7 @@ weighed : (c : tie.After-own-part Inv-loop μ-loop) → c .before .weigh .result
 weighed c =
     let h = at-end c in
     let l = h .loop in
-    c .before .weigh .ensures ∙ sym (summed-all (at-start h .args .bytes .now) (l .rows) (l .sums) (l .behind) (omega arith) (l .inv .1))
+    c .before .weigh .ensures ∙ sym (summed-all (at-start h .args .bytes .now) (l .strips) (l .sums) (l .below) (omega arith) (l .inv .1))
 
 sub-result : tie.Need-sub-result Inv-loop μ-loop
 sub-result c = omega (arith, weighed c, c .own-part .ensures)
@@ -102,7 +102,7 @@ check-of-spec =
     Inv-loop
     μ-loop
     loop-holds
-    sub-rows
+    sub-strips
     slice-aggregate-add-sums
     slice-aggregate-add-sums-2
     add-sums-requires

@@ -28,17 +28,26 @@ wide-requires c κs = search needs
 mul-result : tie.Need-mul-result
 mul-result c = search needs
 
+add-wide : tie.Need-add-wide
+add-wide c = search needs
+
 shared-slice-read-wide-2 : tie.Need-shared-slice-read-wide-2
 shared-slice-read-wide-2 c = search needs
 
 wide-requires-2 : tie.Need-wide-requires-2
 wide-requires-2 c κs = search needs
 
+add-result : tie.Need-add-result
+add-result c = search needs
+
 mul-result-2 : tie.Need-mul-result-2
 mul-result-2 c = search needs
 
-add-result : tie.Need-add-result
-add-result c = search needs
+add-result-2 : tie.Need-add-result-2
+add-result-2 c = search needs
+
+add-wide-2 : tie.Need-add-wide-2
+add-wide-2 c = search needs
 
 shared-slice-read-wide-3 : tie.Need-shared-slice-read-wide-3
 shared-slice-read-wide-3 c = search needs
@@ -46,11 +55,17 @@ shared-slice-read-wide-3 c = search needs
 wide-requires-3 : tie.Need-wide-requires-3
 wide-requires-3 c κs = search needs
 
+add-result-3 : tie.Need-add-result-3
+add-result-3 c = search needs
+
 mul-result-3 : tie.Need-mul-result-3
 mul-result-3 c = search needs
 
-add-result-2 : tie.Need-add-result-2
-add-result-2 c = search needs
+add-result-4 : tie.Need-add-result-4
+add-result-4 c = search needs
+
+add-wide-3 : tie.Need-add-wide-3
+add-wide-3 c = search needs
 
 shared-slice-read-wide-4 : tie.Need-shared-slice-read-wide-4
 shared-slice-read-wide-4 c = search needs
@@ -58,11 +73,14 @@ shared-slice-read-wide-4 c = search needs
 wide-requires-4 : tie.Need-wide-requires-4
 wide-requires-4 c κs = search needs
 
+add-result-5 : tie.Need-add-result-5
+add-result-5 c = search needs
+
 mul-result-4 : tie.Need-mul-result-4
 mul-result-4 c = search needs
 
-add-result-3 : tie.Need-add-result-3
-add-result-3 c = search needs
+add-result-6 : tie.Need-add-result-6
+add-result-6 c = search needs
 
 returns : tie.Need-returns
 returns c =
@@ -76,16 +94,22 @@ own-part-spec =
     shared-slice-read-wide
     wide-requires
     mul-result
+    add-wide
     shared-slice-read-wide-2
     wide-requires-2
-    mul-result-2
     add-result
+    mul-result-2
+    add-result-2
+    add-wide-2
     shared-slice-read-wide-3
     wide-requires-3
+    add-result-3
     mul-result-3
-    add-result-2
+    add-result-4
+    add-wide-3
     shared-slice-read-wide-4
     wide-requires-4
+    add-result-5
     mul-result-4
-    add-result-3
+    add-result-6
     returns)

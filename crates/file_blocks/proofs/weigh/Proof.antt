@@ -13,11 +13,11 @@ use Rattle.file_blocks.proofs.weigh.Statement.{statement}
 use Rattle.file_blocks.proofs.weigh.Tie as tie
 
 abbrev Inv-loop : tie.InvT-loop
-Inv-loop sums behind sum₀ place₀ j₀ sum place j =
-    (j ≤ 64) × ((place ≡ j + 1) × ((sum ≡ check (take j sums) + 64 * total (take j behind)) × (sum ≤ 8388480 * j)))
+Inv-loop sums below sum₀ place₀ j₀ sum place j =
+    (j ≤ 64) × ((place ≡ j + 1) × ((sum ≡ check (take j sums) + 64 * total (take j below)) × (sum ≤ 8388480 * j)))
 
 abbrev μ-loop : tie.MeasureT-loop
-μ-loop sums behind sum₀ place₀ j₀ sum place j = 64 - j
+μ-loop sums below sum₀ place₀ j₀ sum place j = 64 - j
 
 loop-holds : tie.Need-loop-holds Inv-loop μ-loop
 unfolding check sumFrom total
@@ -77,7 +77,7 @@ loop-again c =
     let w = c .before .before .wide-sum .ensures .0 in
     let p = l .inv .1 .0 in
     let f = check-more (s .args .sums .now) (l .j) (omega (arith, s .pre)) in
-    let g = total-more (s .args .behind .now) (l .j) (omega (arith, s .pre)) in
+    let g = total-more (s .args .below .now) (l .j) (omega (arith, s .pre)) in
     let m : c .before .before .wide-sum .result * l .place ≡ getD (s .args .sums .now) (l .j) 0 * (l .j + 1) = rw (w, p) in
     (omega arith, (omega arith, (omega (arith, f, g, m, l .inv .1 .1 .0, c .wide-sum2 .ensures .0), omega (arith, product (c .before .before), c .wide-sum2 .ensures .1, l .inv))))
 
@@ -86,7 +86,7 @@ returns c =
     let l = c .before .loop in
     let s = c .before .before .before .before in
     let f = take-all (l .j) (s .args .sums .now) (omega (arith, s .pre)) in
-    let g = take-all (l .j) (s .args .behind .now) (omega (arith, s .pre)) in
+    let g = take-all (l .j) (s .args .below .now) (omega (arith, s .pre)) in
     rw (f, g) at (l .inv .1 .1 .0)
 
 pub weigh-spec : {M : Type 1} → statement M
