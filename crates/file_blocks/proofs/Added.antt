@@ -80,7 +80,8 @@ within-zeros m n = record { at = λ i. omega (arith, getD-zeros n i) }
 pub within-none : (m : ℕ) (ys : List ℕ) → Within m (take 0 ys)
 within-none m ys = record { at = λ i. omega arith }
 
-bound-more : (m : ℕ) (ys : List ℕ) (n : ℕ) → ((i : ℕ) → getD (take n ys) i 0 ≤ m) → getD ys n 0 ≤ m → (i : ℕ) → getD (take (suc n) ys) i 0 ≤ m
+bound-more : (m : ℕ) (ys : List ℕ) (n : ℕ) → ((i : ℕ) → getD (take n ys) i 0 ≤ m) → getD ys n 0 ≤ m
+    → (i : ℕ) → getD (take (suc n) ys) i 0 ≤ m
 bound-more m [] n h k i = omega arith
 bound-more m (y ∷ ys) zero h k zero = k
 bound-more m (y ∷ ys) zero h k (suc i) = omega arith
@@ -206,7 +207,7 @@ module _ (s : List ℕ) (r k : ℕ) (sums below : List ℕ) (h : length s ≡ 51
         wide = plus-length sums top ∙ z .wide;
         wide-below = plus-length below sums ∙ z .wide-below;
         few = within-less _ (255 * (8 - k)) _ (omega arith) (within-plus (255 * (8 - r)) 255 sums top (z .few) b);
-        few-below = within-less _ (2040 * (8 - k)) _ (omega arith) (within-plus (2040 * (8 - r)) (255 * (8 - r)) below sums (z .few-below) (z .few));
+        few-below = within-less _ (2040 * (8 - k)) _ (omega arith) (within-plus _ (255 * (8 - r)) below sums (z .few-below) (z .few));
         totals = total-on s (64 * k) inside sums below (z .wide) (z .wide-below) t;
         checks = check-on s (64 * k) inside sums below (z .wide) (z .wide-below) t u;
       }
@@ -220,5 +221,6 @@ pub check-own : (s : List ℕ) → length s ≡ 512
     → check s ≡ check (take 508 s) + (getD s 508 0 * 509 + getD s 509 0 * 510 + getD s 510 0 * 511 + getD s 511 0 * 512)
 check-own s h =
     let e : take 512 s ≡ s = take-all 512 s (omega arith) in
-    ap check (sym e)
-    ∙ omega (arith, check-more s 508 (omega arith), check-more s 509 (omega arith), check-more s 510 (omega arith), check-more s 511 (omega arith))
+    let a = check-more s 508 (omega arith) in
+    let b = check-more s 509 (omega arith) in
+    ap check (sym e) ∙ omega (arith, a, b, check-more s 510 (omega arith), check-more s 511 (omega arith))

@@ -11,7 +11,7 @@ ghost use lib.ListN.{length, take, drop, replicate};
 ghost use Rattle.rows.specs.Shape.{LengthTable, asRow};
 ghost use Rattle.file_rules.specs.Bytes.{little, numberAt, bytesOf, wordsIn};
 ghost use Rattle.file_rules.specs.Blocks.{check, block, zeros, sound};
-ghost use Rattle.file_blocks.specs.Columns.{plus, strip, total, Within};
+ghost use Rattle.file_blocks.specs.Columns.{plus, strip, total, Within, Added};
 ghost use Rattle.file_blocks.specs.Standing.{rowFrom, rowsFrom, stand};
 
 // The bytes of a block as strips of so many bytes, one below the other, in whose columns they are added up.
@@ -89,7 +89,7 @@ fn put_word(bytes: &mut [u8], at: usize, x: u32)
 // The bytes of a strip, onto the sums of their columns.
 fn add_bytes(sums: &mut [u16], bytes: &[u8], at: usize)
     requires { ⌜ ((length (now sums) ≡ 64) × (at + 64 ≤ length (now bytes))) × Within 65280 (now sums) ⌝ }
-    ensures { λ _. ⌜ (now (sums .exit) ≡ plus (now (sums .entry)) (strip at (now (bytes .entry)))) × Within 255 (strip at (now (bytes .entry))) ⌝ }
+    ensures { λ _. ⌜ Added (now (sums .entry)) (strip at (now (bytes .entry))) (now (sums .exit)) ⌝ }
 {
     let mut j = 0;
     while j < COLUMNS {

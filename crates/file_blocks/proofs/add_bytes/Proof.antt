@@ -45,11 +45,13 @@ narrow-requires : tie.Need-narrow-requires Inv-loop μ-loop
 narrow-requires c κs = tt
 
 -- the place that is next is as it was
-small : (c : tie.After-narrow Inv-loop μ-loop) → getD (c .before .before .before .before .loop .sums) (c .before .before .before .before .loop .j) 0 ≤ 65280
+small : (c : tie.After-narrow Inv-loop μ-loop)
+    → getD (c .before .before .before .before .loop .sums) (c .before .before .before .before .loop .j) 0 ≤ 65280
 small c =
     let a = c .before .before .before .before in
     let s = a .before .before .before in
-    stored-within (s .args .sums .now) (drop (s .args .at) (s .args .bytes .now)) (a .loop .sums) (a .loop .j) (a .loop .inv .1 .0) 65280 (s .pre .1)
+    let ys = drop (s .args .at) (s .args .bytes .now) in
+    stored-within (s .args .sums .now) ys (a .loop .sums) (a .loop .j) (a .loop .inv .1 .0) 65280 (s .pre .1)
 
 add-sums : tie.Need-add-sums Inv-loop μ-loop
 add-sums c = omega (arith, small c, c .narrow .ensures)
@@ -74,14 +76,21 @@ loop-again c =
     let ys = drop (s .args .at) (s .args .bytes .now) in
     let w = c .narrow .ensures .0 ∙ sym (getD-drop (s .args .at) (s .args .bytes .now) (l .j) 0) in
     let k = length-drop (s .args .at) (s .args .bytes .now) in
-    let g = plus-stored (s .args .sums .now) ys (l .sums) (l .j) (l .inv .1 .0) (c .narrow .result) w (omega (arith, s .pre)) (omega (arith, s .pre, k)) in
+    let x = s .args .sums .now in
+    let g = plus-stored x ys (l .sums) (l .j) (l .inv .1 .0) (c .narrow .result) w (omega (arith, s .pre)) (omega (arith, s .pre, k)) in
     (omega arith, (g, rw (add-one (l .j)) (within-more 255 ys (l .j) (l .inv .1 .1) (omega (arith, w, c .narrow .ensures)))))
 
 same-length : tie.Need-same-length Inv-loop μ-loop
-same-length c = let a = c .before in let s = a .before .before .before in stored-length (s .args .sums .now) (drop (s .args .at) (s .args .bytes .now)) (a .loop .sums) (a .loop .j) (a .loop .inv .1 .0)
+same-length c =
+    let a = c .before in
+    let s = a .before .before .before .args in
+    stored-length (s .sums .now) (drop (s .at) (s .bytes .now)) (a .loop .sums) (a .loop .j) (a .loop .inv .1 .0)
 
 returns : tie.Need-returns Inv-loop μ-loop
-returns c = let e : c .before .loop .j ≡ 64 = omega arith in rw e at (c .before .loop .inv .1)
+returns c =
+    let l = c .before .loop in
+    let e : l .j ≡ 64 = omega arith in
+    record { is = rw e at (l .inv .1 .0); few = rw e at (l .inv .1 .1) }
 
 pub add-bytes-spec : {M : Type 1} → statement M
 add-bytes-spec =

@@ -25,7 +25,9 @@ mul-onto c = omega arith
 
 -- the list stays as long as it was
 long : (a : tie.At-loop Inv-loop μ-loop) → length (a .loop .onto) ≡ 64
-long a = let l = a .loop in stored-length (a .before .args .onto .now) (a .before .args .sums .now) (l .onto) (l .j) (l .inv .1) ∙ a .before .pre .0 .0
+long a =
+    let l = a .loop in
+    stored-length (a .before .args .onto .now) (a .before .args .sums .now) (l .onto) (l .j) (l .inv .1) ∙ a .before .pre .0 .0
 
 slice-read-onto : tie.Need-slice-read-onto Inv-loop μ-loop
 slice-read-onto c = omega (arith, long (c .before .before))
@@ -37,7 +39,8 @@ shared-slice-read-onto : tie.Need-shared-slice-read-onto Inv-loop μ-loop
 shared-slice-read-onto c = omega (arith, c .before .before .before .before .pre)
 
 -- the place that is next is as it was
-small : (c : tie.After-shared-slice-known Inv-loop μ-loop) → getD (c .before .before .before .loop .onto) (c .before .before .before .loop .j) 0 ≤ 32767
+small : (c : tie.After-shared-slice-known Inv-loop μ-loop)
+    → getD (c .before .before .before .loop .onto) (c .before .before .before .loop .j) 0 ≤ 32767
 small c =
     let l = c .before .before .before .loop in
     let s = c .before .before .before .before in
@@ -63,10 +66,15 @@ loop-again c =
     let a = c .before .before .before in
     let l = a .loop in
     let s = a .before in
-    (omega arith, plus-stored (s .args .onto .now) (s .args .sums .now) (l .onto) (l .j) (l .inv .1) (getD (s .args .sums .now) (l .j) 0) refl (omega (arith, s .pre)) (omega (arith, s .pre)))
+    let x = s .args .onto .now in
+    let y = s .args .sums .now in
+    (omega arith, plus-stored x y (l .onto) (l .j) (l .inv .1) (getD y (l .j) 0) refl (omega (arith, s .pre)) (omega (arith, s .pre)))
 
 same-length : tie.Need-same-length Inv-loop μ-loop
-same-length c = let l = c .before .loop in stored-length (c .before .before .args .onto .now) (c .before .before .args .sums .now) (l .onto) (l .j) (l .inv .1)
+same-length c =
+    let l = c .before .loop in
+    let s = c .before .before .args in
+    stored-length (s .onto .now) (s .sums .now) (l .onto) (l .j) (l .inv .1)
 
 returns : tie.Need-returns Inv-loop μ-loop
 returns c =

@@ -43,7 +43,9 @@ add-sums-requires : tie.Need-add-sums-requires Inv-loop μ-loop
 add-sums-requires c κs =
     let l = c .before .before .before .loop in
     let z = l .inv .1 in
-    ((z .wide-below, z .wide), (within-less _ 32767 (l .below) (omega arith) (z .few-below), within-less _ 32767 (l .sums) (omega arith) (z .few)))
+    let f = within-less _ 32767 (l .sums) (omega arith) (z .few) in
+    let g = within-less _ 32767 (l .below) (omega arith) (z .few-below) in
+    ((z .wide-below, z .wide), (g, f))
 
 slice-aggregate-add-bytes : tie.Need-slice-aggregate-add-bytes Inv-loop μ-loop
 slice-aggregate-add-bytes c = sym (at-head (at-added c) .loop .inv .1 .wide)
@@ -67,8 +69,9 @@ loop-again c =
     let l = h .loop in
     let g = c .before .add-bytes .ensures in
     let e : l .strips ≡ (l .strips - 1) + 1 = omega arith in
-    let z = summed-more (at-start h .args .bytes .now) (l .strips) (l .strips - 1) (l .sums) (l .below) (at-start h .pre) e (l .inv .0) (l .inv .1) (g .1) in
-    (omega (arith, l .inv .0), rw (g .0, a .add-sums .ensures) z)
+    let b = at-start h .args .bytes .now in
+    let z = summed-more b (l .strips) (l .strips - 1) (l .sums) (l .below) (at-start h .pre) e (l .inv .0) (l .inv .1) (g .few) in
+    (omega (arith, l .inv .0), rw (g .is, a .add-sums .ensures) z)
 
 slice-aggregate-weigh : tie.Need-slice-aggregate-weigh Inv-loop μ-loop
 slice-aggregate-weigh c = sym (c .before .before .loop .inv .1 .wide)

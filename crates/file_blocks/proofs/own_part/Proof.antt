@@ -85,7 +85,9 @@ add-result-6 c = search needs
 returns : tie.Need-returns
 returns c =
     let s = at-start c in
-    omega (arith, check-own (s .args .bytes .now) (s .pre), c .wide4 .ensures .0, at-third c .wide3 .ensures .0, at-second c .wide2 .ensures .0, at-first c .wide .ensures .0)
+    let a = at-first c .wide .ensures .0 in
+    let b = at-second c .wide2 .ensures .0 in
+    omega (arith, check-own (s .args .bytes .now) (s .pre), a, b, at-third c .wide3 .ensures .0, c .wide4 .ensures .0)
 
 pub own-part-spec : {M : Type 1} → statement M
 own-part-spec =

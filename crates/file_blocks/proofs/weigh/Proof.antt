@@ -79,7 +79,8 @@ loop-again c =
     let f = check-more (s .args .sums .now) (l .j) (omega (arith, s .pre)) in
     let g = total-more (s .args .below .now) (l .j) (omega (arith, s .pre)) in
     let m : c .before .before .wide-sum .result * l .place ≡ getD (s .args .sums .now) (l .j) 0 * (l .j + 1) = rw (w, p) in
-    (omega arith, (omega arith, (omega (arith, f, g, m, l .inv .1 .1 .0, c .wide-sum2 .ensures .0), omega (arith, product (c .before .before), c .wide-sum2 .ensures .1, l .inv))))
+    let b = c .wide-sum2 .ensures in
+    (omega arith, (omega arith, (omega (arith, f, g, m, l .inv .1 .1 .0, b .0), omega (arith, product (c .before .before), b .1, l .inv))))
 
 returns : tie.Need-returns Inv-loop μ-loop
 returns c =
