@@ -9,7 +9,7 @@ use std::path::{Path, PathBuf};
 use std::process::Command;
 
 const BEFORE: &str = "SPOONHARBOR_BEFORE";
-const CALLS: [&str; 7] = [
+const CALLS: [&str; 9] = [
     "scan",
     "well_formed",
     "spelling",
@@ -17,6 +17,8 @@ const CALLS: [&str; 7] = [
     "change",
     "edit",
     "restart",
+    "store",
+    "load",
 ];
 
 fn main() {

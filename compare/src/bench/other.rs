@@ -62,6 +62,21 @@ extern "C" {
         answer: *mut Words,
     );
     fn before_well_formed(rows: *const u32, words: usize, table: *const Words) -> u32;
+    fn before_store(
+        rows: *const u32,
+        words: usize,
+        table: *const Words,
+        file: *mut u8,
+        room: usize,
+        answer: *mut Words,
+    );
+    fn before_load(
+        file: *const u8,
+        length: usize,
+        rows: *mut u32,
+        words: usize,
+        answer: *mut Words,
+    );
 }
 
 // The calls of the library before a change are sound for the reasons that the crate `spoonharbor` gives for today's: each pointer is
@@ -140,4 +155,39 @@ pub fn edit_before(
 pub fn well_formed_before(rows: &[u32], table: &Words) -> bool {
     // SAFETY: see above.
     unsafe { before_well_formed(rows.as_ptr(), rows.len(), table) == 1 }
+}
+
+/// `spoonharbor_store` before the change.
+#[cfg(before)]
+pub fn store_before(rows: &[u32], table: &Words, file: &mut [u8]) -> Words {
+    let mut answer = [0; 8];
+    // SAFETY: see above.
+    unsafe {
+        before_store(
+            rows.as_ptr(),
+            rows.len(),
+            table,
+            file.as_mut_ptr(),
+            file.len(),
+            &mut answer,
+        );
+    }
+    answer
+}
+
+/// `spoonharbor_load` before the change.
+#[cfg(before)]
+pub fn load_before(file: &[u8], rows: &mut [u32]) -> Words {
+    let mut answer = [0; 8];
+    // SAFETY: see above.
+    unsafe {
+        before_load(
+            file.as_ptr(),
+            file.len(),
+            rows.as_mut_ptr(),
+            rows.len(),
+            &mut answer,
+        );
+    }
+    answer
 }

@@ -6,7 +6,9 @@
 //! where re2c is there, and the library before a change where `SPOONHARBOR_BEFORE` named its archive when this was built.
 
 #[cfg(before)]
-use compare::bench::other::{edit_before, parse_before, scan_before, well_formed_before};
+use compare::bench::other::{
+    edit_before, load_before, parse_before, scan_before, store_before, well_formed_before,
+};
 use compare::bench::rounds::{report, timed, Rounds, Side};
 use compare::bench::texts::{dense_text, middle_of_a_name};
 use compare::deep::on_deep_stack;
@@ -367,7 +369,10 @@ fn stored(what: &str, text: &[u8], rounds: Rounds) {
     let mut copied = vec![1; rows.len()];
     assert_eq!(lent::load(&file, &mut memory), table, "the table is read");
     assert_eq!(memory, rows, "its rows are read");
-    let sides = vec![
+    #[cfg(before)]
+    let (mut memory_before, mut written_before) = (memory.clone(), written.clone());
+    #[allow(unused_mut)]
+    let mut sides = vec![
         fresh("own scan", text),
         Side::new("library, load", || {
             black_box(lent::load(black_box(&file), &mut memory));
@@ -394,6 +399,15 @@ fn stored(what: &str, text: &[u8], rounds: Rounds) {
             );
         }),
     ];
+    #[cfg(before)]
+    {
+        sides.push(Side::new("before, load", || {
+            black_box(load_before(black_box(&file), &mut memory_before));
+        }));
+        sides.push(Side::new("before, store", || {
+            black_box(store_before(black_box(&rows), &table, &mut written_before));
+        }));
+    }
     let heading = format!(
         "stored, {} bytes of {what}, {} rows in a file of {} bytes",
         text.len(),

@@ -1,2 +1,3 @@
 -- What the proofs of this crate use.
+pub mod Added
 pub mod Laws

@@ -1,2 +1,3 @@
 -- What the contracts of this crate cite besides the definitions.
+pub mod Columns
 pub mod Standing
