@@ -7,8 +7,8 @@ use std::process::Command;
 const MOST: [(&str, usize); 5] = [
     ("scan", 1_024),
     ("parse", 48 * 1_024),
-    ("edit", 1_280),
-    ("change", 1_280),
+    ("edit", 1_152),
+    ("change", 1_152),
     ("table test", 640),
 ];
 
