@@ -7,8 +7,8 @@ use std::process::Command;
 const MOST: [(&str, usize); 7] = [
     ("scan", 1_024),
     ("parse", 48 * 1_024),
-    ("edit", 1_280),
-    ("change", 1_280),
+    ("edit", 1_152),
+    ("change", 1_152),
     ("table test", 640),
     ("store", 1_024),
     ("load", 1_024),

@@ -247,8 +247,8 @@ pub fn job_of(old: &[u32], table: Table, a: u32, b: u32, n: u32) -> Job
     }
 }
 
-// The edit of a tested table.
-pub fn edit_tested(old: &[u32], job: Job, start: u32, window: &[u8], new: &mut [u32]) -> Told
+// The edit that a job of a tested table says.
+fn do_job(old: &[u32], job: Job, start: u32, window: &[u8], new: &mut [u32]) -> Told
     requires { ⌜ Tested (now old) job ⌝ }
     ensures { λ r. ⌜ (r ≡ editTold (now (old .entry)) (job .table) (job .a) (job .b) (job .n) start (now (window .entry)) (roomOf (now (new .entry)))) × (now (new .exit) ≡ editLeaves (now (old .entry)) (job .table) (job .a) (job .b) (job .n) start (now (window .entry)) (now (new .entry))) ⌝ }
 {
@@ -271,6 +271,23 @@ pub fn edit_tested(old: &[u32], job: Job, start: u32, window: &[u8], new: &mut [
     reread(old, job, window, new)
 }
 
+// The edit of a tested table, whose job is made here, so that no caller's frame holds one.
+pub fn edit_tested(
+    old: &[u32],
+    table: Table,
+    a: u32,
+    b: u32,
+    n: u32,
+    start: u32,
+    window: &[u8],
+    new: &mut [u32],
+) -> Told
+    requires { ⌜ wellFormed (now old) table ≡ true ⌝ }
+    ensures { λ r. ⌜ (r ≡ editTold (now (old .entry)) table a b n start (now (window .entry)) (roomOf (now (new .entry)))) × (now (new .exit) ≡ editLeaves (now (old .entry)) table a b n start (now (window .entry)) (now (new .entry))) ⌝ }
+{
+    do_job(old, job_of(old, table, a, b, n), start, window, new)
+}
+
 // The edit: old bytes a to b become n new ones, and the window, from offset `start` of the new text on, shows enough of it.
 pub fn edit(
     old: &[u32],
@@ -287,7 +304,7 @@ pub fn edit(
     if !well_formed(old, table) {
         return refused(Outer::NotWellFormed);
     }
-    edit_tested(old, job_of(old, table, a, b, n), start, window, new)
+    edit_tested(old, table, a, b, n, start, window, new)
 }
 
 // Where the window of an edit at a must start.

@@ -87,11 +87,11 @@ module _ (ws : List ℕ) (t : Table) (a b n : ℕ) (text : List ℕ) (m : ℕ) (
         pub job-inside : j .begin .offset .0 ≤ length text
         job-inside = subst (λ (i : Job). i .begin .offset .0 ≤ length text) (sym q) start-inside
 
-        -- the edit by the job, lent the text's tail
+        -- the edit from the job's restart place on, lent the text's tail
         abbrev tailEdited : Job → Told → List ℕ → Type 0
         tailEdited i =
             let k : ℕ = i .begin .offset .0 in
-            Edited ws (i .table) (i .a) (i .b) (i .n) k (take (length text - k) (drop k text)) m new
+            Edited ws t a b n k (take (length text - k) (drop k text)) m new
 
         pub change-job : (x : Told) (ys : List ℕ) → tailEdited j x ys → Changed x ys
         change-job x ys e =

@@ -46,5 +46,5 @@ pub fn change(
     }
     let job = job_of(old, table, a, b, n);
     let start = job.begin.offset.0;
-    edit_tested(old, job, start, &text[start as usize..], new)
+    edit_tested(old, table, a, b, n, start, &text[start as usize..], new)
 }

@@ -5,15 +5,12 @@ use borrow.Author.Tests.{not-true, not-false}
 use borrow.Author.Needs.{needs}
 use Rattle.rules.specs.Rows.{wellFormed}
 use Rattle.rules.specs.Scan.{roomOf}
-use Rattle.edit.proofs.Calls.{edit-3, tested-by, edited-by}
+use Rattle.edit.proofs.Calls.{edit-3}
 use Rattle.edit.proofs.edit.Statement.{statement}
 use Rattle.edit.proofs.edit.Tie as tie
 
 abbrev start : tie.After-well-formed → tie.Start
 start c = c .before .before .before .before
-
-abbrev at-job : tie.After-job-of → tie.Start
-at-job c = start (c .before .before)
 
 formed : (c : tie.Else1) → let a = start (c .before) .args in wellFormed (a .old .now) (a .table) ≡ true
 formed c = sym (c .before .well-formed .ensures) ∙ not-false (c .before .well-formed .result) (c .if1 .left)
@@ -32,35 +29,14 @@ returns c =
     (sym (k .well-formed .ensures) ∙ not-true (k .well-formed .result) (c .before .if1 .taken)) in
     (c .refused .ensures ∙ q .0, q .1)
 
-job-of-requires : tie.Need-job-of-requires
-job-of-requires c κs = formed c
-
 edit-tested-requires : tie.Need-edit-tested-requires
-edit-tested-requires c κs =
-    let k = c .before in
-    let a = at-job k .args in
-    tested-by (a .old .now) (a .table) (a .a) (a .b) (a .n) (k .job-of .result) (k .job-of .ensures) (formed (k .before))
+edit-tested-requires c κs = formed (c .before)
 
 same-length : tie.Need-same-length
 same-length c = search needs
 
 returns-2 : tie.Need-returns-2
-returns-2 c =
-    let r = c .before .before in
-    let k = r .before .before in
-    let a = at-job k .args in
-    edited-by (a .old .now) (a .table) (a .a) (a .b) (a .n) (k .job-of .result) (k .job-of .ensures)
-    (a .start) (a .window .now) (roomOf (a .new .now)) (a .new .now)
-    (r .edit-tested .result) (r .edit-tested .last .1 .1 .1 .1 .0) (r .edit-tested .ensures)
+returns-2 c = c .before .before .edit-tested .ensures
 
 pub edit-spec : {M : Type 1} → statement M
-edit-spec =
-    tie.close
-    (tie.spec
-    well-formed-requires
-    refused-requires
-    returns
-    job-of-requires
-    edit-tested-requires
-    same-length
-    returns-2)
+edit-spec = tie.close (tie.spec well-formed-requires refused-requires returns edit-tested-requires same-length returns-2)

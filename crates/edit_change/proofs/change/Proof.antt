@@ -8,7 +8,6 @@ use borrow.Author.Tests.{not-true, not-false}
 use borrow.Author.Needs.{needs}
 use Rattle.rules.specs.Rows.{wellFormed}
 use Rattle.rules.specs.Scan.{roomOf}
-use Rattle.edit.proofs.Calls.{tested-by}
 use Rattle.edit_change.proofs.Calls.{Fits, fits-by, change-3, change-6, job-inside, change-job}
 use Rattle.edit_change.proofs.change.Statement.{statement}
 use Rattle.edit_change.proofs.change.Tie as tie
@@ -84,10 +83,7 @@ part-edit-tested-end : tie.Need-part-edit-tested-end
 part-edit-tested-end c = search needs
 
 edit-tested-requires : tie.Need-edit-tested-requires
-edit-tested-requires c κs =
-    let k = c .before .before in
-    let a = at-job k .args in
-    tested-by (a .old .now) (a .table) (a .a) (a .b) (a .n) (k .job-of .result) (k .job-of .ensures) (formed (k .before .before .before))
+edit-tested-requires c κs = formed (c .before .before .before .before .before)
 
 same-length : tie.Need-same-length
 same-length c = search needs
@@ -99,7 +95,7 @@ returns-3 c =
     let a = at-job k .args in
     change-job (a .old .now) (a .table) (a .a) (a .b) (a .n) (a .text .now) (roomOf (a .new .now)) (a .new .now)
     (formed (k .before .before .before)) (fitting (k .before)) (k .job-of .result) (k .job-of .ensures)
-    (r .edit-tested .result) (r .edit-tested .last .1 .1 .1 .1 .0) (r .edit-tested .ensures)
+    (r .edit-tested .result) (r .edit-tested .last .1 .1 .1 .1 .1 .1 .1 .0) (r .edit-tested .ensures)
 
 pub change-spec : {M : Type 1} → statement M
 change-spec =
