@@ -79,18 +79,19 @@ refused (no why′ p′) i n m m′ r why p h e = cc (h, e)
 -- an answer, from what the parser says
 pub met-ok : (o : Out) (i n : ℕ) (t : Tree) (m m′ : List ℕ) (s : At) → o ≡ ok t (s .row) → Stands i n t m s m′ → Met o i n m m′ (Done s)
 met-ok o i n t m m′ s e h =
-    subst (λ (x : Out). Met x i n m m′ (Done s)) (sym e)
-    ( ap Done
-      (λ j. record {
-        row = s .row;
-        node = h .nodes j;
-        place = h .place j;
-        things = h .things j;
-        variable = h .variable j;
-        summed = h .summed j;
-        hanging = h .hanging j;
-      })
-    , h .mem )
+    subst (λ (x : Out). Met x i n m m′ (Done s)) (sym e) (
+      ap Done
+          (λ j. record {
+            row = s .row;
+            node = h .nodes j;
+            place = h .place j;
+            things = h .things j;
+            variable = h .variable j;
+            summed = h .summed j;
+            hanging = h .hanging j;
+          }),
+      h .mem,
+    )
 
 pub met-no : (o : Out) (i n : ℕ) (why : Syntax) (p : ℕ) (m m′ : List ℕ) → o ≡ no why p → Met o i n m m′ (Refused why p)
 met-no o i n why p m m′ e = subst (λ (x : Out). Met x i n m m′ (Refused why p)) (sym e) refl

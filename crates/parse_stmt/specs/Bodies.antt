@@ -83,5 +83,5 @@ Elsewise d ws n s g m m′ r =
     → Met (elseAt ts d (Parse.body ts d) w l (s .row)) i nd m₀ m′ r
 
 -- the state behind an `if` without `else`, whose then body ends at s and whose guard is at row g; and its node
-abbrev pub Hangs : At → ℕ → List ℕ → List ℕ → At → Type 0
-Hangs s g m m′ r = (r ≡ hangingAt (s .row) (s .node + 1) g) × (m′ ≡ sets m (8 * s .node) (nodeWords (node NodeIf g missing 2)))
+abbrev pub HangingIf : At → ℕ → List ℕ → List ℕ → At → Type 0
+HangingIf s g m m′ r = (r ≡ hangingAt (s .row) (s .node + 1) g) × (m′ ≡ sets m (8 * s .node) (nodeWords (node NodeIf g missing 2)))

@@ -28,7 +28,7 @@ ghost use Rattle.rules.specs.Fits.{only, bodyThings};
 ghost use Rattle.rules.specs.Nodes.{declNode, assignNode};
 ghost use Rattle.rules.specs.Parse.{isDeclaring, isAssign, declaring, returning, branching, expression, stmt, body};
 ghost use Rattle.parse_nodes.specs.Post.{Answers, Onward, Asks, AsksAt, AsksOpen};
-ghost use Rattle.parse_stmt.specs.Bodies.{byLead, assignedTo, NamedEnd, HeadSays, BodyAnswers, AsksElse, Elsewise, Hangs};
+ghost use Rattle.parse_stmt.specs.Bodies.{byLead, assignedTo, NamedEnd, HeadSays, BodyAnswers, AsksElse, Elsewise, HangingIf};
 
 // Whether a row's kind is reg, imm or heap.
 fn is_declaring(k: u32) -> bool
@@ -260,7 +260,7 @@ fn branch(rows: &[u32], count: u32, nodes: &mut [u32], row: u32, node: u32, left
 // The state behind an `if` without `else`, whose then body ends at t and whose guard is at `guard`.
 fn hanging_if(nodes: &mut [u32], t: At, guard: u32) -> At
     requires { ⌜ t .node ≤ 65537 ⌝ }
-    ensures { λ r. ⌜ Hangs t guard (now (nodes .entry)) (now (nodes .exit)) r ⌝ }
+    ensures { λ r. ⌜ HangingIf t guard (now (nodes .entry)) (now (nodes .exit)) r ⌝ }
 {
     let s = parse_nodes::shut(nodes, t, node_kind::IF, guard, 2);
     At {

@@ -4,10 +4,17 @@ ghost use Rattle.rules.specs.Names.{pieces};
 use crate::kind;
 
 // What begins an expression.
-pub const OPERANDS: u64 = (1 << kind::LPAREN) + (1 << kind::STAR) + (1 << kind::IDENTIFIER) + (1 << kind::NUMBER);
+pub const OPERANDS: u64 = (1 << kind::LPAREN)
+    + (1 << kind::STAR)
+    + (1 << kind::IDENTIFIER)
+    + (1 << kind::NUMBER);
 
 // What begins a statement that begins with no expression.
-pub const STATEMENTS: u64 = (1 << kind::RETURN) + (1 << kind::REG) + (1 << kind::IMM) + (1 << kind::IF) + (1 << kind::HEAP);
+pub const STATEMENTS: u64 = (1 << kind::RETURN)
+    + (1 << kind::REG)
+    + (1 << kind::IMM)
+    + (1 << kind::IF)
+    + (1 << kind::HEAP);
 
 // What a unit holds beside statements.
 pub const TEXTS: u64 = (1 << kind::SECTION) + (1 << kind::LICENSE);
@@ -55,9 +62,16 @@ pub const ELSE: u64 = 1 << kind::ELSE;
 // What 22, 23, 25 and 30 tell.
 pub const TOPS: u64 = (1 << kind::UNIT) + (1 << kind::MAP) + (1 << kind::EVENT) + (1 << kind::EOF);
 
-pub const MAP_FIELDS: u64 = (1 << kind::TYPE) + (1 << kind::KEY) + (1 << kind::VALUE) + (1 << kind::MAX) + (1 << kind::RBRACE);
+pub const MAP_FIELDS: u64 = (1 << kind::TYPE)
+    + (1 << kind::KEY)
+    + (1 << kind::VALUE)
+    + (1 << kind::MAX)
+    + (1 << kind::RBRACE);
 
-pub const TYPES: u64 = (1 << kind::TYPE_U32) + (1 << kind::TYPE_U64) + (1 << kind::TYPE_I32) + (1 << kind::TYPE_I64);
+pub const TYPES: u64 = (1 << kind::TYPE_U32)
+    + (1 << kind::TYPE_U64)
+    + (1 << kind::TYPE_I32)
+    + (1 << kind::TYPE_I64);
 
 pub const EVENT_TYPES: u64 = TYPES + (1 << kind::BYTES);
 

@@ -129,7 +129,7 @@ returns c ts h w =
     let v = l .inv ts h in
     let k = sym (seen ts (a .rows .now) (a .count) h (l .s .row) (d .kind-at .result) (d .kind-at .ensures)) in
     let e = list-ends Flat ts RBrace eventFields (Parse.eventField ts) _ i (a .start .node) (a .nodes .now) (l .s) (l .nodes) v
-      (k ∙ c .before .before .before .before .if1 .taken) in
+    (k ∙ c .before .before .before .before .if1 .taken) in
     met-ok _ _ _ (event w (v .tree)) _ _ _ (then-ok _ _ (v .tree) (l .s .row) e)
     (stands-event (a .row) (a .start .node) (a .nodes .now) (l .nodes) (c .before .before .close .last .0) (l .s) _ (v .tree) w (v .stands) refl
     (c .before .before .close .ensures))
@@ -192,7 +192,7 @@ returns-2 c ts h w =
     let v = l .inv ts h in
     let n : l .s .hanging ≡ false = v .stands .hanging ∙ v .known .known in
     let q = list-fails-flat Flat ts RBrace eventFields (Parse.eventField ts) _ (a .row + 1 + 1 + 1) (a .start .node) (a .nodes .now) (l .s) (l .nodes) v
-      (goes-on (at-field f) ts h) n (y .0 .0) (y .0 .1 .0) m e in
+    (goes-on (at-field f) ts h) n (y .0 .0) (y .0 .1 .0) m e in
     met-told _ _ _ _ _ _ _ _ (then-no _ _ _ _ (refused _ _ _ _ _ _ _ _ q refl))
     (c .instead .ensures)
 

@@ -138,7 +138,7 @@ module _ (t : ℕ) where
   goes-on : (c : Called) (ts : List Tok) → Told ts (at-call c) → kindAt ts (at-call c .loop .s .row) ≡ RBrace → ⊥
   goes-on c ts h e = c .before .before .if2 .left (kind-is (looked c) ts h ∙ e)
 
-  -- the statement that was read there has a row or more
+  -- the statement that was read there
   got : (c : Read) (ts : List Tok) → Told ts (at-call (called c))
       → (let a = entry (at-call (called c)) .args in
       let l = at-call (called c) .loop in
@@ -151,6 +151,7 @@ module _ (t : ℕ) where
       came-reads ts Stmt (a .left - 1) (statement ts (a .left) (l .s .row)) (l .s .row) (l .s .node) (l .nodes) (f .last .1 .1 .0)
       (f .result) (c .t .given .0 .0) (stmt-sound ts (a .left - 1) (l .s .row)) (f .ensures ts h) (c .t .given .1)
 
+  -- it has a row or more
   up : (c : Read) (ts : List Tok) → Told ts (at-call (called c)) → at-call (called c) .loop .s .row < c .t .given .0 .0 .row
   up c ts h = let v = got c ts h in omega (arith, v .stands .rows, is-wide (v .known .is))
 
