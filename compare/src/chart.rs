@@ -93,40 +93,44 @@ impl Chart {
         self.grammar.rules[item.rule].parts.get(item.read).copied()
     }
 
-    /// What is under way behind one row more, from the rules that read it: with each thing that is awaited its own rules begin, and with
-    /// each rule that ends those go on that awaited it.
+    /// What is under way behind one row more, from the rules that read it, with all that these bring.
     fn add_column(&mut self, mut column: Vec<Item>) {
-        let here = self.columns.len();
         let mut done = 0;
-        while let Some(item) = column.get(done).copied() {
+        while let Some(&item) = column.get(done) {
+            for brought in self.brought_by(item) {
+                if !column.contains(&brought) {
+                    column.push(brought);
+                }
+            }
             done += 1;
-            let mut more = Vec::new();
-            match self.next(&item) {
-                Some(Part::Thing(thing)) => {
-                    let began = |rule: &usize| Item {
-                        rule: *rule,
-                        read: 0,
-                        began: here,
-                    };
-                    more.extend(self.grammar.ways[thing].iter().map(began));
-                    more.extend(self.grammar.may_be_empty(thing).then(|| item.one_on()));
-                }
-                Some(Part::Row(_)) => {}
-                None if item.began == here => {}
-                None => {
-                    let ended = Some(Part::Thing(self.grammar.rules[item.rule].thing));
-                    let waiting = self.columns[item.began].iter();
-                    let waiting = waiting.filter(|item| self.next(item) == ended);
-                    more.extend(waiting.map(|item| item.one_on()));
-                }
-            }
-            for item in more {
-                if !column.contains(&item) {
-                    column.push(item);
-                }
-            }
         }
         self.columns.push(column);
+    }
+
+    /// What a rule under way in the column that is being made brings into it: where it awaits a thing, the rules of that thing, and itself
+    /// behind it if it may be nothing; where it has ended, the rules that awaited it.
+    fn brought_by(&self, item: Item) -> Vec<Item> {
+        let here = self.columns.len();
+        match self.next(&item) {
+            Some(Part::Row(_)) => Vec::new(),
+            Some(Part::Thing(thing)) => {
+                let begun = self.grammar.ways[thing].iter().map(|&rule| Item {
+                    rule,
+                    read: 0,
+                    began: here,
+                });
+                let passed = self.grammar.may_be_empty(thing).then(|| item.one_on());
+                begun.chain(passed).collect()
+            }
+            // It is nothing, and whatever awaits it passes it by.
+            None if item.began == here => Vec::new(),
+            None => {
+                let ended = Some(Part::Thing(self.grammar.rules[item.rule].thing));
+                let waiting = self.columns[item.began].iter();
+                let waiting = waiting.filter(|waiting| self.next(waiting) == ended);
+                waiting.map(|waiting| waiting.one_on()).collect()
+            }
+        }
     }
 }
 

@@ -176,9 +176,10 @@ fn named(kind: Kind) -> String {
 /// `';', '.' or an operator`; with `{:#}` each kind by itself; `nothing` if there is none.
 impl fmt::Display for KindSet {
     fn fmt(&self, out: &mut fmt::Formatter<'_>) -> fmt::Result {
-        let parts = match out.alternate() {
-            true => self.iter().map(named).collect(),
-            false => self.parts(),
+        let parts = if out.alternate() {
+            self.iter().map(named).collect()
+        } else {
+            self.parts()
         };
         match parts.split_last() {
             None => out.write_str("nothing"),

@@ -137,7 +137,9 @@ fn a_parse_writes_its_nodes_and_nothing_else() {
     let (rows, table) = scanned(b"unit u{ x -1; }");
     let mut nodes = vec![CANARY; 200];
     let answer = lent::parse(b"unit u{ x -1; }", &rows, &table, &mut nodes);
-    assert_eq!(answer, [21, 10, 1, 11, 32, 50, 0, 0]);
+    // `.` is kind 30; `;` 32, `=` 35, `+=` 36 and the operators 41 to 47; what was found is a number, 50.
+    let from_32 = 1 | 1 << 3 | 1 << 4 | 0b111_1111 << 9;
+    assert_eq!(answer, [21, 10, 1, 11, 1 << 30, from_32, 0, 50]);
     assert!(nodes.iter().all(|word| *word == CANARY));
 }
 
