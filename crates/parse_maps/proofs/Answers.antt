@@ -20,6 +20,10 @@ module _ {R X : Type 0} (done : X → R) (refused : Syntax → ℕ → R) (value
   pub answer-no : (why : Syntax) (p : ℕ) → o ≡ no why p → Answer done refused value o (refused why p)
   answer-no why p e = subst (λ (x : Out). Answer done refused value x (refused why p)) (sym e) refl
 
+  -- the same where the refusal is what a function gave
+  pub answer-told : (why x : Syntax) (p : ℕ) → o ≡ no why p → x ≡ why → Answer done refused value o (refused x p)
+  answer-told why x p e q = subst (λ (y : Syntax). Answer done refused value o (refused y p)) (sym q) (answer-no why p e)
+
 -- the tree that a sum is of
 pub record Summing (o : Out) (s : Sum) : Type 0 where
   pub tree : Tree
@@ -43,13 +47,15 @@ pub record Facing (value : Tree → ℕ → Facts) (o : Out) (f : Facts) : Type 
   pub same : f ≡ value tree (f .row)
 
 module _ (value : Tree → ℕ → Facts) where
-  pub facts-gave : ((t : Tree) (j : ℕ) → value t j .row ≡ j) → (o : Out) (r : Found) (f : Facts) → Answer found.Done found.Refused value o r → r ≡ found.Done f → Facing value o f
+  pub facts-gave : ((t : Tree) (j : ℕ) → value t j .row ≡ j) → (o : Out) (r : Found) (f : Facts)
+      → Answer found.Done found.Refused value o r → r ≡ found.Done f → Facing value o f
   facts-gave g (ok t j) r f h e =
       let q : f ≡ value t j = cc (h, e) in
       let k : f .row ≡ j = ap (λ (x : Facts). x .row) q ∙ g t j in
       record { tree = t; is = ap (λ (x : ℕ). ok t x) (sym k); same = q ∙ ap (λ (x : ℕ). value t x) (sym k) }
   facts-gave g (no why p) r f h e = let z : _≡_ {A = ℕ} 0 1 = cc (h, e) in absurd (omega arith)
 
-  pub facts-refused : (o : Out) (r : Found) (why : Syntax) (p : ℕ) → Answer found.Done found.Refused value o r → r ≡ found.Refused why p → o ≡ no why p
+  pub facts-refused : (o : Out) (r : Found) (why : Syntax) (p : ℕ) → Answer found.Done found.Refused value o r → r ≡ found.Refused why p
+      → o ≡ no why p
   facts-refused (ok t j) r why p h e = let z : _≡_ {A = ℕ} 0 1 = cc (h, e) in absurd (omega arith)
   facts-refused (no why′ p′) r why p h e = cc (h, e)

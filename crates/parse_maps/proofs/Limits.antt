@@ -20,7 +20,8 @@ pub shift-on : (ts : List Tok) (c : Tree) (j : ℕ) → All (λ u k. (j < k) × 
 unfolding Parse.chainStep Parse.countBy
 shift-on ts c j = valued-all ts (λ u k. (j < k) × (k ≤ length ts)) _ (j + 1) (λ e. go e (leb (bitsIn (tokAt ts (j + 1))) 63))
   where
-    go : Parse.kindAt ts (j + 1) ≡ Number → (b : Bool) → All (λ u k. (j < k) × (k ≤ length ts)) (Parse.countBy ts b c j (bitsIn (tokAt ts (j + 1))) (j + 1 + 1))
+    go : Parse.kindAt ts (j + 1) ≡ Number → (b : Bool)
+        → All (λ u k. (j < k) × (k ≤ length ts)) (Parse.countBy ts b c j (bitsIn (tokAt ts (j + 1))) (j + 1 + 1))
     go e true = (omega arith, omega (arith, here ts (j + 1) Number e refl))
     go e false = tt
 
@@ -30,7 +31,9 @@ field-limit : {d : ℕ} {t : Tree} → Is true MapField d t → limitOf t ≤ 42
 unfolding limitOf
 field-limit (i-type p) = omega arith
 field-limit (i-typed a b) = omega arith
-field-limit (i-limit {c = c} a p) = omega (arith, leb-true (maxBits c) most32 (and-eq-true-iff (not (leb (2 ^ 63) (maxBits c))) (leb (maxBits c) most32) .0 (p refl) .1))
+field-limit (i-limit {c = c} a p) =
+    let e = and-eq-true-iff (not (leb (2 ^ 63) (maxBits c))) (leb (maxBits c) most32) .0 (p refl) .1 in
+    omega (arith, leb-true (maxBits c) most32 e)
 
 pub fields-limit : {d : ℕ} {l : Tree} → Is true MapFields d l → limitOf l ≤ 4294967296
 unfolding limitOf

@@ -30,14 +30,17 @@ module _ (Q : Tree → Type 0) (ts : List Tok) (test : ℕ → Bool) (step : Tre
     steps : test j ≡ true → (f : ℕ) × (c .fuel ≡ suc f) × (whole ≡ then (step (c .tree) j) (λ u k. many test step f (test k) u k))
     steps b = go (c .fuel) refl
       where
-        go : (f : ℕ) → c .fuel ≡ f → (f : ℕ) × (c .fuel ≡ suc f) × (whole ≡ then (step (c .tree) j) (λ u k. many test step f (test k) u k))
+        go : (f : ℕ) → c .fuel ≡ f
+            → (f : ℕ) × (c .fuel ≡ suc f) × (whole ≡ then (step (c .tree) j) (λ u k. many test step f (test k) u k))
         go zero e = absurd (omega (arith, c .enough, c .inside))
-        go (suc f) e = (f, e, c .rest ∙ ap (λ (n : ℕ). many test step n (test j) (c .tree) j) e ∙ many-step test step f (c .tree) j b)
+        go (suc f) e =
+            (f, e, c .rest ∙ ap (λ (n : ℕ). many test step n (test j) (c .tree) j) e ∙ many-step test step f (c .tree) j b)
 
     pub fails : test j ≡ true → (why : Syntax) (p : ℕ) → step (c .tree) j ≡ no why p → whole ≡ no why p
     fails b why p e = steps b .2 ∙ then-no (step (c .tree) j) _ why p e
 
-    pub goes-on : test j ≡ true → (R : Tree → Type 0) (u : Tree) (k : ℕ) → step (c .tree) j ≡ ok u k → j < k → k ≤ length ts → R u → Loop R ts test step whole k
+    pub goes-on : test j ≡ true → (R : Tree → Type 0) (u : Tree) (k : ℕ) → step (c .tree) j ≡ ok u k → j < k → k ≤ length ts → R u
+        → Loop R ts test step whole k
     goes-on b R u k e up l q = record {
       tree = u;
       fuel = steps b .0;

@@ -1,12 +1,15 @@
 -- What a map's fields give: the answers of the functions that read them, and what these ask.
 use mathlib.Core.Path.{_≡_}
 use mathlib.Core.List.{List}
-use Prim.Native.Nat.{ℕ, _+_, _*_, _^_}
+use Prim.Native.Nat.{ℕ, pred, _+_, _*_, _^_}
 use lib.ListN.{getD}
+use lib.Seq.{sets}
 use Rattle.rules.specs.Rows.{atHigh, atLow, wordsPerRow}
 use Rattle.rules.specs.declared.Syntax.{Syntax}
 use Rattle.rules.specs.Kinds.{KeywordKey, KeywordValue, RBrace}
+use Rattle.rules.specs.Fits.{mapFields}
 use Rattle.rules.specs.Tree.{Tok, Tree, maxBits, lastOf, typeOf, typedBy, limitOf}
+use Rattle.rules.specs.Nodes.{NodeMap, factNode, nodeWords}
 use Rattle.rules.specs.Parse
 use Rattle.rules.specs.Parse.{Out, ok, no}
 use Rattle.parse_nodes.specs.Post.{kindWord, Tells, Asks, Met}
@@ -75,6 +78,10 @@ RowsFound ws n f r = (ts : List Tok) → Tells ts ws n → Steps f (Parse.mapFie
 abbrev pub FieldFound : List ℕ → List ℕ → ℕ → Facts → Found → Type 0
 FieldFound t ws n f r = (ts : List Tok) → Names ts t ws n → Steps f (Parse.mapField ts (f .row)) r
 
+-- the fields from row i on
+abbrev pub listed : List Tok → ℕ → Out
+listed ts i = Parse.listTo ts RBrace mapFields (Parse.mapField ts) i
+
 -- what a list of fields gives
 abbrev pub factsOf : Tree → ℕ → Facts
 factsOf l j = record { row = j; maptype = typeOf l; key = typedBy KeywordKey l; value = typedBy KeywordValue l; limit = limitOf l }
@@ -83,9 +90,14 @@ abbrev pub Gives : Out → Found → Type 0
 Gives = Answer found.Done found.Refused factsOf
 
 abbrev pub FieldsFound : List ℕ → List ℕ → ℕ → ℕ → Found → Type 0
-FieldsFound t ws n i r = (ts : List Tok) → Names ts t ws n → Gives (Parse.listTo ts RBrace (Parse.mapField ts) i) r
+FieldsFound t ws n i r = (ts : List Tok) → Names ts t ws n → Gives (listed ts i) r
 
 -- ---- a map
+
+-- node memory with a map's node at n, whose name is at a row
+abbrev pub mapWritten : (name n : ℕ) → List ℕ → Facts → List ℕ
+mapWritten name n m f =
+    sets m (8 * n) (nodeWords (factNode NodeMap name name 0 (f .maptype) (f .key) (f .value) (pred (f .limit))))
 
 abbrev pub MapMet : List ℕ → List ℕ → ℕ → ℕ → ℕ → List ℕ → List ℕ → Got → Type 0
 MapMet t ws n i nd m m′ r = (ts : List Tok) → Names ts t ws n → Met (Parse.mapAt ts i) i nd m m′ r

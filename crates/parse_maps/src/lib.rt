@@ -26,16 +26,15 @@ use rules::node_kind;
 use rules::row;
 ghost use mathlib.Core.Path.{_≡_};
 ghost use mathlib.Core.Bool.{true};
-ghost use Prim.Native.Nat.{pred, _+_, _*_, _≤_, _<_};
+ghost use Prim.Native.Nat.{_+_, _*_, _≤_};
 ghost use lib.ListN.{length};
-ghost use lib.Seq.{sets};
 ghost use Rattle.rules.specs.Kinds.{KeywordType, KeywordMax};
 ghost use Rattle.rules.specs.Tree.{mapTypeNumber, lacking, shiftBits};
 ghost use Rattle.rules.specs.Parse.{isTyped};
-ghost use Rattle.rules.specs.Nodes.{NodeMap, factNode, nodeWords};
 ghost use Rattle.parse_nodes.specs.Post.{Asks, AsksOpen};
 ghost use Rattle.parse_nodes.specs.Names.{Spans};
-ghost use Rattle.parse_maps.specs.Steps.{bitsAt, AsksRow, ShiftFound, ChainFound, FieldFound, RowsFound, FieldsFound, MapMet};
+ghost use Rattle.parse_maps.specs.Steps.{bitsAt, AsksRow, ShiftFound, ChainFound, FieldFound, RowsFound, FieldsFound};
+ghost use Rattle.parse_maps.specs.Steps.{mapWritten, MapMet};
 
 // What the fields so far give, 0 for none, `limit` one more than max; and the next row.
 pub struct Facts {
@@ -343,7 +342,7 @@ fn lacks(f: Facts) -> u32
 // The map's node, whose name is at a row, from fields that lack nothing.
 fn map_node(nodes: &mut [u32], node: u32, name: u32, f: Facts)
     requires { ⌜ (node ≤ 65537) × ((1 ≤ f .limit) × (f .limit ≤ 4294967296)) ⌝ }
-    ensures { λ _. ⌜ now (nodes .exit) ≡ sets (now (nodes .entry)) (8 * node) (nodeWords (factNode NodeMap name name 0 (f .maptype) (f .key) (f .value) (pred (f .limit)))) ⌝ }
+    ensures { λ _. ⌜ now (nodes .exit) ≡ mapWritten name node (now (nodes .entry)) f ⌝ }
 {
     parse_nodes::store(
         nodes,

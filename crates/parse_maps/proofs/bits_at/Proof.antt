@@ -1,5 +1,5 @@
 -- `maps::bits_at` meets its contract: two words of 32 bits make 64.
-use Prim.Native.Nat.{_+_, _*_}
+use Prim.Native.Nat.{ℕ, _+_, _*_}
 use native.Mathlib.Omega.{arith}
 use borrow.Author.Needs.{needs}
 use Rattle.parse_maps.proofs.bits_at.Statement.{statement}
@@ -36,7 +36,9 @@ cast-result-2 : tie.Need-cast-result-2
 cast-result-2 c = omega (arith, c .shared-slice-known2 .given (c .before .before .args .row * 8 + 5))
 
 add-result-3 : tie.Need-add-result-3
-add-result-3 c = omega (arith, c .shared-slice-known2 .given (c .before .before .args .row * 8 + 6), c .shared-slice-known2 .given (c .before .before .args .row * 8 + 5))
+add-result-3 c =
+    let i : ℕ = c .before .before .args .row * 8 in
+    omega (arith, c .shared-slice-known2 .given (i + 6), c .shared-slice-known2 .given (i + 5))
 
 returns : tie.Need-returns
 returns c = search needs

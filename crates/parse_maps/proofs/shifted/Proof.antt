@@ -21,7 +21,7 @@ shr-result c = search needs
 
 returns-2 : tie.Need-returns-2
 unfolding shiftBits shiftRight
-returns-2 c = rw (ne-eqb (c .before .before .args .kind) Shl (c .before .if1 .left), lt-ltb (c .before .before .args .x) (2 ^ 63) (c .if2 .taken))
+returns-2 c = let a = c .before .before .args in rw (ne-eqb (a .kind) Shl (c .before .if1 .left), lt-ltb (a .x) (2 ^ 63) (c .if2 .taken))
 
 sub-result : tie.Need-sub-result
 sub-result c = search needs
@@ -34,7 +34,7 @@ sub-result-2 c = omega (arith, div-le-self (18446744073709551615 - c .before .be
 
 returns-3 : tie.Need-returns-3
 unfolding shiftBits shiftRight
-returns-3 c = rw (ne-eqb (c .before .before .args .kind) Shl (c .before .if1 .left), le-ltb (c .before .before .args .x) (2 ^ 63) (c .if2 .left))
+returns-3 c = let a = c .before .before .args in rw (ne-eqb (a .kind) Shl (c .before .if1 .left), le-ltb (a .x) (2 ^ 63) (c .if2 .left))
 
 pub shifted-spec : {M : Type 1} → statement M
 shifted-spec =

@@ -1,12 +1,30 @@
 -- `maps::type_number` meets its contract: the first spelling that the word has, or none.
-use mathlib.Core.Path.{sym, ap, _∙_}
-use mathlib.Core.Bool.{true≢false}
+use mathlib.Core.Path.{sym, ap}
 use borrow.Author.Needs.{needs}
 use Rattle.rules.specs.Kinds.{sameBytes, kindIn}
 use Rattle.rules.specs.Tree.{mapTypes, mapTypeNumber}
-use Rattle.parse_maps.proofs.Words.{not-in}
+use Rattle.parse_maps.proofs.Words.{not-in, unlike}
 use Rattle.parse_maps.proofs.type_number.Statement.{statement}
 use Rattle.parse_maps.proofs.type_number.Tie as tie
+
+-- ---- the places behind the words that it is not
+
+abbrev start : tie.Else1 → tie.Start
+start c = c .before .before .before .before
+
+abbrev no-hash : tie.Else2 → tie.Else1
+no-hash c = c .before .before .before
+
+abbrev no-array : tie.Else3 → tie.Else2
+no-array c = c .before .before .before
+
+abbrev no-ringbuf : tie.Else4 → tie.Else3
+no-ringbuf c = c .before .before .before
+
+abbrev no-lru-hash : tie.Else5 → tie.Else4
+no-lru-hash c = c .before .before .before
+
+-- ---- needs
 
 slice-aggregate-same : tie.Need-slice-aggregate-same
 slice-aggregate-same c = search needs
@@ -61,16 +79,18 @@ returns-5 c = sym (ap mapTypeNumber (c .before .same5 .ensures .0 (c .if5 .taken
 returns-6 : tie.Need-returns-6
 unfolding mapTypeNumber mapTypes
 returns-6 c =
-    sym (not-in mapTypes 0 (c .before .before .before .before .before .before .before .before .before .before .before .before .before .before .before .before .args .word .now) (
-      λ e. true≢false (sym (c .before .before .before .before .before .before .before .before .before .before .before .before .before .same .ensures .1 e) ∙ c .before .before .before .before .before .before .before .before .before .before .before .before .if1 .left),
+    let l = no-lru-hash c in
+    let r = no-ringbuf l in
+    let a = no-array r in
+    let h = no-hash a in
+    sym
+    (not-in mapTypes 0 (start h .args .word .now) (
+      unlike (h .before .same .ensures .1) (h .if1 .left),
       (
-        λ e. true≢false (sym (c .before .before .before .before .before .before .before .before .before .before .same2 .ensures .1 e) ∙ c .before .before .before .before .before .before .before .before .before .if2 .left),
+        unlike (a .before .same2 .ensures .1) (a .if2 .left),
         (
-          λ e. true≢false (sym (c .before .before .before .before .before .before .before .same3 .ensures .1 e) ∙ c .before .before .before .before .before .before .if3 .left),
-          (
-            λ e. true≢false (sym (c .before .before .before .before .same4 .ensures .1 e) ∙ c .before .before .before .if4 .left),
-            (λ e. true≢false (sym (c .before .same5 .ensures .1 e) ∙ c .if5 .left), tt),
-          ),
+          unlike (r .before .same3 .ensures .1) (r .if3 .left),
+          (unlike (l .before .same4 .ensures .1) (l .if4 .left), (unlike (c .before .same5 .ensures .1) (c .if5 .left), tt)),
         ),
       ),
     ))
