@@ -100,12 +100,12 @@ only k l no-letter no-digit = omega arith
 
 -- a class that is none of the others is that of no beginning
 pub class-none : (b : ℕ) → b < 256 → (k : ℕ) → classOf b ≡ k → Rare k →
-    (k ≡ class.Blank → ⊥) → (k ≡ class.Quote → ⊥) → classOf b ≡ class.Nothing
+    (k ≡ class.Blank → ⊥) → (k ≡ class.Slash → ⊥) → (k ≡ class.Dash → ⊥) → (k ≡ class.Quote → ⊥) → classOf b ≡ class.Nothing
 unfolding leastTest
-class-none b h k e r no-blank no-quote =
+class-none b h k e r no-blank no-slash no-dash no-quote =
     let l : k < 9 = rw e at (ltb-true (classOf b) 9 (below leastTest 256 least b h)) in
-    let m : k < 5 = lower 5 k (lower 6 k (lower 7 k (lower 8 k l (r .no-sign)) (r .no-double)) no-quote) (r .no-dash) in
-    e ∙ only k (lower 3 k (lower 4 k m (r .no-slash)) no-blank) (r .no-word) (r .no-number)
+    let m : k < 5 = lower 5 k (lower 6 k (lower 7 k (lower 8 k l (r .no-sign)) (r .no-double)) no-quote) no-dash in
+    e ∙ only k (lower 3 k (lower 4 k m no-slash) no-blank) (r .no-word) (r .no-number)
 
 -- ---- what is told of the item
 

@@ -64,11 +64,9 @@ told s unknown = record { size = 0; kind = Unknown; bits = 0 }
 unfoldable pub settled : (whole : Bool) → List ℕ → ℕ → Piece → Brief
 settled whole t at p = cond (whole || ltb (at + decidedAt p) (length t)) (told (drop at t) (known p)) (told (drop at t) unknown)
 
--- a class that is none of a word, a number, a comment or a sign
+-- a class that is none of a word, a number without a sign, or a sign that opens neither a comment nor a number
 pub record Rare (k : ℕ) : Type 0 where
   pub no-word : k ≡ class.Letter → ⊥
   pub no-number : k ≡ class.Digit → ⊥
   pub no-double : k ≡ class.Double → ⊥
-  pub no-dash : k ≡ class.Dash → ⊥
-  pub no-slash : k ≡ class.Slash → ⊥
   pub no-sign : k ≡ class.Sign → ⊥

@@ -1,15 +1,14 @@
 // The token reader's one call, and the reason that a refusal's code tells.
 use crate::Brief;
 use crate::codes;
-use crate::pieces::block_comment;
-use crate::pieces::line_comment;
+use crate::pieces::dash;
 use crate::pieces::number;
 use crate::pieces::sign;
+use crate::pieces::slash;
 use crate::pieces::string;
 use crate::pieces::told;
 use crate::pieces::word;
 use rules::Lexical;
-use scan_runs::peek;
 use scan_words::classes;
 ghost use mathlib.Core.Path.{_≡_};
 ghost use Prim.Native.Nat.{_≤_, _<_};
@@ -19,20 +18,21 @@ ghost use Rattle.rules.specs.Lex.{item};
 ghost use Rattle.scan_words.specs.Class.{classOf, Classes};
 ghost use Rattle.scan_reader.specs.Brief.{Rare, refusalCode, told};
 
-// What a byte begins that most bytes do not begin: a blank, a string, or nothing.
+// What a byte begins that most bytes do not begin: a blank, a comment, a number or a sign behind `-`, a string, or nothing.
 fn rare(text: &[u8], at: usize, class: u8, whole: bool) -> Brief
     requires { ⌜ (at < length (now text)) × ((class ≡ classOf (getD (now text) at 0)) × Rare class) ⌝ }
     ensures { λ r. ⌜ r ≡ told (drop at (now (text .entry))) (item whole (drop at (now (text .entry)))) ⌝ }
 {
     match class {
         classes::BLANK => told(codes::BLANK, 1),
+        classes::SLASH => slash(text, at, whole),
+        classes::DASH => dash(text, at, whole),
         classes::QUOTE => string(text, at, whole),
         _ => told(codes::NO_ROW_BEGINS, 0),
     }
 }
 
 // What stands at an index. `whole`: the bytes end the text. Where they may stop short of its end, what they do not settle is unknown.
-// The readers of numbers and signs are called from here alone: each caller of theirs would add room for an answer to the walk's frame.
 pub fn brief(classes: &[u8; 256], text: &[u8], at: usize, whole: bool) -> Brief
     requires { ⌜ Classes (now classes) × (at ≤ length (now text)) ⌝ }
     ensures { λ r. ⌜ r ≡ told (drop at (now (text .entry))) (item whole (drop at (now (text .entry)))) ⌝ }
@@ -55,22 +55,6 @@ pub fn brief(classes: &[u8; 256], text: &[u8], at: usize, whole: bool) -> Brief
     }
     if class == classes::DIGIT {
         return number(text, at, 0, false, whole);
-    }
-    if class == classes::DASH {
-        if scan_words::is_digit(peek(text, at + 1)) {
-            return number(text, at, 1, true, whole);
-        }
-        return sign(text, at, whole);
-    }
-    if class == classes::SLASH {
-        let next = peek(text, at + 1);
-        if next == b'/' {
-            return line_comment(text, at, whole);
-        }
-        if next == b'*' {
-            return block_comment(text, at, whole);
-        }
-        return sign(text, at, whole);
     }
     rare(text, at, class, whole)
 }

@@ -106,7 +106,7 @@ pub fn sign(text: &[u8], at: usize, whole: bool) -> Brief
 }
 
 // A comment to the newline, which is taken with it, or to the end.
-pub fn line_comment(text: &[u8], at: usize, whole: bool) -> Brief
+fn line_comment(text: &[u8], at: usize, whole: bool) -> Brief
     requires { ⌜ (at ≤ length (now text)) × (getD (now text) (at + 1) 0 ≡ byte "/") ⌝ }
     ensures { λ r. ⌜ r ≡ settled whole (now (text .entry)) at (lex.lineComment (drop at (now (text .entry)))) ⌝ }
 {
@@ -121,7 +121,7 @@ pub fn line_comment(text: &[u8], at: usize, whole: bool) -> Brief
 }
 
 // A comment to the next closing bytes behind its two opening ones.
-pub fn block_comment(text: &[u8], at: usize, whole: bool) -> Brief
+fn block_comment(text: &[u8], at: usize, whole: bool) -> Brief
     requires { ⌜ (at + 2 ≤ length (now text)) × (getD (now text) (at + 1) 0 ≡ byte "*") ⌝ }
     ensures { λ r. ⌜ r ≡ settled whole (now (text .entry)) at (lex.blockComment (drop at (now (text .entry)))) ⌝ }
 {
@@ -133,6 +133,32 @@ pub fn block_comment(text: &[u8], at: usize, whole: bool) -> Brief
         return told(codes::OPEN_COMMENT, 2);
     }
     told(codes::UNKNOWN, 0)
+}
+
+// A comment or a sign.
+pub fn slash(text: &[u8], at: usize, whole: bool) -> Brief
+    requires { ⌜ (at < length (now text)) × (getD (now text) at 0 ≡ byte "/") ⌝ }
+    ensures { λ r. ⌜ r ≡ settled whole (now (text .entry)) at (lex.slashed (drop at (now (text .entry)))) ⌝ }
+{
+    let next = peek(text, at + 1);
+    if next == b'/' {
+        return line_comment(text, at, whole);
+    }
+    if next == b'*' {
+        return block_comment(text, at, whole);
+    }
+    sign(text, at, whole)
+}
+
+// A negative number or a sign.
+pub fn dash(text: &[u8], at: usize, whole: bool) -> Brief
+    requires { ⌜ (at < length (now text)) × (getD (now text) at 0 ≡ byte "-") ⌝ }
+    ensures { λ r. ⌜ r ≡ settled whole (now (text .entry)) at (lex.dashed (drop at (now (text .entry)))) ⌝ }
+{
+    if scan_words::is_digit(peek(text, at + 1)) {
+        return number(text, at, 1, true, whole);
+    }
+    sign(text, at, whole)
 }
 
 // A string.

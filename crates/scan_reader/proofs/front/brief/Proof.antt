@@ -1,17 +1,13 @@
 -- `reader::front::brief` meets its contract: by the class of the byte, the reader of its piece.
-use mathlib.Core.Path.{_≡_, refl, sym, ap, _∙_}
-use Prim.Native.Nat.{ℕ, _+_, _<_}
+use mathlib.Core.Path.{_≡_, refl, sym, _∙_}
+use Prim.Native.Nat.{ℕ, _<_}
 use native.Mathlib.Nat.{add-zero}
 use native.Mathlib.Omega.{arith}
-use lib.ListN.{length, getD}
-use Rattle.rules.specs.Lex.{isDigit}
-use Rattle.laws.proofs.Fronts.{inside}
+use lib.ListN.{getD}
 use Rattle.scan_words.specs.Class as class
 use Rattle.scan_words.specs.Class.{classOf}
-use Rattle.scan_words.proofs.Marks.{class-two, class-digit, class-slash, class-dash, mark-size, mark-class, low}
-use Rattle.scan_reader.specs.Brief.{Rare, settled}
-use Rattle.scan_reader.proofs.Numbers.{digit-inside}
-use Rattle.scan_reader.proofs.Signs.{slash-two, slash-line, slash-block, slash-sign, dash-two, dash-number, dash-sign}
+use Rattle.scan_words.proofs.Marks.{class-two, class-digit, mark-size, mark-class, low}
+use Rattle.scan_reader.specs.Brief.{Rare}
 use Rattle.scan_reader.proofs.Items.{chosen, told-end, told-short, told-class, told-sign}
 use borrow.Author.Needs.{needs}
 use Rattle.scan_reader.proofs.front.brief.Statement.{statement}
@@ -27,16 +23,6 @@ byteAt c = getD (c .before .before .before .before .args .text .now) (c .before 
 
 abbrev markAt : tie.After-class → ℕ
 markAt c = getD (c .before .before .before .before .args .classes .now) (byteAt c) 0
-
-abbrev start-of : tie.After-class → tie.Start
-start-of c = c .before .before .before .before
-
-inside-at : (c : tie.After-class) → start-of c .args .at < length (start-of c .args .text .now)
-inside-at c = omega (arith, c .before .before .if1 .left)
-
--- from behind the tests for a word, a sign, one that may be two, and a number
-abbrev class-at : tie.Else6 → tie.After-class
-class-at c = c .before .before .before .before
 
 class-is : (c : tie.After-class) (k : ℕ) → markAt c ≡ k → k < 32 → classOf (byteAt c) ≡ k
 class-is c k e l = mark-class (c .before .before .before .before .pre .0) (byteAt c) (byte (c .before)) k e l
@@ -118,152 +104,17 @@ returns-6 c =
     let s = d .before .before .before .before in
     c .number .ensures ∙ told-class (s .args .whole) (s .args .text .now) (s .args .at) (d .before .before .if1 .left) class.Digit (class-is d class.Digit (c .before .if6 .taken) (omega arith))
 
--- ---- a number or a sign behind a dash
-
-abbrev behind-dash : tie.After-peek → tie.After-class
-behind-dash c = class-at (c .before .before)
-
-dashes : (c : tie.After-peek) → classOf (byteAt (behind-dash c)) ≡ class.Dash
-dashes c = class-is (behind-dash c) class.Dash (c .before .if7 .taken) (omega arith)
-
--- what the byte behind the dash is
-digit-is : (c : tie.After-is-digit) → let s = start-of (behind-dash (c .before)) in
-    c .is-digit .result ≡ isDigit (getD (s .args .text .now) (s .args .at + 1) 0)
-digit-is c = c .is-digit .ensures ∙ ap isDigit (c .before .peek .ensures)
-
-add-peek : tie.Need-add-peek
-add-peek c = search needs
-
-peek-requires : tie.Need-peek-requires
-peek-requires c κs = search needs
-
-is-digit-requires : tie.Need-is-digit-requires
-is-digit-requires c κs = search needs
-
-number-requires-2 : tie.Need-number-requires-2
-number-requires-2 c κs =
-    let s = start-of (behind-dash (c .before .before)) in
-    let e = sym (digit-is (c .before)) ∙ c .if8 .taken in
-    (digit-inside (s .args .text .now) (s .args .at + 1) e, e)
-
-returns-7 : tie.Need-returns-7
-unfolding chosen
-returns-7 c =
-    let k = c .before .before in
-    let d = behind-dash (k .before) in
-    let s = start-of d in
-    let t = s .args .text .now in
-    c .number2 .ensures
-    ∙ ap (settled (s .args .whole) t (s .args .at)) (sym (dash-number t (s .args .at) (sym (digit-is k) ∙ c .before .if8 .taken)))
-    ∙ told-class (s .args .whole) t (s .args .at) (inside-at d) class.Dash (dashes (k .before))
-
-sign-requires-2 : tie.Need-sign-requires-2
-sign-requires-2 c κs =
-    let k = c .before .before in
-    let d = behind-dash k in
-    (inside-at d, dash-two _ (class-dash (byteAt d) (byte (d .before)) (dashes k)))
-
-returns-8 : tie.Need-returns-8
-unfolding chosen
-returns-8 c =
-    let k = c .before .before in
-    let d = behind-dash (k .before) in
-    let s = start-of d in
-    let t = s .args .text .now in
-    c .sign2 .ensures
-    ∙ ap (settled (s .args .whole) t (s .args .at)) (sym (dash-sign t (s .args .at) (sym (digit-is k) ∙ c .before .if8 .left)))
-    ∙ told-class (s .args .whole) t (s .args .at) (inside-at d) class.Dash (dashes (k .before))
-
--- ---- a comment or a sign behind a slash
-
-abbrev behind-slash : tie.After-peek2 → tie.After-class
-behind-slash c = class-at (c .before .before .before)
-
-slashes : (c : tie.After-peek2) → classOf (byteAt (behind-slash c)) ≡ class.Slash
-slashes c = class-is (behind-slash c) class.Slash (c .before .if9 .taken) (omega arith)
-
-add-peek-2 : tie.Need-add-peek-2
-add-peek-2 c = search needs
-
-peek-requires-2 : tie.Need-peek-requires-2
-peek-requires-2 c κs = search needs
-
-line-comment-requires : tie.Need-line-comment-requires
-line-comment-requires c κs =
-    let k = c .before in
-    (search needs, sym (k .peek2 .ensures) ∙ c .if10 .taken)
-
-returns-9 : tie.Need-returns-9
-unfolding chosen
-returns-9 c =
-    let k = c .before .before in
-    let d = behind-slash k in
-    let s = start-of d in
-    let t = s .args .text .now in
-    c .line-comment .ensures
-    ∙ ap (settled (s .args .whole) t (s .args .at))
-    (sym (slash-line t (s .args .at) (sym (k .peek2 .ensures) ∙ c .before .if10 .taken)))
-    ∙ told-class (s .args .whole) t (s .args .at) (inside-at d) class.Slash (slashes k)
-
-block-comment-requires : tie.Need-block-comment-requires
-block-comment-requires c κs =
-    let k = c .before .before in
-    let s = start-of (behind-slash k) in
-    let t = s .args .text .now in
-    let e : getD t (s .args .at + 1) 0 ≡ 42 = sym (k .peek2 .ensures) ∙ c .if11 .taken in
-    (omega (arith, inside t (s .args .at + 1) 42 e (omega arith)), e)
-
-returns-10 : tie.Need-returns-10
-unfolding chosen
-returns-10 c =
-    let k = c .before .before .before in
-    let d = behind-slash k in
-    let s = start-of d in
-    let t = s .args .text .now in
-    c .block-comment .ensures
-    ∙ ap (settled (s .args .whole) t (s .args .at))
-    (sym (slash-block t (s .args .at) (sym (k .peek2 .ensures) ∙ c .before .if11 .taken)))
-    ∙ told-class (s .args .whole) t (s .args .at) (inside-at d) class.Slash (slashes k)
-
-sign-requires-3 : tie.Need-sign-requires-3
-sign-requires-3 c κs =
-    let k = c .before .before in
-    let d = behind-slash k in
-    (inside-at d, slash-two _ (class-slash (byteAt d) (byte (d .before)) (slashes k)))
-
-returns-11 : tie.Need-returns-11
-unfolding chosen
-returns-11 c =
-    let k = c .before .before .before in
-    let d = behind-slash k in
-    let s = start-of d in
-    let t = s .args .text .now in
-    c .sign3 .ensures
-    ∙ ap (settled (s .args .whole) t (s .args .at))
-    (sym (slash-sign t (s .args .at) (λ e. c .before .before .if10 .left (k .peek2 .ensures ∙ e))
-    (λ e. c .before .if11 .left (k .peek2 .ensures ∙ e))))
-    ∙ told-class (s .args .whole) t (s .args .at) (inside-at d) class.Slash (slashes k)
-
--- ---- what is left
-
 rare-requires : tie.Need-rare-requires
 rare-requires c κs =
-    let e6 = c .before .before in
-    let d = class-at e6 in
-    let m = low (start-of d .pre .0) (byteAt d) (byte (d .before)) (e6 .before .before .if4 .left) in
+    let d = c .before .before .before .before in
+    let s = d .before .before .before .before in
+    let m = low (s .pre .0) (byteAt d) (byte (d .before)) (c .before .before .if4 .left) in
     let small : markAt d < 8 = omega arith in
-    let rare : Rare (markAt d) = record {
-      no-word = e6 .before .before .before .if3 .left;
-      no-number = e6 .if6 .left;
-      no-double = e6 .before .if5 .left;
-      no-dash = c .before .if7 .left;
-      no-slash = c .if9 .left;
-      no-sign = λ e. omega arith;
-    } in
-    (inside-at d, (m .0, rare))
+    let rare : Rare (markAt d) = record { no-word = c .before .before .before .if3 .left; no-number = c .if6 .left; no-double = c .before .if5 .left; no-sign = λ e. omega arith } in
+    (d .before .before .if1 .left, (m .0, rare))
 
-returns-12 : tie.Need-returns-12
-returns-12 c = search needs
+returns-7 : tie.Need-returns-7
+returns-7 c = search needs
 
 pub brief-spec : {M : Type 1} → statement M
 brief-spec =
@@ -286,20 +137,5 @@ brief-spec =
     returns-5
     number-requires
     returns-6
-    add-peek
-    peek-requires
-    is-digit-requires
-    number-requires-2
-    returns-7
-    sign-requires-2
-    returns-8
-    add-peek-2
-    peek-requires-2
-    line-comment-requires
-    returns-9
-    block-comment-requires
-    returns-10
-    sign-requires-3
-    returns-11
     rare-requires
-    returns-12)
+    returns-7)
