@@ -36,7 +36,7 @@ extern "C" {
 
 /* This header's version, a byte for each part. `spoonharbor_version()` tells the archive's: hold them together once at the start. */
 #define SPOONHARBOR_VERSION_MAJOR 0
-#define SPOONHARBOR_VERSION_MINOR 6
+#define SPOONHARBOR_VERSION_MINOR 7
 #define SPOONHARBOR_VERSION_PATCH 0
 #define SPOONHARBOR_VERSION (SPOONHARBOR_VERSION_MAJOR * 65536u + SPOONHARBOR_VERSION_MINOR * 256u + SPOONHARBOR_VERSION_PATCH)
 
