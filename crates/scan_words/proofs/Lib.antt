@@ -3,3 +3,4 @@ pub mod Lookups
 pub mod Packed
 pub mod Marks
 pub mod Tables
+pub mod Reserved

@@ -189,6 +189,10 @@ module _ (w : List ℕ) (h : plain w ≡ true) where
       pick e es (sameBytes (e .spelling) w) refl (eqb (slotOf (packedOf 0 (e .spelling))) (slotOf p)) refl
       (ltb-true _ _ (f .0)) (g .0) (ltb-true _ _ (g .1)) (not-true _ (y .0)) (looked es (y .1))
 
+-- the slot of a reserved word tells its kind, and of any other word an identifier's
+pub slot-tells : (w : List ℕ) → plain w ≡ true → answered (slotIn reserved (slotOf (packedOf 0 w))) (packedOf 0 w) ≡ kindIn reserved Identifier w
+slot-tells w h = looked w h reserved reserved-spaced
+
 -- ---- a slot, asked for a number
 
 -- a slot that no word takes is empty
@@ -204,7 +208,7 @@ module _ (v entry : ℕ) (s : entry ≡ slotIn reserved (slotOf v)) (w : List �
   entry-tells =
       ap (λ (x : ℕ). answered x v) s
       ∙ ap (λ (x : ℕ). answered (slotIn reserved (slotOf x)) x) e
-      ∙ looked w h reserved reserved-spaced
+      ∙ slot-tells w h
 
   pub there : entry / 256 ≡ v → entry % 256 ≡ kindIn reserved Identifier w
   there f = rw (eq-eqb (entry / 256) v f) at entry-tells

@@ -1,3 +1,4 @@
 -- The definitions that the contracts of this crate cite.
 pub mod Class
 pub mod Slots
+pub mod Words

@@ -1,6 +1,7 @@
 // Bytes and words: what a byte begins, the kinds of signs, and the reserved words.
 pub mod classes;
 pub mod slots;
+pub mod words;
 
 use rules::kind;
 ghost use mathlib.Core.Path.{_≡_};
