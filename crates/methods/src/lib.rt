@@ -3,60 +3,11 @@ use rules::Asked;
 use rules::Outer;
 use rules::fact;
 ghost use mathlib.Core.Path.{_≡_};
-ghost use Rattle.rules.specs.Sets.{fits, fromSection};
+ghost use mathlib.Core.Bool.{cond};
+ghost use lib.ListN.{length, take};
+ghost use Rattle.rules.specs.Kinds.{sameBytes};
+ghost use Rattle.rules.specs.Sets.{fromSection};
 ghost use Rattle.rules.specs.Calls.{memberAsked, sizeAsked};
-ghost use Rattle.methods.specs.Entries.{sectionAt, Entry};
-
-// The sections' spellings, padded to sixteen bytes, their lengths, whether a text is the whole spelling, and their kinds.
-const SPELLINGS: [[u8; 16]; 13] = [
-    *b"xdp             ",
-    *b"tc              ",
-    *b"classifier      ",
-    *b"tc              ",
-    *b"sk_             ",
-    *b"cgroup/         ",
-    *b"kprobe/         ",
-    *b"kretprobe/      ",
-    *b"tracepoint/     ",
-    *b"raw_tracepoint/ ",
-    *b"fentry/         ",
-    *b"fexit/          ",
-    *b"lsm/            ",
-];
-
-const LENGTHS: [usize; 13] = [3, 2, 10, 2, 3, 7, 7, 10, 11, 15, 7, 6, 4];
-
-const WHOLE: [bool; 13] = [
-    true,
-    true,
-    true,
-    false,
-    false,
-    false,
-    false,
-    false,
-    false,
-    false,
-    false,
-    false,
-    false,
-];
-
-const KINDS: [u32; 13] = [
-    fact::PROGRAM_XDP,
-    fact::PROGRAM_TC,
-    fact::PROGRAM_TC,
-    fact::PROGRAM_TC,
-    fact::PROGRAM_SOCKET,
-    fact::PROGRAM_CGROUP,
-    fact::PROGRAM_KPROBE,
-    fact::PROGRAM_KPROBE,
-    fact::PROGRAM_TRACEPOINT,
-    fact::PROGRAM_RAW_TRACEPOINT,
-    fact::PROGRAM_FENTRY,
-    fact::PROGRAM_FEXIT,
-    fact::PROGRAM_LSM,
-];
 
 // The methods that each kind allows: a bit for each method.
 const MASKS: [u16; 11] = [
@@ -78,44 +29,47 @@ const LAST_KIND: u32 = fact::PROGRAM_UNKNOWN;
 
 const LAST_METHOD: u32 = 15;
 
-// Whether a text is a section's spelling, or begins with it, by tables that say what the section is.
-fn fits_section(
-    spellings: &[[u8; 16]; 13],
-    lengths: &[usize; 13],
-    wholes: &[bool; 13],
-    text: &[u8],
-    k: usize,
-) -> bool
-    requires { ⌜ Entry (now spellings) (now lengths) (now wholes) k ⌝ }
-    ensures { λ r. ⌜ r ≡ fits (sectionAt k) (now (text .entry)) ⌝ }
+// A kind where a text is a spelling, and else another.
+fn named(text: &[u8], spelling: &[u8], kind: u32, other: u32) -> u32
+    ensures { λ r. ⌜ r ≡ cond (sameBytes (now (spelling .entry)) (now (text .entry))) kind other ⌝ }
 {
-    let n = lengths[k];
-    let padded = &spellings[k][..];
-    let spelling = &padded[..n];
-    if wholes[k] {
-        return check::same(text, spelling);
+    if check::same(text, spelling) {
+        return kind;
     }
-    if text.len() < n {
-        return false;
-    }
-    check::same(&text[..n], spelling)
+    other
 }
 
-// The program kind of a section's text.
+// A kind where a text begins with a spelling, and else another.
+fn begun(text: &[u8], spelling: &[u8], kind: u32, other: u32) -> u32
+    ensures { λ r. ⌜ r ≡ cond (sameBytes (now (spelling .entry)) (take (length (now (spelling .entry))) (now (text .entry)))) kind other ⌝ }
+{
+    let n = spelling.len();
+    if text.len() < n {
+        return other;
+    }
+    if check::same(&text[..n], spelling) {
+        return kind;
+    }
+    other
+}
+
+// The program kind of a section's text: the first section that it fits, so the last is asked first. Bytes are compared where they stand.
 pub fn section_kind(text: &[u8]) -> u32
     ensures { λ r. ⌜ r ≡ fromSection (now (text .entry)) ⌝ }
 {
-    let spellings = SPELLINGS;
-    let lengths = LENGTHS;
-    let wholes = WHOLE;
-    let mut k = 0;
-    while k < 13 {
-        if fits_section(&spellings, &lengths, &wholes, text, k) {
-            return KINDS[k];
-        }
-        k += 1;
-    }
-    fact::PROGRAM_UNKNOWN
+    let lsm = begun(text, b"lsm/", fact::PROGRAM_LSM, fact::PROGRAM_UNKNOWN);
+    let fexit = begun(text, b"fexit/", fact::PROGRAM_FEXIT, lsm);
+    let fentry = begun(text, b"fentry/", fact::PROGRAM_FENTRY, fexit);
+    let raw = begun(text, b"raw_tracepoint/", fact::PROGRAM_RAW_TRACEPOINT, fentry);
+    let tracepoint = begun(text, b"tracepoint/", fact::PROGRAM_TRACEPOINT, raw);
+    let kretprobe = begun(text, b"kretprobe/", fact::PROGRAM_KPROBE, tracepoint);
+    let kprobe = begun(text, b"kprobe/", fact::PROGRAM_KPROBE, kretprobe);
+    let cgroup = begun(text, b"cgroup/", fact::PROGRAM_CGROUP, kprobe);
+    let socket = begun(text, b"sk_", fact::PROGRAM_SOCKET, cgroup);
+    let tc = begun(text, b"tc", fact::PROGRAM_TC, socket);
+    let classifier = named(text, b"classifier", fact::PROGRAM_TC, tc);
+    let tc_whole = named(text, b"tc", fact::PROGRAM_TC, classifier);
+    named(text, b"xdp", fact::PROGRAM_XDP, tc_whole)
 }
 
 // Whether a kind allows a method: 1 or 0.

@@ -1,71 +1,147 @@
--- `section_kind` meets its contract. At the loop's head the sections from k on give the kind.
-use mathlib.Core.Path.{_≡_, refl, sym, _∙_}
-use Prim.Native.Nat.{_-_, _≤_}
-use native.Mathlib.Omega.{arith}
-use lib.ListN.{drop}
-use Rattle.rules.specs.Kinds.{sameBytes}
-use Rattle.rules.specs.Sets.{sections, kindOfSection}
-use Rattle.methods.specs.Entries.{sectionAt}
-use Rattle.methods.proofs.Spellings.{alike, entry, entry-right, kind-on, kind-at, kind-end, kind-start}
+-- `section_kind` meets its contract: from the last section to the first, each gives the kind by itself and those behind it.
+use mathlib.Core.Path.{refl}
+use Rattle.rules.specs.Sets.{sections, fits, kindOfSection, fromSection}
+use Rattle.methods.proofs.Spellings.{sectionAt, kind-by}
+use borrow.Author.Needs.{needs}
 use Rattle.methods.proofs.section_kind.Statement.{statement}
 use Rattle.methods.proofs.section_kind.Tie as tie
 
-abbrev Inv-loop : tie.InvT-loop
-Inv-loop text spellings lengths wholes k₀ k = (k ≤ 13) × (kindOfSection (drop k sections) text ≡ kindOfSection (drop 0 sections) text)
+slice-aggregate-begun : tie.Need-slice-aggregate-begun
+slice-aggregate-begun c = search needs
 
-abbrev μ-loop : tie.MeasureT-loop
-μ-loop text spellings lengths wholes k₀ k = 13 - k
+begun-requires : tie.Need-begun-requires
+begun-requires c κs = search needs
 
-loop-holds : tie.Need-loop-holds Inv-loop μ-loop
-loop-holds c = (omega arith, refl)
+slice-aggregate-begun-2 : tie.Need-slice-aggregate-begun-2
+slice-aggregate-begun-2 c = search needs
 
-fits-section-requires : tie.Need-fits-section-requires Inv-loop μ-loop
-unfolding entry alike sectionAt sections sameBytes
-fits-section-requires c κs = entry-right _ _ _ refl (c .before .before .before .before .loop .k) (omega arith)
+begun-requires-2 : tie.Need-begun-requires-2
+begun-requires-2 c κs = search needs
 
-mul-result : tie.Need-mul-result Inv-loop μ-loop
-mul-result c = omega arith
+slice-aggregate-begun-3 : tie.Need-slice-aggregate-begun-3
+slice-aggregate-begun-3 c = search needs
 
-array-read-result : tie.Need-array-read-result Inv-loop μ-loop
-array-read-result c = omega arith
+begun-requires-3 : tie.Need-begun-requires-3
+begun-requires-3 c κs = search needs
 
-returns : tie.Need-returns Inv-loop μ-loop
+slice-aggregate-begun-4 : tie.Need-slice-aggregate-begun-4
+slice-aggregate-begun-4 c = search needs
+
+begun-requires-4 : tie.Need-begun-requires-4
+begun-requires-4 c κs = search needs
+
+slice-aggregate-begun-5 : tie.Need-slice-aggregate-begun-5
+slice-aggregate-begun-5 c = search needs
+
+begun-requires-5 : tie.Need-begun-requires-5
+begun-requires-5 c κs = search needs
+
+slice-aggregate-begun-6 : tie.Need-slice-aggregate-begun-6
+slice-aggregate-begun-6 c = search needs
+
+begun-requires-6 : tie.Need-begun-requires-6
+begun-requires-6 c κs = search needs
+
+slice-aggregate-begun-7 : tie.Need-slice-aggregate-begun-7
+slice-aggregate-begun-7 c = search needs
+
+begun-requires-7 : tie.Need-begun-requires-7
+begun-requires-7 c κs = search needs
+
+slice-aggregate-begun-8 : tie.Need-slice-aggregate-begun-8
+slice-aggregate-begun-8 c = search needs
+
+begun-requires-8 : tie.Need-begun-requires-8
+begun-requires-8 c κs = search needs
+
+slice-aggregate-begun-9 : tie.Need-slice-aggregate-begun-9
+slice-aggregate-begun-9 c = search needs
+
+begun-requires-9 : tie.Need-begun-requires-9
+begun-requires-9 c κs = search needs
+
+slice-aggregate-begun-10 : tie.Need-slice-aggregate-begun-10
+slice-aggregate-begun-10 c = search needs
+
+begun-requires-10 : tie.Need-begun-requires-10
+begun-requires-10 c κs = search needs
+
+slice-aggregate-named : tie.Need-slice-aggregate-named
+slice-aggregate-named c = search needs
+
+named-requires : tie.Need-named-requires
+named-requires c κs = search needs
+
+slice-aggregate-named-2 : tie.Need-slice-aggregate-named-2
+slice-aggregate-named-2 c = search needs
+
+named-requires-2 : tie.Need-named-requires-2
+named-requires-2 c κs = search needs
+
+slice-aggregate-named-3 : tie.Need-slice-aggregate-named-3
+slice-aggregate-named-3 c = search needs
+
+named-requires-3 : tie.Need-named-requires-3
+named-requires-3 c κs = search needs
+
+returns : tie.Need-returns
+unfolding sectionAt sections fits kindOfSection fromSection
 returns c =
-    let l = c .before .before .before .before .before .before .loop in
-    let w = c .before .before .before .before .before .before .before .before .args .text .now in
-    sym (kind-at w (l .k) (omega arith) (sym (c .before .fits-section .ensures) ∙ c .if1 .taken)) ∙ (l .inv .1 ∙ kind-start w)
-
-add-k : tie.Need-add-k Inv-loop μ-loop
-add-k c = omega arith
-
-loop-less : tie.Need-loop-less Inv-loop μ-loop
-loop-less c = omega arith
-
-loop-again : tie.Need-loop-again Inv-loop μ-loop
-loop-again c =
-    let l = c .before .before .before .before .before .before .loop in
-    let w = c .before .before .before .before .before .before .before .before .args .text .now in
-    (omega arith, sym (kind-on w (l .k) (omega arith) (sym (c .before .fits-section .ensures) ∙ c .if1 .left)) ∙ l .inv .1)
-
-returns-2 : tie.Need-returns-2 Inv-loop μ-loop
-returns-2 c =
-    let l = c .before .loop in
-    let w = c .before .before .before .args .text .now in
-    let e : l .k ≡ 13 = omega arith in
-    sym (kind-end w) ∙ ((rw e at (l .inv .1)) ∙ kind-start w)
+    let whole = c .before .before in
+    let classifier = whole .before .before in
+    let tc = classifier .before .before in
+    let socket = tc .before .before in
+    let cgroup = socket .before .before in
+    let kprobe = cgroup .before .before in
+    let kretprobe = kprobe .before .before in
+    let tracepoint = kretprobe .before .before in
+    let raw = tracepoint .before .before in
+    let fentry = raw .before .before in
+    let fexit = fentry .before .before in
+    let lsm = fexit .before .before in
+    let w = lsm .before .before .before .args .text .now in
+    kind-by 0 w (c .named3 .ensures)
+    (kind-by 1 w (whole .named2 .ensures)
+    (kind-by 2 w (classifier .named .ensures)
+    (kind-by 3 w (tc .begun10 .ensures)
+    (kind-by 4 w (socket .begun9 .ensures)
+    (kind-by 5 w (cgroup .begun8 .ensures)
+    (kind-by 6 w (kprobe .begun7 .ensures)
+    (kind-by 7 w (kretprobe .begun6 .ensures)
+    (kind-by 8 w (tracepoint .begun5 .ensures)
+    (kind-by 9 w (raw .begun4 .ensures)
+    (kind-by 10 w (fentry .begun3 .ensures)
+    (kind-by 11 w (fexit .begun2 .ensures)
+    (kind-by 12 w (lsm .begun .ensures) refl))))))))))))
 
 pub section-kind-spec : {M : Type 1} → statement M
 section-kind-spec =
     tie.close
     (tie.spec
-    Inv-loop
-    μ-loop
-    loop-holds
-    fits-section-requires
-    mul-result
-    array-read-result
-    returns
-    add-k
-    loop-less
-    loop-again
-    returns-2)
+    slice-aggregate-begun
+    begun-requires
+    slice-aggregate-begun-2
+    begun-requires-2
+    slice-aggregate-begun-3
+    begun-requires-3
+    slice-aggregate-begun-4
+    begun-requires-4
+    slice-aggregate-begun-5
+    begun-requires-5
+    slice-aggregate-begun-6
+    begun-requires-6
+    slice-aggregate-begun-7
+    begun-requires-7
+    slice-aggregate-begun-8
+    begun-requires-8
+    slice-aggregate-begun-9
+    begun-requires-9
+    slice-aggregate-begun-10
+    begun-requires-10
+    slice-aggregate-named
+    named-requires
+    slice-aggregate-named-2
+    named-requires-2
+    slice-aggregate-named-3
+    named-requires-3
+    returns)
