@@ -1,21 +1,21 @@
--- The number of a map type, word by word.
-use mathlib.Core.Path.{_≡_, refl, sym, _∙_}
-use mathlib.Core.Bool.{Bool, true, false, true≢false}
+-- The number of a map type, spelling by spelling.
+use mathlib.Core.Path.{_≡_, refl, _∙_}
+use mathlib.Core.Bool.{Bool, true, false, cond}
 use mathlib.Core.List.{List, [], _∷_}
-use Prim.Native.Nat.{ℕ}
-use Rattle.rules.specs.Kinds.{Spelt, kindIn}
-use Rattle.laws.proofs.Spelled.{differs}
+use Prim.Native.Nat.{ℕ, suc}
+use lib.ListN.{getD, drop}
+use Rattle.rules.specs.Kinds.{Spelt, sameBytes, kindIn}
+use Rattle.rules.specs.Tree.{mapTypes}
 
--- words of a table that a word is none of
-abbrev pub Not : List Spelt → List ℕ → Type 0
-Not [] w = Unit {0}
-Not (e ∷ es) w = (w ≡ e .spelling → ⊥) × Not es w
+unfoldable pub typeAt : ℕ → Spelt
+typeAt k = getD mapTypes k (record { spelling = []; kind = 0 })
 
-pub not-in : (es : List Spelt) (d : ℕ) (w : List ℕ) → Not es w → kindIn es d w ≡ d
+-- the number by spelling k and those behind it
+pub number-by : (k : ℕ) (w : List ℕ) {r o : ℕ} → r ≡ cond (sameBytes (typeAt k .spelling) w) (typeAt k .kind) o → o ≡ kindIn (drop (suc k) mapTypes) 0 w →
+    r ≡ kindIn (typeAt k ∷ drop (suc k) mapTypes) 0 w
 unfolding kindIn
-not-in [] d w h = refl
-not-in (e ∷ es) d w h = rw (kindIn, differs (e .spelling) w (h .0)) (not-in es d w (h .1))
-
--- what would make a test hold that fails
-pub unlike : {A : Type 0} {b : Bool} → (A → b ≡ true) → b ≡ false → A → ⊥
-unlike f e a = true≢false (sym (f a) ∙ e)
+number-by k w {r} {o} e h = e ∙ pick (sameBytes (typeAt k .spelling) w)
+  where
+    pick : (p : Bool) → cond p (typeAt k .kind) o ≡ elim p as (λ _. ℕ) [ true ↦ typeAt k .kind | false ↦ kindIn (drop (suc k) mapTypes) 0 w ]
+    pick true = refl
+    pick false = h

@@ -1,117 +1,68 @@
--- `maps::type_number` meets its contract: the first spelling that the word has, or none.
-use mathlib.Core.Path.{sym, ap}
+-- `maps::type_number` meets its contract: from the last spelling to the first, each gives the number by itself and those behind it.
+use mathlib.Core.Path.{refl}
 use borrow.Author.Needs.{needs}
-use Rattle.rules.specs.Kinds.{sameBytes, kindIn}
+use Rattle.rules.specs.Kinds.{kindIn}
 use Rattle.rules.specs.Tree.{mapTypes, mapTypeNumber}
-use Rattle.parse_maps.proofs.Words.{not-in, unlike}
+use Rattle.parse_maps.proofs.Words.{typeAt, number-by}
 use Rattle.parse_maps.proofs.type_number.Statement.{statement}
 use Rattle.parse_maps.proofs.type_number.Tie as tie
 
--- ---- the places behind the words that it is not
+slice-aggregate-spelt : tie.Need-slice-aggregate-spelt
+slice-aggregate-spelt c = search needs
 
-abbrev start : tie.Else1 → tie.Start
-start c = c .before .before .before .before
+spelt-requires : tie.Need-spelt-requires
+spelt-requires c κs = search needs
 
-abbrev no-hash : tie.Else2 → tie.Else1
-no-hash c = c .before .before .before
+slice-aggregate-spelt-2 : tie.Need-slice-aggregate-spelt-2
+slice-aggregate-spelt-2 c = search needs
 
-abbrev no-array : tie.Else3 → tie.Else2
-no-array c = c .before .before .before
+spelt-requires-2 : tie.Need-spelt-requires-2
+spelt-requires-2 c κs = search needs
 
-abbrev no-ringbuf : tie.Else4 → tie.Else3
-no-ringbuf c = c .before .before .before
+slice-aggregate-spelt-3 : tie.Need-slice-aggregate-spelt-3
+slice-aggregate-spelt-3 c = search needs
 
-abbrev no-lru-hash : tie.Else5 → tie.Else4
-no-lru-hash c = c .before .before .before
+spelt-requires-3 : tie.Need-spelt-requires-3
+spelt-requires-3 c κs = search needs
 
--- ---- needs
+slice-aggregate-spelt-4 : tie.Need-slice-aggregate-spelt-4
+slice-aggregate-spelt-4 c = search needs
 
-slice-aggregate-same : tie.Need-slice-aggregate-same
-slice-aggregate-same c = search needs
+spelt-requires-4 : tie.Need-spelt-requires-4
+spelt-requires-4 c κs = search needs
 
-same-requires : tie.Need-same-requires
-same-requires c κs = search needs
+slice-aggregate-spelt-5 : tie.Need-slice-aggregate-spelt-5
+slice-aggregate-spelt-5 c = search needs
+
+spelt-requires-5 : tie.Need-spelt-requires-5
+spelt-requires-5 c κs = search needs
 
 returns : tie.Need-returns
-unfolding mapTypeNumber mapTypes kindIn sameBytes
-returns c = sym (ap mapTypeNumber (c .before .same .ensures .0 (c .if1 .taken)))
-
-slice-aggregate-same-2 : tie.Need-slice-aggregate-same-2
-slice-aggregate-same-2 c = search needs
-
-same-requires-2 : tie.Need-same-requires-2
-same-requires-2 c κs = search needs
-
-returns-2 : tie.Need-returns-2
-unfolding mapTypeNumber mapTypes kindIn sameBytes
-returns-2 c = sym (ap mapTypeNumber (c .before .same2 .ensures .0 (c .if2 .taken)))
-
-slice-aggregate-same-3 : tie.Need-slice-aggregate-same-3
-slice-aggregate-same-3 c = search needs
-
-same-requires-3 : tie.Need-same-requires-3
-same-requires-3 c κs = search needs
-
-returns-3 : tie.Need-returns-3
-unfolding mapTypeNumber mapTypes kindIn sameBytes
-returns-3 c = sym (ap mapTypeNumber (c .before .same3 .ensures .0 (c .if3 .taken)))
-
-slice-aggregate-same-4 : tie.Need-slice-aggregate-same-4
-slice-aggregate-same-4 c = search needs
-
-same-requires-4 : tie.Need-same-requires-4
-same-requires-4 c κs = search needs
-
-returns-4 : tie.Need-returns-4
-unfolding mapTypeNumber mapTypes kindIn sameBytes
-returns-4 c = sym (ap mapTypeNumber (c .before .same4 .ensures .0 (c .if4 .taken)))
-
-slice-aggregate-same-5 : tie.Need-slice-aggregate-same-5
-slice-aggregate-same-5 c = search needs
-
-same-requires-5 : tie.Need-same-requires-5
-same-requires-5 c κs = search needs
-
-returns-5 : tie.Need-returns-5
-unfolding mapTypeNumber mapTypes kindIn sameBytes
-returns-5 c = sym (ap mapTypeNumber (c .before .same5 .ensures .0 (c .if5 .taken)))
-
-returns-6 : tie.Need-returns-6
-unfolding mapTypeNumber mapTypes
-returns-6 c =
-    let l = no-lru-hash c in
-    let r = no-ringbuf l in
-    let a = no-array r in
-    let h = no-hash a in
-    sym
-    (not-in mapTypes 0 (start h .args .word .now) (
-      unlike (h .before .same .ensures .1) (h .if1 .left),
-      (
-        unlike (a .before .same2 .ensures .1) (a .if2 .left),
-        (
-          unlike (r .before .same3 .ensures .1) (r .if3 .left),
-          (unlike (l .before .same4 .ensures .1) (l .if4 .left), (unlike (c .before .same5 .ensures .1) (c .if5 .left), tt)),
-        ),
-      ),
-    ))
+unfolding typeAt mapTypes kindIn mapTypeNumber
+returns c =
+    let array = c .before .before in
+    let ringbuf = array .before .before in
+    let lru-hash = ringbuf .before .before in
+    let prog-array = lru-hash .before .before in
+    let w = prog-array .before .before .before .args .word .now in
+    number-by 0 w (c .spelt5 .ensures)
+    (number-by 1 w (array .spelt4 .ensures)
+    (number-by 2 w (ringbuf .spelt3 .ensures)
+    (number-by 3 w (lru-hash .spelt2 .ensures)
+    (number-by 4 w (prog-array .spelt .ensures) refl))))
 
 pub type-number-spec : {M : Type 1} → statement M
 type-number-spec =
     tie.close
     (tie.spec
-    slice-aggregate-same
-    same-requires
-    returns
-    slice-aggregate-same-2
-    same-requires-2
-    returns-2
-    slice-aggregate-same-3
-    same-requires-3
-    returns-3
-    slice-aggregate-same-4
-    same-requires-4
-    returns-4
-    slice-aggregate-same-5
-    same-requires-5
-    returns-5
-    returns-6)
+    slice-aggregate-spelt
+    spelt-requires
+    slice-aggregate-spelt-2
+    spelt-requires-2
+    slice-aggregate-spelt-3
+    spelt-requires-3
+    slice-aggregate-spelt-4
+    spelt-requires-4
+    slice-aggregate-spelt-5
+    spelt-requires-5
+    returns)
