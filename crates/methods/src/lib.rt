@@ -60,7 +60,12 @@ pub fn section_kind(text: &[u8]) -> u32
     let lsm = begun(text, b"lsm/", fact::PROGRAM_LSM, fact::PROGRAM_UNKNOWN);
     let fexit = begun(text, b"fexit/", fact::PROGRAM_FEXIT, lsm);
     let fentry = begun(text, b"fentry/", fact::PROGRAM_FENTRY, fexit);
-    let raw = begun(text, b"raw_tracepoint/", fact::PROGRAM_RAW_TRACEPOINT, fentry);
+    let raw = begun(
+        text,
+        b"raw_tracepoint/",
+        fact::PROGRAM_RAW_TRACEPOINT,
+        fentry,
+    );
     let tracepoint = begun(text, b"tracepoint/", fact::PROGRAM_TRACEPOINT, raw);
     let kretprobe = begun(text, b"kretprobe/", fact::PROGRAM_KPROBE, tracepoint);
     let kprobe = begun(text, b"kprobe/", fact::PROGRAM_KPROBE, kretprobe);
