@@ -34,6 +34,10 @@ static void change(void) {
 
 static void well_formed(void) { answer[0] = spoonharbor_well_formed(rows, ROWS * SH_ROW_WORDS, table); }
 
+static const uint8_t named[] = "raw_tracepoint/sys_enter";
+
+static void section(void) { answer[0] = spoonharbor_section_kind(named, sizeof named - 1); }
+
 static void store(void) { spoonharbor_store(rows, ROWS * SH_ROW_WORDS, table, file, sizeof file, answer); }
 
 static void load(void) { spoonharbor_load(file, SH_FILE_ROOM(table[SH_COUNT]), new_rows, ROWS * SH_ROW_WORDS, answer); }
@@ -83,12 +87,14 @@ static void report(const char *what) {
     size_t by_change = used_by(change) - empty;
     if (answer[SH_NUMBER] != 0) exit(1);
     size_t by_test = used_by(well_formed) - empty;
+    size_t by_section = used_by(section) - empty;
+    if (answer[0] != SH_PROGRAM_KIND_RAW_TRACEPOINT) exit(1);
     size_t by_store = used_by(store) - empty;
     if (answer[SH_NUMBER] != 0) exit(1);
     size_t by_load = used_by(load) - empty;
     if (answer[SH_NUMBER] != 0) exit(1);
-    printf("%s: scan %zu, parse %zu, edit %zu, change %zu, table test %zu, store %zu, load %zu bytes of stack\n", what, by_scan, by_parse,
-           by_edit, by_change, by_test, by_store, by_load);
+    printf("%s: scan %zu, parse %zu, edit %zu, change %zu, table test %zu, section %zu, store %zu, load %zu bytes of stack\n", what,
+           by_scan, by_parse, by_edit, by_change, by_test, by_section, by_store, by_load);
 }
 
 int main(void) {
