@@ -18,8 +18,8 @@ unfoldable pub sectionAt : ℕ → Section
 sectionAt k = getD sections k (record { whole = true; spelling = []; kind = Unknown })
 
 -- the kind by section k and those behind it
-pub kind-by : (k : ℕ) (w : List ℕ) {r o : ℕ} → r ≡ cond (fits (sectionAt k) w) (sectionAt k .kind) o → o ≡ kindOfSection (drop (suc k) sections) w →
-    r ≡ kindOfSection (sectionAt k ∷ drop (suc k) sections) w
+pub kind-by : (k : ℕ) (w : List ℕ) {r o : ℕ} → r ≡ cond (fits (sectionAt k) w) (sectionAt k .kind) o →
+    o ≡ kindOfSection (drop (suc k) sections) w → r ≡ kindOfSection (sectionAt k ∷ drop (suc k) sections) w
 unfolding kindOfSection
 kind-by k w {r} {o} e h = e ∙ pick (fits (sectionAt k) w)
   where

@@ -190,7 +190,8 @@ module _ (w : List ℕ) (h : plain w ≡ true) where
       (ltb-true _ _ (f .0)) (g .0) (ltb-true _ _ (g .1)) (not-true _ (y .0)) (looked es (y .1))
 
 -- the slot of a reserved word tells its kind, and of any other word an identifier's
-pub slot-tells : (w : List ℕ) → plain w ≡ true → answered (slotIn reserved (slotOf (packedOf 0 w))) (packedOf 0 w) ≡ kindIn reserved Identifier w
+pub slot-tells : (w : List ℕ) → plain w ≡ true →
+    answered (slotIn reserved (slotOf (packedOf 0 w))) (packedOf 0 w) ≡ kindIn reserved Identifier w
 slot-tells w h = looked w h reserved reserved-spaced
 
 -- ---- a slot, asked for a number

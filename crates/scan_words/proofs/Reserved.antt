@@ -9,7 +9,8 @@ use Rattle.scan_words.specs.Words.{padded, long, kindOf, listed}
 use Rattle.scan_words.proofs.Packed.{answered, slot-tells}
 
 -- what `spellings`, `lengths` and `kinds` of `scan_words::words` promise of their answers
-module _ {ss : List (List ℕ)} {ns ks : List ℕ} (s : ss ≡ map padded reserved) (n : ns ≡ map long reserved) (k : ks ≡ map kindOf reserved) where
+module _ {ss : List (List ℕ)} {ns ks : List ℕ}
+    (s : ss ≡ map padded reserved) (n : ns ≡ map long reserved) (k : ks ≡ map kindOf reserved) where
   pub table-lists : listed ss ns ks ≡ reserved
   unfolding listed reserved
   table-lists = rw (s, n, k)

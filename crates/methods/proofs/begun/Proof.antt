@@ -1,5 +1,6 @@
 -- `begun` meets its contract: as much of the text as the spelling is long, or a text that is shorter.
 use mathlib.Core.Path.{sym, _∙_}
+use native.Mathlib.Omega.{arith}
 use lib.Seq.{length-take-le}
 use Rattle.laws.proofs.Spelled.{same-says}
 use Rattle.methods.proofs.Spellings.{too-short}
@@ -8,10 +9,10 @@ use Rattle.methods.proofs.begun.Statement.{statement}
 use Rattle.methods.proofs.begun.Tie as tie
 
 returns : tie.Need-returns
-returns c = let a = c .before .before .before .args in rw (too-short (a .spelling .now) (a .text .now) (c .if1 .taken))
+returns c = let a = c .before .before .before .args in rw (too-short (a .spelling .now) (a .text .now) (omega arith))
 
 slice-aggregate-same : tie.Need-slice-aggregate-same
-slice-aggregate-same c = sym (length-take-le _ _ (c .before .if1 .left))
+slice-aggregate-same c = sym (length-take-le _ _ (omega arith))
 
 same-requires : tie.Need-same-requires
 same-requires c κs = search needs
