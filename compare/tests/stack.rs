@@ -6,7 +6,7 @@ use std::process::Command;
 /// The calls that are measured, in the order of the report, and how much stack each may take. Of an edit and a change 1,024 is aimed at.
 const MOST: [(&str, usize); 7] = [
     ("scan", 1_024),
-    ("parse", 48 * 1_024),
+    ("parse", 32 * 1_024),
     ("edit", 1_152),
     ("change", 1_152),
     ("table test", 640),
