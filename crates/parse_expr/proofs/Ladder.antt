@@ -29,7 +29,8 @@ use Rattle.parse_expr.proofs.Given.{refusal, Fit, turn-fit}
 -- ---- the operand that is read next
 
 -- It is read at row `at`, its nodes behind those of s: the first, or one behind the operator k, with which what R says of s goes on.
-pub data Next (ts : List Tok) (R : At → List ℕ → Type 0) (on : ℕ → Bool) (i n : ℕ) (m : List ℕ) (s : At) (k at : ℕ) (m′ : List ℕ) : Type 0 where
+pub data Next (ts : List Tok) (R : At → List ℕ → Type 0) (on : ℕ → Bool) (i n : ℕ) (m : List ℕ) (s : At) (k at : ℕ) (m′ : List ℕ)
+    : Type 0 where
   first : s .node ≡ n → k ≡ Eof → at ≡ i → m′ ≡ m → Next ts R on i n m s k at m′
   further : R s m′ → k ≡ kindAt ts (s .row) → on k ≡ true → at ≡ s .row + 1 → s .row < length ts → Next ts R on i n m s k at m′
 

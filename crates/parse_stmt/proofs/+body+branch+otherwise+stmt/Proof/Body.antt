@@ -227,8 +227,8 @@ module _ (t : ℕ) where
       let r = o .ended .ensures in
       let e = list-ends Any ts RBrace bodyThings (statement ts (a .left)) _ (a .row + 1) (a .node) (a .nodes .now) s (l .nodes) w
       (sym (kind-is k ts h) ∙ f .if2 .taken) in
-      body-ok (whole ts (entry (turn k))) (kind (entry (turn k))) (a .row) (a .node) (w .tree) (s .row + 1) (a .nodes .now) (o .ended .last .0)
-      (o .ended .result)
+      body-ok (whole ts (entry (turn k))) (kind (entry (turn k))) (a .row) (a .node) (w .tree) (s .row + 1) (a .nodes .now)
+      (o .ended .last .0) (o .ended .result)
       (body-some ts (a .row) (a .left) (turn k .before .if1 .left) ∙ then-ok _ _ (w .tree) (s .row) e)
       (r .0 ∙ ap (λ (x : ℕ). stateAt (s .row + 1) (x + 1) (a .row)) (w .stands .nodes))
       (mem-over (a .nodes .now) (a .row + 1) (a .node) (w .tree) s (l .nodes) (w .stands) (o .ended .last .0)

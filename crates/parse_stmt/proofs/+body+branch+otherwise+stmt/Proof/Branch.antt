@@ -216,8 +216,8 @@ module _ (t : ℕ) where
       met-no (whole ts (at-brace b)) _ _ _ _ _ _
       (says b .3 ts h (a .left) (Parse.body ts (a .left))
       ∙ then-no _ _ (w .0 .0) (w .0 .1 .0)
-      (body-refused (Parse.body ts (a .left) (brace b)) NodeThen (brace b) (a .node + 1) (named q .close .last .0) (f .last .1 .1 .0) (f .result)
-      (w .0 .0) (w .0 .1 .0) (answered q ts h) (w .1)))
+      (body-refused (Parse.body ts (a .left) (brace b)) NodeThen (brace b) (a .node + 1) (named q .close .last .0) (f .last .1 .1 .0)
+      (f .result) (w .0 .0) (w .0 .1 .0) (answered q ts h) (w .1)))
 
   pub returns-3 : lts.Need-returns-3 (cs t) (branch-at t) branch.Post
   returns-3 c ts h =

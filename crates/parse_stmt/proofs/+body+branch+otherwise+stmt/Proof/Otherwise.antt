@@ -155,8 +155,8 @@ module _ (t : ℕ) where
   got c ts h =
       let a = at-body (called c) .args in
       let f = called c .body in
-      bodied ts (Parse.body ts (a .left) (a .t .row + 1)) NodeElse (a .t .row + 1) (a .t .node) (a .nodes .now) (f .last .1 .1 .0) (f .result)
-      (c .u .given .0 .0)
+      bodied ts (Parse.body ts (a .left) (a .t .row + 1)) NodeElse (a .t .row + 1) (a .t .node) (a .nodes .now) (f .last .1 .1 .0)
+      (f .result) (c .u .given .0 .0)
       (ends-body ts (a .left) (a .t .row + 1)
       (here ts (a .t .row + 1) LBrace (sym (brace-is (braced (called c)) ts h) ∙ called c .before .before .if2 .left) refl))
       (answered (called c) ts h) (c .u .given .1)
@@ -256,5 +256,5 @@ module _ (t : ℕ) where
       met-no (whole ts (at-body q) w l) _ _ _ _ _ _
       (opened q ts h w l
       ∙ then-no _ _ (y .0 .0) (y .0 .1 .0)
-      (body-refused (Parse.body ts (a .left) (a .t .row + 1)) NodeElse (a .t .row + 1) (a .t .node) (a .nodes .now) (f .last .1 .1 .0) (f .result)
-      (y .0 .0) (y .0 .1 .0) (answered q ts h) (y .1)))
+      (body-refused (Parse.body ts (a .left) (a .t .row + 1)) NodeElse (a .t .row + 1) (a .t .node) (a .nodes .now) (f .last .1 .1 .0)
+      (f .result) (y .0 .0) (y .0 .1 .0) (answered q ts h) (y .1)))
