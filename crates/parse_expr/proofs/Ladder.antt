@@ -2,11 +2,13 @@
 use mathlib.Core.Path.{_≡_, refl, sym, ap, _∙_}
 use mathlib.Core.Bool.{Bool, true, false, not, _&&_, _||_, true≢false}
 use mathlib.Core.List.{List}
-use Prim.Native.Nat.{ℕ, _+_, _≤_}
+use Prim.Native.Nat.{ℕ, _+_, _≤_, _<_}
 use native.Mathlib.Omega.{arith}
+use lib.Dec.{eqb}
 use lib.ListN.{length}
+use borrow.Author.Tests.{eq-eqb, ne-eqb}
 use Rattle.rules.specs.declared.Syntax.{Syntax}
-use Rattle.rules.specs.Kinds.{Plus, Minus, Star, Slash, Percent}
+use Rattle.rules.specs.Kinds.{Plus, Minus, Star, Slash, Percent, Eof}
 use Rattle.rules.specs.Tree.{Tok, Tree, bin, isSum, count}
 use Rattle.rules.specs.Nodes.{width}
 use Rattle.rules.specs.Parse
@@ -20,9 +22,39 @@ use Rattle.parse_nodes.specs.declared.At.{At}
 use Rattle.parse_nodes.specs.declared.Got.{Got}
 use Rattle.parse_nodes.specs.declared.Got.the-variants.{Done, Refused}
 use Rattle.parse_nodes.proofs.Turn.{Any, Came, met-ok, met-no, Turn, start, ends, fails, again}
-use Rattle.parse_expr.specs.Written.{Joint}
+use Rattle.parse_expr.specs.Written.{Joint, Joined}
 use Rattle.parse_expr.proofs.Trees.{stands-bin}
 use Rattle.parse_expr.proofs.Given.{refusal, Fit, turn-fit}
+
+-- ---- the operand that is read next
+
+-- It is read at row `at`, its nodes behind those of s: the first, or one behind the operator k, with which what R says of s goes on.
+pub data Next (ts : List Tok) (R : At → List ℕ → Type 0) (on : ℕ → Bool) (i n : ℕ) (m : List ℕ) (s : At) (k at : ℕ) (m′ : List ℕ)
+    : Type 0 where
+  first : s .node ≡ n → k ≡ Eof → at ≡ i → m′ ≡ m → Next ts R on i n m s k at m′
+  further : R s m′ → k ≡ kindAt ts (s .row) → on k ≡ true → at ≡ s .row + 1 → s .row < length ts → Next ts R on i n m s k at m′
+
+-- There is room for it: no more nodes than rows, all inside the table, memory as long as it was.
+pub record Room (ts : List Tok) (i n : ℕ) (m : List ℕ) (s : At) (at : ℕ) (m′ : List ℕ) : Type 0 where
+  pub few : s .node + i ≤ at + n
+  pub inside : at ≤ length ts
+  pub long : length m′ ≡ length m
+
+pub next-room : {ts : List Tok} {R : At → List ℕ → Type 0} {on : ℕ → Bool} {i n : ℕ} {m : List ℕ} {s : At} {k at : ℕ} {m′ : List ℕ}
+    → (R s m′ → Fit ts i n m s m′) → i ≤ length ts → Next ts R on i n m s k at m′ → Room ts i n m s at m′
+next-room fit l (first e ek ea em) = record { few = omega arith; inside = omega arith; long = ap length em }
+next-room fit l (further w ek b ea h) =
+    let f = fit w in
+    record { few = omega (arith, f .few); inside = omega arith; long = f .long }
+
+-- an operator is not Eof
+op-not-eof : (on : ℕ → Bool) (k : ℕ) → on Eof ≡ false → on k ≡ true → eqb k Eof ≡ false
+op-not-eof on k f h = ne-eqb k Eof (λ e. true≢false (sym h ∙ ap on e ∙ f))
+
+-- a state that was joined or not stands at the row of its last operand
+pub joined-row : (b : Bool) (s t : At) (k : ℕ) (m m′ : List ℕ) (r : At) → Joined b s t k m m′ r → r .row ≡ t .row
+joined-row true s t k m m′ r j = ap (λ (x : At). x .row) (j .0)
+joined-row false s t k m m′ r j = ap (λ (x : At). x .row) (j .state)
 
 -- ---- operators `isOp` of one level, with operands p
 
@@ -84,6 +116,27 @@ pub products-refused : {r : Got} {why : Syntax} {q : ℕ} (ts : List Tok) (d i n
     → Met (Parse.mul ts (Parse.inner ts d) i) i n m m″ (Refused why q)
 products-refused {why = why} {q = q} ts d i n m m″ h e =
     met-no _ i n why q m m″ (mul-is ts (Parse.inner ts d) i ∙ then-no _ _ why q (refusal i n m m″ h e))
+
+-- the factor that it reads next
+abbrev pub Factors : List Tok → (d i n : ℕ) → List ℕ → At → (k at : ℕ) → List ℕ → Type 0
+Factors ts d i n m s k at m′ = Next ts (Products ts d i n m) isMul i n m s k at m′
+
+module _ {ts : List Tok} {d i n : ℕ} {m : List ℕ} {s : At} {k at : ℕ} {m′ : List ℕ} where
+  pub factors-fail : {r : Got} {why : Syntax} {q : ℕ} (m″ : List ℕ) → Factors ts d i n m s k at m′
+      → Met (Parse.unary ts (Parse.inner ts d) at) at (s .node) m′ m″ r → r ≡ Refused why q
+      → Met (Parse.mul ts (Parse.inner ts d) i) i n m m″ (Refused why q)
+  factors-fail m″ (first en ek ea em) h e = products-refused ts d i n m m″ (rw (en, ea, em) at h) e
+  factors-fail m″ (further w ek b ea l) h e = level-fails w (ap isMul (sym ek) ∙ b) m″ (rw ea at h) e
+
+  pub factors-read : {t : At} {m₂ : List ℕ} {s₃ : At} {m₃ : List ℕ} → Factors ts d i n m s k at m′
+      → Came (Reads ts Unary d at) ts (Parse.unary ts (Parse.inner ts d) at) at (s .node) m′ t m₂
+      → Joined (eqb k Eof) s t k m₂ m₃ s₃ → Products ts d i n m s₃ m₃
+  factors-read {t = t} {m₂ = m₂} {s₃ = s₃} {m₃ = m₃} (first en ek ea em) v j =
+      let g : (s₃ ≡ t) × (m₃ ≡ m₂) = rw (eq-eqb k Eof ek) at j in
+      rw (g .0, g .1) (products-start (rw (en, ea, em) at v))
+  factors-read {t = t} {m₂ = m₂} {s₃ = s₃} {m₃ = m₃} (further w ek b ea l) v j =
+      let g : Joint s t k m₂ m₃ s₃ = rw (op-not-eof isMul k refl b) at j in
+      level-again w (ap isMul (sym ek) ∙ b) ek (rw ea at v) g
 
 -- ---- shifts, and from the first sign on signs alone
 
@@ -202,3 +255,28 @@ module _ {ts : List Tok} {d i n : ℕ} {m : List ℕ} {s : At} {m′ : List ℕ}
       go false f =
           let g = left-true (isShift (kindAt ts (s .row))) _ (rw f at h) in
           shifting (summed false f) (level-again (shifts-now w (rw f at h)) g ek v e)
+
+-- the term that `add` reads next
+abbrev pub Terms : List Tok → (d i n : ℕ) → List ℕ → At → (k at : ℕ) → List ℕ → Type 0
+Terms ts d i n m s k at m′ = Next ts (Sums ts d i n m) (λ x. joins x (s .summed)) i n m s k at m′
+
+-- the row's kind goes on where the operator does
+goes : (k x : ℕ) (b : Bool) → k ≡ x → joins k b ≡ true → joins x b ≡ true
+goes k x b ek h = ap (λ (y : ℕ). joins y b) (sym ek) ∙ h
+
+module _ {ts : List Tok} {d i n : ℕ} {m : List ℕ} {s : At} {k at : ℕ} {m′ : List ℕ} where
+  pub terms-fail : {r : Got} {why : Syntax} {q : ℕ} (m″ : List ℕ) → Terms ts d i n m s k at m′
+      → Met (Parse.mul ts (Parse.inner ts d) at) at (s .node) m′ m″ r → r ≡ Refused why q
+      → Met (Parse.add ts (Parse.inner ts d) i) i n m m″ (Refused why q)
+  terms-fail m″ (first en ek ea em) h e = sums-refused ts d i n m m″ (rw (en, ea, em) at h) e
+  terms-fail m″ (further w ek b ea l) h e = sums-fails m″ w (goes k _ (s .summed) ek b) (rw ea at h) e
+
+  pub terms-read : {t : At} {m₂ : List ℕ} {s₃ : At} {m₃ : List ℕ} → Terms ts d i n m s k at m′
+      → Came (Reads ts Mul d at) ts (Parse.mul ts (Parse.inner ts d) at) at (s .node) m′ t m₂
+      → Joined (eqb k Eof) s t k m₂ m₃ s₃ → Sums ts d i n m s₃ m₃
+  terms-read {t = t} {m₂ = m₂} {s₃ = s₃} {m₃ = m₃} (first en ek ea em) v j =
+      let g : (s₃ ≡ t) × (m₃ ≡ m₂) = rw (eq-eqb k Eof ek) at j in
+      rw (g .0, g .1) (sums-start (rw (en, ea, em) at v))
+  terms-read {t = t} {m₂ = m₂} {s₃ = s₃} {m₃ = m₃} (further w ek b ea l) v j =
+      let g : Joint s t k m₂ m₃ s₃ = rw (op-not-eof (λ x. joins x (s .summed)) k refl b) at j in
+      sums-again w (goes k _ (s .summed) ek b) ek (rw ea at v) g

@@ -28,3 +28,8 @@ pub record FieldEnd (s : At) (m m′ : List ℕ) (r : At) : Type 0 where
 pub record Joint (s t : At) (k : ℕ) (m m′ : List ℕ) (r : At) : Type 0 where
   pub state : r ≡ joinedAt (t .row) (t .node + 1) (s .place) (isAdd k)
   pub memory : m′ ≡ sets m (8 * t .node) (nodeWords (node (binaryNode k) (s .place) missing 2))
+
+-- the same, or t alone where there is no operator
+abbrev pub Joined : (alone : Bool) → At → At → ℕ → List ℕ → List ℕ → At → Type 0
+Joined true s t k m m′ r = (r ≡ t) × (m′ ≡ m)
+Joined false s t k m m′ r = Joint s t k m m′ r

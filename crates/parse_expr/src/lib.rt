@@ -7,6 +7,7 @@ use rules::Syntax;
 use rules::fits;
 use rules::kind::COMMA;
 use rules::kind::DOT;
+use rules::kind::EOF;
 use rules::kind::IDENTIFIER;
 use rules::kind::LPAREN;
 use rules::kind::MINUS;
@@ -26,11 +27,13 @@ use rules::row::WORDS;
 ghost use mathlib.Core.Path.{_≡_};
 ghost use mathlib.Core.Bool.{not, _&&_, _||_};
 ghost use Prim.Native.Nat.{_+_, _*_, _≤_, _<_};
+ghost use lib.Dec.{eqb};
 ghost use lib.ListN.{length};
+ghost use Rattle.rules.specs.Kinds.{Eof};
 ghost use Rattle.rules.specs.Nodes.{binaryNode};
 ghost use Rattle.rules.specs.Parse.{isAdd, isShift, isMul, inner, atom, prim, unary, mul, add, args, post};
-ghost use Rattle.parse_nodes.specs.Post.{kindWord, Answers, Onward, Asks, AsksAt, AsksOpen};
-ghost use Rattle.parse_expr.specs.Written.{CallEnd, FieldEnd, Joint};
+ghost use Rattle.parse_nodes.specs.Post.{kindWord, stateAt, Answers, Onward, Asks, AsksAt, AsksOpen};
+ghost use Rattle.parse_expr.specs.Written.{CallEnd, FieldEnd, Joined};
 ghost use Rattle.parse_expr.specs.Lone.{isLone, Leaf};
 
 // Whether a row's kind is `+` or `-`, which stand side by side among the kinds.
@@ -143,11 +146,29 @@ fn joins(k: u32, summed: bool) -> bool
     is_add(k) | (is_shift(k) & !summed)
 }
 
-// The state behind the operator k with its operands: the first ends at s, the second at t.
+// The state before an operand that is read at a row, its first node the next.
+fn unread(row: u32, node: u32) -> At
+    ensures { λ r. ⌜ r ≡ stateAt row node row ⌝ }
+{
+    At {
+        row,
+        node,
+        place: row,
+        things: 0,
+        variable: false,
+        summed: false,
+        hanging: false,
+    }
+}
+
+// The state behind the operator k with its operands: the first ends at s, the second at t. No operator, Eof, has t alone.
 fn joined(nodes: &mut [u32], s: At, t: At, k: u32) -> At
     requires { ⌜ t .node ≤ 65537 ⌝ }
-    ensures { λ r. ⌜ Joint s t k (now (nodes .entry)) (now (nodes .exit)) r ⌝ }
+    ensures { λ r. ⌜ Joined (eqb k Eof) s t k (now (nodes .entry)) (now (nodes .exit)) r ⌝ }
 {
+    if k == EOF {
+        return t;
+    }
     let n = t.node;
     parse_nodes::close(nodes, n, binary_node(k), s.place, MISSING, 2);
     At {
@@ -161,24 +182,17 @@ fn joined(nodes: &mut [u32], s: At, t: At, k: u32) -> At
     }
 }
 
-// An expression: operands of `mul` behind shifts, and from the first sign on behind signs alone.
+// An expression: operands of `mul` behind shifts, and from the first sign on behind signs alone. k is the operator in front of the operand
+// at row `at`, and Eof in front of the first: one call reads them all, so that one answer has room in the frame.
 pub fn add(rows: &[u32], count: u32, nodes: &mut [u32], row: u32, node: u32, left: usize) -> Got
     requires { ⌜ Asks (now rows) count row node left ⌝ }
     ensures { λ r. ⌜ Answers (λ ts. add ts (inner ts left) row) (now (rows .entry)) count row node (now (nodes .entry)) (now (nodes .exit)) r ⌝ }
 {
-    let mut s = match mul(rows, count, nodes, row, node, left) {
-        Got::Done(t) => t,
-        Got::Refused(why, r) => {
-            return Got::Refused(why, r);
-        }
-    };
+    let mut s = unread(row, node);
+    let mut k = EOF;
+    let mut at = row;
     loop {
-        let at = s.row;
-        let k = parse_nodes::kind_at(rows, count, at);
-        if !joins(k, s.summed) {
-            return Got::Done(s);
-        }
-        match mul(rows, count, nodes, at + 1, s.node, left) {
+        match mul(rows, count, nodes, at, s.node, left) {
             Got::Done(t) => {
                 s = joined(nodes, s, t, k);
             }
@@ -186,6 +200,12 @@ pub fn add(rows: &[u32], count: u32, nodes: &mut [u32], row: u32, node: u32, lef
                 return Got::Refused(why, r);
             }
         }
+        let end = s.row;
+        k = parse_nodes::kind_at(rows, count, end);
+        if !joins(k, s.summed) {
+            return Got::Done(s);
+        }
+        at = end + 1;
     }
 }
 
@@ -197,19 +217,11 @@ fn mul(rows: &[u32], count: u32, nodes: &mut [u32], row: u32, node: u32, left: u
     if is_lone(rows, count, row) {
         return Got::Done(leaf(rows, count, nodes, row, node));
     }
-    let mut s = match unary(rows, count, nodes, row, node, left) {
-        Got::Done(t) => t,
-        Got::Refused(why, r) => {
-            return Got::Refused(why, r);
-        }
-    };
+    let mut s = unread(row, node);
+    let mut k = EOF;
+    let mut at = row;
     loop {
-        let at = s.row;
-        let k = parse_nodes::kind_at(rows, count, at);
-        if !is_mul(k) {
-            return Got::Done(s);
-        }
-        match unary(rows, count, nodes, at + 1, s.node, left) {
+        match unary(rows, count, nodes, at, s.node, left) {
             Got::Done(t) => {
                 s = joined(nodes, s, t, k);
             }
@@ -217,6 +229,12 @@ fn mul(rows: &[u32], count: u32, nodes: &mut [u32], row: u32, node: u32, left: u
                 return Got::Refused(why, r);
             }
         }
+        let end = s.row;
+        k = parse_nodes::kind_at(rows, count, end);
+        if !is_mul(k) {
+            return Got::Done(s);
+        }
+        at = end + 1;
     }
 }
 

@@ -1,20 +1,20 @@
 -- What the functions over statements, guards and bodies ask and promise.
 use mathlib.Core.Path.{_≡_}
-use mathlib.Core.Bool.{true}
+use mathlib.Core.Bool.{true, cond}
 use mathlib.Core.List.{List, _++_}
-use Prim.Native.Nat.{ℕ, _+_, _*_, _≤_, _<_}
+use Prim.Native.Nat.{ℕ, _+_, _-_, _*_, _≤_, _<_}
 use lib.Dec.{eqb}
 use lib.ListN.{length}
 use lib.Seq.{sets}
-use Rattle.rules.specs.Kinds.{KeywordElse}
+use Rattle.rules.specs.Kinds.{KeywordElse, RParen}
 use Rattle.rules.specs.Tree.{Tok, spellingOf, Tree, thenBody, count}
-use Rattle.rules.specs.Nodes.{width, size, treeWords, node, nodeWords, missing, NodeVariable, NodeIf}
+use Rattle.rules.specs.Nodes.{width, size, treeWords, node, nodeWords, missing, NodeVariable, NodeIf, NodeThen, NodeElse}
 use Rattle.rules.specs.Parse
 use Rattle.rules.specs.Parse.{Out, ok, no, P, then, StmtLead, branching, tokAt, kindAt}
 use Rattle.parse_nodes.specs.declared.At.{At}
 use Rattle.parse_nodes.specs.declared.Got.{Got}
 use Rattle.parse_nodes.specs.declared.Got.the-variants.{Done, Refused}
-use Rattle.parse_nodes.specs.Post.{Tells, stateAt, hangingAt, Met}
+use Rattle.parse_nodes.specs.Post.{kindWord, Tells, stateAt, hangingAt, Met}
 use Rattle.parse_stmt.specs.declared.Opened.{Opened}
 use Rattle.parse_stmt.specs.declared.Opened.the-variants as opened
 
@@ -42,11 +42,15 @@ elseAt ts d p w l k = Parse.elseBy ts d p (eqb (kindAt ts k) KeywordElse) w (the
 -- The `if` is at row i: the rows up to its brace, behind which the bodies are read, or why not.
 abbrev pub HeadSays : List ℕ → ℕ → ℕ → Opened → Type 0
 HeadSays ws n i (opened.Brace o) =
-    (o ≡ i + 5) × (o < n) × ((ts : List Tok) → Tells ts ws n → (d : ℕ) (p : P)
+    (o ≡ i + 5) × (o < n) × (kindWord ws n (i + 4) ≡ RParen) × ((ts : List Tok) → Tells ts ws n → (d : ℕ) (p : P)
     → Parse.stmtBy ts d p branching i ≡ then (p o) (λ l k. elseAt ts d p (spellingOf (tokAt ts (i + 3))) l k))
 HeadSays ws n i (opened.Refused why q) = (ts : List Tok) → Tells ts ws n → (d : ℕ) (p : P) → Parse.stmtBy ts d p branching i ≡ no why q
 
 -- ---- bodies
+
+-- a body's node kind, by the kind of the row in front of its brace: `else`, or the `)` of a guard
+unfoldable pub bodyNode : ℕ → ℕ
+bodyNode k = cond (eqb k KeywordElse) NodeElse NodeThen
 
 -- a body's statements l, read behind the brace at row i, and its node of a kind behind theirs
 abbrev pub BodyMet : Out → ℕ → ℕ → ℕ → List ℕ → List ℕ → Got → Type 0
@@ -56,8 +60,9 @@ BodyMet (ok l j) kind i n m m′ r =
 BodyMet (no why p) kind i n m m′ r = r ≡ Refused why p
 
 -- the answer at its brace, with d constructs left
-abbrev pub BodyAnswers : (d kind : ℕ) → List ℕ → ℕ → ℕ → ℕ → List ℕ → List ℕ → Got → Type 0
-BodyAnswers d kind ws n i nd m m′ r = (ts : List Tok) → Tells ts ws n → BodyMet (Parse.body ts d i) kind i nd m m′ r
+abbrev pub BodyAnswers : ℕ → List ℕ → ℕ → ℕ → ℕ → List ℕ → List ℕ → Got → Type 0
+BodyAnswers d ws n i nd m m′ r =
+    (ts : List Tok) → Tells ts ws n → BodyMet (Parse.body ts d i) (bodyNode (kindWord ws n (i - 1))) i nd m m′ r
 
 -- ---- behind a then body
 

@@ -28,7 +28,7 @@ ghost use Rattle.rules.specs.Fits.{only, bodyThings};
 ghost use Rattle.rules.specs.Nodes.{declNode, assignNode};
 ghost use Rattle.rules.specs.Parse.{isDeclaring, isAssign, declaring, returning, branching, expression, stmt, body};
 ghost use Rattle.parse_nodes.specs.Post.{Answers, Onward, Asks, AsksAt, AsksOpen};
-ghost use Rattle.parse_stmt.specs.Bodies.{byLead, assignedTo, NamedEnd, HeadSays, BodyAnswers, AsksElse, Elsewise, HangingIf};
+ghost use Rattle.parse_stmt.specs.Bodies.{byLead, assignedTo, NamedEnd, bodyNode, HeadSays, BodyAnswers, AsksElse, Elsewise, HangingIf};
 
 // Whether a row's kind is reg, imm or heap.
 fn is_declaring(k: u32) -> bool
@@ -248,7 +248,7 @@ fn branch(rows: &[u32], count: u32, nodes: &mut [u32], row: u32, node: u32, left
         Opened::Brace(brace) => {
             let name = row + 3;
             parse_nodes::close(nodes, node, node_kind::VARIABLE, name, name, 0);
-            match body(rows, count, nodes, brace, node + 1, left, node_kind::THEN) {
+            match body(rows, count, nodes, brace, node + 1, left) {
                 Got::Done(t) => otherwise(rows, count, nodes, t, row + 1, left),
                 Got::Refused(why, r) => Got::Refused(why, r),
             }
@@ -288,7 +288,7 @@ fn otherwise(rows: &[u32], count: u32, nodes: &mut [u32], t: At, guard: u32, lef
     if parse_nodes::kind_at(rows, count, brace) != LBRACE {
         return Got::Refused(parse_nodes::wanted(LBRACE), brace as usize);
     }
-    match body(rows, count, nodes, brace, n, left, node_kind::ELSE) {
+    match body(rows, count, nodes, brace, n, left) {
         Got::Done(u) => Got::Done(parse_nodes::shut(nodes, u, node_kind::IF, guard, 3)),
         Got::Refused(why, r) => Got::Refused(why, r),
     }
@@ -304,18 +304,21 @@ fn things(hanging: bool) -> u64
     fits::BODY_THINGS
 }
 
-// The body whose brace is at the row: its statements, and its node, of a kind: then or else.
-fn body(
-    rows: &[u32],
-    count: u32,
-    nodes: &mut [u32],
-    row: u32,
-    node: u32,
-    left: usize,
-    kind: u32,
-) -> Got
-    requires { ⌜ AsksOpen (now rows) count row node left ⌝ }
-    ensures { λ r. ⌜ BodyAnswers left kind (now (rows .entry)) count row node (now (nodes .entry)) (now (nodes .exit)) r ⌝ }
+// The node kind of a body, by the kind of the row in front of its brace: `else`, or the `)` of a guard.
+fn body_node(k: u32) -> u32
+    ensures { λ r. ⌜ r ≡ bodyNode k ⌝ }
+{
+    if k == ELSE {
+        node_kind::ELSE
+    } else {
+        node_kind::THEN
+    }
+}
+
+// The body whose brace is at the row: its statements, and its node.
+fn body(rows: &[u32], count: u32, nodes: &mut [u32], row: u32, node: u32, left: usize) -> Got
+    requires { ⌜ (0 < row) × AsksOpen (now rows) count row node left ⌝ }
+    ensures { λ r. ⌜ BodyAnswers left (now (rows .entry)) count row node (now (nodes .entry)) (now (nodes .exit)) r ⌝ }
 {
     if left == 0 {
         return Got::Refused(Syntax::TooDeep, row as usize);
@@ -332,6 +335,7 @@ fn body(
     loop {
         let at = s.row;
         if parse_nodes::kind_at(rows, count, at) == RBRACE {
+            let kind = body_node(parse_nodes::kind_at(rows, count, row - 1));
             return Got::Done(parse_nodes::ended(nodes, s, kind, row, s.things));
         }
         match stmt(rows, count, nodes, at, s.node, left - 1) {

@@ -122,7 +122,7 @@ unfolding has
 in-tops k b = three-kinds (λ x. has tops x ≡ true) k KeywordMap KeywordUnit KeywordEvent b refl refl refl
 
 -- the four types
-type-case : (C : ℕ → Type 0) (k : ℕ) → isType k ≡ true → C TypeU32 → C TypeU64 → C TypeI32 → C TypeI64 → C k
+pub type-case : (C : ℕ → Type 0) (k : ℕ) → isType k ≡ true → C TypeU32 → C TypeU64 → C TypeI32 → C TypeI64 → C k
 type-case C k b p q r s = go (eqb k TypeU32) (eqb k TypeU64) (eqb k TypeI32) refl refl refl
   where
     bounds : (leb TypeU32 k ≡ true) × (leb k TypeI64 ≡ true)

@@ -10,9 +10,10 @@ use Rattle.rules.specs.Parse
 use Rattle.rules.specs.Parse.{no, kindAt}
 use Rattle.theory_grammar.specs.Tokens.{Proper}
 use Rattle.theory_grammar.specs.Lost.{isMisfit, lost, LostAt, own, around}
-use Rattle.theory_grammar.specs.Fitting.{Fitting, ToldExactly}
+use Rattle.theory_grammar.specs.Fitting.{Fitting, ToldExactly, inGrammar}
 use Rattle.theory_grammar.proofs.GoesOn.{Lost, some-goes-on}
 use Rattle.theory_grammar.proofs.FitsTold.{fits-told, found-unfit}
+use Rattle.theory_grammar.proofs.Lines.{fits-lined}
 
 -- with each kind that is told some program goes on
 pub told-fits : (ts : List Tok) (why : Syntax) (r : ℕ) → Proper ts → Parse.parse ts ≡ no why r → isMisfit why ≡ true → (k : ℕ)
@@ -36,4 +37,13 @@ found-untold ts why r p e m = go (has (setTold why) (kindAt ts (lost ts why r)))
   where
     go : (b : Bool) → has (setTold why) (kindAt ts (lost ts why r)) ≡ b → b ≡ false
     go true q = absurd (found-unfit ts why r e m (told-fits ts why r p e m (kindAt ts (lost ts why r)) q))
+    go false q = refl
+
+-- Nor is a kind that no line of the grammar has: 16 to 20, 37 to 40, and all from 53 on.
+pub never-told : (ts : List Tok) (why : Syntax) (r : ℕ) → Proper ts → Parse.parse ts ≡ no why r → isMisfit why ≡ true → (k : ℕ)
+    → inGrammar k ≡ false → has (setTold why) k ≡ false
+never-told ts why r p e m k n = go (has (setTold why) k) refl
+  where
+    go : (b : Bool) → has (setTold why) k ≡ b → b ≡ false
+    go true q = absurd (true≢false (sym (fits-lined ts (lost ts why r) k (told-fits ts why r p e m k q)) ∙ n))
     go false q = refl

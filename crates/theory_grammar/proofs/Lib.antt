@@ -23,6 +23,7 @@ pub mod GoesOnStmt
 pub mod GoesOnFields
 pub mod GoesOn
 pub mod FitsTold
+pub mod Lines
 pub mod Fitting
 pub mod Place
 pub mod Tables

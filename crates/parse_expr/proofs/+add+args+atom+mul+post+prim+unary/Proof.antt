@@ -39,11 +39,10 @@ pub +add+args+atom+mul+post+prim+unary-spec : {M : Type 1} → statement M
 +add+args+atom+mul+post+prim+unary-spec =
     close μ-add μ-args μ-atom μ-mul μ-post μ-prim μ-unary
     (λ t. add-lts.spec (add-proof.cs t) (add-at t) add.Post add-proof.Inv-loop add-proof.μ-loop
-    (add-proof.mul-requires t) (add-proof.enum-known-t t) (add-proof.enum-known-why t) (add-proof.same-length t) (add-proof.returns t)
-    (add-proof.loop-holds t) (add-proof.kind-at-requires t) (add-proof.joins-requires t) (add-proof.same-length-2 t)
-    (add-proof.returns-2 t) (add-proof.add-mul t) (add-proof.mul-requires-2 t) (add-proof.enum-known-t-2 t)
-    (add-proof.joined-requires t) (add-proof.loop-less t) (add-proof.loop-again t) (add-proof.enum-known-why-2 t)
-    (add-proof.same-length-3 t) (add-proof.returns-3 t))
+    (add-proof.unread-requires t) (add-proof.loop-holds t) (add-proof.mul-requires t) (add-proof.enum-known-t t)
+    (add-proof.joined-requires t) (add-proof.enum-known-why t) (add-proof.same-length t) (add-proof.returns t)
+    (add-proof.kind-at-requires t) (add-proof.joins-requires t) (add-proof.same-length-2 t) (add-proof.returns-2 t)
+    (add-proof.add-at-row t) (add-proof.loop-less t) (add-proof.loop-again t))
     (λ t. args-lts.spec (args-proof.cs t) (args-at t) args.Post args-proof.Inv-loop args-proof.μ-loop
     (args-proof.returns t) (args-proof.add-add t) (args-proof.sub-add t) (args-proof.add-requires t) (args-proof.enum-known-t t)
     (args-proof.counted-requires t) (args-proof.enum-known-why t) (args-proof.add-instead t) (args-proof.instead-requires t)
@@ -63,11 +62,10 @@ pub +add+args+atom+mul+post+prim+unary-spec : {M : Type 1} → statement M
     (atom-proof.same-length-5 t) (atom-proof.returns-6 t) (atom-proof.wrong-requires t) (atom-proof.returns-7 t))
     (λ t. mul-lts.spec (mul-proof.cs t) (mul-at t) mul.Post mul-proof.Inv-loop mul-proof.μ-loop
     (mul-proof.is-lone-requires t) (mul-proof.leaf-requires t) (mul-proof.same-length t) (mul-proof.returns t)
-    (mul-proof.unary-requires t) (mul-proof.enum-known-t t) (mul-proof.enum-known-why t) (mul-proof.same-length-2 t)
-    (mul-proof.returns-2 t) (mul-proof.loop-holds t) (mul-proof.kind-at-requires t) (mul-proof.is-mul-requires t)
-    (mul-proof.same-length-3 t) (mul-proof.returns-3 t) (mul-proof.add-unary t) (mul-proof.unary-requires-2 t)
-    (mul-proof.enum-known-t-2 t) (mul-proof.joined-requires t) (mul-proof.loop-less t) (mul-proof.loop-again t)
-    (mul-proof.enum-known-why-2 t) (mul-proof.same-length-4 t) (mul-proof.returns-4 t))
+    (mul-proof.unread-requires t) (mul-proof.loop-holds t) (mul-proof.unary-requires t) (mul-proof.enum-known-t t)
+    (mul-proof.joined-requires t) (mul-proof.enum-known-why t) (mul-proof.same-length-2 t) (mul-proof.returns-2 t)
+    (mul-proof.kind-at-requires t) (mul-proof.is-mul-requires t) (mul-proof.same-length-3 t) (mul-proof.returns-3 t)
+    (mul-proof.add-at-row t) (mul-proof.loop-less t) (mul-proof.loop-again t))
     (λ t. post-lts.spec (post-proof.cs t) (post-at t) post.Post
     (post-proof.add-name t) (post-proof.kind-at-requires t) (post-proof.wanted-requires t) (post-proof.cast-t18 t)
     (post-proof.returns t) (post-proof.add-open t) (post-proof.kind-at-requires-2 t) (post-proof.field-end-requires t)

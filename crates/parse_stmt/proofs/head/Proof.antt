@@ -9,7 +9,7 @@ use Rattle.rules.specs.Tree.{Tok, spellingOf}
 use Rattle.rules.specs.Parse
 use Rattle.rules.specs.Parse.{Out, P, then, branching, tokAt, kindAt}
 use Rattle.theory_grammar.proofs.Cases.{need-yes, need-no, branching-is, bodies-is, then-no}
-use Rattle.parse_nodes.specs.Post.{Tells}
+use Rattle.parse_nodes.specs.Post.{kindWord, Tells}
 use Rattle.parse_nodes.proofs.Rows.{word-here}
 use Rattle.parse_nodes.proofs.Seen.{seen, want-met, want-unmet, named-met, named-unmet}
 use Rattle.parse_stmt.specs.Bodies.{elseAt}
@@ -200,9 +200,11 @@ returns-6 c =
     let k = c .before in
     let a = from-brace k .args in
     let o : ℕ = a .row + 1 + 1 + 1 + 1 + 1 in
-    let three : a .row + 1 + 1 + 1 ≡ a .row + 3 = omega arith in (
+    let three : a .row + 1 + 1 + 1 ≡ a .row + 3 = omega arith in
+    let four : a .row + 4 ≡ a .row + 1 + 1 + 1 + 1 = omega arith in (
       omega arith,
       word-here (a .rows .now) (a .count) o LBrace (sym (k .kind-at5 .ensures) ∙ c .if5 .left) refl,
+      ap (kindWord (a .rows .now) (a .count)) four ∙ sym (at-close k .kind-at4 .ensures) ∙ k .before .if4 .left,
       λ ts h d p.
           close-read k ts h d p ∙ bodies-is ts d p _ o
           ∙ ap (λ (x : Out). then x (λ l j. elseAt ts d p (spellingOf (tokAt ts (a .row + 1 + 1 + 1))) l j))

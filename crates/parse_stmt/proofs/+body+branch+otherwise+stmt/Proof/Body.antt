@@ -15,13 +15,14 @@ use Rattle.rules.specs.Grammar.{Stmt}
 use Rattle.theory_grammar.proofs.Laws.{is-wide}
 use Rattle.theory_grammar.proofs.Cases.{then-ok, then-no, body-none, body-some}
 use Rattle.theory_grammar.proofs.Sound.{Reads, stmt-sound}
-use Rattle.parse_nodes.specs.Post.{Tells, stateAt}
+use Rattle.parse_nodes.specs.Post.{kindWord, Tells, stateAt}
 use Rattle.parse_nodes.specs.Fitting.{retoldAt}
 use Rattle.parse_nodes.specs.declared.At.{At}
 use Rattle.parse_nodes.proofs.Rows.{tokens, tells-some}
 use Rattle.parse_nodes.proofs.Seen.{seen}
 use Rattle.parse_nodes.proofs.Turn.{Any, same-len, Came, came-reads, refused}
 use Rattle.parse_nodes.proofs.Steps.{mem-over, Listing, list-start, list-ends, list-fails, list-again}
+use Rattle.parse_stmt.specs.Bodies.{bodyNode}
 use Rattle.parse_stmt.proofs.Trees.{body-ok, body-no}
 use Rattle.parse_stmt.proofs.+body+branch+otherwise+stmt.Lts-body as lts
 use Rattle.parse_stmt.proofs.body.Reads as body
@@ -31,12 +32,15 @@ use Rattle.parse_nodes.proofs.ended.Reads as ended-reads
 use Rattle.parse_nodes.proofs.instead.Reads as instead-reads
 use Rattle.parse_nodes.proofs.kind_at.Reads as kind-at-reads
 use Rattle.parse_stmt.proofs.things.Reads as things-reads
+use Rattle.parse_stmt.proofs.body_node.Reads as body-node-reads
 use Rattle.parse_stmt.proofs.+body+branch+otherwise+stmt.Proof.Measures.{body-at, stmt-below}
 
 abbrev pub cs : ℕ → lts.Claims
 cs t = (
   kind-at-reads.Asked,
   kind-at-reads.Learnt,
+  body-node-reads.Asked,
+  body-node-reads.Learnt,
   ended-reads.Asked,
   ended-reads.Learnt,
   stmt-below t,
@@ -62,10 +66,10 @@ abbrev Reading : List Tok → ℕ → ℕ → ℕ → List ℕ → At → List �
 Reading ts o n d m s m′ = Listing Any ts RBrace bodyThings (statement ts d) (listing ts d o) (o + 1) n m s m′
 
 abbrev pub Inv-loop : lts.InvT-loop
-Inv-loop rows count nodes₀ row node left kind s₀ nodes s = (ts : List Tok) → Tells ts rows count → Reading ts row node left nodes₀ s nodes
+Inv-loop rows count nodes₀ row node left s₀ nodes s = (ts : List Tok) → Tells ts rows count → Reading ts row node left nodes₀ s nodes
 
 abbrev pub μ-loop : lts.MeasureT-loop
-μ-loop rows count nodes₀ row node left kind s₀ nodes s = count - s .row
+μ-loop rows count nodes₀ row node left s₀ nodes s = count - s .row
 
 module _ (t : ℕ) where
   -- ---- the places on the way
@@ -90,6 +94,10 @@ module _ (t : ℕ) where
 
   abbrev turn : Looked → Turning
   turn c = c .before
+
+  -- that it is the brace, from where the body's node is written
+  abbrev closed : lts.After-ended-arg (cs t) (body-at t) body.Post Inv-loop μ-loop → lts.Then2 (cs t) (body-at t) body.Post Inv-loop μ-loop
+  closed c = c .before .before .before
 
   -- the look at the row, from behind the call for a statement
   abbrev looked : Called → Looked
@@ -118,6 +126,10 @@ module _ (t : ℕ) where
 
   abbrev whole : List Tok → Entry → Out
   whole ts e = Parse.body ts (e .args .left) (e .args .row)
+
+  -- the body's node kind, by the row in front of its brace
+  abbrev kind : Entry → ℕ
+  kind e = bodyNode (kindWord (e .args .rows .now) (e .args .count) (e .args .row - 1))
 
   -- whatever the tokens
   told : (c : Turning) → Told (tokens (entry c .args .rows .now) (entry c .args .count)) c
@@ -161,7 +173,7 @@ module _ (t : ℕ) where
   returns c ts h =
       let e = c .before .before .before in
       let a = e .args in
-      body-no (whole ts e) (a .kind) (a .row) (a .node) TooDeep TooDeep (a .row) (a .nodes .now) (a .nodes .now)
+      body-no (whole ts e) (kind e) (a .row) (a .node) TooDeep TooDeep (a .row) (a .nodes .now) (a .nodes .now)
       (body-none ts (a .row) (a .left) (c .if1 .taken)) refl
 
   pub add-t16 : lts.Need-add-t16 (cs t) (body-at t) body.Post Inv-loop μ-loop
@@ -178,38 +190,49 @@ module _ (t : ℕ) where
       (omega (arith, h .long, e .pre .1)) refl tt
 
   pub kind-at-requires : lts.Need-kind-at-requires (cs t) (body-at t) body.Post Inv-loop μ-loop
-  kind-at-requires c κs = entry c .pre .1 .lent
+  kind-at-requires c κs = entry c .pre .1 .1 .lent
+
+  pub sub-kind-at : lts.Need-sub-kind-at (cs t) (body-at t) body.Post Inv-loop μ-loop
+  sub-kind-at c = omega (arith, entry (turn (c .before)) .pre .1 .0)
+
+  pub kind-at-requires-2 : lts.Need-kind-at-requires-2 (cs t) (body-at t) body.Post Inv-loop μ-loop
+  kind-at-requires-2 c κs = entry (turn (c .before)) .pre .1 .1 .lent
+
+  pub body-node-requires : lts.Need-body-node-requires (cs t) (body-at t) body.Post Inv-loop μ-loop
+  body-node-requires c κs = search needs
 
   pub ended-requires : lts.Need-ended-requires (cs t) (body-at t) body.Post Inv-loop μ-loop
   ended-requires c κs =
-      let d = turn (c .before .before) in
+      let d = turn (closed c .before) in
       let w = some d in
       omega (arith, w .few, w .counts, w .stands, w .inside, told d .long, entry d .pre .1)
 
   pub same-length : lts.Need-same-length (cs t) (body-at t) body.Post Inv-loop μ-loop
   same-length c =
       let o = c .before .before in
-      let d = turn (o .before .before .before) in
+      let d = turn (closed (o .before) .before) in
       o .ended .kept .0 ∙ same-len _ _ _ _ _ _ (some d .stands)
 
   pub returns-2 : lts.Need-returns-2 (cs t) (body-at t) body.Post Inv-loop μ-loop
   returns-2 c ts h =
       let o = c .before .before in
-      let f = o .before .before in
+      let n = o .before .before in
+      let f = closed (o .before) in
       let k = f .before in
       let l = turn k .loop in
       let a = entry (turn k) .args in
+      let b : n .body-node .result ≡ kind (entry (turn k)) = n .body-node .ensures ∙ ap bodyNode (n .before .kind-at2 .ensures) in
       let w = l .inv ts h in
       let s : At = l .s in
       let r = o .ended .ensures in
       let e = list-ends Any ts RBrace bodyThings (statement ts (a .left)) _ (a .row + 1) (a .node) (a .nodes .now) s (l .nodes) w
       (sym (kind-is k ts h) ∙ f .if2 .taken) in
-      body-ok (whole ts (entry (turn k))) (a .kind) (a .row) (a .node) (w .tree) (s .row + 1) (a .nodes .now) (o .ended .last .0)
-      (o .ended .result)
+      body-ok (whole ts (entry (turn k))) (kind (entry (turn k))) (a .row) (a .node) (w .tree) (s .row + 1) (a .nodes .now)
+      (o .ended .last .0) (o .ended .result)
       (body-some ts (a .row) (a .left) (turn k .before .if1 .left) ∙ then-ok _ _ (w .tree) (s .row) e)
       (r .0 ∙ ap (λ (x : ℕ). stateAt (s .row + 1) (x + 1) (a .row)) (w .stands .nodes))
       (mem-over (a .nodes .now) (a .row + 1) (a .node) (w .tree) s (l .nodes) (w .stands) (o .ended .last .0)
-      (nodeWords (node (a .kind) (a .row) missing (count (w .tree)))) (rw (← w .stands .things) (r .1)))
+      (nodeWords (node (kind (entry (turn k))) (a .row) missing (count (w .tree)))) (rw (← w .stands .things, ← b) (r .1)))
 
   pub sub-stmt : lts.Need-sub-stmt (cs t) (body-at t) body.Post Inv-loop μ-loop
   sub-stmt c = search needs
@@ -276,6 +299,6 @@ module _ (t : ℕ) where
       let e = refused _ _ _ _ _ _ _ _ (f .stmt .ensures ts h) (y .1) in
       let q = list-fails Any ts RBrace bodyThings (statement ts (a .left)) (listing ts (a .left) (a .row)) (a .row + 1) (a .node)
       (a .nodes .now) (l .s) (l .nodes) (l .inv ts h) (goes-on f ts h) (y .0 .0) (y .0 .1 .0) m e in
-      body-no (whole ts (entry d)) (a .kind) (a .row) (a .node) _ _ _ (a .nodes .now) m
+      body-no (whole ts (entry d)) (kind (entry d)) (a .row) (a .node) _ _ _ (a .nodes .now) m
       (body-some ts (a .row) (a .left) (d .before .if1 .left) ∙ then-no _ _ _ _ (refused _ _ _ _ _ _ _ _ q refl))
       (c .instead .ensures ∙ ap (λ (z : ℕ). retoldAt z (l .s .row) (y .0 .0) (y .0 .1 .0)) (c .before .things .ensures))

@@ -1,19 +1,20 @@
 -- `branch` of the circle: the rows of a guard, its then body, and what stands behind that.
-use Prim.Native.Nat.{ℕ, _+_}
-use mathlib.Core.Path.{refl, _∙_, subst}
+use Prim.Native.Nat.{ℕ, _+_, _-_}
+use mathlib.Core.Path.{_≡_, refl, ap, _∙_, subst}
 use mathlib.Core.List.{List}
 use native.Mathlib.Omega.{arith}
 use borrow.Author.Needs.{needs}
 use Rattle.rules.specs.Tree.{Tok, spellingOf}
+use Rattle.rules.specs.Nodes.{NodeThen}
 use Rattle.rules.specs.Parse
 use Rattle.rules.specs.Parse.{Out, branching, tokAt}
 use Rattle.theory_grammar.proofs.Cases.{then-ok, then-no}
 use Rattle.theory_grammar.proofs.Ends.{ends-body}
-use Rattle.parse_nodes.specs.Post.{Tells}
+use Rattle.parse_nodes.specs.Post.{kindWord, Tells}
 use Rattle.parse_nodes.proofs.Rows.{tells-some}
 use Rattle.parse_nodes.proofs.Turn.{met-no, met-as}
 use Rattle.parse_stmt.specs.declared.Opened.the-variants.{Brace, Refused}
-use Rattle.parse_stmt.specs.Bodies.{byLead, HeadSays}
+use Rattle.parse_stmt.specs.Bodies.{byLead, HeadSays, bodyNode, BodyMet}
 use Rattle.parse_stmt.proofs.Trees.{Bodied, bodied, body-refused, guarded}
 use Rattle.parse_stmt.proofs.+body+branch+otherwise+stmt.Lts-branch as lts
 use Rattle.parse_stmt.proofs.body.Reads as body
@@ -99,19 +100,41 @@ module _ (t : ℕ) where
       let a = at-brace c .args in
       subst (HeadSays (a .rows .now) (a .count) (a .row)) (c .brace .given .1) (headed c .head .ensures)
 
+  -- the row in front of the brace is no `else`
+  then-kind : (c : Braced)
+      → (let a = at-brace c .args in bodyNode (kindWord (a .rows .now) (a .count) (brace c - 1)) ≡ NodeThen)
+  unfolding bodyNode
+  then-kind c =
+      let a = at-brace c .args in
+      let e : brace c - 1 ≡ a .row + 4 = omega (arith, says c .0) in
+      ap (λ (x : ℕ). bodyNode (kindWord (a .rows .now) (a .count) x)) e ∙ ap bodyNode (says c .2)
+
+  answered : (c : Called) (ts : List Tok) → Told ts (at-brace (at-body c))
+      → (let b = at-body c in
+      let a = at-brace b .args in
+      BodyMet (Parse.body ts (a .left) (brace b)) NodeThen (brace b) (a .node + 1) (named c .close .last .0) (c .body .last .1 .1 .0)
+      (c .body .result))
+  answered c ts h =
+      let b = at-body c in
+      let a = at-brace b .args in
+      subst
+      (λ (x : ℕ). BodyMet (Parse.body ts (a .left) (brace b)) x (brace b) (a .node + 1) (named c .close .last .0)
+      (c .body .last .1 .1 .0) (c .body .result))
+      (then-kind b) (c .body .ensures ts h)
+
   -- what the call for the then body gave
   got : (c : Read) (ts : List Tok) → Told ts (at-brace (at-body (called c)))
       → (let b = at-body (called c) in
       let a = at-brace b .args in
-      Bodied ts (Parse.body ts (a .left) (brace b)) 21 (brace b) (a .node + 1) (named (called c) .close .last .0) (c .t .given .0 .0)
+      Bodied ts (Parse.body ts (a .left) (brace b)) NodeThen (brace b) (a .node + 1) (named (called c) .close .last .0) (c .t .given .0 .0)
       (called c .body .last .1 .1 .0))
   got c ts h =
       let f = called c .body in
       let b = at-body (called c) in
       let a = at-brace b .args in
-      bodied ts (Parse.body ts (a .left) (brace b)) 21 (brace b) (a .node + 1) (named (called c) .close .last .0) (f .last .1 .1 .0)
+      bodied ts (Parse.body ts (a .left) (brace b)) NodeThen (brace b) (a .node + 1) (named (called c) .close .last .0) (f .last .1 .1 .0)
       (f .result) (c .t .given .0 .0) (ends-body ts (a .left) (brace b) (omega (arith, h .long, says b .1)))
-      (f .ensures ts h) (c .t .given .1)
+      (answered (called c) ts h) (c .t .given .1)
 
   -- ---- the needs
 
@@ -175,7 +198,7 @@ module _ (t : ℕ) where
       let v = got p ts h in
       let k = says b in
       met-as (whole ts (at-brace b)) _ _ _ _ _ _
-      (k .2 ts h (a .left) (Parse.body ts (a .left)) ∙ then-ok _ _ (v .list) (p .t .given .0 .0 .row) (v .is))
+      (k .3 ts h (a .left) (Parse.body ts (a .left)) ∙ then-ok _ _ (v .list) (p .t .given .0 .0 .row) (v .is))
       (o .otherwise .ensures ts h (a .row) (a .node) (spellingOf (tokAt ts (a .row + 3))) (v .list) (a .nodes .now) refl
       (guarded ts (a .row) (a .node) (a .nodes .now) (f .last .1 .1 .0) (p .t .given .0 .0) (Parse.body ts (a .left) (brace b)) (brace b)
       (n .last .0) v (k .0) (n .ensures)))
@@ -191,10 +214,10 @@ module _ (t : ℕ) where
       let a = at-brace b .args in
       let w = c .before .why .given in
       met-no (whole ts (at-brace b)) _ _ _ _ _ _
-      (says b .2 ts h (a .left) (Parse.body ts (a .left))
+      (says b .3 ts h (a .left) (Parse.body ts (a .left))
       ∙ then-no _ _ (w .0 .0) (w .0 .1 .0)
-      (body-refused (Parse.body ts (a .left) (brace b)) 21 (brace b) (a .node + 1) (named q .close .last .0) (f .last .1 .1 .0) (f .result)
-      (w .0 .0) (w .0 .1 .0) (f .ensures ts h) (w .1)))
+      (body-refused (Parse.body ts (a .left) (brace b)) NodeThen (brace b) (a .node + 1) (named q .close .last .0) (f .last .1 .1 .0)
+      (f .result) (w .0 .0) (w .0 .1 .0) (answered q ts h) (w .1)))
 
   pub returns-3 : lts.Need-returns-3 (cs t) (branch-at t) branch.Post
   returns-3 c ts h =

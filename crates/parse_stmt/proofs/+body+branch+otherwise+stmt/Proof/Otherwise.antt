@@ -1,22 +1,23 @@
 -- `otherwise` of the circle: behind a then body, an else body or nothing, and the node of the `if`.
-use Prim.Native.Nat.{ℕ, _+_, _<_}
-use mathlib.Core.Path.{_≡_, refl, sym, ap, _∙_}
+use Prim.Native.Nat.{ℕ, _+_, _-_, _<_}
+use mathlib.Core.Path.{_≡_, refl, sym, ap, _∙_, subst}
 use mathlib.Core.List.{List}
 use native.Mathlib.Omega.{arith}
 use borrow.Author.Needs.{needs}
 use Rattle.rules.specs.Kinds.{KeywordElse, LBrace}
 use Rattle.rules.specs.Tree.{Tok, Tree, none, guard, thenBody, elseBody}
+use Rattle.rules.specs.Nodes.{NodeElse}
 use Rattle.rules.specs.Parse
 use Rattle.rules.specs.Parse.{Out, ok, then, kindAt}
 use Rattle.theory_grammar.proofs.Laws.{here}
 use Rattle.theory_grammar.proofs.Cases.{then-ok, then-no, need-yes, need-no, else-yes, else-no}
 use Rattle.theory_grammar.proofs.Ends.{ends-body}
-use Rattle.parse_nodes.specs.Post.{Tells}
+use Rattle.parse_nodes.specs.Post.{kindWord, Tells}
 use Rattle.parse_nodes.specs.declared.At.{At}
 use Rattle.parse_nodes.proofs.Rows.{tells-some, word-here}
 use Rattle.parse_nodes.proofs.Seen.{seen}
 use Rattle.parse_nodes.proofs.Turn.{met-ok, met-no, met-told}
-use Rattle.parse_stmt.specs.Bodies.{elseAt}
+use Rattle.parse_stmt.specs.Bodies.{elseAt, bodyNode, BodyMet}
 use Rattle.parse_stmt.proofs.Trees.{Bodied, bodied, body-refused, stands-guard, stands-otherwise}
 use Rattle.parse_stmt.proofs.+body+branch+otherwise+stmt.Lts-otherwise as lts
 use Rattle.parse_stmt.proofs.body.Reads as body
@@ -125,19 +126,40 @@ module _ (t : ℕ) where
       ∙ ap (λ (x : Out). then x (λ e r. ok (guard w (thenBody l) (elseBody e)) r))
       (need-yes ts LBrace (Parse.body ts (a .left)) (a .t .row + 1) (sym (brace-is (braced c) ts h) ∙ c .before .before .if2 .left))
 
+  -- the row in front of the brace is `else`
+  else-kind : (c : Called)
+      → (let a = at-body c .args in bodyNode (kindWord (a .rows .now) (a .count) (a .t .row + 1 - 1)) ≡ NodeElse)
+  unfolding bodyNode
+  else-kind c =
+      let a = at-body c .args in
+      let e : a .t .row + 1 - 1 ≡ a .t .row = omega arith in
+      ap (λ (x : ℕ). bodyNode (kindWord (a .rows .now) (a .count) x)) e
+      ∙ ap bodyNode (sym (at-else (braced c) .kind-at .ensures) ∙ braced c .before .if1 .left)
+
+  answered : (c : Called) (ts : List Tok) → Told ts (at-body c)
+      → (let a = at-body c .args in
+      BodyMet (Parse.body ts (a .left) (a .t .row + 1)) NodeElse (a .t .row + 1) (a .t .node) (a .nodes .now) (c .body .last .1 .1 .0)
+      (c .body .result))
+  answered c ts h =
+      let a = at-body c .args in
+      subst
+      (λ (x : ℕ). BodyMet (Parse.body ts (a .left) (a .t .row + 1)) x (a .t .row + 1) (a .t .node) (a .nodes .now)
+      (c .body .last .1 .1 .0) (c .body .result))
+      (else-kind c) (c .body .ensures ts h)
+
   -- what the call for the body gave
   got : (c : Read) (ts : List Tok) → Told ts (at-body (called c))
       → (let a = at-body (called c) .args in
-      Bodied ts (Parse.body ts (a .left) (a .t .row + 1)) 22 (a .t .row + 1) (a .t .node) (a .nodes .now) (c .u .given .0 .0)
+      Bodied ts (Parse.body ts (a .left) (a .t .row + 1)) NodeElse (a .t .row + 1) (a .t .node) (a .nodes .now) (c .u .given .0 .0)
       (called c .body .last .1 .1 .0))
   got c ts h =
       let a = at-body (called c) .args in
       let f = called c .body in
-      bodied ts (Parse.body ts (a .left) (a .t .row + 1)) 22 (a .t .row + 1) (a .t .node) (a .nodes .now) (f .last .1 .1 .0) (f .result)
-      (c .u .given .0 .0)
+      bodied ts (Parse.body ts (a .left) (a .t .row + 1)) NodeElse (a .t .row + 1) (a .t .node) (a .nodes .now) (f .last .1 .1 .0)
+      (f .result) (c .u .given .0 .0)
       (ends-body ts (a .left) (a .t .row + 1)
       (here ts (a .t .row + 1) LBrace (sym (brace-is (braced (called c)) ts h) ∙ called c .before .before .if2 .left) refl))
-      (f .ensures ts h) (c .u .given .1)
+      (answered (called c) ts h) (c .u .given .1)
 
   -- ---- the needs
 
@@ -234,5 +256,5 @@ module _ (t : ℕ) where
       met-no (whole ts (at-body q) w l) _ _ _ _ _ _
       (opened q ts h w l
       ∙ then-no _ _ (y .0 .0) (y .0 .1 .0)
-      (body-refused (Parse.body ts (a .left) (a .t .row + 1)) 22 (a .t .row + 1) (a .t .node) (a .nodes .now) (f .last .1 .1 .0) (f .result)
-      (y .0 .0) (y .0 .1 .0) (f .ensures ts h) (y .1)))
+      (body-refused (Parse.body ts (a .left) (a .t .row + 1)) NodeElse (a .t .row + 1) (a .t .node) (a .nodes .now) (f .last .1 .1 .0)
+      (f .result) (y .0 .0) (y .0 .1 .0) (answered q ts h) (y .1)))
