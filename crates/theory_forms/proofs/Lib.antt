@@ -1,0 +1,2 @@
+-- The theorems about moved files, a file over those before it.
+pub mod Older
