@@ -46,7 +46,7 @@ row-take m ws h =
     let g : (i : ℕ) → i < 8 → getD (take m ws) i 0 ≡ getD ws i 0 = λ i l. getD-take m ws i 0 (omega arith) in
     rw (g 0 (omega arith), g 1 (omega arith), g 2 (omega arith), g 3 (omega arith), g 4 (omega arith), g 5 (omega arith), g 6 (omega arith), g 7 (omega arith))
 
-drop-take : (a m : ℕ) (ws : List ℕ) → drop a (take (a + m) ws) ≡ take m (drop a ws)
+pub drop-take : (a m : ℕ) (ws : List ℕ) → drop a (take (a + m) ws) ≡ take m (drop a ws)
 drop-take zero m ws = let e : 0 + m ≡ m = omega arith in rw e
 drop-take (suc a) m [] = let e : suc a + m ≡ suc (a + m) = omega arith in rw (e, take-nil m)
 drop-take (suc a) m (x ∷ ws) = let e : suc a + m ≡ suc (a + m) = omega arith in rw e (drop-take a m ws)

@@ -60,7 +60,7 @@ said-front file g e i h = sym (content-word file i h) ∙ ap (λ (x : List ℕ).
 
 -- ---- the ending that is told
 
-refused-said : (rs : List Lexical) (n : ℕ) (p : Cursor) (e : Ending) → readRefused rs n p ≡ Ends e → endingSaid e ≡ n ∷ p .offset .0 ∷ p .line .0 ∷ p .column .0 ∷ []
+pub refused-said : (rs : List Lexical) (n : ℕ) (p : Cursor) (e : Ending) → readRefused rs n p ≡ Ends e → endingSaid e ≡ n ∷ p .offset .0 ∷ p .line .0 ∷ p .column .0 ∷ []
 unfolding readRefused
 refused-said [] n p e q = absurd (let z : _≡_ {A = ℕ} 0 1 = cc in omega arith)
 refused-said (why ∷ rs) n p e q = go (eqb n (lexicalNumber why)) refl q (refused-said rs n p e)
@@ -113,18 +113,18 @@ pub record Reads (file : List ℕ) (room : ℕ) (t : Table) : Type 0 where
   pub room-is : t .count ≤ room
 
 -- a test that refuses has failed
-passed : (b : Bool) (why : Fault) (y : Loaded) (t : Table) → cond b (loaded.Refused why) y ≡ loaded.Rows t → (b ≡ false) × (y ≡ loaded.Rows t)
+pub passed : (b : Bool) (why : Fault) (y : Loaded) (t : Table) → cond b (loaded.Refused why) y ≡ loaded.Rows t → (b ≡ false) × (y ≡ loaded.Rows t)
 passed true why y t e = absurd (let z : _≡_ {A = ℕ} 0 1 = cc in omega arith)
 passed false why y t e = (refl, e)
 
 -- the table is told behind 43 and 4
-record Last (ws : List ℕ) (room : ℕ) (u t : Table) : Type 0 where
-  same : u ≡ t
-  few : u .count ≤ mostRows
-  well : wellFormed ws u ≡ true
-  room-is : u .count ≤ room
+pub record Last (ws : List ℕ) (room : ℕ) (u t : Table) : Type 0 where
+  pub same : u ≡ t
+  pub few : u .count ≤ mostRows
+  pub well : wellFormed ws u ≡ true
+  pub room-is : u .count ≤ room
 
-last-of : (ws : List ℕ) (room : ℕ) (u t : Table) → rowsTold ws room u ≡ loaded.Rows t → Last ws room u t
+pub last-of : (ws : List ℕ) (room : ℕ) (u t : Table) → rowsTold ws room u ≡ loaded.Rows t → Last ws room u t
 unfolding rowsTold
 last-of ws room u t q =
     let no = passed (ltb room (u .count)) (Outer NoRowRoom) (loaded.Rows u) t in

@@ -1,2 +1,3 @@
 -- The theorems about moved files, a file over those before it.
 pub mod Older
+pub mod Short
