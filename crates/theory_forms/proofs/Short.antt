@@ -2,7 +2,7 @@
 -- of that table, wherever its places are counted.
 use mathlib.Core.Path.{_≡_, refl, sym, ap, _∙_}
 use mathlib.Core.Bool.{Bool, true, false, cond, not, _&&_}
-use mathlib.Core.List.{List, [], _∷_, _++_}
+use mathlib.Core.List.{List, [], _∷_, _++_, append-nil}
 use Prim.Native.Nat.{ℕ, zero, suc, _+_, _-_, _*_, _≤_, _<_}
 use native.Mathlib.Omega.{arith}
 use lib.ListN.{length, take, drop, getD, length-append, length-take, length-drop, take-append-drop}
@@ -144,3 +144,82 @@ reads-short file t q =
       few = rw (← l .same) (l .few);
       well = rw (← l .same) (l .well);
     }
+
+-- ---- such a file is the one of its table, wherever its places are counted
+
+-- the table with its ending at the place that the offset has
+abbrev pub placedTable : (ℕ → Cursor) → Table → Table
+placedTable at t = record { count = t .count; length = t .length; ending = placedEnding at (t .ending) }
+
+module _ (file : List ℕ) (bytes : Bytes file) (t : Table) (r : ReadsShort file t) (form : formSaid file ≡ 2)
+    (at : ℕ → Cursor) (offsets : (k : ℕ) → at k .offset .0 ≡ k) where
+  front : List ℕ
+  front = take 512 file
+
+  front-length : length front ≡ 512
+  unfolding front
+  front-length = length-take 512 file ∙ omega (arith, r .long)
+
+  one-offset : (k : ℕ) → onOneLine k .offset .0 ≡ k
+  unfolding onOneLine
+  one-offset k = refl
+
+  says : shortSaid (placedTable at t) ≡ wordsIn 5 (contentOf 20 front)
+  unfolding front
+  says =
+      let e = placed-said at offsets (t .ending) ∙ ending-short onOneLine one-offset file (t .ending) (r .ending) in
+      rw (content-shorts file, e, r .count, r .size, form)
+
+  content-bytes : Bytes (contentOf 20 (take 512 file))
+  unfolding contentOf
+  content-bytes = below-take 20 (below-drop 4 (below-take 512 bytes))
+
+  head-is : block 0 0 (bytesOf (shortSaid (placedTable at t))) ≡ front
+  unfolding front
+  head-is =
+      let s = sound-holds 0 0 20 (take 512 file) (r .first) in
+      let c : List ℕ = contentOf 20 (take 512 file) in
+      let l : length c ≡ 20 = content-length 0 0 20 (below-take 512 bytes) front-length s (omega arith) in
+      let b : bytesOf (wordsIn 5 c) ≡ c = bytes-words 5 content-bytes (omega arith) ∙ take-all 20 c (omega arith) in
+      rw (says, b) (sound-block 0 0 20 (below-take 512 bytes) front-length s (omega arith))
+
+  -- the blocks behind it
+  count : ℕ
+  count = countSaid file
+
+  m : ℕ
+  m = blocksFor 24 (countSaid file)
+
+  behind-length : length (drop 512 file) ≡ 512 * m
+  unfolding fileLength m
+  behind-length = length-drop 512 file ∙ omega (arith, r .whole)
+
+  all-sound : soundFrom 24 m 1 count (drop 512 file) ≡ m
+  unfolding shortSoundIn m count
+  all-sound = omega (arith, r .others, sound-most 24 (omega arith) (omega arith) m 1 count (drop 512 file))
+
+  body : List ℕ
+  body = bodyFrom 24 m count (drop 512 file)
+
+  body-is : bytesOf (shortWordsIn file) ≡ body
+  unfolding shortWordsIn body m count
+  body-is =
+      let l = body-length 24 (omega arith) (omega arith) m count (drop 512 file) refl behind-length in
+      bytes-words (6 * count) (body-bytes 24 (omega arith) (omega arith) m count (below-drop 512 bytes)) (omega arith) ∙ take-all (4 * (6 * count)) body (omega arith)
+
+  kept : shortened (t .count) (placed at (countSaid file) (shortWordsIn file)) ≡ shortWordsIn file
+  unfolding shortWordsIn
+  kept =
+      let l : length (shortWordsIn file) ≡ 6 * countSaid file = words-length (6 * countSaid file) _ in
+      rw (r .count) (shortened-placed at (countSaid file) (shortWordsIn file) (omega arith) ∙ take-all (6 * countSaid file) (shortWordsIn file) (omega arith))
+
+  tail-is : blocksFrom 24 m 1 count (bytesOf (shortWordsIn file)) ≡ drop 512 file
+  unfolding body
+  tail-is =
+      let f = read-written 24 (omega arith) (omega arith) m 1 count [] (below-drop 512 bytes) behind-length all-sound in
+      rw body-is (rw append-nil at f)
+
+  -- one encoding of form 2
+  pub short-stored : shortEncode (placed at (countSaid file) (shortWordsIn file)) (placedTable at t) ≡ file
+  unfolding shortEncode fileOf m count front
+  short-stored = rw (head-is, kept, r .count, tail-is) (take-append-drop 512 file)
