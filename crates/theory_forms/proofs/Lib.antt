@@ -1,3 +1,4 @@
 -- The theorems about moved files, a file over those before it.
 pub mod Older
 pub mod Short
+pub mod Moves
