@@ -4,29 +4,36 @@ use mathlib.Core.Bool.{Bool, true, false, cond, not, _&&_, _||_}
 use mathlib.Core.List.{List, [], _∷_, _++_, append-nil}
 use Prim.Native.Nat.{ℕ, zero, suc, _+_, _*_, _≤_, _<_}
 use native.Mathlib.Omega.{arith}
-use lib.ListN.{length, take, drop}
+use lib.ListN.{length, take, drop, length-append}
 use lib.Seq.{take-at}
 use lib.Dec.{eqb, ltb}
 use borrow.Author.Tests.{eqb-true, eq-eqb, ne-eqb, eqb-false, ltb-false, not-false}
+use Rattle.rules.specs.declared.Ending.{Ending}
+use Rattle.rules.specs.declared.Ending.the-variants.{None, Refused}
 use Rattle.rules.specs.declared.Outer.the-variants.{NoRowRoom}
 use Rattle.rules.specs.declared.Table.{Table}
 use Rattle.rules.specs.Text.{placeAt}
+use Rattle.rules.specs.Scan.{roomOf}
 use Rattle.file_rules.specs.declared.Fault.the-variants.{Outer, OtherForm}
 use Rattle.file_rules.specs.declared.Loaded.{Loaded}
 use Rattle.file_rules.specs.declared.Loaded.the-variants as loaded
-use Rattle.file_rules.specs.Blocks.{fileLength}
-use Rattle.file_rules.specs.Files.{rowBytes, formSaid, countSaid, rowWordsIn, loadTold, encode}
+use Rattle.file_rules.specs.Bytes.{bytesOf}
+use Rattle.file_rules.specs.Blocks.{blocksFor, fileLength, fileOf}
+use Rattle.file_rules.specs.Files.{rowBytes, endingSaid, said, formSaid, countSaid, loadTold, encode}
 use Rattle.form_rules.specs.declared.Apart.{Apart}
 use Rattle.form_rules.specs.declared.Apart.the-variants.{File, OtherText}
+use Rattle.form_rules.specs.declared.Beside.the-variants as beside
 use Rattle.form_rules.specs.declared.Moved.{Moved}
 use Rattle.form_rules.specs.declared.Moved.the-variants as moved
-use Rattle.form_rules.specs.Short.{placed, shortWordsIn, shortEncode, shortJudged}
-use Rattle.form_rules.specs.Forms.{isForm, rowBytesIn, judged, rowsBeside, tableBeside, agreesBeside, encodeIn, moveJudged, moveTold, movedFrom, moveLeaves}
+use Rattle.form_rules.specs.Short.{shortened, shortEndingSaid, shortSaid, shortEncode, shortJudged}
+use Rattle.form_rules.specs.Forms.{isForm, rowBytesIn, judged, rowsBeside, tableBeside, agreesBeside, besideTold, besideLeaves, encodeIn, moveJudged, moveTold, movedFrom, moveLeaves}
 use Rattle.theory_files.specs.Bounds.{Bytes}
-use Rattle.theory_files.proofs.Said.{reads-of}
+use Rattle.theory_files.proofs.Numbers.{bytes-length}
+use Rattle.theory_files.proofs.One.{block-length}
+use Rattle.theory_files.proofs.Many.{blocks-length}
 use Rattle.theory_files.proofs.Files.{read-stored}
-use Rattle.theory_forms.specs.Forms.{IsMoved, SameBytes}
-use Rattle.theory_forms.proofs.Short.{ReadsShort, reads-short, placedTable, short-stored}
+use Rattle.theory_forms.specs.Forms.{IsMoved, SameBytes, written}
+use Rattle.theory_forms.proofs.Short.{reads-short, short-stored}
 
 -- ---- a move that was told
 
@@ -77,3 +84,102 @@ module _ (text file : List ℕ) (bytes : Bytes file) (t : Table) (held : judged 
   same-long f =
       let j : loadTold file (countSaid file) ≡ loaded.Rows t = rw (ne-eqb (formSaid file) 2 f) at held in
       rw (ne-eqb (formSaid file) 2 f) (rw append-nil at (read-stored file bytes (countSaid file) t j []))
+
+-- ---- what a move writes
+
+-- a file in blocks is as long as its rows take, whatever block 0 says
+file-length : (size : ℕ) → 0 < size → size ≤ 504 → (said : List ℕ) → length said ≤ 504 → (n : ℕ) (body : List ℕ) → length (fileOf size said n body) ≡ fileLength size n
+unfolding fileOf fileLength
+file-length size z l said few n body =
+    rw (length-append, block-length 0 0 said few, blocks-length size z l (blocksFor size n) 1 n body) (omega arith)
+
+ending-four : (e : Ending) → length (endingSaid e) ≡ 4
+ending-four None = refl
+ending-four (Refused why p) = refl
+
+ending-two : (e : Ending) → length (shortEndingSaid e) ≡ 2
+ending-two None = refl
+ending-two (Refused why p) = refl
+
+long-length : (ws : List ℕ) (t : Table) → length (encode ws t) ≡ fileLength 32 (t .count)
+unfolding encode
+long-length ws t =
+    file-length 32 (omega arith) (omega arith) (bytesOf (said t)) (omega (arith, bytes-length (said t), ending-four (t .ending))) (t .count) (bytesOf ws)
+
+short-length : (ws : List ℕ) (t : Table) → length (shortEncode ws t) ≡ fileLength 24 (t .count)
+unfolding shortEncode
+short-length ws t =
+    file-length 24 (omega arith) (omega arith) (bytesOf (shortSaid t)) (omega (arith, bytes-length (shortSaid t), ending-two (t .ending))) (t .count)
+    (bytesOf (shortened (t .count) ws))
+
+pub encoded-length : (form : ℕ) (ws : List ℕ) (t : Table) → length (encodeIn form ws t) ≡ fileLength (rowBytesIn form) (t .count)
+unfolding encodeIn
+encoded-length form ws t = go (eqb form 2)
+  where
+    go : (b : Bool) → length (cond b (shortEncode ws t) (encode ws t)) ≡ fileLength (cond b 24 32) (t .count)
+    go true = short-length ws t
+    go false = long-length ws t
+
+module _ (text file : List ℕ) (form : ℕ) (lent : List ℕ) (n : ℕ) (m : IsMoved text file form lent n) where
+  pub move-is : MoveOf text file form (length lent) n
+  move-is = move-of text file form (length lent) n (m .told)
+
+  -- the file in the form asked for
+  target : List ℕ
+  target = encodeIn form (rowsBeside text file) (tableBeside text file (move-is .table))
+
+  target-length : length target ≡ n
+  unfolding target tableBeside
+  target-length = encoded-length form (rowsBeside text file) (tableBeside text file (move-is .table)) ∙ move-is .size
+
+  leaves-is : moveLeaves text file form lent ≡ target ++ drop n lent
+  unfolding moveLeaves movedFrom target
+  leaves-is = rw (moveLeaves, m .told, move-is .judged-is)
+
+  pub written-is : written text file form lent n ≡ encodeIn form (rowsBeside text file) (tableBeside text file (move-is .table))
+  unfolding target
+  written-is = ap (take n) leaves-is ∙ take-at target (drop n lent) n target-length
+
+  pub written-length : length (written text file form lent n) ≡ n
+  unfolding target
+  written-length = ap length written-is ∙ target-length
+
+-- lent memory is untouched by each refusal
+pub move-untouched : (text file : List ℕ) (form : ℕ) (lent : List ℕ) (why : Apart) → moveTold text file form (length lent) ≡ moved.Refused why
+    → moveLeaves text file form lent ≡ lent
+unfolding moveLeaves
+move-untouched text file form lent why e = rw (moveLeaves, e)
+
+pub beside-untouched : (text file ws : List ℕ) (why : Apart) → besideTold text file (roomOf ws) ≡ beside.Refused why → besideLeaves text file ws ≡ ws
+unfolding besideLeaves
+beside-untouched text file ws why e = rw (besideLeaves, e)
+
+-- ---- to the form it has
+
+-- what is known to be 1 or 2 and is not 2 is 1
+only-one : (form : ℕ) → isForm form ≡ true → eqb form 2 ≡ false → form ≡ 1
+only-one form k e = go (eqb form 1) refl k
+  where
+    go : (b : Bool) → eqb form 1 ≡ b → (b || eqb form 2) ≡ true → form ≡ 1
+    go true f k = eqb-true form 1 f
+    go false f k = absurd (let z : false ≡ true = sym e ∙ k in let y : _≡_ {A = ℕ} 0 1 = cc in omega arith)
+
+-- of a file that holds a table, the file of the form that it says
+own-form : (text file : List ℕ) → Bytes file → (t : Table) → judged file ≡ loaded.Rows t → isForm (formSaid file) ≡ true
+    → encodeIn (formSaid file) (rowsBeside text file) (tableBeside text file t) ≡ file
+own-form text file bytes t held k = go (eqb (formSaid file) 2) refl
+  where
+    go : (b : Bool) → eqb (formSaid file) 2 ≡ b → encodeIn (formSaid file) (rowsBeside text file) (tableBeside text file t) ≡ file
+    go true e =
+        ap (λ (f : ℕ). encodeIn f (rowsBeside text file) (tableBeside text file t)) (eqb-true (formSaid file) 2 e)
+        ∙ same-short text file bytes t held (eqb-true (formSaid file) 2 e)
+    go false e =
+        ap (λ (f : ℕ). encodeIn f (rowsBeside text file) (tableBeside text file t)) (only-one (formSaid file) k e)
+        ∙ same-long text file bytes t held (eqb-false (formSaid file) 2 e)
+
+pub move-stays : (text file lent : List ℕ) (n : ℕ) → Bytes file → IsMoved text file (formSaid file) lent n → SameBytes text file (formSaid file) lent n
+move-stays text file lent n bytes m =
+    let o = move-is text file (formSaid file) lent n m in
+    let w = written-is text file (formSaid file) lent n m in
+    let e = own-form text file bytes (o .table) (o .judged-is) (o .known) in
+    record { size = sym (written-length text file (formSaid file) lent n m) ∙ ap length (w ∙ e); bytes = w ∙ e }
