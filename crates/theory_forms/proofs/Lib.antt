@@ -1,4 +1,5 @@
 -- The theorems about moved files, a file over those before it.
 pub mod Older
 pub mod Short
+pub mod Lines
 pub mod Moves
