@@ -122,7 +122,7 @@ ending-four (Refused why p) = refl
 -- ---- a table and its file
 
 module _ (ws : List ℕ) (t : Table) (well : wellFormed ws t ≡ true) (few : t .count ≤ mostRows) (words : Words ws) where
-  said-words : Words (said t)
+  pub said-words : Words (said t)
   unfolding rowsFit
   said-words =
       let w = well-of ws t well in
@@ -239,7 +239,7 @@ module _ (ws : List ℕ) (t : Table) (well : wellFormed ws t ≡ true) (few : t 
         ∙ rw (rows-are, count-is, said-is 1 (omega arith))
 
 -- the words that say an ending are read as that ending, since each reason has a number of its own
-refused-back : (why : Lexical) (p : Cursor) → readEnding (lexicalNumber why) p ≡ Ends (Refused why p)
+pub refused-back : (why : Lexical) (p : Cursor) → readEnding (lexicalNumber why) p ≡ Ends (Refused why p)
 unfolding readEnding readRefused
 refused-back NoRowBegins p = refl
 refused-back LoneSign p = refl

@@ -2,4 +2,5 @@
 pub mod Older
 pub mod Short
 pub mod Lines
+pub mod Written
 pub mod Moves

@@ -25,7 +25,7 @@ use Rattle.form_rules.specs.declared.Apart.the-variants.{File, OtherText}
 use Rattle.form_rules.specs.declared.Beside.the-variants as beside
 use Rattle.form_rules.specs.declared.Moved.{Moved}
 use Rattle.form_rules.specs.declared.Moved.the-variants as moved
-use Rattle.form_rules.specs.Short.{shortened, shortEndingSaid, shortSaid, shortEncode, shortJudged}
+use Rattle.form_rules.specs.Short.{shortened, shortSaid, shortEncode, shortJudged}
 use Rattle.form_rules.specs.Forms.{isForm, rowBytesIn, judged, rowsBeside, tableBeside, agreesBeside, besideTold, besideLeaves, encodeIn, moveJudged, moveTold, movedFrom, moveLeaves}
 use Rattle.theory_files.specs.Bounds.{Bytes}
 use Rattle.theory_files.proofs.Numbers.{bytes-length}
@@ -34,6 +34,7 @@ use Rattle.theory_files.proofs.Many.{blocks-length}
 use Rattle.theory_files.proofs.Files.{read-stored}
 use Rattle.theory_forms.specs.Forms.{IsMoved, SameBytes, written}
 use Rattle.theory_forms.proofs.Short.{reads-short, short-stored}
+use Rattle.theory_forms.proofs.Written.{ending-two}
 
 -- ---- a move that was told
 
@@ -96,10 +97,6 @@ file-length size z l said few n body =
 ending-four : (e : Ending) → length (endingSaid e) ≡ 4
 ending-four None = refl
 ending-four (Refused why p) = refl
-
-ending-two : (e : Ending) → length (shortEndingSaid e) ≡ 2
-ending-two None = refl
-ending-two (Refused why p) = refl
 
 long-length : (ws : List ℕ) (t : Table) → length (encode ws t) ≡ fileLength 32 (t .count)
 unfolding encode

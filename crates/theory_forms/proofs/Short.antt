@@ -56,7 +56,7 @@ placed-length at (suc n) ws = let r = placed-length at n (drop 6 ws) in omega ar
 
 -- ---- what block 0 says
 
-content-short : (file : List ℕ) (i : ℕ) → i < 5 → getD (wordsIn 5 (contentOf 20 (take 512 file))) i 0 ≡ saidAt i file
+pub content-short : (file : List ℕ) (i : ℕ) → i < 5 → getD (wordsIn 5 (contentOf 20 (take 512 file))) i 0 ≡ saidAt i file
 unfolding contentOf numberAt
 content-short file i h =
     words-at 5 (take 20 (drop 4 (take 512 file))) i h
