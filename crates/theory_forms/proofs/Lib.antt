@@ -3,4 +3,5 @@ pub mod Older
 pub mod Short
 pub mod Lines
 pub mod Written
+pub mod Agree
 pub mod Moves
