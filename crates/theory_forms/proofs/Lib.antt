@@ -5,3 +5,4 @@ pub mod Lines
 pub mod Written
 pub mod Agree
 pub mod Moves
+pub mod Alike

@@ -154,7 +154,7 @@ beside-untouched text file ws why e = rw (besideLeaves, e)
 -- ---- to the form it has
 
 -- what is known to be 1 or 2 and is not 2 is 1
-only-one : (form : ℕ) → isForm form ≡ true → eqb form 2 ≡ false → form ≡ 1
+pub only-one : (form : ℕ) → isForm form ≡ true → eqb form 2 ≡ false → form ≡ 1
 only-one form k e = go (eqb form 1) refl k
   where
     go : (b : Bool) → eqb form 1 ≡ b → (b || eqb form 2) ≡ true → form ≡ 1
@@ -162,7 +162,7 @@ only-one form k e = go (eqb form 1) refl k
     go false f k = absurd (let z : false ≡ true = sym e ∙ k in let y : _≡_ {A = ℕ} 0 1 = cc in omega arith)
 
 -- of a file that holds a table, the file of the form that it says
-own-form : (text file : List ℕ) → Bytes file → (t : Table) → judged file ≡ loaded.Rows t → isForm (formSaid file) ≡ true
+pub own-form : (text file : List ℕ) → Bytes file → (t : Table) → judged file ≡ loaded.Rows t → isForm (formSaid file) ≡ true
     → encodeIn (formSaid file) (rowsBeside text file) (tableBeside text file t) ≡ file
 own-form text file bytes t held k = go (eqb (formSaid file) 2) refl
   where
