@@ -6,3 +6,4 @@ pub mod Written
 pub mod Agree
 pub mod Moves
 pub mod Alike
+pub mod Back
