@@ -195,7 +195,7 @@ module _ (ws : List ℕ) (t : Table) (well : wellFormed ws t ≡ true) (few : t 
   said-is : (i : ℕ) → i < 7 → saidAt i (encode ws t) ≡ getD (said t) i 0
   said-is i h = sym (content-word (encode ws t) i h) ∙ ap (λ (x : List ℕ). getD x i 0) first-says
 
-  count-is : countSaid (encode ws t) ≡ t .count
+  pub count-is : countSaid (encode ws t) ≡ t .count
   count-is = said-is 2 (omega arith)
 
   sound-all : soundIn (encode ws t) ≡ blocksFor rowBytes (t .count)
@@ -214,7 +214,7 @@ module _ (ws : List ℕ) (t : Table) (well : wellFormed ws t ≡ true) (few : t 
     others = rw (count-is, sound-all) (omega arith);
   }
 
-  rows-are : rowWordsIn (encode ws t) ≡ take (8 * t .count) ws
+  pub rows-are : rowWordsIn (encode ws t) ≡ take (8 * t .count) ws
   unfolding rowWordsIn other-blocks
   rows-are =
       let c = t .count in
