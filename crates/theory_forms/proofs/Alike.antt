@@ -30,7 +30,7 @@ pub record Alike (text f g : List ℕ) : Type 0 where
   pub table : tableBeside text g u ≡ tableBeside text f t
   pub rows : rowsBeside text g ≡ rowsBeside text f
 
-long-form : (f : List ℕ) (t : Table) → eqb (formSaid f) 2 ≡ false → judged f ≡ loaded.Rows t → formSaid f ≡ 1
+pub long-form : (f : List ℕ) (t : Table) → eqb (formSaid f) 2 ≡ false → judged f ≡ loaded.Rows t → formSaid f ≡ 1
 unfolding judged
 long-form f t q e = reads-of f (countSaid f) t (rw q at e) .frame .form
 

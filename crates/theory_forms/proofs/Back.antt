@@ -21,7 +21,7 @@ use Rattle.file_rules.specs.Bytes.{number, wordsIn}
 use Rattle.file_rules.specs.Blocks.{blocksFor, bodyFrom}
 use Rattle.file_rules.specs.Files.{mostRows, formSaid, countSaid, rowWordsIn, loadTold, encode}
 use Rattle.form_rules.specs.Short.{placedRow, placed, placedEnding, onOneLine, shortened, shortEncode, shortWordsIn, shortJudged}
-use Rattle.form_rules.specs.Forms.{judged, rowsBeside, tableBeside, isPlaceIn, endingAgrees, agrees, agreesBeside, encodeIn}
+use Rattle.form_rules.specs.Forms.{isForm, judged, rowsBeside, tableBeside, isPlaceIn, endingAgrees, agrees, agreesBeside, encodeIn}
 use Rattle.theory_files.specs.Bounds.{Below, none, some, Bytes, Words}
 use Rattle.theory_files.proofs.Numbers.{below-take, below-drop, below-at, below-append, words-length}
 use Rattle.theory_files.proofs.Many.{body-bytes}
@@ -32,8 +32,8 @@ use Rattle.theory_forms.proofs.Short.{placedTable, ReadsShort, reads-sh
 use Rattle.theory_forms.proofs.Lines.{Lined, text-lined, well-placed}
 use Rattle.theory_forms.proofs.Written.{written-form, written-words, written-count, written-judged}
 use Rattle.theory_forms.proofs.Agree.{rows-placed, ending-placed}
-use Rattle.theory_forms.proofs.Moves.{move-is, written-is}
-use Rattle.theory_forms.proofs.Alike.{Alike, alike-told, alike-rows, back-told, back-bytes}
+use Rattle.theory_forms.proofs.Moves.{move-is, written-is, own-form, only-one}
+use Rattle.theory_forms.proofs.Alike.{Alike, long-form, says-form, alike-told, alike-rows, back-told, back-bytes}
 
 -- ---- words that are read of bytes fit
 
@@ -219,3 +219,64 @@ module _ (text file : List ℕ) (bytes : Bytes file) (s : Table) (form : formSai
     rows = long-rows ∙ sym (rw short-says);
   }
 
+-- ---- there and back, and read
+
+record Agreed (text file g : List ℕ) : Type 0 where
+  alike : Alike text file g
+  agree : agreesBeside text file (alike .t) ≡ true
+
+module _ (text file : List ℕ) (bytes : Bytes file) (t : Table) (held : judged file ≡ loaded.Rows t) (agree : agreesBeside text file t ≡ true) where
+  -- to the form it has
+  stays : (form : ℕ) → form ≡ formSaid file → Agreed text file (encodeIn form (rowsBeside text file) (tableBeside text file t))
+  stays form e =
+      let same = ap (λ (k : ℕ). encodeIn k (rowsBeside text file) (tableBeside text file t)) e ∙ own-form text file bytes t held (says-form file t held) in
+      let a : Alike text file file = record { t = t; u = t; held = held; holds = held; count = refl; table = refl; rows = refl } in
+      let b : Agreed text file file = record { alike = a; agree = agree } in
+      subst (λ (g : List ℕ). Agreed text file g) (sym same) b
+
+  shortens : eqb (formSaid file) 2 ≡ false → Agreed text file (encodeIn 2 (rowsBeside text file) (tableBeside text file t))
+  unfolding judged rowsBeside tableBeside encodeIn to-short
+  shortens q =
+      let h : loadTold file (countSaid file) ≡ loaded.Rows t = rw q at held in
+      let a : agrees text (rowWordsIn file) t ≡ true = rw q at agree in
+      let r : Agreed text file (shortEncode (rowWordsIn file) t) =
+        record { alike = to-short text file bytes t (long-form file t q held) h a; agree = agree } in
+      rw q r
+
+  lengthens : eqb (formSaid file) 2 ≡ true → Agreed text file (encodeIn 1 (rowsBeside text file) (tableBeside text file t))
+  unfolding judged rowsBeside tableBeside encodeIn agrees to-long
+  lengthens q =
+      let h : shortJudged file ≡ loaded.Rows t = rw q at held in
+      let l : length text ≡ t .length = eqb-true (length text) (t .length) (both-true (eqb (length text) (t .length)) _ agree .0) in
+      let r : Agreed text file (encode (placed (placeAt text) (countSaid file) (shortWordsIn file)) (placedTable (placeAt text) t)) =
+        record { alike = to-long text file bytes t (eqb-true (formSaid file) 2 q) h l; agree = agree } in
+      rw q r
+
+  moves : (form : ℕ) → isForm form ≡ true → Agreed text file (encodeIn form (rowsBeside text file) (tableBeside text file t))
+  moves form k = go (eqb (formSaid file) 2) (eqb form 2) refl refl
+    where
+      go : (b c : Bool) → eqb (formSaid file) 2 ≡ b → eqb form 2 ≡ c → Agreed text file (encodeIn form (rowsBeside text file) (tableBeside text file t))
+      go true true p q = stays form (eqb-true form 2 q ∙ sym (eqb-true (formSaid file) 2 p))
+      go false false p q = stays form (only-one form k q ∙ sym (long-form file t p held))
+      go false true p q = subst (λ (x : ℕ). Agreed text file (encodeIn x (rowsBeside text file) (tableBeside text file t))) (sym (eqb-true form 2 q)) (shortens p)
+      go true false p q = subst (λ (x : ℕ). Agreed text file (encodeIn x (rowsBeside text file) (tableBeside text file t))) (sym (only-one form k q)) (lengthens p)
+
+module _ (text file : List ℕ) (form : ℕ) (lent : List ℕ) (n : ℕ) (bytes : Bytes file) (m : IsMoved text file form lent n) where
+  agreed : Agreed text file (written text file form lent n)
+  agreed =
+      let o = move-is text file form lent n m in
+      subst (λ (g : List ℕ). Agreed text file g) (sym (written-is text file form lent n m)) (moves text file bytes (o .table) (o .judged-is) (o .agree) form (o .known))
+
+  -- 1 to 2 and back, 2 to 1 and back: the same bytes
+  pub there-and-back : ThereAndBack text file form lent n
+  there-and-back = record {
+    told = back-told text file (written text file form lent n) (agreed .alike) bytes (agreed .agree);
+    bytes = back-bytes text file (written text file form lent n) (agreed .alike) bytes (agreed .agree);
+  }
+
+  -- a reading beside the text tells and leaves the same of both
+  pub read-alike : ReadAlike text file form lent n
+  read-alike = record {
+    told = alike-told text file (written text file form lent n) (agreed .alike);
+    rows = alike-rows text file (written text file form lent n) (agreed .alike);
+  }
