@@ -25,6 +25,8 @@ use Rattle.file_rules.specs.Blocks.{block, contentOf, sound, soundFrom, bodyFro
 use Rattle.file_rules.specs.Files.{mostRows, endingSaid, saidAt, formSaid, countSaid, lengthSaid, reasons, readRefused, readEnding, readTold}
 use Rattle.form_rules.specs.Short.{shortRow, shortened, placedRow, placed, placedEnding, onOneLine, shortEndingSaid, shortSaid, shortEncode, shortEnding, shortWordsIn, shortSoundIn, shortTable, shortBlocks, shortJudged}
 use Rattle.theory_files.specs.Bounds.{Below, Bytes}
+use Rattle.theory_forms.specs.Forms.{RefusedByName}
+use Rattle.theory_forms.proofs.Older.{refused-by-name}
 use Rattle.theory_files.proofs.Numbers.{below-take, below-drop, bytes-append, bytes-words, words-length}
 use Rattle.theory_files.proofs.One.{sound-block, sound-holds, content-length}
 use Rattle.theory_files.proofs.Many.{read-written, body-length, body-bytes, sound-most}
@@ -223,3 +225,10 @@ module _ (file : List ℕ) (bytes : Bytes file) (t : Table) (r : ReadsShort file
   pub short-stored : shortEncode (placed at (countSaid file) (shortWordsIn file)) (placedTable at t) ≡ file
   unfolding shortEncode fileOf m count front
   short-stored = rw (head-is, kept, r .count, tail-is) (take-append-drop 512 file)
+
+-- ---- and a reader that knows form 1 alone refuses it by name
+
+pub older-refuses : (file : List ℕ) (t : Table) → formSaid file ≡ 2 → shortJudged file ≡ loaded.Rows t → RefusedByName file
+older-refuses file t form held =
+    let r = reads-short file t held in
+    refused-by-name file (record { long = r .long; first = r .first; form = form })
