@@ -82,7 +82,7 @@ files = refl
 
 -- ---- moved
 
--- 1 to 2 and back, 2 to 1 and back, and to the form it has; and form 2 beside a text of the same length, which has the letter on line 1
+-- 1 to 2 and back, 2 to 1 and back, and to the form it has
 pub moves : (movedFile text longFile 2 ∷ movedFile text shortFile 1 ∷ movedFile text longFile 1 ∷ movedFile text shortFile 2 ∷ [])
     ≡ (shortFile ∷ longFile ∷ longFile ∷ shortFile ∷ [])
 unfolding Cases.sealed Bytes.little Bytes.number Bytes.numberAt Bytes.bytesOf Bytes.wordsIn Blocks.sumFrom Blocks.check Blocks.checked Blocks.block Blocks.contentOf Blocks.zeros Blocks.sound Blocks.blocksFor Blocks.blocksFrom Blocks.fileOf Blocks.fileLength Blocks.soundFrom Blocks.bodyFrom Files.encode Files.readRefused Files.readEnding Files.endingIn Files.rowWordsIn Files.soundIn Files.rowsTold Files.readTold Files.blocksTold Files.saidTold Files.loadTold Text.front Text.newlines Text.lineAt Text.columnAt Text.placeAt Rows.rowIn Rows.rowsIn Rows.valueBits Rows.rowPlace Rows.every Rows.chained Rows.lengthFits Rows.spansFit Rows.valueFits Rows.placeFits Rows.linesFit Rows.rowFits Rows.follows Rows.gapFits Rows.gapsFit Rows.lastRow Rows.endsBehind Rows.isEof Rows.eofLast Rows.endingFits Rows.rowsFit Rows.wellFormed Kinds.isMade Kinds.lengthIn Short.shortRow Short.shortened Short.placedRow Short.placed Short.onOneLine Short.shortEncode Short.shortEnding Short.shortWordsIn Short.shortSoundIn Short.shortTable Short.shortBlocks Short.shortJudged Forms.judged Forms.rowsBeside Forms.tableBeside Forms.isPlaceIn Forms.endingAgrees Forms.agrees Forms.besideJudged Forms.besideTold Forms.encodeIn Forms.moveJudged Forms.moveTold Forms.movedFrom
