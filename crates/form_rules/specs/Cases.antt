@@ -1,4 +1,5 @@
--- Worked cases: a small table in both forms byte by byte, how long files of form 2 are, and what a reading beside the text and a move tell and leave where
+-- Worked cases: a small table in both forms byte by byte, how long files of form 2 are, and what a reading beside the text and a move
+-- tell and leave where
 -- an easy misreading would tell another thing. Each table is under one theorem that the checker computes.
 use mathlib.Core.Path.{_≡_, refl}
 use mathlib.Core.Bool.{Bool, true, false, cond}
@@ -60,7 +61,8 @@ otherText = bytes "a\n@"
 abbrev pub longFile : List ℕ
 longFile =
     changed
-    (record { at = 4; to = 1 } ∷ record { at = 8; to = 3 } ∷ record { at = 12; to = 1 } ∷ record { at = 16; to = 11 } ∷ record { at = 20; to = 2 }
+    (record { at = 4; to = 1 } ∷ record { at = 8; to = 3 } ∷ record { at = 12; to = 1 } ∷ record { at = 16; to = 11 }
+    ∷ record { at = 20; to = 2 }
     ∷ record { at = 24; to = 2 } ∷ record { at = 28; to = 2 } ∷ record { at = 508; to = 126 } ∷ record { at = 509; to = 1 }
     ∷ record { at = 512; to = 1 } ∷ record { at = 514; to = 1 } ∷ record { at = 516; to = 48 } ∷ record { at = 520; to = 1 }
     ∷ record { at = 524; to = 2 } ∷ record { at = 528; to = 2 } ∷ record { at = 532; to = 1 } ∷ record { at = 1020; to = 78 }
@@ -70,7 +72,8 @@ longFile =
 abbrev pub shortFile : List ℕ
 shortFile =
     changed
-    (record { at = 4; to = 2 } ∷ record { at = 8; to = 3 } ∷ record { at = 12; to = 1 } ∷ record { at = 16; to = 11 } ∷ record { at = 20; to = 2 }
+    (record { at = 4; to = 2 } ∷ record { at = 8; to = 3 } ∷ record { at = 12; to = 1 } ∷ record { at = 16; to = 11 }
+    ∷ record { at = 20; to = 2 }
     ∷ record { at = 508; to = 23 } ∷ record { at = 509; to = 1 }
     ∷ record { at = 512; to = 1 } ∷ record { at = 514; to = 1 } ∷ record { at = 516; to = 48 } ∷ record { at = 520; to = 1 }
     ∷ record { at = 524; to = 2 } ∷ record { at = 1020; to = 23 } ∷ record { at = 1021; to = 1 } ∷ [])

@@ -39,7 +39,8 @@ apartBlock OtherText = 0
 abbrev pub isShort : List ℕ → Bool
 isShort file = eqb (formSaid file) shortNumber
 
--- The file alone: "42 for under 512, 41 for block 0, 44, 42, 41 for the first other bad block, 43". "44 now means neither 1 nor 2, its place as before":
+-- The file alone: "42 for under 512, 41 for block 0, 44, 42, 41 for the first other bad block, 43".
+-- "44 now means neither 1 nor 2, its place as before":
 -- a file that does not say 2 is judged as a reading of form 1 judges it, in room for all of its rows.
 unfoldable pub judged : List ℕ → Loaded
 judged file = cond (isShort file) (shortJudged file) (loadTold file (countSaid file))

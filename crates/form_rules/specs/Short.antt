@@ -53,7 +53,8 @@ shortened (suc n) ws = shortRow (rowIn ws) ++ shortened n (drop wordsPerRow ws)
 -- the eight words of the row whose six stand in front, at the place that its start has
 unfoldable pub placedRow : (ℕ → Cursor) → List ℕ → List ℕ
 placedRow at ws =
-    getD ws 0 0 ∷ getD ws 1 0 ∷ getD ws 2 0 ∷ at (getD ws 1 0) .line .0 ∷ at (getD ws 1 0) .column .0 ∷ getD ws 3 0 ∷ getD ws 4 0 ∷ getD ws 5 0 ∷ []
+    getD ws 0 0 ∷ getD ws 1 0 ∷ getD ws 2 0 ∷ at (getD ws 1 0) .line .0 ∷ at (getD ws 1 0) .column .0
+    ∷ getD ws 3 0 ∷ getD ws 4 0 ∷ getD ws 5 0 ∷ []
 
 -- the words of n rows with the lines and columns of their places
 unfoldable pub placed : (ℕ → Cursor) → ℕ → List ℕ → List ℕ
@@ -100,7 +101,8 @@ shortSoundIn file = soundFrom shortBytes (blocksFor shortBytes (countSaid file))
 -- 43, of a table whose lines and columns are not there: they are those of a text of one line. There is room for all rows.
 unfoldable pub shortTable : List ℕ → Loaded
 shortTable file =
-    readTold (placed onOneLine (countSaid file) (shortWordsIn file)) (countSaid file) (countSaid file) (lengthSaid file) (shortEnding onOneLine file)
+    readTold (placed onOneLine (countSaid file) (shortWordsIn file)) (countSaid file) (countSaid file) (lengthSaid file)
+    (shortEnding onOneLine file)
 
 -- "42, 41 for the first other bad block" in front of it
 unfoldable pub shortBlocks : List ℕ → Loaded
