@@ -239,7 +239,7 @@ module _ (ws : List ℕ) (t : Table) (well : wellFormed ws t ≡ true) (few : t 
         ∙ rw (rows-are, count-is, said-is 1 (omega arith))
 
 -- the words that say an ending are read as that ending, since each reason has a number of its own
-pub refused-back : (why : Lexical) (p : Cursor) → readEnding (lexicalNumber why) p ≡ Ends (Refused why p)
+refused-back : (why : Lexical) (p : Cursor) → readEnding (lexicalNumber why) p ≡ Ends (Refused why p)
 unfolding readEnding readRefused
 refused-back NoRowBegins p = refl
 refused-back LoneSign p = refl
