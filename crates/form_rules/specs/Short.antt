@@ -1,14 +1,14 @@
 -- Files of form 2: what block 0 says, rows without line and column, a table into such a file, and the order in which such a file is judged.
 use mathlib.Core.Bool.{Bool, cond, not}
 use mathlib.Core.List.{List, [], _∷_, _++_}
-use Prim.Native.Nat.{ℕ, zero, suc, _+_, _*_, _/_}
+use Prim.Native.Nat.{ℕ, zero, suc, _+_, _*_, _/_, min}
 use lib.ListN.{length, take, drop, getD}
 use lib.Dec.{eqb, ltb}
 use Rattle.rules.specs.declared.Cursor.{Cursor}
 use Rattle.rules.specs.declared.Ending.{Ending}
 use Rattle.rules.specs.declared.Ending.the-variants as ending
 use Rattle.rules.specs.declared.Table.{Table}
-use Rattle.rules.specs.Text.{place}
+use Rattle.rules.specs.Text.{mostBytes, place}
 use Rattle.rules.specs.Rows.{Row, wordsPerRow, rowIn}
 use Rattle.rules.specs.Refusals.{lexicalNumber}
 use Rattle.file_rules.specs.declared.Fault.the-variants.{BadBlock, WrongLength}
@@ -65,9 +65,9 @@ abbrev pub placedEnding : (ℕ → Cursor) → Ending → Ending
 placedEnding at ending.None = ending.None
 placedEnding at (ending.Refused why p) = ending.Refused why (at (p .offset .0))
 
--- Where an offset lies in a text of one line. Lines and columns of such a text keep every rule of a well-formed table.
+-- Where an offset lies in a text of one line, as long as a text may be. Lines and columns of such a text keep every rule of a well-formed table.
 unfoldable pub onOneLine : ℕ → Cursor
-onOneLine k = place k 1 (k + 1)
+onOneLine k = place k 1 (1 + min k mostBytes)
 
 -- ---- a table into a file
 

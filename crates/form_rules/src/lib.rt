@@ -4,6 +4,12 @@ pub mod short;
 use file_rules::Fault;
 use rules::Table;
 
+// The two forms: rows of eight words, or of six without line and column.
+pub enum Form {
+    Full,
+    Short,
+}
+
 // Why a file is not read beside a text, or not moved: what is wrong with the file itself, or 45, the text is another.
 pub enum Apart {
     File(Fault),

@@ -11,6 +11,13 @@ pub const ROWS: usize = 21;
 
 pub const BLOCK_WORDS: usize = 126;
 
+// Which of a row's words its value and its comments are.
+pub const LOW: usize = 3;
+
+pub const HIGH: usize = 4;
+
+pub const COMMENTS: usize = 5;
+
 // The form's number.
 pub const NUMBER: u32 = 2;
 

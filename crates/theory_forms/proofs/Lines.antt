@@ -2,7 +2,7 @@
 use mathlib.Core.Path.{_≡_, refl, sym, ap, _∙_}
 use mathlib.Core.Bool.{Bool, true, false, cond, not, _&&_, _||_}
 use mathlib.Core.List.{List, [], _∷_, _++_, map}
-use Prim.Native.Nat.{ℕ, zero, suc, _+_, _*_, _≤_}
+use Prim.Native.Nat.{ℕ, zero, suc, _+_, _*_, _≤_, min}
 use native.Mathlib.Omega.{arith}
 use lib.ListN.{length, drop}
 use lib.Dec.{eqb, leb}
@@ -30,12 +30,12 @@ pub text-lined : (t : List ℕ) → Lined (length t) (placeAt t)
 unfolding placeAt
 text-lined t = record { offset = λ k. refl; fits = place-fits t; lines = places-fit t }
 
-pub one-lined : (n : ℕ) → Lined n onOneLine
+pub one-lined : (n : ℕ) → n ≤ mostBytes → Lined n onOneLine
 unfolding onOneLine placeFits linesFit
-one-lined n = record {
+one-lined n few = record {
   offset = λ k. refl;
-  fits = λ k. rw (le-leb 1 (k + 1) (omega arith), le-leb (k + 1) (k + 1) (omega arith));
-  lines = λ j k h l. eq-eqb (k + 1 + j) (j + 1 + k) (omega arith);
+  fits = λ k. rw (le-leb 1 (1 + min k mostBytes) (omega arith), le-leb (1 + min k mostBytes) (k + 1) (omega arith));
+  lines = λ j k h l. eq-eqb (1 + min k mostBytes + j) (1 + min j mostBytes + k) (omega arith);
 }
 
 -- ---- rows with their places counted anew
@@ -183,6 +183,13 @@ module _ (n : ℕ) (at : ℕ → Cursor) (l : Lined n at) where
       let c = both-true (gapsFit 0 rows) (endingFits n rows e) (b .1) in
       let d = ending-relined rows e (a .0) (c .1) in
       true-both (every-relined rows (a .0)) (true-both (chain-relined rows (a .0) (b .0) (d .0)) (true-both (gaps-relined 0 rows ∙ c .0) (d .1)))
+
+-- the text of a well-formed table is no longer than a text may be
+pub well-few : (ws : List ℕ) (t : Table) → wellFormed ws t ≡ true → t .length ≤ mostBytes
+unfolding wellFormed
+well-few ws t e =
+    let a = both-true (leb (t .count * 8) (length ws) && leb (t .length) mostBytes) (rowsFit (t .length) (rowsIn (t .count) ws) (t .ending)) e in
+    leb-true (t .length) mostBytes (both-true (leb (t .count * 8) (length ws)) (leb (t .length) mostBytes) (a .0) .1)
 
 -- a well-formed table, with its lines and columns counted anew
 pub well-placed : (at : ℕ → Cursor) (ws : List ℕ) (t : Table) → Lined (t .length) at → wellFormed ws t ≡ true

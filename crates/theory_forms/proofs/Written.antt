@@ -30,7 +30,7 @@ use Rattle.theory_files.proofs.Many.{blocks-length, written-sound, written-read
 use Rattle.theory_files.proofs.Said.{told-rows, told-table}
 use Rattle.theory_files.proofs.Files.{said-words}
 use Rattle.theory_forms.proofs.Short.{content-short, placedTable}
-use Rattle.theory_forms.proofs.Lines.{one-lined, well-placed}
+use Rattle.theory_forms.proofs.Lines.{one-lined, well-placed, well-few}
 
 -- ---- words fit
 
@@ -181,7 +181,7 @@ module _ (ws : List ℕ) (t : Table) (well : wellFormed ws t ≡ true) (few : t 
       let n = t .count in
       let w : List ℕ = placed onOneLine n (shortened n ws) in
       let long : 512 ≤ length file = omega (arith, first-length, ap length take-first, length-take 512 file) in
-      let q : wellFormed w (placedTable onOneLine t) ≡ true = well-placed onOneLine ws t (one-lined (t .length)) well in
+      let q : wellFormed w (placedTable onOneLine t) ≡ true = well-placed onOneLine ws t (one-lined (t .length) (well-few ws t well)) well in
       let r = told-rows w n n (t .length) (shortEnding onOneLine file) (placedEnding onOneLine (t .ending)) ending-is in
       let z : eqb (length file) (fileLength 24 n) ≡ true = eq-eqb (length file) (fileLength 24 n) file-length in
       rw (le-ltb (length file) 512 long, first-sound, count-is, said-is 1 (omega arith), z, sound-all, le-ltb (blocksFor 24 n) (blocksFor 24 n) (omega arith), words-are)

@@ -1,0 +1,2 @@
+-- "Mend a damaged file" as definitions.
+pub mod Mend
