@@ -1,13 +1,14 @@
 -- Mending: what a fresh scan stores, which blocks differ from it, what the call tells, and what it leaves in the lent file and the lent list.
-use mathlib.Core.Bool.{Bool, true, false, cond, not, _&&_, _||_}
+use mathlib.Core.Bool.{Bool, cond, not, _||_}
 use mathlib.Core.List.{List, [], _∷_, _++_}
 use Prim.Native.Nat.{ℕ, zero, suc, _/_}
 use lib.ListN.{length, take, drop}
-use lib.Dec.{eqb, ltb}
+use lib.Dec.{ltb}
 use Rattle.rules.specs.declared.Judged.the-variants as verdict
 use Rattle.rules.specs.declared.Outer.the-variants.{NoRowRoom}
 use Rattle.rules.specs.declared.Table.{Table}
 use Rattle.rules.specs.Text.{startPlace, textJudged}
+use Rattle.rules.specs.Kinds.{sameBytes}
 use Rattle.rules.specs.Rows.{wordsOf}
 use Rattle.rules.specs.Scan.{readRows, readEnding, scan}
 use Rattle.file_rules.specs.declared.Fault.the-variants.{Outer, TooManyRows, OtherForm}
@@ -32,17 +33,11 @@ freshFile form text = encodeIn form (freshWords text) (freshTable text)
 
 -- ---- "list every block that differed .. in ascending order"
 
-unfoldable pub same : List ℕ → List ℕ → Bool
-same [] [] = true
-same [] (b ∷ s) = false
-same (a ∷ r) [] = false
-same (a ∷ r) (b ∷ s) = eqb a b && same r s
-
 -- the m blocks from block k on that are not as they should be; "each missing or cut block counts as differing": it has fewer bytes
 unfoldable pub differing : ℕ → ℕ → List ℕ → List ℕ → List ℕ
 differing zero k fresh file = []
 differing (suc m) k fresh file =
-    cond (same (take blockBytes fresh) (take blockBytes file)) [] (k ∷ [])
+    cond (sameBytes (take blockBytes fresh) (take blockBytes file)) [] (k ∷ [])
     ++ differing m (suc k) (drop blockBytes fresh) (drop blockBytes file)
 
 -- "a surplus tail is listed once, by its first block"
