@@ -37,7 +37,7 @@ ghost use Rattle.spoonharbor.specs.Version.{version};
 pub extern "C" fn spoonharbor_version() -> u32
     ensures { λ r. ⌜ r ≡ version ⌝ }
 {
-    0x00_07_00
+    0x00_09_00
 }
 
 // The rows of a text into lent words, and the table or the refusal into the answer.
