@@ -329,7 +329,7 @@ impl fmt::Display for Reason {
             }
             Reason::NoTable => out.write_str("its blocks are sound, but they hold no table"),
             Reason::OtherForm => {
-                out.write_str("stored in a form that this version does not read")
+                out.write_str("stored in a form that is not read here")
             }
             Reason::OtherText => out.write_str("the stored table is another text's"),
             Reason::Other(number) => write!(out, "refused with {number}"),

@@ -1,9 +1,10 @@
 //! `spoonharbor move` and `mend`: a stored table with its text at hand, into the other form, or as it should be.
 
 use super::source::{Source, Trouble};
-use super::stored::{complaint, damaged, too_long, BLOCK, LONGEST_FILE};
+use super::stored::{complaint, damaged, says_short, too_long, BLOCK, LONGEST_FILE};
 use super::{message, Outcome};
 use spoonharbor::{mend_file, move_file, Form, Refusal};
+use std::cmp::Ordering;
 use std::ffi::{OsStr, OsString};
 use std::fs::{self, File};
 use std::io::{self, Write};
@@ -106,19 +107,16 @@ fn mended(
         let blocks = mend_file(&text.bytes, &mut file, form)?;
         Ok((form, file, blocks))
     };
-    match asked {
-        Some(form) => in_form(form),
-        None => {
-            let (full, short) = (in_form(Form::Full)?, in_form(Form::Short)?);
-            let of = |mended: &(Form, Vec<u8>, Vec<u32>)| (right_blocks(mended), mended.0);
-            match of(&short).0 > of(&full).0
-                || says_short(&source.bytes) && of(&short).0 == of(&full).0
-            {
-                true => Ok(short),
-                false => Ok(full),
-            }
-        }
+    if let Some(form) = asked {
+        return in_form(form);
     }
+    let (full, short) = (in_form(Form::Full)?, in_form(Form::Short)?);
+    let takes_short = match right_blocks(&short).cmp(&right_blocks(&full)) {
+        Ordering::Less => false,
+        Ordering::Equal => says_short(&source.bytes),
+        Ordering::Greater => true,
+    };
+    Ok(if takes_short { short } else { full })
 }
 
 /// How many blocks of a file were right.
@@ -129,11 +127,6 @@ fn right_blocks((_, file, blocks): &(Form, Vec<u8>, Vec<u32>)) -> usize {
             .iter()
             .filter(|&&block| (block as usize) < whole)
             .count()
-}
-
-/// Whether a file's first block says form 2.
-fn says_short(file: &[u8]) -> bool {
-    file.get(4..8) == Some(&Form::Short.number().to_le_bytes())
 }
 
 /// What is wrong with a block of a file that should be another.

@@ -2,7 +2,7 @@
 
 use super::source::{Source, Trouble};
 use super::{message, rows, Outcome};
-use spoonharbor::{Document, Reason, Refusal, Table};
+use spoonharbor::{Document, Form, Reason, Refusal, Table};
 use std::ffi::OsStr;
 use std::fs;
 use std::io::{self, Write};
@@ -90,9 +90,16 @@ fn loaded(file: &[u8], text: Option<&Source>) -> Result<Table, String> {
         None => Table::load(file),
     };
     loaded.map_err(|refusal| match (refusal.reason, text) {
-        (Reason::OtherForm, None) => format!("{refusal}; form 2 is read beside its text (--text)"),
+        (Reason::OtherForm, None) if says_short(file) => {
+            "stored in form 2, which is read beside its text: --text names it".to_string()
+        }
         _ => complaint(&refusal),
     })
+}
+
+/// Whether a file's first block says form 2.
+pub fn says_short(file: &[u8]) -> bool {
+    file.get(4..8) == Some(&Form::Short.number().to_le_bytes())
 }
 
 /// What is said of a file that is longer than any.
