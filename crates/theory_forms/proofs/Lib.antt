@@ -1,4 +1,4 @@
--- The theorems about moved files, a file over those before it.
+-- The theorems about files of both forms and about moved files, a file over those before it.
 pub mod Older
 pub mod Short
 pub mod Lines
@@ -7,3 +7,4 @@ pub mod Agree
 pub mod Moves
 pub mod Alike
 pub mod Back
+pub mod Changed

@@ -1,7 +1,7 @@
 -- A table stays well formed where its lines and columns are counted anew, over any text of its length or over one line.
 use mathlib.Core.Path.{_≡_, refl, sym, ap, _∙_}
-use mathlib.Core.Bool.{Bool, true, false, cond, not, _&&_, _||_}
-use mathlib.Core.List.{List, [], _∷_, _++_, map}
+use mathlib.Core.Bool.{Bool, true, not, _&&_}
+use mathlib.Core.List.{List, [], _∷_, map}
 use Prim.Native.Nat.{ℕ, zero, suc, _+_, _*_, _≤_, min}
 use native.Mathlib.Omega.{arith}
 use lib.ListN.{length, drop}
@@ -15,7 +15,8 @@ use Rattle.rules.specs.declared.Ending.the-variants.{None, Refused}
 use Rattle.rules.specs.declared.Table.{Table}
 use Rattle.rules.specs.Text.{mostBytes, placeAt}
 use Rattle.rules.specs.Kinds.{isMade}
-use Rattle.rules.specs.Rows.{Row, rowIn, rowsIn, rowPlace, every, chained, valueBits, valueFits, spansFit, lengthFits, placeFits, linesFit, rowFits, follows, gapFits, gapsFit, lastRow, endsBehind, isEof, eofLast, endingFits, rowsFit, wellFormed}
+use Rattle.rules.specs.Rows.{Row, rowIn, rowsIn, rowPlace, every, chained, valueBits, valueFits, spansFit, placeFits, linesFit, rowFits}
+use Rattle.rules.specs.Rows.{follows, gapFits, gapsFit, lastRow, endsBehind, isEof, eofLast, endingFits, rowsFit, wellFormed, wordsPerRow}
 use Rattle.form_rules.specs.Short.{shortRow, shortened, placedRow, placed, placedEnding, onOneLine}
 use Rattle.theory_edits.proofs.Lines.{place-fits, places-fit}
 use Rattle.theory_forms.proofs.Short.{placed-length, placedTable}
@@ -26,10 +27,12 @@ pub record Lined (n : ℕ) (at : ℕ → Cursor) : Type 0 where
   pub fits : (k : ℕ) → placeFits (at k) ≡ true
   pub lines : (j k : ℕ) → j ≤ k → k ≤ n → linesFit (at j) (at k) ≡ true
 
+-- places counted over a text are such places
 pub text-lined : (t : List ℕ) → Lined (length t) (placeAt t)
 unfolding placeAt
 text-lined t = record { offset = λ k. refl; fits = place-fits t; lines = places-fit t }
 
+-- and so are places on one line
 pub one-lined : (n : ℕ) → n ≤ mostBytes → Lined n onOneLine
 unfolding onOneLine placeFits linesFit
 one-lined n few = record {
@@ -56,7 +59,7 @@ relined at r = record {
 rows-relined : (at : ℕ → Cursor) (n : ℕ) (ws : List ℕ) → rowsIn n (placed at n (shortened n ws)) ≡ map (relined at) (rowsIn n ws)
 unfolding rowsIn rowIn placed placedRow shortened shortRow relined
 rows-relined at zero ws = refl
-rows-relined at (suc n) ws = ap (λ (rs : List Row). relined at (rowIn ws) ∷ rs) (rows-relined at n (drop 8 ws))
+rows-relined at (suc n) ws = ap (λ (rs : List Row). relined at (rowIn ws) ∷ rs) (rows-relined at n (drop wordsPerRow ws))
 
 -- the last row starts at n at most
 data LastBelow (n : ℕ) : List Row → Type 0 where
@@ -77,7 +80,8 @@ span-of r e =
     let b = both-true (spansFit r) (placeFits (rowPlace r)) (a .1) in
     leb-true (r .start) (r .end) (both-true (leb (r .start) (r .end)) _ (b .0) .0)
 
-behind-below : (n : ℕ) (rows : List Row) (p : Cursor) → p .offset .0 ≤ n → every rowFits rows ≡ true → endsBehind (lastRow rows) p ≡ true → LastBelow n rows
+behind-below : (n : ℕ) (rows : List Row) (p : Cursor) → p .offset .0 ≤ n → every rowFits rows ≡ true → endsBehind (lastRow rows) p ≡ true
+    → LastBelow n rows
 unfolding every lastRow endsBehind
 behind-below n [] p h f e = nil
 behind-below n (r ∷ []) p h f e =
@@ -102,18 +106,21 @@ module _ (n : ℕ) (at : ℕ → Cursor) (l : Lined n at) where
   every-relined : (rows : List Row) → every rowFits rows ≡ true → every rowFits (map (relined at) rows) ≡ true
   unfolding every
   every-relined [] e = refl
-  every-relined (r ∷ rs) e = let a = both-true (rowFits r) (every rowFits rs) e in true-both (fits-relined r (a .0)) (every-relined rs (a .1))
+  every-relined (r ∷ rs) e =
+      let a = both-true (rowFits r) (every rowFits rs) e in true-both (fits-relined r (a .0)) (every-relined rs (a .1))
 
   follows-relined : (r q : Row) → r .start ≤ r .end → q .start ≤ n → follows r q ≡ true → follows (relined at r) (relined at q) ≡ true
   unfolding follows relined
   follows-relined r q s h e =
       let a = both-true (leb (r .end) (q .start)) (linesFit (rowPlace r) (rowPlace q)) e in
       let b = leb-true (r .end) (q .start) (a .0) in
-      let c : linesFit (rowPlace (relined at r)) (rowPlace (relined at q)) ≡ true = rw (place-is r, place-is q) (l .lines (r .start) (q .start) (omega arith) h) in
+      let c : linesFit (rowPlace (relined at r)) (rowPlace (relined at q)) ≡ true =
+      rw (place-is r, place-is q) (l .lines (r .start) (q .start) (omega arith) h) in
       true-both (a .0) c
 
   -- each row's start is at most that of the next, and so n
-  first-below : (r : Row) (rs : List Row) → every rowFits (r ∷ rs) ≡ true → chained follows (r ∷ rs) ≡ true → LastBelow n (r ∷ rs) → r .start ≤ n
+  first-below : (r : Row) (rs : List Row) → every rowFits (r ∷ rs) ≡ true → chained follows (r ∷ rs) ≡ true → LastBelow n (r ∷ rs)
+      → r .start ≤ n
   unfolding every chained follows
   first-below r [] f c (one h) = h
   first-below r (q ∷ rs) f c (more b) =
@@ -124,7 +131,8 @@ module _ (n : ℕ) (at : ℕ → Cursor) (l : Lined n at) where
       let z = first-below q rs (a .1) (d .1) b in
       omega arith
 
-  chain-relined : (rows : List Row) → every rowFits rows ≡ true → chained follows rows ≡ true → LastBelow n rows → chained follows (map (relined at) rows) ≡ true
+  chain-relined : (rows : List Row) → every rowFits rows ≡ true → chained follows rows ≡ true → LastBelow n rows
+      → chained follows (map (relined at) rows) ≡ true
   unfolding every chained
   chain-relined [] f c b = refl
   chain-relined (r ∷ []) f c b = refl
@@ -159,7 +167,8 @@ module _ (n : ℕ) (at : ℕ → Cursor) (l : Lined n at) where
       let b = leb-true (r .end) (p .offset .0) (a .0) in
       let s = span-of r (both-true (rowFits r) true f .0) in
       let x : leb (r .end) (at (p .offset .0) .offset .0) ≡ true = rw (l .offset (p .offset .0)) (a .0) in
-      let y : linesFit (rowPlace (relined at r)) (at (p .offset .0)) ≡ true = rw (place-is r) (l .lines (r .start) (p .offset .0) (omega arith) h) in
+      let y : linesFit (rowPlace (relined at r)) (at (p .offset .0)) ≡ true =
+      rw (place-is r) (l .lines (r .start) (p .offset .0) (omega arith) h) in
       true-both x y
   behind-relined (r ∷ q ∷ rs) p h f e = behind-relined (q ∷ rs) p h (both-true (rowFits r) (every rowFits (q ∷ rs)) f .1) e
 
@@ -183,14 +192,16 @@ module _ (n : ℕ) (at : ℕ → Cursor) (l : Lined n at) where
       let b = both-true (chained follows rows) (gapsFit 0 rows && endingFits n rows e) (a .1) in
       let c = both-true (gapsFit 0 rows) (endingFits n rows e) (b .1) in
       let d = ending-relined rows e (a .0) (c .1) in
-      true-both (every-relined rows (a .0)) (true-both (chain-relined rows (a .0) (b .0) (d .0)) (true-both (gaps-relined 0 rows ∙ c .0) (d .1)))
+      true-both (every-relined rows (a .0))
+      (true-both (chain-relined rows (a .0) (b .0) (d .0)) (true-both (gaps-relined 0 rows ∙ c .0) (d .1)))
 
 -- the text of a well-formed table is no longer than a text may be
 pub well-few : (ws : List ℕ) (t : Table) → wellFormed ws t ≡ true → t .length ≤ mostBytes
 unfolding wellFormed
 well-few ws t e =
-    let a = both-true (leb (t .count * 8) (length ws) && leb (t .length) mostBytes) (rowsFit (t .length) (rowsIn (t .count) ws) (t .ending)) e in
-    leb-true (t .length) mostBytes (both-true (leb (t .count * 8) (length ws)) (leb (t .length) mostBytes) (a .0) .1)
+    let n = t .count in
+    let a = both-true (leb (n * wordsPerRow) (length ws) && leb (t .length) mostBytes) (rowsFit (t .length) (rowsIn n ws) (t .ending)) e in
+    leb-true (t .length) mostBytes (both-true (leb (n * wordsPerRow) (length ws)) (leb (t .length) mostBytes) (a .0) .1)
 
 -- a well-formed table, with its lines and columns counted anew
 pub well-placed : (at : ℕ → Cursor) (ws : List ℕ) (t : Table) → Lined (t .length) at → wellFormed ws t ≡ true
@@ -199,9 +210,10 @@ unfolding wellFormed
 well-placed at ws t l e =
     let n = t .count in
     let w : List ℕ = placed at n (shortened n ws) in
-    let a = both-true (leb (n * 8) (length ws) && leb (t .length) mostBytes) (rowsFit (t .length) (rowsIn n ws) (t .ending)) e in
-    let b = both-true (leb (n * 8) (length ws)) (leb (t .length) mostBytes) (a .0) in
-    let x : leb (n * 8) (length w) ≡ true = le-leb (n * 8) (length w) (omega (arith, placed-length at n (shortened n ws))) in
+    let a = both-true (leb (n * wordsPerRow) (length ws) && leb (t .length) mostBytes) (rowsFit (t .length) (rowsIn n ws) (t .ending)) e in
+    let b = both-true (leb (n * wordsPerRow) (length ws)) (leb (t .length) mostBytes) (a .0) in
+    let x : leb (n * wordsPerRow) (length w) ≡ true =
+    le-leb (n * wordsPerRow) (length w) (omega (arith, placed-length at n (shortened n ws))) in
     let y : rowsFit (t .length) (rowsIn n w) (placedEnding at (t .ending)) ≡ true =
-      rw (rows-relined at n ws) (rows-fit (t .length) at l (rowsIn n ws) (t .ending) (a .1)) in
+    rw (rows-relined at n ws) (rows-fit (t .length) at l (rowsIn n ws) (t .ending) (a .1)) in
     true-both (true-both x (b .1)) y
