@@ -1,0 +1,3 @@
+-- Theorems about mended files.
+pub mod Words
+pub mod Listed
