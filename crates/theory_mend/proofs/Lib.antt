@@ -1,3 +1,5 @@
 -- Theorems about mended files.
 pub mod Words
 pub mod Listed
+pub mod Fresh
+pub mod Mended

@@ -62,3 +62,16 @@ pub data Ascending : List ℕ → Type 0 where
   none : Ascending []
   one : {k : ℕ} → Ascending (k ∷ [])
   more : {j k : ℕ} {s : List ℕ} → j < k → Ascending (k ∷ s) → Ascending (j ∷ k ∷ s)
+
+-- "a refused call changes neither"
+pub record Untouched (text : List ℕ) (form : ℕ) (memory : List ℕ) (n : ℕ) (list : List ℕ) : Type 0 where
+  pub file : mendLeaves text form memory n list ≡ memory
+  pub entries : listLeaves text form memory n list ≡ list
+
+-- "with nothing written over a block that was already right", nor behind the file, where a surplus tail's "bytes stay", nor behind what is listed
+pub record RestStays (text : List ℕ) (form : ℕ) (memory : List ℕ) (n : ℕ) (list : List ℕ) (size count : ℕ) : Type 0 where
+  pub entries : take count (listLeaves text form memory n list) ≡ listed (freshFile form text) (take n memory)
+  pub entries-behind : drop count (listLeaves text form memory n list) ≡ drop count list
+  pub behind : drop size (mendLeaves text form memory n list) ≡ drop size memory
+  pub right : (k : ℕ) → (Member k (listed (freshFile form text) (take n memory)) → ⊥)
+      → blockAt k (mendLeaves text form memory n list) ≡ blockAt k memory
