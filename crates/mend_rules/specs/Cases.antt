@@ -19,7 +19,7 @@ use Rattle.file_rules.specs.declared.Fault.the-variants.{Outer, TooManyRows, Ot
 use Rattle.file_rules.specs.Bytes
 use Rattle.file_rules.specs.Blocks
 use Rattle.file_rules.specs.Files
-use Rattle.file_rules.specs.Cases.{Byte, changed}
+use Rattle.file_rules.specs.Cases.{changed, bareFile}
 use Rattle.form_rules.specs.Short
 use Rattle.form_rules.specs.Forms
 use Rattle.mend_rules.specs.declared.Mended.{Mended}
@@ -96,10 +96,10 @@ refused t form memory n list why p = record {
   done = record { told = mended.Refused why p; memory = memory; list = list };
 }
 
--- the small text's file of a form, in memory whose bytes behind it are tail, with blocks listed in front of the rest of a list
-abbrev pub mends : ℕ → List ℕ → ℕ → List ℕ → (file tail found rest : List ℕ) → Case
-mends form memory n list file tail found rest = record {
-  text = text;
+-- a text's file of a form, in memory whose bytes behind it are tail, with blocks listed in front of the rest of a list
+abbrev pub mends : List ℕ → ℕ → List ℕ → ℕ → List ℕ → (file tail found rest : List ℕ) → Case
+mends t form memory n list file tail found rest = record {
+  text = t;
   form = form;
   memory = memory;
   n = n;
@@ -113,24 +113,26 @@ nines = 9 ∷ 9 ∷ []
 abbrev pub cases : List Case
 cases =
     -- an empty file is mended to a fresh one, and every block of it is missing
-    mends 1 (replicate 1024 7) 0 nines longFile [] (0 ∷ 1 ∷ []) []
-    ∷ mends 2 (replicate 1025 7) 0 (9 ∷ nines) shortFile (7 ∷ []) (0 ∷ 1 ∷ []) (9 ∷ [])
+    mends text 1 (replicate 1024 7) 0 nines longFile [] (0 ∷ 1 ∷ []) []
+    ∷ mends text 2 (replicate 1025 7) 0 (9 ∷ nines) shortFile (7 ∷ []) (0 ∷ 1 ∷ []) (9 ∷ [])
     -- a right file lists nothing, and asks for no list
-    ∷ mends 1 longFile 1024 [] longFile [] [] []
-    ∷ mends 2 shortFile 1024 [] shortFile [] [] []
+    ∷ mends text 1 longFile 1024 [] longFile [] [] []
+    ∷ mends text 2 shortFile 1024 [] shortFile [] [] []
     -- one byte too long, and two blocks too long: the tail is listed once, by the number behind the last block, and its bytes stay
-    ∷ mends 1 (longFile ++ (7 ∷ [])) 1025 nines longFile (7 ∷ []) (2 ∷ []) (9 ∷ [])
-    ∷ mends 1 (longFile ++ longFile) 2048 nines longFile longFile (2 ∷ []) (9 ∷ [])
+    ∷ mends text 1 (longFile ++ (7 ∷ [])) 1025 nines longFile (7 ∷ []) (2 ∷ []) (9 ∷ [])
+    ∷ mends text 1 (longFile ++ longFile) 2048 nines longFile longFile (2 ∷ []) (9 ∷ [])
     -- bytes behind the file are no tail
-    ∷ mends 1 (longFile ++ (7 ∷ [])) 1024 nines longFile (7 ∷ []) [] nines
+    ∷ mends text 1 (longFile ++ (7 ∷ [])) 1024 nines longFile (7 ∷ []) [] nines
     -- a cut block differs even if what is there is right, and a missing one even if its bytes stand behind the file
-    ∷ mends 1 longFile 1000 nines longFile [] (1 ∷ []) (9 ∷ [])
-    ∷ mends 1 longFile 512 nines longFile [] (1 ∷ []) (9 ∷ [])
+    ∷ mends text 1 longFile 1000 nines longFile [] (1 ∷ []) (9 ∷ [])
+    ∷ mends text 1 longFile 512 nines longFile [] (1 ∷ []) (9 ∷ [])
     -- a block damaged, and one in front of a surplus tail
-    ∷ mends 1 (set longFile 5 1) 1024 nines longFile [] (0 ∷ []) (9 ∷ [])
-    ∷ mends 1 (set longFile 1023 1 ++ (7 ∷ [])) 1025 nines longFile (7 ∷ []) (1 ∷ 2 ∷ []) []
+    ∷ mends text 1 (set longFile 5 1) 1024 nines longFile [] (0 ∷ []) (9 ∷ [])
+    ∷ mends text 1 (set longFile 1023 1 ++ (7 ∷ [])) 1025 nines longFile (7 ∷ []) (1 ∷ 2 ∷ []) []
     -- the other form's file: every block is listed
-    ∷ mends 1 shortFile 1024 nines longFile [] (0 ∷ 1 ∷ []) []
+    ∷ mends text 1 shortFile 1024 nines longFile [] (0 ∷ 1 ∷ []) []
+    -- a text that is not read to its end, whose file is block 0 alone
+    ∷ mends (bytes "@") 1 (replicate 512 7) 512 (9 ∷ []) bareFile [] (0 ∷ []) []
     -- a list and a memory that are too small by one, and memory that ends before the file does
     ∷ refused text 1 (replicate 1024 7) 0 (9 ∷ []) (Outer NoRowRoom) startPlace
     ∷ refused text 1 (replicate 1023 7) 0 nines (Outer NoRowRoom) startPlace

@@ -1,10 +1,10 @@
 -- What a fresh scan stores: its file holds the scan's table and rows in either form, and agrees with the text.
-use mathlib.Core.Path.{_≡_, refl, sym, ap, _∙_}
-use mathlib.Core.Bool.{Bool, true, false, cond, _&&_}
-use mathlib.Core.List.{List, [], _∷_, _++_, append-nil}
-use Prim.Native.Nat.{ℕ, _+_, _*_, _/_, _≤_}
+use mathlib.Core.Path.{_≡_, refl, sym, _∙_}
+use mathlib.Core.Bool.{Bool, true, false, cond}
+use mathlib.Core.List.{List, [], append-nil}
+use Prim.Native.Nat.{ℕ, _*_, _/_, _≤_}
 use native.Mathlib.Omega.{arith}
-use lib.ListN.{length, take, drop}
+use lib.ListN.{length, take}
 use lib.Seq.{take-all}
 use lib.Dec.{eqb}
 use borrow.Author.Tests.{eq-eqb}
@@ -12,14 +12,13 @@ use Rattle.laws.proofs.Tests.{true-both}
 use Rattle.laws.proofs.Valid.{fine-text}
 use Rattle.laws.proofs.Rows.{words-length}
 use Rattle.rules.specs.declared.Judged.the-variants as verdict
-use Rattle.rules.specs.declared.Ending.{Ending}
 use Rattle.rules.specs.declared.Table.{Table}
-use Rattle.rules.specs.Text.{mostBytes, lineAt, columnAt, placeAt, textJudged}
-use Rattle.rules.specs.Rows.{Row, wordsPerRow, rowsIn, rowAt, eofRow, rowPlace, every, wellFormed}
+use Rattle.rules.specs.Text.{lineAt, columnAt, placeAt, textJudged}
+use Rattle.rules.specs.Rows.{wordsPerRow, rowsIn, rowAt, eofRow, rowPlace, every, wellFormed}
 use Rattle.rules.specs.Scan.{Reading, readRows, readEnding, scan}
 use Rattle.file_rules.specs.declared.Loaded.the-variants as loaded
 use Rattle.file_rules.specs.Blocks.{blockBytes, blocksFor, fileLength}
-use Rattle.file_rules.specs.Files.{mostRows, formSaid, countSaid, loadTold, encode}
+use Rattle.file_rules.specs.Files.{mostRows, countSaid, encode}
 use Rattle.form_rules.specs.Short.{shortNumber, onOneLine, shortEncode}
 use Rattle.form_rules.specs.Forms.{isShort, rowBytesIn, judged, rowsBeside, tableBeside, isPlaceIn, endingAgrees, agrees, encodeIn}
 use Rattle.mend_rules.specs.Mend.{freshTable, freshWords, freshFile}

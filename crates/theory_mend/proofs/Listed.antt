@@ -5,7 +5,7 @@ use mathlib.Core.List.{List, [], _∷_, _++_}
 use Prim.Native.Nat.{ℕ, zero, suc, _+_, _*_, _/_, _≤_, _<_}
 use native.Mathlib.Nat.{le-refl, le-trans}
 use native.Mathlib.Omega.{arith}
-use lib.ListN.{length, take, drop}
+use lib.ListN.{length, take, drop, length-take, length-drop}
 use lib.Seq.{drop-drop}
 use lib.Dec.{ltb}
 use borrow.Author.Tests.{ltb-true, lt-ltb, le-ltb}
@@ -14,7 +14,7 @@ use Rattle.laws.proofs.Spelled.{same-eq, same-says}
 use Rattle.rules.specs.Kinds.{sameBytes}
 use Rattle.file_rules.specs.Blocks.{blockBytes}
 use Rattle.mend_rules.specs.Mend.{differing, surplus, listed}
-use Rattle.theory_mend.specs.Mended.{blockAt, Member, here, there, Differs, BeginsTail, ListedExactly, Ascending, none, one, more}
+use Rattle.theory_mend.specs.Mended.{blockAt, Member, here, there, BeginsTail, ListedExactly, Ascending, none, one, more}
 
 -- ---- members of two lists
 
@@ -61,7 +61,7 @@ found (suc m) k zero fresh file h ne =
 found (suc m) k (suc i) fresh file h ne =
     let z : k + suc i ≡ suc k + i = omega arith in
     let r = found m (suc k) i (drop blockBytes fresh) (drop blockBytes file) (omega arith)
-        (λ q. ne (next-block i fresh ∙ q ∙ sym (next-block i file))) in
+    (λ q. ne (next-block i fresh ∙ q ∙ sym (next-block i file))) in
     rw z (member-behind (cond (sameBytes (take blockBytes fresh) (take blockBytes file)) [] (k ∷ [])) r)
 
 -- and only such blocks are
@@ -71,26 +71,27 @@ record Found (m k j : ℕ) (fresh file : List ℕ) : Type 0 where
   inside : at < m
   differs : blockAt at fresh ≡ blockAt at file → ⊥
 
+found-later : (m k j : ℕ) (fresh file : List ℕ) → Found m (suc k) j (drop blockBytes fresh) (drop blockBytes file)
+    → Found (suc m) k j fresh file
+found-later m k j fresh file f = record {
+  at = suc (f .at);
+  is = omega (arith, f .is);
+  inside = omega (arith, f .inside);
+  differs = λ e. f .differs (sym (next-block (f .at) fresh) ∙ e ∙ next-block (f .at) file);
+}
+
 found-only : (m k j : ℕ) (fresh file : List ℕ) → Member j (differing m k fresh file) → Found m k j fresh file
 unfolding differing
 found-only zero k j fresh file q = absurd (member-none q)
 found-only (suc m) k j fresh file q =
-    go (sameBytes (take blockBytes fresh) (take blockBytes file)) refl q (found-only m (suc k) j (drop blockBytes fresh) (drop blockBytes file))
+    let rest = differing m (suc k) (drop blockBytes fresh) (drop blockBytes file) in
+    let later = found-only m (suc k) j (drop blockBytes fresh) (drop blockBytes file) in
+    go (sameBytes (take blockBytes fresh) (take blockBytes file)) refl rest q (λ n. found-later m k j fresh file (later n))
   where
-    later : Found m (suc k) j (drop blockBytes fresh) (drop blockBytes file) → Found (suc m) k j fresh file
-    later f = record {
-      at = suc (f .at);
-      is = omega (arith, f .is);
-      inside = omega (arith, f .inside);
-      differs = λ e. f .differs (sym (next-block (f .at) fresh) ∙ e ∙ next-block (f .at) file);
-    }
-
-    go : (b : Bool) → sameBytes (take blockBytes fresh) (take blockBytes file) ≡ b
-        → Member j (cond b [] (k ∷ []) ++ differing m (suc k) (drop blockBytes fresh) (drop blockBytes file))
-        → (Member j (differing m (suc k) (drop blockBytes fresh) (drop blockBytes file)) → Found m (suc k) j (drop blockBytes fresh) (drop blockBytes file))
-        → Found (suc m) k j fresh file
-    go true e q f = later (f q)
-    go false e q f =
+    go : (b : Bool) → sameBytes (take blockBytes fresh) (take blockBytes file) ≡ b → (rest : List ℕ) → Member j (cond b [] (k ∷ []) ++ rest)
+        → (Member j rest → Found (suc m) k j fresh file) → Found (suc m) k j fresh file
+    go true e rest q f = f q
+    go false e rest q f =
         member-either (k ∷ []) q
         (λ n. record {
           at = 0;
@@ -98,7 +99,7 @@ found-only (suc m) k j fresh file q =
           inside = omega arith;
           differs = differs-by (take blockBytes fresh) (take blockBytes file) e;
         })
-        (λ n. later (f n))
+        f
 
 -- ---- the surplus tail
 
@@ -110,8 +111,9 @@ tail-only : (fresh file : List ℕ) (k : ℕ) → Member k (surplus fresh file) 
 unfolding surplus
 tail-only fresh file k q = go (ltb (length fresh) (length file)) refl q
   where
-    go : (b : Bool) → ltb (length fresh) (length file) ≡ b → Member k (cond b ((length fresh / blockBytes) ∷ []) []) → BeginsTail fresh file k
-    go true e q = (member-one q, ltb-true (length fresh) (length file) e)
+    go : (b : Bool) → ltb (length fresh) (length file) ≡ b → Member k (cond b ((length fresh / blockBytes) ∷ []) [])
+        → BeginsTail fresh file k
+    go true e q = (member-one q, omega (arith, ltb-true (length fresh) (length file) e))
     go false e q = absurd (member-none q)
 
 -- A block is listed exactly if it differs, is cut or missing, or begins a surplus tail.
@@ -119,7 +121,7 @@ pub listed-exactly : (fresh file : List ℕ) → ListedExactly fresh file
 unfolding listed
 listed-exactly fresh file = record {
   differs = λ k d. member-front (surplus fresh file) (rw (zero-add k) at (found m 0 k fresh file (d .0) (d .1)));
-  tail = λ k b. member-behind (differing m 0 fresh file) (rw (tail-listed fresh file (b .1), b .0) here);
+  tail = λ k b. member-behind (differing m 0 fresh file) (rw (tail-listed fresh file (omega (arith, b .1)), b .0) here);
   only = λ k q h e. member-either (differing m 0 fresh file) q
       (λ n. let f = found-only m 0 k fresh file n in let i : f .at ≡ k = omega (arith, f .is) in f .differs (rw i e))
       (λ n. let b = tail-only fresh file k n in omega (arith, b .0));
@@ -133,6 +135,23 @@ listed-exactly fresh file = record {
 
     zero-add : (k : ℕ) → 0 + k ≡ k
     zero-add k = omega arith
+
+-- a block that is cut or missing has fewer bytes than it should
+pub cut-listed : (fresh file : List ℕ) (k : ℕ) → k < length fresh / blockBytes → length file < blockBytes * k + blockBytes
+    → Member k (listed fresh file)
+cut-listed fresh file k h l = listed-exactly fresh file .differs k (h, shorter)
+  where
+    shorter : blockAt k fresh ≡ blockAt k file → ⊥
+    shorter e =
+        let b : ℕ = blockBytes * k in
+        omega (
+          arith,
+          ap length e,
+          length-take blockBytes (drop b fresh),
+          length-drop b fresh,
+          length-take blockBytes (drop b file),
+          length-drop b file,
+        )
 
 -- ---- in ascending order
 
@@ -188,7 +207,8 @@ unfolding listed surplus
 listed-none s = rw (differing-none (length s / blockBytes) 0 s, le-ltb (length s) (length s) (omega arith))
 
 -- a block that is not listed is as it should be
-pub unlisted : (fresh file : List ℕ) (k : ℕ) → k < length fresh / blockBytes → (Member k (listed fresh file) → ⊥) → blockAt k fresh ≡ blockAt k file
+pub unlisted : (fresh file : List ℕ) (k : ℕ) → k < length fresh / blockBytes → (Member k (listed fresh file) → ⊥)
+    → blockAt k fresh ≡ blockAt k file
 unlisted fresh file k h out = go (sameBytes (blockAt k fresh) (blockAt k file)) refl
   where
     go : (b : Bool) → sameBytes (blockAt k fresh) (blockAt k file) ≡ b → blockAt k fresh ≡ blockAt k file

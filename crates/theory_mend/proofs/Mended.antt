@@ -1,12 +1,12 @@
 -- A mended file reads back as the fresh scan's table, mending again lists and changes nothing, and what need not change stays.
 use mathlib.Core.Path.{_≡_, refl, sym, ap, _∙_}
 use mathlib.Core.Bool.{Bool, true, false, cond, not, _||_}
-use mathlib.Core.List.{List, [], _∷_, _++_}
+use mathlib.Core.List.{List, [], _++_}
 use Prim.Native.Nat.{ℕ, _+_, _-_, _*_, _/_, _≤_, _<_}
 use native.Mathlib.Omega.{arith}
 use lib.ListN.{length, take, drop, length-append, length-take, length-drop}
 use lib.Seq.{take-at, drop-at, take-all, take-take, drop-drop, take-append-le, drop-append-le, drop-append-add}
-use lib.Dec.{eqb, ltb}
+use lib.Dec.{ltb}
 use borrow.Author.Tests.{ltb-false, ltb-true, le-ltb, not-false}
 use Rattle.laws.proofs.Tests.{neither}
 use Rattle.laws.proofs.Rows.{scan-told, scan-leaves, told-all, laid-all}
@@ -14,10 +14,9 @@ use Rattle.rules.specs.declared.Cursor.{Cursor}
 use Rattle.rules.specs.declared.Judged.{Judged}
 use Rattle.rules.specs.declared.Judged.the-variants as verdict
 use Rattle.rules.specs.declared.Outer.the-variants.{NoRowRoom}
-use Rattle.rules.specs.declared.Table.{Table}
 use Rattle.rules.specs.declared.Told.the-variants as told
 use Rattle.rules.specs.Text.{startPlace, textJudged}
-use Rattle.rules.specs.Rows.{wordsPerRow, wordsOf}
+use Rattle.rules.specs.Rows.{wordsPerRow}
 use Rattle.rules.specs.Scan.{readRows, readEnding, scan, roomOf, scanTold, scanLeaves}
 use Rattle.file_rules.specs.declared.Fault.{Fault}
 use Rattle.file_rules.specs.declared.Fault.the-variants.{Outer, TooManyRows, OtherForm}
@@ -25,13 +24,14 @@ use Rattle.file_rules.specs.declared.Loaded.the-variants as loaded
 use Rattle.file_rules.specs.Blocks.{blockBytes}
 use Rattle.file_rules.specs.Files.{mostRows, formNumber, loadTold, loadLeaves, encode}
 use Rattle.form_rules.specs.declared.Beside.the-variants as beside
-use Rattle.form_rules.specs.Forms.{isForm, agrees, besideJudged, besideTold, besideLeaves, encodeIn}
+use Rattle.form_rules.specs.Forms.{isForm, besideJudged, besideTold, besideLeaves, encodeIn}
 use Rattle.mend_rules.specs.declared.Mended.{Mended}
 use Rattle.mend_rules.specs.declared.Mended.the-variants as mended
 use Rattle.mend_rules.specs.Mend.{freshTable, freshWords, freshFile, listed, tooSmall, freshTold, mendTold, mendLeaves, listLeaves}
 use Rattle.theory_files.proofs.Files.{drop-take, stored-read, stored-words}
-use Rattle.theory_mend.specs.Mended.{IsMended, left, ReadsBack, NothingAgain, blockAt, Member, ListedExactly, Ascending, Untouched, RestStays}
-use Rattle.theory_mend.proofs.Listed.{listed-exactly, listed-ascending, listed-none, unlisted}
+use Rattle.theory_mend.specs.Mended.{IsMended, left, ReadsBack, NothingAgain, Untouched, RestStays}
+use Rattle.theory_mend.specs.Mended.{blockAt, Member, ListTells}
+use Rattle.theory_mend.proofs.Listed.{listed-exactly, cut-listed, listed-ascending, listed-none, unlisted}
 use Rattle.theory_mend.proofs.Fresh.{Holds, fresh-whole, fresh-well, fresh-words, fresh-size, fresh-agrees, fresh-holds}
 
 -- a part of what stands in front
@@ -73,9 +73,9 @@ mend-of text form memory n list size count m =
     go : (v : Judged) → textJudged text ≡ v
         → (not (isForm form) ≡ false)
         × (elim v as (λ _. Mended) [
-            | verdict.Fine ↦ freshTold (freshFile form text) (freshTable text .count) memory n list
-            | verdict.Refused why p ↦ mended.Refused (Outer why) p
-          ] ≡ mended.Blocks size count)
+          | verdict.Fine ↦ freshTold (freshFile form text) (freshTable text .count) memory n list
+          | verdict.Refused why p ↦ mended.Refused (Outer why) p
+        ] ≡ mended.Blocks size count)
         → MendOf text form memory n list size count
     go (verdict.Refused why p) f a = absurd (let z : _≡_ {A = ℕ} 0 1 = cc in omega arith)
     go verdict.Fine f a =
@@ -162,12 +162,14 @@ module _ (text : List ℕ) (form : ℕ) (memory : List ℕ) (n : ℕ) (list : Li
   unfolding freshFile encodeIn
   long-is e = rw e
 
-  tells-alone : form ≡ formNumber → (room : ℕ) → freshTable text .count ≤ room → loadTold (freshFile form text) room ≡ loaded.Rows (freshTable text)
+  tells-alone : form ≡ formNumber → (room : ℕ) → freshTable text .count ≤ room
+      → loadTold (freshFile form text) room ≡ loaded.Rows (freshTable text)
   tells-alone e room h =
       let f = is-mended .fine in
       rw (long-is e) (stored-read (freshWords text) (freshTable text) (fresh-well text f) (is-mended .few) (fresh-words text f) room h)
 
-  rows-alone : form ≡ formNumber → (ws : List ℕ) → freshTable text .count ≤ roomOf ws → loadLeaves (freshFile form text) ws ≡ scanLeaves text ws
+  rows-alone : form ≡ formNumber → (ws : List ℕ) → freshTable text .count ≤ roomOf ws
+      → loadLeaves (freshFile form text) ws ≡ scanLeaves text ws
   rows-alone e ws h =
       let f = is-mended .fine in
       let c : ℕ = wordsPerRow * freshTable text .count in
@@ -202,6 +204,9 @@ module _ (text : List ℕ) (form : ℕ) (memory : List ℕ) (n : ℕ) (list : Li
   unfolding now
   drop-now = drop-at (freshFile form text) (drop size memory) size (is-mended .size-is)
 
+  none-listed : listed (freshFile form text) (freshFile form text) ≡ []
+  none-listed = listed-none (freshFile form text)
+
   told-again : (more : List ℕ) → mendTold text form now size more ≡ mended.Blocks size 0
   unfolding mendTold freshTold tooSmall
   told-again more =
@@ -209,7 +214,8 @@ module _ (text : List ℕ) (form : ℕ) (memory : List ℕ) (n : ℕ) (list : Li
       let a = le-ltb mostRows (freshTable text .count) (is-mended .few) in
       let b = le-ltb (length now) (length fresh) now-length in
       let c = le-ltb (length now) size (omega (arith, now-length, is-mended .size-is)) in
-      rw (mendTold, is-mended .known, is-mended .fine, a, b, c, take-now, listed-none fresh, is-mended .size-is, le-ltb (length more) 0 (omega arith))
+      let d = le-ltb (length more) 0 (omega arith) in
+      rw (mendTold, is-mended .known, is-mended .fine, a, b, c, take-now, none-listed, is-mended .size-is, d)
 
   -- Mending again lists nothing and changes nothing.
   pub mended-again : NothingAgain text form (mendLeaves text form memory n list) size
@@ -217,7 +223,7 @@ module _ (text : List ℕ) (form : ℕ) (memory : List ℕ) (n : ℕ) (list : Li
   mended-again = record {
     told = λ more. rw leaves-is (told-again more);
     file = λ more. rw leaves-is (file-left text form now size more size 0 (told-again more) ∙ rw drop-now);
-    list = λ more. rw leaves-is (entries-left text form now size more size 0 (told-again more) ∙ rw (take-now, listed-none (freshFile form text)));
+    list = λ more. rw leaves-is (entries-left text form now size more size 0 (told-again more) ∙ rw (take-now, none-listed));
   }
 
   -- ---- what stays
@@ -246,7 +252,7 @@ module _ (text : List ℕ) (form : ℕ) (memory : List ℕ) (n : ℕ) (list : Li
       let b : ℕ = blockBytes * k in
       let l : length (blockAt k (take n memory)) ≡ blockBytes = ap length (sym e) ∙ block-length k h in
       let f : b + blockBytes ≤ n =
-          omega (arith, length-take blockBytes (drop b (take n memory)), length-drop b (take n memory), length-take n memory) in
+      omega (arith, length-take blockBytes (drop b (take n memory)), length-drop b (take n memory), length-take n memory) in
       part-within blockBytes b n memory f
 
   right-block : (k : ℕ) → k < length (freshFile form text) / blockBytes → (Member k (listed (freshFile form text) (take n memory)) → ⊥)
@@ -276,23 +282,22 @@ module _ (text : List ℕ) (form : ℕ) (memory : List ℕ) (n : ℕ) (list : Li
   found : List ℕ
   found = listed (freshFile form text) (take n memory)
 
-  entries-front : take count (listLeaves text form memory n list) ≡ listed (freshFile form text) (take n memory)
-  unfolding found
-  entries-front = rw entries-are (take-at found (drop count list) count (is-mended .count-is))
-
   -- What is not listed stays, block for block, and so does all behind the file and behind the list.
   pub rest-stays : RestStays text form memory n list size count
   unfolding now found
   rest-stays = record {
-    entries = entries-front;
     entries-behind = rw entries-are (drop-at found (drop count list) count (is-mended .count-is));
     behind = rw leaves-is drop-now;
     right = λ k out. rw leaves-is (each-block k out);
   }
 
-  -- What the list holds is exactly the blocks that differed, in ascending order.
-  pub mended-listed : ListedExactly (freshFile form text) (take n memory)
-  mended-listed = listed-exactly (freshFile form text) (take n memory)
-
-  pub mended-ascending : Ascending (take count (listLeaves text form memory n list))
-  mended-ascending = rw entries-front (listed-ascending (freshFile form text) (take n memory))
+  -- The list holds exactly the blocks that differed, were cut or missing, and the first of a surplus tail, in ascending order.
+  pub mended-lists : ListTells text form memory n list count
+  unfolding found
+  mended-lists = record {
+    whole = fresh-whole form text;
+    entries = rw entries-are (take-at found (drop count list) count (is-mended .count-is));
+    exactly = listed-exactly (freshFile form text) (take n memory);
+    cut = λ k h l. cut-listed (freshFile form text) (take n memory) k h (omega (arith, length-take n memory));
+    ascending = listed-ascending (freshFile form text) (take n memory);
+  }

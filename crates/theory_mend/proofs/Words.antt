@@ -1,11 +1,10 @@
 -- The words of a text's rows are words: each lies below 2^32.
-use mathlib.Core.Path.{_≡_, refl, sym, ap, _∙_}
-use mathlib.Core.Bool.{Bool, true, false, cond, not, _&&_, _||_}
-use mathlib.Core.List.{List, [], _∷_, _++_}
+use mathlib.Core.Path.{_≡_, refl}
+use mathlib.Core.Bool.{Bool, true, false, cond, _&&_}
+use mathlib.Core.List.{List, [], _∷_}
 use Prim.Native.Nat.{ℕ, zero, suc, pred, _+_, _-_, _*_, _/_, _%_, _^_, _≤_, _<_}
-use native.Mathlib.Nat.{mod-lt}
 use native.Mathlib.Omega.{arith}
-use lib.ListN.{length, take, drop, getD}
+use lib.ListN.{length, drop, getD}
 use lib.Dec.{eqb, leb, ltb}
 use borrow.Author.Tests.{leb-true}
 use Rattle.laws.proofs.Tests.{both-true}
@@ -16,12 +15,13 @@ use Rattle.rules.specs.Text.{byte, mostBytes, front, isBlank, notNewline, lineA
 use Rattle.rules.specs.Kinds
 use Rattle.rules.specs.Kinds.{Number, isMade, signs, kindIn}
 use Rattle.rules.specs.Rows.{Row, rowWords, wordsOf, bitsOf, rowAt, eofRow, placeFits}
-use Rattle.rules.specs.Lex.{Piece, blank, comment, row, refused, lineComment, beforeClose, blockComment, isDigit, isLetter, word, isHexDigit, largest, numberOf, decimal, hex, number, isEscape, string, isLone, maybeTwo, single, frontTwo, sign, slashed, dashed, beginning, piece}
+use Rattle.rules.specs.Lex.{Piece, blank, comment, row, refused}
+use Rattle.rules.specs.Lex.{lineComment, beforeClose, blockComment, isDigit, isLetter, word, isHexDigit, largest, numberOf, decimal, hex}
+use Rattle.rules.specs.Lex.{number, isEscape, string, isLone, maybeTwo, single, frontTwo, sign, slashed, dashed, beginning, piece}
 use Rattle.rules.specs.Scan.{Reading, put, ends, stops, readRows, read, scan}
 use Rattle.theory_edits.proofs.Lines.{place-fits}
-use Rattle.theory_edits.proofs.Tokens.{Fit}
 use Rattle.theory_edits.proofs.Well.{Well, well-row, well-eof, well-stops, scan-well}
-use Rattle.theory_files.specs.Bounds.{Below, none, some, Words}
+use Rattle.theory_files.specs.Bounds.{none, some, Words}
 use Rattle.theory_files.proofs.Numbers.{below-append}
 
 -- ---- a value has 64 bits at most
@@ -63,7 +63,8 @@ decimal-number negative m s = number-of negative (m + front isDigit s) _
 a-number : (negative : Bool) (m : ℕ) (s : List ℕ) → Valued (number negative m s)
 unfolding number
 a-number negative m s =
-    either (eqb (getD s 0 0) (byte "0") && eqb (getD s 1 0) (byte "x")) (hex-number negative (m + 2) (drop 2 s)) (decimal-number negative m s)
+    either (eqb (getD s 0 0) (byte "0") && eqb (getD s 1 0) (byte "x")) (hex-number negative (m + 2) (drop 2 s))
+    (decimal-number negative m s)
 
 -- ---- other pieces have none
 

@@ -1,10 +1,9 @@
 -- What is claimed of a file that was mended, and of the blocks that are listed.
 use mathlib.Core.Path.{_≡_}
-use mathlib.Core.List.{List, [], _∷_, _++_}
+use mathlib.Core.List.{List, [], _∷_}
 use Prim.Native.Nat.{ℕ, _+_, _*_, _/_, _≤_, _<_}
 use lib.ListN.{length, take, drop}
 use Rattle.rules.specs.declared.Told.the-variants as told
-use Rattle.rules.specs.Rows.{wordsPerRow}
 use Rattle.rules.specs.Scan.{roomOf, scanTold, scanLeaves}
 use Rattle.file_rules.specs.declared.Loaded.the-variants as loaded
 use Rattle.file_rules.specs.Blocks.{blockBytes}
@@ -22,7 +21,8 @@ pub record IsMended (text : List ℕ) (form : ℕ) (memory : List ℕ) (n : ℕ)
 abbrev pub left : List ℕ → ℕ → List ℕ → ℕ → List ℕ → ℕ → List ℕ
 left text form memory n list size = take size (mendLeaves text form memory n list)
 
--- "the mended file reads back as the fresh scan's table": beside the text in either form, and by the reading of form 1, in any room for all rows
+-- "the mended file reads back as the fresh scan's table": beside the text in either form, and by the reading of form 1, in any room for
+-- all rows
 pub record ReadsBack (text : List ℕ) (form : ℕ) (file : List ℕ) : Type 0 where
   pub scanned : (room : ℕ) → freshTable text .count ≤ room → scanTold text room ≡ told.Rows (freshTable text)
   pub beside : (room : ℕ) → freshTable text .count ≤ room → besideTold text file room ≡ beside.Rows (freshTable text)
@@ -63,14 +63,23 @@ pub data Ascending : List ℕ → Type 0 where
   one : {k : ℕ} → Ascending (k ∷ [])
   more : {j k : ℕ} {s : List ℕ} → j < k → Ascending (k ∷ s) → Ascending (j ∷ k ∷ s)
 
+-- what the lent list holds then: its first count words are those blocks, and the file that they are held against is whole blocks
+pub record ListTells (text : List ℕ) (form : ℕ) (memory : List ℕ) (n : ℕ) (list : List ℕ) (count : ℕ) : Type 0 where
+  pub whole : blockBytes * (length (freshFile form text) / blockBytes) ≡ length (freshFile form text)
+  pub entries : take count (listLeaves text form memory n list) ≡ listed (freshFile form text) (take n memory)
+  pub exactly : ListedExactly (freshFile form text) (take n memory)
+  pub cut : (k : ℕ) → k < length (freshFile form text) / blockBytes → n < blockBytes * k + blockBytes
+      → Member k (listed (freshFile form text) (take n memory))
+  pub ascending : Ascending (listed (freshFile form text) (take n memory))
+
 -- "a refused call changes neither"
 pub record Untouched (text : List ℕ) (form : ℕ) (memory : List ℕ) (n : ℕ) (list : List ℕ) : Type 0 where
   pub file : mendLeaves text form memory n list ≡ memory
   pub entries : listLeaves text form memory n list ≡ list
 
--- "with nothing written over a block that was already right", nor behind the file, where a surplus tail's "bytes stay", nor behind what is listed
+-- "with nothing written over a block that was already right", nor behind the file, where a surplus tail's "bytes stay", nor behind what
+-- is listed
 pub record RestStays (text : List ℕ) (form : ℕ) (memory : List ℕ) (n : ℕ) (list : List ℕ) (size count : ℕ) : Type 0 where
-  pub entries : take count (listLeaves text form memory n list) ≡ listed (freshFile form text) (take n memory)
   pub entries-behind : drop count (listLeaves text form memory n list) ≡ drop count list
   pub behind : drop size (mendLeaves text form memory n list) ≡ drop size memory
   pub right : (k : ℕ) → (Member k (listed (freshFile form text) (take n memory)) → ⊥)
