@@ -7,7 +7,7 @@ use native.Mathlib.Omega.{arith}
 use lib.ListN.{length, take}
 use lib.Seq.{take-all}
 use lib.Dec.{eqb}
-use borrow.Author.Tests.{eq-eqb}
+use borrow.Author.Tests.{eqb-true, eq-eqb}
 use Rattle.laws.proofs.Tests.{true-both}
 use Rattle.laws.proofs.Valid.{fine-text}
 use Rattle.laws.proofs.Rows.{words-length}
@@ -18,9 +18,9 @@ use Rattle.rules.specs.Rows.{wordsPerRow, rowsIn, rowAt, eofRow, rowPlace, ever
 use Rattle.rules.specs.Scan.{Reading, readRows, readEnding, scan}
 use Rattle.file_rules.specs.declared.Loaded.the-variants as loaded
 use Rattle.file_rules.specs.Blocks.{blockBytes, blocksFor, fileLength}
-use Rattle.file_rules.specs.Files.{mostRows, countSaid, encode}
+use Rattle.file_rules.specs.Files.{mostRows, formSaid, countSaid, encode}
 use Rattle.form_rules.specs.Short.{shortNumber, onOneLine, shortEncode}
-use Rattle.form_rules.specs.Forms.{isShort, rowBytesIn, judged, rowsBeside, tableBeside, isPlaceIn, endingAgrees, agrees, encodeIn}
+use Rattle.form_rules.specs.Forms.{isForm, isShort, rowBytesIn, judged, rowsBeside, tableBeside, isPlaceIn, endingAgrees, agrees, encodeIn}
 use Rattle.mend_rules.specs.Mend.{freshTable, freshWords, freshFile}
 use Rattle.theory_edits.specs.Scanned.{Scanned}
 use Rattle.theory_edits.proofs.Well.{Well, well-row, well-eof, well-stops, scan-well}
@@ -30,12 +30,12 @@ use Rattle.theory_files.proofs.Files.{count-is, encode-framed, rows-are, stored
 use Rattle.theory_forms.proofs.Short.{placedTable}
 use Rattle.theory_forms.proofs.Written.{written-form, written-words, written-count, written-judged}
 use Rattle.theory_forms.proofs.Agree.{rows-placed, ending-placed}
-use Rattle.theory_forms.proofs.Moves.{encoded-length}
+use Rattle.theory_forms.proofs.Moves.{encoded-length, only-one}
 use Rattle.theory_mend.proofs.Words.{scanned-words}
 
 -- ---- how long the file is
 
--- it is whole blocks
+-- It is whole blocks.
 pub fresh-whole : (form : ℕ) (text : List ℕ) → blockBytes * (length (freshFile form text) / blockBytes) ≡ length (freshFile form text)
 unfolding freshFile fileLength
 fresh-whole form text =
@@ -63,7 +63,7 @@ ending-agrees {T} (well-stops {m = m} a h) = own-place T m
 
 -- ---- the file of a text that is judged fine
 
--- a file that is judged to hold the scan's table and rows, beside the text
+-- A file that is judged to hold the scan's table and rows, beside the text.
 pub record Holds (text file : List ℕ) : Type 0 where
   pub table : Table
   pub judged-is : judged file ≡ loaded.Rows table
@@ -76,13 +76,16 @@ module _ (text : List ℕ) (fine : textJudged text ≡ verdict.Fine) where
   unfolding freshWords freshTable
   scanned = record { fits = fine-text text fine .0; spare = []; words = sym (append-nil _); told = refl }
 
+  -- The scan's table is well formed with its words.
   pub fresh-well : wellFormed (freshWords text) (freshTable text) ≡ true
   fresh-well = scanned-well-formed scanned
 
+  -- These are words below 2^32.
   pub fresh-words : Words (freshWords text)
   unfolding freshWords
   fresh-words = scanned-words text (fine-text text fine .0)
 
+  -- There are eight to a row.
   pub fresh-size : length (freshWords text) ≡ wordsPerRow * freshTable text .count
   unfolding freshWords freshTable
   fresh-size = words-length (readRows (scan text))
@@ -94,6 +97,7 @@ module _ (text : List ℕ) (fine : textJudged text ≡ verdict.Fine) where
   unfolding freshTable
   ending-stands = ending-agrees (scan-well text)
 
+  -- They agree with the text.
   pub fresh-agrees : agrees text (freshWords text) (freshTable text) ≡ true
   unfolding agrees freshTable
   fresh-agrees = true-both (eq-eqb (length text) (length text) refl) (true-both rows-stand ending-stands)
@@ -142,6 +146,18 @@ module _ (text : List ℕ) (fine : textJudged text ≡ verdict.Fine) where
           let p = rows-placed text (freshTable text .count) (freshWords text) (omega (arith, fresh-size)) rows-stand in
           rw (is-short, c, w) (p ∙ whole);
     }
+
+    -- The file of either form says that form.
+    pub fresh-says : (form : ℕ) → isForm form ≡ true → formSaid (freshFile form text) ≡ form
+    unfolding freshFile encodeIn
+    fresh-says form k = go (eqb form shortNumber) refl
+      where
+        go : (b : Bool) → eqb form shortNumber ≡ b
+            → formSaid (cond b (shortEncode (freshWords text) (freshTable text)) (encode (freshWords text) (freshTable text))) ≡ form
+        go true e =
+            written-form (freshWords text) (freshTable text) fresh-well few fresh-words ∙ sym (eqb-true form shortNumber e)
+        go false e =
+            encode-framed (freshWords text) (freshTable text) fresh-well few fresh-words .form ∙ sym (only-one form k e)
 
     -- The file of either form holds the scan's table and rows.
     pub fresh-holds : (form : ℕ) → Holds text (freshFile form text)

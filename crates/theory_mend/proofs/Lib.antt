@@ -2,4 +2,5 @@
 pub mod Words
 pub mod Listed
 pub mod Fresh
+pub mod Ways
 pub mod Mended

@@ -1,14 +1,14 @@
 -- Which blocks are listed: exactly those that differ, are cut or missing, and the first of a surplus tail, in ascending order.
 use mathlib.Core.Path.{_≡_, refl, sym, ap, _∙_}
 use mathlib.Core.Bool.{Bool, true, false, cond, true≢false}
-use mathlib.Core.List.{List, [], _∷_, _++_}
+use mathlib.Core.List.{List, [], _∷_, _++_, append-assoc}
 use Prim.Native.Nat.{ℕ, zero, suc, _+_, _*_, _/_, _≤_, _<_}
 use native.Mathlib.Nat.{le-refl, le-trans}
 use native.Mathlib.Omega.{arith}
 use lib.ListN.{length, take, drop, length-take, length-drop}
-use lib.Seq.{drop-drop}
+use lib.Seq.{take-add, take-all, drop-drop}
 use lib.Dec.{ltb}
-use borrow.Author.Tests.{ltb-true, lt-ltb, le-ltb}
+use borrow.Author.Tests.{ltb-true, ltb-false, lt-ltb, le-ltb}
 use Rattle.laws.proofs.Tests.{false-by}
 use Rattle.laws.proofs.Spelled.{same-eq, same-says}
 use Rattle.rules.specs.Kinds.{sameBytes}
@@ -39,13 +39,13 @@ member-one here = refl
 
 -- ---- blocks
 
-pub same-self : (s : List ℕ) → sameBytes s s ≡ true
+same-self : (s : List ℕ) → sameBytes s s ≡ true
 same-self s = sym (same-says true s s (λ _. refl, λ _. refl))
 
 differs-by : (s t : List ℕ) → sameBytes s t ≡ false → s ≡ t → ⊥
 differs-by s t e d = true≢false (sym (same-self t) ∙ ap (λ (x : List ℕ). sameBytes x t) (sym d) ∙ e)
 
-pub next-block : (i : ℕ) (s : List ℕ) → blockAt (suc i) s ≡ blockAt i (drop blockBytes s)
+next-block : (i : ℕ) (s : List ℕ) → blockAt (suc i) s ≡ blockAt i (drop blockBytes s)
 next-block i s =
     let e : blockBytes * suc i ≡ blockBytes + blockBytes * i = omega arith in
     rw (e, ← drop-drop (blockBytes * i) blockBytes s)
@@ -136,7 +136,7 @@ listed-exactly fresh file = record {
     zero-add : (k : ℕ) → 0 + k ≡ k
     zero-add k = omega arith
 
--- a block that is cut or missing has fewer bytes than it should
+-- A block that is cut or missing is listed.
 pub cut-listed : (fresh file : List ℕ) (k : ℕ) → k < length fresh / blockBytes → length file < blockBytes * k + blockBytes
     → Member k (listed fresh file)
 cut-listed fresh file k h l = listed-exactly fresh file .differs k (h, shorter)
@@ -189,24 +189,72 @@ surplus-from fresh file = go (ltb (length fresh) (length file))
     go true = next (le-refl (length fresh / blockBytes)) nothing
     go false = nothing
 
+-- What is listed ascends.
 pub listed-ascending : (fresh file : List ℕ) → Ascending (listed fresh file)
 unfolding listed
 listed-ascending fresh file =
     let z : 0 + length fresh / blockBytes ≡ length fresh / blockBytes = omega arith in
     ascends (differing-from (length fresh / blockBytes) 0 fresh file (rw z (surplus-from fresh file)))
 
--- ---- nothing is listed of what is as it should be
+-- ---- nothing is listed
 
 differing-none : (m k : ℕ) (s : List ℕ) → differing m k s s ≡ []
 unfolding differing
 differing-none zero k s = refl
 differing-none (suc m) k s = rw (same-self (take blockBytes s)) (differing-none m (suc k) (drop blockBytes s))
 
+-- Nothing is listed of what is as it should be.
 pub listed-none : (s : List ℕ) → listed s s ≡ []
 unfolding listed surplus
 listed-none s = rw (differing-none (length s / blockBytes) 0 s, le-ltb (length s) (length s) (omega arith))
 
--- a block that is not listed is as it should be
+-- blocks of which none is listed are alike
+front-same : (m k : ℕ) (fresh file : List ℕ) → differing m k fresh file ≡ [] → take (blockBytes * m) fresh ≡ take (blockBytes * m) file
+unfolding differing
+front-same zero k fresh file e = refl
+front-same (suc m) k fresh file e =
+    let rest = differing m (suc k) (drop blockBytes fresh) (drop blockBytes file) in
+    go (sameBytes (take blockBytes fresh) (take blockBytes file)) refl rest e
+    (front-same m (suc k) (drop blockBytes fresh) (drop blockBytes file))
+  where
+    go : (b : Bool) → sameBytes (take blockBytes fresh) (take blockBytes file) ≡ b → (rest : List ℕ) → (cond b [] (k ∷ []) ++ rest) ≡ []
+        → (rest ≡ [] → take (blockBytes * m) (drop blockBytes fresh) ≡ take (blockBytes * m) (drop blockBytes file))
+        → take (blockBytes * suc m) fresh ≡ take (blockBytes * suc m) file
+    go true s rest e r =
+        let w : blockBytes * suc m ≡ blockBytes + blockBytes * m = omega arith in
+        rw (w, take-add blockBytes (blockBytes * m) fresh, take-add blockBytes (blockBytes * m) file, same-eq _ _ s, r e)
+    go false s rest e r = absurd (let z : _≡_ {A = ℕ} 0 1 = cc in omega arith)
+
+-- Where nothing is listed, the file is what it should be.
+pub none-right : (fresh file : List ℕ) → blockBytes * (length fresh / blockBytes) ≡ length fresh → listed fresh file ≡ [] → file ≡ fresh
+unfolding listed
+none-right fresh file w e =
+    let m : ℕ = length fresh / blockBytes in
+    let f = front-same m 0 fresh file (front-empty (differing m 0 fresh file) (surplus fresh file) e) in
+    let few : length file ≤ length fresh = no-tail (ltb (length fresh) (length file)) refl in
+    sym (take-all (blockBytes * m) file (omega arith)) ∙ sym f ∙ take-all (blockBytes * m) fresh (omega arith)
+  where
+    front-empty : (xs ys : List ℕ) → (xs ++ ys) ≡ [] → xs ≡ []
+    front-empty [] ys e = refl
+    front-empty (x ∷ xs) ys e = absurd (let z : _≡_ {A = ℕ} 0 1 = cc in omega arith)
+
+    no-tail : (b : Bool) → ltb (length fresh) (length file) ≡ b → length file ≤ length fresh
+    no-tail true q = absurd (member-none (rw e at (listed-exactly fresh file .tail _ (refl, ltb-true _ _ q))))
+    no-tail false q = ltb-false (length fresh) (length file) q
+
+-- Block 0's entry stands in front of the others'.
+pub listed-first : (fresh file : List ℕ) → blockBytes ≤ length fresh
+    → listed fresh file ≡ cond (sameBytes (take blockBytes fresh) (take blockBytes file)) [] (0 ∷ [])
+    ++ (differing (length (drop blockBytes fresh) / blockBytes) 1 (drop blockBytes fresh) (drop blockBytes file) ++ surplus fresh file)
+unfolding listed differing
+listed-first fresh file h =
+    let m : ℕ = length (drop blockBytes fresh) / blockBytes in
+    let e : length fresh / blockBytes ≡ suc m = omega (arith, length-drop blockBytes fresh) in
+    let first : List ℕ = cond (sameBytes (take blockBytes fresh) (take blockBytes file)) [] (0 ∷ []) in
+    let others : List ℕ = differing m 1 (drop blockBytes fresh) (drop blockBytes file) in
+    ap (λ (x : ℕ). differing x 0 fresh file ++ surplus fresh file) e ∙ append-assoc first others (surplus fresh file)
+
+-- A block that is not listed is as it should be.
 pub unlisted : (fresh file : List ℕ) (k : ℕ) → k < length fresh / blockBytes → (Member k (listed fresh file) → ⊥)
     → blockAt k fresh ≡ blockAt k file
 unlisted fresh file k h out = go (sameBytes (blockAt k fresh) (blockAt k file)) refl

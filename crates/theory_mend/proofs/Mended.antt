@@ -1,10 +1,10 @@
 -- A mended file reads back as the fresh scan's table, mending again lists and changes nothing, and what need not change stays.
 use mathlib.Core.Path.{_≡_, refl, sym, ap, _∙_}
 use mathlib.Core.Bool.{Bool, true, false, cond, not, _||_}
-use mathlib.Core.List.{List, [], _++_}
+use mathlib.Core.List.{List, [], _∷_, _++_}
 use Prim.Native.Nat.{ℕ, _+_, _-_, _*_, _/_, _≤_, _<_}
 use native.Mathlib.Omega.{arith}
-use lib.ListN.{length, take, drop, length-append, length-take, length-drop}
+use lib.ListN.{length, take, drop, take-append-drop, length-append, length-take, length-drop}
 use lib.Seq.{take-at, drop-at, take-all, take-take, drop-drop, take-append-le, drop-append-le, drop-append-add}
 use lib.Dec.{ltb}
 use borrow.Author.Tests.{ltb-false, ltb-true, le-ltb, not-false}
@@ -22,17 +22,17 @@ use Rattle.file_rules.specs.declared.Fault.{Fault}
 use Rattle.file_rules.specs.declared.Fault.the-variants.{Outer, TooManyRows, OtherForm}
 use Rattle.file_rules.specs.declared.Loaded.the-variants as loaded
 use Rattle.file_rules.specs.Blocks.{blockBytes}
-use Rattle.file_rules.specs.Files.{mostRows, formNumber, loadTold, loadLeaves, encode}
+use Rattle.file_rules.specs.Files.{mostRows, formNumber, formSaid, loadTold, loadLeaves, encode}
 use Rattle.form_rules.specs.declared.Beside.the-variants as beside
 use Rattle.form_rules.specs.Forms.{isForm, besideJudged, besideTold, besideLeaves, encodeIn}
 use Rattle.mend_rules.specs.declared.Mended.{Mended}
 use Rattle.mend_rules.specs.declared.Mended.the-variants as mended
 use Rattle.mend_rules.specs.Mend.{freshTable, freshWords, freshFile, listed, tooSmall, freshTold, mendTold, mendLeaves, listLeaves}
 use Rattle.theory_files.proofs.Files.{drop-take, stored-read, stored-words}
-use Rattle.theory_mend.specs.Mended.{IsMended, left, ReadsBack, NothingAgain, Untouched, RestStays}
+use Rattle.theory_mend.specs.Mended.{IsMended, left, ReadsBack, IsRight, NothingAgain, Untouched, RestStays}
 use Rattle.theory_mend.specs.Mended.{blockAt, Member, ListTells}
-use Rattle.theory_mend.proofs.Listed.{listed-exactly, cut-listed, listed-ascending, listed-none, unlisted}
-use Rattle.theory_mend.proofs.Fresh.{Holds, fresh-whole, fresh-well, fresh-words, fresh-size, fresh-agrees, fresh-holds}
+use Rattle.theory_mend.proofs.Listed.{listed-exactly, cut-listed, listed-ascending, listed-none, none-right, unlisted}
+use Rattle.theory_mend.proofs.Fresh.{Holds, fresh-whole, fresh-well, fresh-words, fresh-size, fresh-agrees, fresh-says, fresh-holds}
 
 -- a part of what stands in front
 part-within : (a b c : ℕ) (s : List ℕ) → b + a ≤ c → take a (drop b (take c s)) ≡ take a (drop b s)
@@ -42,6 +42,7 @@ part-within a b c s h =
 
 -- ---- what is known of a mending that was told
 
+-- What holds where a mending is told, and nothing else must.
 pub record MendOf (text : List ℕ) (form : ℕ) (memory : List ℕ) (n : ℕ) (list : List ℕ) (size count : ℕ) : Type 0 where
   pub known : isForm form ≡ true
   pub fine : textJudged text ≡ verdict.Fine
@@ -64,6 +65,7 @@ same-size a b c d e = cc
 same-count : (a b c d : ℕ) → mended.Blocks a b ≡ mended.Blocks c d → b ≡ d
 same-count a b c d e = cc
 
+-- It holds of each that was told.
 pub mend-of : (text : List ℕ) (form : ℕ) (memory : List ℕ) (n : ℕ) (list : List ℕ) (size count : ℕ)
     → IsMended text form memory n list size count → MendOf text form memory n list size count
 unfolding mendTold freshTold tooSmall
@@ -99,6 +101,19 @@ mend-of text form memory n list size count m =
           count-is = same-count _ _ _ _ (c .1);
         }
 
+-- Where it holds, the mending is told.
+pub told-of : (text : List ℕ) (form : ℕ) (memory : List ℕ) (n : ℕ) (list : List ℕ) (size count : ℕ)
+    → MendOf text form memory n list size count → mendTold text form memory n list ≡ mended.Blocks size count
+unfolding mendTold freshTold tooSmall
+told-of text form memory n list size count m =
+    let fresh = freshFile form text in
+    let found = listed (freshFile form text) (take n memory) in
+    let a = le-ltb mostRows (freshTable text .count) (m .few) in
+    let b = le-ltb (length memory) (length fresh) (m .room) in
+    let c = le-ltb (length memory) n (m .held) in
+    let d = le-ltb (length list) (length found) (m .listing) in
+    rw (mendTold, m .known, m .fine, a, b, c, d, m .size-is, m .count-is)
+
 -- ---- what is left
 
 module _ (text : List ℕ) (form : ℕ) (memory : List ℕ) (n : ℕ) (list : List ℕ) (size count : ℕ)
@@ -110,6 +125,55 @@ module _ (text : List ℕ) (form : ℕ) (memory : List ℕ) (n : ℕ) (list : Li
   entries-left : listLeaves text form memory n list ≡ listed (freshFile form text) (take n memory) ++ drop count list
   unfolding listLeaves
   entries-left = rw (listLeaves, e)
+
+-- ---- a right file
+
+module _ (text : List ℕ) (form : ℕ) (memory : List ℕ) (n : ℕ) (r : IsRight text form memory n) where
+  none-listed : listed (freshFile form text) (take n memory) ≡ []
+  none-listed = rw (r .file) (listed-none (freshFile form text))
+
+  right-size : length (freshFile form text) ≡ n
+  right-size = ap length (sym (r .file)) ∙ length-take n memory ∙ omega (arith, r .held)
+
+  right-told : (list : List ℕ) → mendTold text form memory n list ≡ mended.Blocks n 0
+  right-told list =
+      let z : length (listed (freshFile form text) (take n memory)) ≡ 0 = ap length none-listed in
+      told-of text form memory n list n 0 (record {
+        known = r .known;
+        fine = r .fine;
+        few = r .few;
+        room = omega (arith, right-size, r .held);
+        held = r .held;
+        listing = omega (arith, z);
+        size-is = right-size;
+        count-is = z;
+      })
+
+  -- A right file comes back unchanged with an empty list.
+  pub right-stays : NothingAgain text form memory n
+  right-stays = record {
+    told = right-told;
+    file = λ list. file-left text form memory n list n 0 (right-told list) ∙ rw (← r .file) (take-append-drop n memory);
+    list = λ list. entries-left text form memory n list n 0 (right-told list) ∙ rw none-listed;
+  }
+
+empty-of : (s : List ℕ) → length s ≡ 0 → s ≡ []
+empty-of [] e = refl
+empty-of (x ∷ s) e = absurd (let z : ⊥ = omega arith in z)
+
+-- Only a right file does: where nothing is listed, the file was right.
+pub only-right : (text : List ℕ) (form : ℕ) (memory : List ℕ) (n : ℕ) (list : List ℕ) (size : ℕ)
+    → IsMended text form memory n list size 0 → IsRight text form memory n
+only-right text form memory n list size m =
+    let o = mend-of text form memory n list size 0 m in
+    let fresh = freshFile form text in
+    record {
+      known = o .known;
+      fine = o .fine;
+      few = o .few;
+      held = o .held;
+      file = none-right fresh (take n memory) (fresh-whole form text) (empty-of (listed fresh (take n memory)) (o .count-is));
+    }
 
 -- A refused call leaves lent memory and the lent list as they were.
 pub mend-untouched : (text : List ℕ) (form : ℕ) (memory : List ℕ) (n : ℕ) (list : List ℕ) (why : Fault) (p : Cursor)
@@ -128,7 +192,7 @@ module _ (text : List ℕ) (form : ℕ) (memory : List ℕ) (n : ℕ) (list : Li
   entries-are : listLeaves text form memory n list ≡ listed (freshFile form text) (take n memory) ++ drop count list
   entries-are = entries-left text form memory n list size count (m .told)
 
-  -- the file that is left is the one that a fresh scan stores
+  -- The file that is left is the one that a fresh scan stores.
   pub left-is : left text form memory n list size ≡ freshFile form text
   left-is = rw leaves-is (take-at (freshFile form text) (drop size memory) size (is-mended .size-is))
 
@@ -177,9 +241,14 @@ module _ (text : List ℕ) (form : ℕ) (memory : List ℕ) (n : ℕ) (list : Li
       let s = stored-words (freshWords text) (freshTable text) (fresh-well text f) (is-mended .few) (fresh-words text f) ws h in
       rw (long-is e) (s ∙ rw w (sym (scan-lays ws h)))
 
+  -- it says the form asked for
+  says : formSaid (freshFile form text) ≡ form
+  says = fresh-says text (is-mended .fine) (is-mended .few) form (is-mended .known)
+
   -- The mended file reads back as the fresh scan's table.
   pub mended-reads : ReadsBack text form (left text form memory n list size)
   mended-reads = record {
+    said = rw left-is says;
     scanned = scans;
     beside = λ room h. rw left-is (tells-beside room h);
     rows-beside = λ ws h. rw left-is (rows-left ws h);
@@ -189,44 +258,25 @@ module _ (text : List ℕ) (form : ℕ) (memory : List ℕ) (n : ℕ) (list : Li
 
   -- ---- mending again
 
+  -- Mending again lists nothing and changes nothing.
+  pub mended-again : NothingAgain text form (mendLeaves text form memory n list) size
+  mended-again =
+      right-stays text form (mendLeaves text form memory n list) size (record {
+        known = is-mended .known;
+        fine = is-mended .fine;
+        few = is-mended .few;
+        held = rw leaves-is (omega (arith, length-append (freshFile form text) (drop size memory), is-mended .size-is));
+        file = left-is;
+      })
+
+  -- ---- what stays
+
   now : List ℕ
   now = freshFile form text ++ drop size memory
-
-  now-length : length (freshFile form text) ≤ length now
-  unfolding now
-  now-length = omega (arith, length-append (freshFile form text) (drop size memory))
-
-  take-now : take size now ≡ freshFile form text
-  unfolding now
-  take-now = take-at (freshFile form text) (drop size memory) size (is-mended .size-is)
 
   drop-now : drop size now ≡ drop size memory
   unfolding now
   drop-now = drop-at (freshFile form text) (drop size memory) size (is-mended .size-is)
-
-  none-listed : listed (freshFile form text) (freshFile form text) ≡ []
-  none-listed = listed-none (freshFile form text)
-
-  told-again : (more : List ℕ) → mendTold text form now size more ≡ mended.Blocks size 0
-  unfolding mendTold freshTold tooSmall
-  told-again more =
-      let fresh = freshFile form text in
-      let a = le-ltb mostRows (freshTable text .count) (is-mended .few) in
-      let b = le-ltb (length now) (length fresh) now-length in
-      let c = le-ltb (length now) size (omega (arith, now-length, is-mended .size-is)) in
-      let d = le-ltb (length more) 0 (omega arith) in
-      rw (mendTold, is-mended .known, is-mended .fine, a, b, c, take-now, none-listed, is-mended .size-is, d)
-
-  -- Mending again lists nothing and changes nothing.
-  pub mended-again : NothingAgain text form (mendLeaves text form memory n list) size
-  unfolding now
-  mended-again = record {
-    told = λ more. rw leaves-is (told-again more);
-    file = λ more. rw leaves-is (file-left text form now size more size 0 (told-again more) ∙ rw drop-now);
-    list = λ more. rw leaves-is (entries-left text form now size more size 0 (told-again more) ∙ rw (take-now, none-listed));
-  }
-
-  -- ---- what stays
 
   -- block k of the fresh file is all there, and is what is left
   inside : (k : ℕ) → k < length (freshFile form text) / blockBytes → blockBytes * k + blockBytes ≤ length (freshFile form text)
