@@ -1,3 +1,4 @@
--- The laws that the proofs of this crate share, and those of readings and parts that a caller needs.
+-- The laws of readings, of the loop, and of part behind part for whoever reads them.
 pub mod Readings
 pub mod Parts
+pub mod Onward

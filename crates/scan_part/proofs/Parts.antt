@@ -1,5 +1,5 @@
 -- Laws of the loop over plain values: what holds at its head, and that each way through a turn keeps it or gives the answer.
-use mathlib.Core.Path.{_≡_, refl, sym, ap, subst, _∙_}
+use mathlib.Core.Path.{_≡_, refl, sym, ap, _∙_}
 use mathlib.Core.Bool.{true}
 use mathlib.Core.List.{List, [], _∷_, _++_, append-nil}
 use Prim.Native.Nat.{ℕ, _+_, _-_, _*_, _≤_, _<_}
@@ -11,9 +11,9 @@ use lib.Seq.{drop-drop, length-take-le, take-all, take-at}
 use Rattle.rules.specs.declared.Cursor.{Cursor}
 use Rattle.rules.specs.declared.Ending.{Ending}
 use Rattle.rules.specs.declared.Ending.the-variants as ending
-use Rattle.rules.specs.Text.{front, isBlank, notNewline, placeAt, startPlace, over, along, Roomy}
+use Rattle.rules.specs.Text.{front, isBlank, placeAt, startPlace, over, along, Roomy}
 use Rattle.rules.specs.Rows.{Row, rowAt, eofRow, wordsOf, wordsPerRow}
-use Rattle.rules.specs.Lex.{Item, Piece, comment, row, refused, known, end, unknown, item}
+use Rattle.rules.specs.Lex.{Item, comment, row, refused, known, end, unknown, item}
 use Rattle.rules.specs.Scan.{Reading, readRows, readEnding, read, roomOf, laid}
 use Rattle.laws.proofs.Fronts.{front-le, front-drop, front-more}
 use Rattle.laws.proofs.Places.{over-start, over-take, over-front, roomy-less, roomy-over}

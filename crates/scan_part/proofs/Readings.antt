@@ -8,9 +8,9 @@ use native.Mathlib.Numerals.{add-one}
 use native.Mathlib.Omega.{arith}
 use lib.ListN.{length, drop}
 use Rattle.rules.specs.declared.Cursor.{Cursor}
-use Rattle.rules.specs.Text.{mostBytes, front, isBlank, newlines, notNewline, lineAt, columnAt, placeAt, startPlace}
+use Rattle.rules.specs.Text.{mostBytes, front, isBlank, newlines, lineAt, columnAt, placeAt, startPlace}
 use Rattle.rules.specs.Rows.{Row, rowAt, eofRow}
-use Rattle.rules.specs.Lex.{Piece, blank, comment, row, refused, Item, known, end, unknown, item, piece, beginning}
+use Rattle.rules.specs.Lex.{blank, comment, row, refused, Item, known, end, unknown, item, piece, beginning}
 use Rattle.rules.specs.Scan.{Reading, put, ends, stops, readRows, readEnding, read, scan}
 use Rattle.theory_machine.proofs.Spans.{Spans, blank-spans, comment-spans, row-spans, refused-spans, end-spans, unknown-spans}
 use Rattle.theory_machine.proofs.Same.{piece-spans}

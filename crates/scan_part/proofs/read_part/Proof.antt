@@ -3,7 +3,7 @@ use mathlib.Core.Path.{_≡_, refl, _∙_}
 use mathlib.Core.Bool.{true}
 use mathlib.Core.List.{List}
 use mathlib.Core.Logic.{⊎-elim}
-use Prim.Native.Nat.{ℕ, _+_, _-_, _*_, _≤_, _<_}
+use Prim.Native.Nat.{ℕ, _-_, _*_, _≤_, _<_}
 use native.Mathlib.Omega.{arith}
 use lib.ListN.{length, drop}
 use borrow.Author.Needs.{needs}
@@ -80,7 +80,7 @@ stands : (p : Passed-blanks) → let l = loop-of p in Stands l (l .loop .rows) (
 stands p = going-blanks (loop-of p .loop .inv) (spot p) (p .past-blanks .ensures)
 
 left : (p : Passed-blanks) → loop-of p .loop .count < most-of (loop-of p)
-left p = p .before .loop-test .taken
+left p = omega (arith, p .before .loop-test .taken)
 
 -- ---- what stands there was told
 
@@ -165,7 +165,7 @@ full : (c : tie.After-loop Inv-loop μ-loop) → let l = c .before in
     Answers l (record { count = l .loop .count; next = On (l .loop .here) }) (l .loop .rows)
 full c =
     let l = c .before in
-    going-full (l .loop .inv) (some-asked l) (roomy l) (c .loop-test .left)
+    going-full (l .loop .inv) (some-asked l) (roomy l) (omega (arith, c .loop-test .left))
 
 loop-holds : tie.Need-loop-holds Inv-loop μ-loop
 loop-holds c =
