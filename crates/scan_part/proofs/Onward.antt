@@ -29,5 +29,6 @@ module _ {t : List ℕ} {k most : ℕ} {r : Part} (p : PartOf t k most r) where
     pub over-rows : {x : Ending} → r .next ≡ Over x → readRows l ≡ done ++ partRows t k most
     over-rows {x} f = ap readRows e ∙ put-rows done (readFrom t k) ∙ ap (_++_ done) (p .over x f .0)
 
+    -- and its ending is the reading's
     pub over-ending : {x : Ending} → r .next ≡ Over x → readEnding l ≡ x
     over-ending {x} f = ap readEnding e ∙ put-ending done (readFrom t k) ∙ p .over x f .1

@@ -43,6 +43,7 @@ place-on t i m h =
     ∙ over-start t (i + m) h
 
 module _ {t : List ℕ} {here : Spot} (b : Begun t here) where
+  -- its counters have room for what is ahead
   pub begun-ahead : Ahead t here
   begun-ahead =
       record {
@@ -111,6 +112,7 @@ answer-length {t} {k} {most} lent r room a =
     let n : length (partRows t k most) ≤ most = rw length-take (omega arith) in
     rw (a .1, length-append, words-length, length-drop) (omega (arith, a .0 .counted))
 
+-- it holds where the reading begins
 pub going-start : (t : List ℕ) (most : ℕ) (lent : List ℕ) (s : Spot) → Begun t s → Going t (s .at) most lent lent s 0 0
 unfolding readFrom putAll
 going-start t most lent s b =
@@ -160,9 +162,11 @@ module _ {t : List ℕ} {k most : ℕ} {lent us : List ℕ} {here : Spot} {n c :
   -- ---- behind blanks
 
   module _ (s : Spot) (q : s ≡ onward t here (blanks (drop i t))) where
+    -- the spot behind them does not stand in front of them
     pub blanks-more : i ≤ s .at
     blanks-more = omega (arith, on-at (g .begun) s (blanks (drop i t)) q)
 
+    -- the loop goes on from there with the same rows and comments
     pub going-blanks : Stands us s n c
     unfolding blanks
     going-blanks =
@@ -234,6 +238,7 @@ module _ {t : List ℕ} {k most : ℕ} {lent us : List ℕ} {here : Spot} {n c :
         by : (r .kind ≡ Unknown → ⊥) → Unknown < r .kind
         by d = omega arith
 
+    -- the walk can finish there
     pub last : End ≤ r .kind → Last n (here .cursor) r
     unfolding told
     last h =
@@ -249,7 +254,7 @@ module _ {t : List ℕ} {k most : ℕ} {lent us : List ℕ} {here : Spot} {n c :
         short-size : r .size ≤ length t - i
         short-size = omega (arith, by (ℕ-discrete (r .kind) End), length-drop i t)
 
-    -- y says what finish said
+    -- the answer is what the finish tells, where y has its ending
     pub going-last : End ≤ r .kind → n < most → wordsPerRow * most ≤ length lent → (x : Walked) (vs : List ℕ) →
         Finished n (here .cursor) c r x us vs →
         (y : Next) → ((e : Ending) → x .stop ≡ stop.Over e → y ≡ Over e) → Answers (record { count = x .count; next = y }) vs
@@ -293,6 +298,7 @@ module _ {t : List ℕ} {k most : ℕ} {lent us : List ℕ} {here : Spot} {n c :
     fits : r .size ≤ length (drop i t) → i + r .size ≤ length t
     fits h = omega (arith, length-drop i t, g .begun .inside)
 
+    -- what was told can be passed
     pub passable : r .kind < End → Passable t here r
     passable h = by (decLe Blank (r .kind))
       where
@@ -323,6 +329,7 @@ module _ {t : List ℕ} {k most : ℕ} {lent us : List ℕ} {here : Spot} {n c :
             }
 
     module _ (s : Spot) (z : s ≡ onward t here (r .size)) where
+      -- behind a comment one more is counted
       pub going-comment : Blank ≤ r .kind → r .kind < End → n < most → Stands us s n (c + 1)
       unfolding readBy
       going-comment h l left =
@@ -333,6 +340,7 @@ module _ {t : List ℕ} {k most : ℕ} {lent us : List ℕ} {here : Spot} {n c :
           not-both : most ≤ n → ⊥
           not-both m = omega arith
 
+      -- behind a row one more is written, and the count of comments begins anew
       pub going-row : r .kind < Blank → n < most → Stands (placed n (rowOf (here .cursor) c r) us) s (n + 1) 0
       unfolding readBy rowOf placeAt
       going-row h left =
@@ -356,6 +364,7 @@ module _ {t : List ℕ} {k most : ℕ} {lent us : List ℕ} {here : Spot} {n c :
                 ∙ sym (put-one (g .done) w (restOf t 0 (s .at)));
           }
 
+      -- either way less of the text is left
       pub going-less : r .kind < End → (i < s .at) × (s .at ≤ length t)
       going-less h =
           let p = passable h in

@@ -18,11 +18,13 @@ use Rattle.scan_part.specs.Part.{readFrom, putAll, Begun}
 
 -- ---- rows in front of a reading
 
+-- its rows are those rows and then the reading's
 pub put-rows : (rs : List Row) (l : Reading) → readRows (putAll rs l) ≡ rs ++ readRows l
 unfolding putAll readRows
 put-rows [] l = refl
 put-rows (r ∷ rs) l = ap (_∷_ r) (put-rows rs l)
 
+-- and its ending is the reading's
 pub put-ending : (rs : List Row) (l : Reading) → readEnding (putAll rs l) ≡ readEnding l
 unfolding putAll readEnding
 put-ending [] l = refl
@@ -34,6 +36,7 @@ unfolding putAll
 put-append [] ys l = refl
 put-append (r ∷ xs) ys l = ap (put r) (put-append xs ys l)
 
+-- one row behind rows
 pub put-one : (xs : List Row) (r : Row) (l : Reading) → putAll (xs ++ (r ∷ [])) l ≡ putAll xs (put r l)
 unfolding putAll
 put-one xs r l = put-append xs (r ∷ []) l
@@ -94,6 +97,7 @@ module _ (pos : ℕ → Cursor) where
   read-piece b s c k x f end-spans = absurd (let z : _≡_ {A = ℕ} 0 1 = cc in omega arith)
   read-piece b s c k x f unknown-spans = absurd (let z : _≡_ {A = ℕ} 0 1 = cc in omega arith)
 
+  -- what is read of a text that ends is what the item at the front says
   pub read-by : (s : List ℕ) (c k : ℕ) → read pos c 0 k s ≡ readBy (item true s) c k s
   unfolding read readBy item
   read-by [] c k = refl
@@ -105,6 +109,7 @@ module _ (pos : ℕ → Cursor) where
   unfolding piece beginning
   blank-piece b s e = rw e
 
+  -- blanks are passed over, and no comment is counted
   pub read-blanks : (c n k : ℕ) (s : List ℕ) → n ≤ front isBlank s → read pos c 0 k s ≡ read pos c 0 (k + n) (drop n s)
   unfolding read front
   read-blanks c zero k s h = rw add-zero
