@@ -34,7 +34,8 @@ pub one-lined : (n : ℕ) → n ≤ mostBytes → Lined n onOneLine
 unfolding onOneLine placeFits linesFit
 one-lined n few = record {
   offset = λ k. refl;
-  fits = λ k. rw (le-leb 1 (1 + min k mostBytes) (omega arith), le-leb (1 + min k mostBytes) (k + 1) (omega arith));
+  fits = λ k. true-both (le-leb 1 (1 + min k mostBytes) (omega arith))
+      (true-both (le-leb 1 (k + 1) (omega arith)) (le-leb (1 + min k mostBytes) (k + 1) (omega arith)));
   lines = λ j k h l. eq-eqb (1 + min k mostBytes + j) (1 + min j mostBytes + k) (omega arith);
 }
 
