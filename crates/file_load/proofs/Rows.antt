@@ -50,6 +50,14 @@ pub some-rows : (form : Form) → 0 < most form
 some-rows Full = omega arith
 some-rows Short = omega arith
 
+pub few-rows : (form : Form) → most form ≤ 21
+few-rows Full = omega arith
+few-rows Short = omega arith
+
+-- the bytes of the rows of a block
+pub here-bytes : (form : Form) (n left : ℕ) → n ≡ min (most form) left → rowBytesOf form * n ≤ 504
+here-bytes form n left e = rw e (here-few (rowBytesOf form) (some-bytes form) (few-bytes form) left)
+
 one-more : (form : Form) (n : ℕ) → rowBytesOf form * suc n ≡ rowBytesOf form + rowBytesOf form * n
 one-more form n = mul-suc (rowBytesOf form) n ∙ omega arith
 

@@ -1,8 +1,8 @@
--- `ending_in` meets its contract: the words of block 0 are read.
+-- `full_ending` meets its contract: the words of block 0 of form 1 are read.
 use Rattle.file_rules.specs.Files.{endingIn}
 use borrow.Author.Needs.{needs}
-use Rattle.file_load.proofs.ending_in.Statement.{statement}
-use Rattle.file_load.proofs.ending_in.Tie as tie
+use Rattle.file_load.proofs.full_ending.Statement.{statement}
+use Rattle.file_load.proofs.full_ending.Tie as tie
 
 word-at-requires : tie.Need-word-at-requires
 word-at-requires c κs = search needs
@@ -25,8 +25,8 @@ returns c =
     let d = c .before in
     rw (c .read-ending .ensures, d .word-at4 .ensures, d .before .word-at3 .ensures, d .before .before .word-at2 .ensures, d .before .before .before .word-at .ensures)
 
-pub ending-in-spec : {M : Type 1} → statement M
-ending-in-spec =
+pub full-ending-spec : {M : Type 1} → statement M
+full-ending-spec =
     tie.close
     (tie.spec
     word-at-requires
