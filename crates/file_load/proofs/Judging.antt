@@ -94,12 +94,12 @@ module _ (form : Form) (file : List ℕ) (count plain : ℕ) (frame : Framed for
       pub here-length : length here ≡ 512
       here-length = ap length here-is ∙ length-take 512 (drop at file) ∙ omega (arith, room-left, length-drop at file)
 
-      module _ (n : ℕ) (some-rows : n ≡ min full left) where
-        pub judging-bad : sound k n (size * n) here ≡ false → blocksJudged form plain file ≡ Bad k
+      module _ (n : ℕ) (some-rows : n ≡ min full left) (bytes : ℕ) (row-size : bytes ≡ size) where
+        pub judging-bad : sound k n (bytes * n) here ≡ false → blocksJudged form plain file ≡ Bad k
         unfolding blocksJudged left-sound
         judging-bad e =
             let f =
-                first-not size (some-bytes form) (few-bytes form) (blocksFor size (left - full)) k left (drop at file) (rw (here-is, some-rows) at e)
+                first-not size (some-bytes form) (few-bytes form) (blocksFor size (left - full)) k left (drop at file) (rw (here-is, some-rows, row-size) at e)
             in
             let s : 0 + k ≡ soundOf form file + 1 = rw (next, f) at (g .sounds) in
             let c : 1 + soundOf form file ≡ k = omega arith in
@@ -108,11 +108,11 @@ module _ (form : Form) (file : List ℕ) (count plain : ℕ) (frame : Framed for
         behind : left - n ≡ left - full
         behind = omega (arith, some-rows)
 
-        sounds-next : sound k n (size * n) here ≡ true → left-sound form file (left - n) (k + 1) (at + 512) + (k + 1) ≡ soundOf form file + 1
+        sounds-next : sound k n (bytes * n) here ≡ true → left-sound form file (left - n) (k + 1) (at + 512) + (k + 1) ≡ soundOf form file + 1
         unfolding left-sound
         sounds-next e =
             let f =
-                first-sound size (some-bytes form) (few-bytes form) (blocksFor size (left - full)) k left (drop at file) (rw (here-is, some-rows) at e)
+                first-sound size (some-bytes form) (few-bytes form) (blocksFor size (left - full)) k left (drop at file) (rw (here-is, some-rows, row-size) at e)
             in
             let s : suc (soundFrom size (blocksFor size (left - full)) (suc k) (left - full) (drop (at + 512) file)) + k ≡ soundOf form file + 1 =
                 rw (next, f, drop-drop) at (g .sounds)
@@ -133,7 +133,7 @@ module _ (form : Form) (file : List ℕ) (count plain : ℕ) (frame : Framed for
             (stand-append last (rowsFrom form (min full more) (drop 4 (take 512 (drop at file))))
             (rowsFrom form (more - min full more) (bodyFrom size (blocksFor size (left - full)) (left - full) (drop (at + 512) file))))
 
-        pub judging-next : sound k n (size * n) here ≡ true → (m : ℕ) → m ≡ min full more
+        pub judging-next : sound k n (bytes * n) here ≡ true → (m : ℕ) → m ≡ min full more
             → (now : Bool) → now ≡ stand last (rowsFrom form m (drop 4 here))
             → (then : Row) → then ≡ lastOf last (rowsFrom form m (drop 4 here))
             → Judging form file count plain then (stands && now) (left - n) (more - m) (k + 1) (at + 512)

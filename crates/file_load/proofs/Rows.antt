@@ -46,14 +46,6 @@ pub few-bytes : (form : Form) → rowBytesOf form ≤ 504
 few-bytes Full = omega arith
 few-bytes Short = omega arith
 
-pub some-rows : (form : Form) → 0 < most form
-some-rows Full = omega arith
-some-rows Short = omega arith
-
-pub few-rows : (form : Form) → most form ≤ 21
-few-rows Full = omega arith
-few-rows Short = omega arith
-
 -- the bytes of the rows of a block
 pub here-bytes : (form : Form) (n left : ℕ) → n ≡ min (most form) left → rowBytesOf form * n ≤ 504
 here-bytes form n left e = rw e (here-few (rowBytesOf form) (some-bytes form) (few-bytes form) left)
@@ -213,6 +205,10 @@ module _ (form : Form) where
   unfolding lastOf rowsFrom
   last-more zero r s = let e : size form * 0 ≡ 0 = omega arith in rw e
   last-more (suc n) r s = last-more n (rowFrom form s) (drop (size form) s) ∙ rw (drop-drop, one-more form n)
+
+  pub last-fits : (n room : ℕ) → (n ≡ 0 → ⊥) → 4 + size form * n ≤ room → 4 + size form * (n - 1) + size form ≤ room
+  last-fits zero room h f = absurd (h refl)
+  last-fits (suc n) room h f = let e : suc n - 1 ≡ n = omega arith in rw e (omega (arith, one-more form n))
 
   pub last-row : (n : ℕ) (r : Row) (b : List ℕ) → (n ≡ 0 → ⊥)
       → lastOf r (rowsFrom form n (drop 4 b)) ≡ rowFrom form (drop (4 + size form * (n - 1)) b)

@@ -2,7 +2,7 @@
 use mathlib.Core.Path.{_≡_, refl, sym, ap, _∙_}
 use mathlib.Core.Bool.{Bool, true, false, cond, _&&_, and-false}
 use mathlib.Core.List.{List, [], _∷_}
-use Prim.Native.Nat.{ℕ, zero, suc, _+_, _-_, _*_, _/_, _%_, _≤_, _<_}
+use Prim.Native.Nat.{ℕ, zero, suc, _+_, _-_, _*_, _/_, _%_, _≤_, _<_, min}
 use native.Mathlib.Omega.{arith}
 use lib.ListN.{length, take, drop, length-take, length-drop}
 use lib.Seq.{drop-drop}
@@ -70,9 +70,10 @@ module _ (n : ℕ) (p : Cursor) where
 
 -- the ending of form 2, from the two words of which it is read
 module _ (file : List ℕ) (n k : ℕ) (word : n ≡ saidAt 3 file) (offset : k ≡ saidAt 4 file) where
-  pub short-refused : (n ≡ 0 → ⊥) → shortEnding onOneLine file ≡ readRefused reasons n (onOneLine k)
-  unfolding shortEnding
-  short-refused e = rw (← word, ← offset, ne-eqb n 0 e)
+  pub short-refused : (n ≡ 0 → ⊥) → (column : ℕ) → column ≡ 1 + min k mostBytes
+      → shortEnding onOneLine file ≡ readRefused reasons n (place k 1 column)
+  unfolding shortEnding onOneLine
+  short-refused e column c = rw (← word, ← offset, ne-eqb n 0 e, c)
 
   pub short-offset : n ≡ 0 → (k ≡ 0 → ⊥) → shortEnding onOneLine file ≡ Nothing
   unfolding shortEnding

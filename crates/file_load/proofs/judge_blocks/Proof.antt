@@ -8,7 +8,8 @@ use borrow.Author.Tests.{not-true, not-false}
 use Rattle.rows.specs.Shape.{asRow}
 use Rattle.rows.proofs.Lengths.{length-table}
 use Rattle.form_rules.specs.Shapes.{rowBytesOf}
-use Rattle.file_load.proofs.Rows.{some-rows, few-rows, here-bytes}
+use Rattle.file_sizes.proofs.Sizes.{some-rows, few-rows}
+use Rattle.file_load.proofs.Rows.{here-bytes}
 use Rattle.file_load.proofs.Judging.{Judging, judging-start, judging-end, judging-bad, judging-next, room-left, here-length, few-blocks}
 use Rattle.file_load.proofs.judge_blocks.Statement.{statement}
 use Rattle.file_load.proofs.judge_blocks.Tie as tie
@@ -95,8 +96,9 @@ returns c =
     let g = r .before .before in
     let l = g .before .loop in
     let s = start g in
-    let e = rw (i .before .row-bytes .ensures) at (sym (i .is-sound .ensures) ∙ not-true (i .is-sound .result) (c .if1 .taken)) in
-    sym (judging-bad (s .args .form) (s .args .file .now) (s .args .count) (s .args .plain) (s .pre .0) (asRow (l .last)) (l .stand) (l .left) (l .more) (l .k) (l .at) (l .inv) (omega arith) (r .rows-here .result) (r .rows-here .ensures) e)
+    let b = i .before .row-bytes in
+    let e = sym (i .is-sound .ensures) ∙ not-true (i .is-sound .result) (c .if1 .taken) in
+    sym (judging-bad (s .args .form) (s .args .file .now) (s .args .count) (s .args .plain) (s .pre .0) (asRow (l .last)) (l .stand) (l .left) (l .more) (l .k) (l .at) (l .inv) (omega arith) (r .rows-here .result) (r .rows-here .ensures) (b .result) (b .ensures) e)
 
 rows-here-requires-2 : tie.Need-rows-here-requires-2 Inv-loop μ-loop
 rows-here-requires-2 c κs = tt
@@ -140,8 +142,9 @@ loop-again c =
     let g = in-loop m in
     let l = g .before .loop in
     let s = start g in
-    let y = rw (i .before .row-bytes .ensures) at (sym (i .is-sound .ensures) ∙ not-false (i .is-sound .result) (e .if1 .left)) in
-    judging-next (s .args .form) (s .args .file .now) (s .args .count) (s .args .plain) (s .pre .0) (asRow (l .last)) (l .stand) (l .left) (l .more) (l .k) (l .at) (l .inv) (omega arith) (r .rows-here .result) (r .rows-here .ensures) y (m .rows-here2 .result) (m .rows-here2 .ensures) (t .rows-stand .result) (t .rows-stand .ensures) (asRow (c .last-of .result)) (c .last-of .ensures)
+    let b = i .before .row-bytes in
+    let y = sym (i .is-sound .ensures) ∙ not-false (i .is-sound .result) (e .if1 .left) in
+    judging-next (s .args .form) (s .args .file .now) (s .args .count) (s .args .plain) (s .pre .0) (asRow (l .last)) (l .stand) (l .left) (l .more) (l .k) (l .at) (l .inv) (omega arith) (r .rows-here .result) (r .rows-here .ensures) (b .result) (b .ensures) y (m .rows-here2 .result) (m .rows-here2 .ensures) (t .rows-stand .result) (t .rows-stand .ensures) (asRow (c .last-of .result)) (c .last-of .ensures)
 
 returns-2 : tie.Need-returns-2 Inv-loop μ-loop
 returns-2 c =

@@ -1,6 +1,6 @@
 -- `last_of` meets its contract.
 use mathlib.Core.Path.{sym, _∙_}
-use Rattle.file_load.proofs.Rows.{last-none, last-row}
+use Rattle.file_load.proofs.Rows.{last-none, last-fits, last-row}
 use Rattle.rows.specs.Shape.{asRow}
 use lib.ListN.{drop}
 use borrow.Author.Needs.{needs}
@@ -14,7 +14,7 @@ sub-row-in : tie.Need-sub-row-in
 sub-row-in c = search needs
 
 row-in-requires : tie.Need-row-in-requires
-row-in-requires c κs = search needs
+row-in-requires c κs = let s = c .before .before in last-fits (s .args .form) (s .args .n) _ (c .if1 .left) (s .pre)
 
 returns-2 : tie.Need-returns-2
 returns-2 c = let a = c .before .before .before .args in c .row-in .ensures ∙ sym (last-row (a .form) (a .n) (asRow (a .before)) (a .bytes .now) (c .before .if1 .left))
