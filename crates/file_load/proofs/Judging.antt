@@ -102,8 +102,8 @@ module _ (form : Form) (file : List ℕ) (count plain : ℕ) (frame : Framed for
         unfolding blocksJudged left-sound
         judging-bad e =
             let f =
-                first-not size (some-bytes form) (few-bytes form) (blocksFor size (left - full)) k left (drop at file)
-                (rw (here-is, some-rows, row-size) at e)
+            first-not size (some-bytes form) (few-bytes form) (blocksFor size (left - full)) k left (drop at file)
+            (rw (here-is, some-rows, row-size) at e)
             in
             let s : 0 + k ≡ soundOf form file + 1 = rw (next, f) at (g .sounds) in
             let c : 1 + soundOf form file ≡ k = omega arith in
@@ -117,8 +117,8 @@ module _ (form : Form) (file : List ℕ) (count plain : ℕ) (frame : Framed for
         unfolding left-sound
         sounds-next e =
             let f =
-                first-sound size (some-bytes form) (few-bytes form) (blocksFor size (left - full)) k left (drop at file)
-                (rw (here-is, some-rows, row-size) at e)
+            first-sound size (some-bytes form) (few-bytes form) (blocksFor size (left - full)) k left (drop at file)
+            (rw (here-is, some-rows, row-size) at e)
             in
             let later : ℕ = soundFrom size (blocksFor size (left - full)) (suc k) (left - full) (drop (at + 512) file) in
             let s : suc later + k ≡ soundOf form file + 1 = rw (next, f, drop-drop) at (g .sounds) in
@@ -132,7 +132,7 @@ module _ (form : Form) (file : List ℕ) (count plain : ℕ) (frame : Framed for
         unfolding left-body
         rows-split =
             let l : length (drop at file) ≡ 512 * suc (blocksFor size (left - full)) =
-                length-drop at file ∙ omega (arith, g .place, g .blocks, next, whole-is)
+            length-drop at file ∙ omega (arith, g .place, g .blocks, next, whole-is)
             in
             rw (next, rows-here-more form (blocksFor size (left - full)) left (drop at file) next l more (g .fewer), here-is, drop-drop)
             (stand-append last (rowsFrom form (min full more) (drop 4 (take 512 (drop at file))))
