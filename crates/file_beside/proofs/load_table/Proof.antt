@@ -1,6 +1,6 @@
 -- `load_table` meets its contract, a law for each way out: 4, 45, the table.
-use mathlib.Core.Path.{_≡_, refl, sym, ap, _∙_}
-use mathlib.Core.List.{List, _++_}
+use mathlib.Core.Path.{refl, sym, ap, _∙_}
+use mathlib.Core.List.{_++_}
 use Prim.Native.Nat.{ℕ, _*_}
 use native.Mathlib.Omega.{arith}
 use lib.ListN.{drop}
@@ -61,8 +61,8 @@ returns-3 c =
     let e = sym (o .before .agrees .ensures) ∙ not-false (o .before .agrees .result) (o .if2 .left) in
     let n = ap (λ (t : Table). t .count) (w .take-beside .ensures .0) in
     let told = told-rows (a .text .now) (a .file .now) (a .table) (roomOf (a .rows .now)) (o .before .before .if1 .left) e in
-    (ap beside.Rows (w .take-beside .ensures .0) ∙ sym told,
-    w .take-beside .ensures .1 ∙ ap (λ (k : ℕ). rowsBeside (a .text .now) (a .file .now) ++ drop (wordsPerRow * k) (a .rows .now)) (sym n))
+    let left = ap (λ (k : ℕ). rowsBeside (a .text .now) (a .file .now) ++ drop (wordsPerRow * k) (a .rows .now)) (sym n) in
+    (ap beside.Rows (w .take-beside .ensures .0) ∙ sym told, w .take-beside .ensures .1 ∙ left)
 
 pub load-table-spec : {M : Type 1} → statement M
 load-table-spec =
