@@ -15,9 +15,12 @@ use Rattle.file_beside.proofs.Answers.{told-full, told-other, told-rows
 use Rattle.file_beside.proofs.load_table.Statement.{statement}
 use Rattle.file_beside.proofs.load_table.Tie as tie
 
--- the function's entry, as it is seen from behind the test of the room, and from behind the agreement
+-- the function's entry, as it is seen from the test of the room, from behind it, and from behind the agreement
+abbrev entry : tie.After-struct-known → tie.Start
+entry c = c .before .before .before .before
+
 abbrev start : tie.Else1 → tie.Start
-start c = c .before .before .before .before .before
+start c = entry (c .before)
 
 abbrev at-agreed : tie.Else2 → tie.Start
 at-agreed c = start (c .before .before)
@@ -28,7 +31,7 @@ cast-if1 c = search needs
 returns : tie.Need-returns
 unfolding roomOf
 returns c =
-    let a = c .before .before .before .before .before .args in
+    let a = entry (c .before) .args in
     (sym (told-full (a .text .now) (a .file .now) (a .table) (roomOf (a .rows .now)) (c .if1 .taken)), refl)
 
 agrees-requires : tie.Need-agrees-requires
