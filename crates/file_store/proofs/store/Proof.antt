@@ -49,8 +49,8 @@ put-file-requires c κs =
     let a = l .before .before .before .before .before .before .args in
     ((omega (arith, fine (a .rows .now) (a .table) (well (l .before .before)) .lent), l .before .if2 .left), rw (l .length-for .ensures) at (c .before .if3 .left))
 
-cast-t17 : tie.Need-cast-t17
-cast-t17 c =
+cast-t18 : tie.Need-cast-t18
+cast-t18 c =
     let l = c .before .before .before .before .before in
     omega (arith, l .length-for .ensures, most-length (l .before .before .before .before .before .before .args .table .count) (l .before .if2 .left))
 
@@ -75,6 +75,6 @@ store-spec =
     length-for-requires
     returns-3
     put-file-requires
-    cast-t17
+    cast-t18
     same-length
     returns-4)
