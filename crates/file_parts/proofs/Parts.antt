@@ -111,4 +111,5 @@ module _ (b₀ ws : List ℕ) where
       let e : 24 * (i + 1) ≡ 24 * i + 24 = omega arith in
       let g : 8 * i ≡ i * 8 = omega arith in
       let v : List ℕ = bytesOf (shortRow (rowIn part)) in
-      rw (e, add-one i, short-more i ws, g, ← f, bytes-append) (put-more b₀ 4 (24 * i) 24 (bytesOf (shortened i ws)) v b p (row-size (rowIn part)) h)
+      rw (e, add-one i, short-more i ws, g, ← f, bytes-append)
+      (put-more b₀ 4 (24 * i) 24 (bytesOf (shortened i ws)) v b p (row-size (rowIn part)) h)

@@ -24,8 +24,11 @@ abbrev μ-loop : tie.MeasureT-loop
 abbrev start : tie.In-loop Inv-loop μ-loop → tie.Start Inv-loop μ-loop
 start c = c .before .before .before .before
 
-abbrev in-turn : tie.After-slice-known2 Inv-loop μ-loop → tie.In-loop Inv-loop μ-loop
-in-turn c = c .before .before .before .before .before
+abbrev at-row : tie.After-slice-known2 Inv-loop μ-loop → tie.After-put-short-row Inv-loop μ-loop
+at-row c = c .before .before
+
+abbrev in-turn : tie.After-put-short-row Inv-loop μ-loop → tie.In-loop Inv-loop μ-loop
+in-turn c = c .before .before .before
 
 -- the row's bytes lie inside of what is lent, and its words too
 inside : (c : tie.In-loop Inv-loop μ-loop) → 4 + 24 * c .before .loop .i + 24 ≤ length (start c .args .bytes .now)
@@ -34,7 +37,8 @@ inside c = omega (arith, start c .pre .0)
 words : (c : tie.In-loop Inv-loop μ-loop) → c .before .loop .i * 8 + 8 ≤ length (start c .args .rows .now)
 words c = omega (arith, start c .pre .1)
 
-tail : (c : tie.In-loop Inv-loop μ-loop) → let r = start c .args .rows .now in let a = c .before .loop .i * 8 in take (length r - a) (drop a r) ≡ drop a r
+tail : (c : tie.In-loop Inv-loop μ-loop) → let r = start c .args .rows .now in let a = c .before .loop .i * 8 in
+    take (length r - a) (drop a r) ≡ drop a r
 tail c = lent-tail (start c .args .rows .now) (c .before .loop .i * 8) (omega (arith, words c))
 
 loop-holds : tie.Need-loop-holds Inv-loop μ-loop
@@ -76,8 +80,8 @@ loop-less c = omega arith
 
 loop-again : tie.Need-loop-again Inv-loop μ-loop
 loop-again c = 
-    let p = c .before .before in
-    let t = in-turn c in
+    let p = at-row c in
+    let t = in-turn p in
     let l = t .before .loop in
     let r = start t .args .rows .now in
     let b₀ = start t .args .bytes .now in

@@ -11,8 +11,11 @@ use Rattle.file_store.proofs.put_file.Tie as tie
 abbrev at-rows : tie.After-slice-known3 → tie.After-put-rows
 at-rows c = c .before .before
 
-abbrev at-said : tie.After-put-rows → tie.After-put-said
-at-said c = c .before .before .before .before .before
+abbrev at-count : tie.After-put-rows → tie.After-struct-known
+at-count c = c .before .before
+
+abbrev at-said : tie.After-struct-known → tie.After-put-said
+at-said c = c .before .before .before
 
 abbrev at-start : tie.After-put-said → tie.Start
 at-start c = c .before .before .before .before
@@ -41,7 +44,7 @@ same-length c = search needs
 returns : tie.Need-returns
 returns c =
     let r = at-rows c in
-    let b = at-said r in
+    let b = at-said (at-count r) in
     let s = at-start b in
     let a = s .args in
     r .put-rows .ensures ∙ file-put (a .rows .now) (a .file .now) (b .put-said .last .1 .0) (a .table) (s .pre .1) (b .put-said .ensures)
