@@ -12,6 +12,7 @@ use Rattle.file_rules.specs.Blocks.{blocksFor, fileLength, bodyFrom}
 use Rattle.file_rules.specs.Files.{rowWordsIn}
 use Rattle.theory_files.proofs.Numbers.{words-length}
 use Rattle.theory_files.proofs.Many.{blocks-none, blocks-more}
+use Rattle.form_rules.specs.declared.Form.the-variants.{Full}
 use Rattle.file_load.specs.Judged.{Framed}
 use Rattle.file_load.proofs.Rows.{words-split, words-here, body-behind}
 
@@ -26,7 +27,7 @@ pub record Taking (file : List ℕ) (count : ℕ) (rows₀ rows : List ℕ) (don
   pub rest : drop (32 * done) (bodyFrom 32 (blocksFor 32 count) count (drop 512 file)) ≡ bodyFrom 32 (blocksFor 32 (count - done)) (count - done) (drop at file)
   pub taken : rows ≡ wordsIn (8 * done) (bodyFrom 32 (blocksFor 32 count) count (drop 512 file)) ++ drop (8 * done) rows₀
 
-module _ (file : List ℕ) (count : ℕ) (rows₀ : List ℕ) (frame : Framed count file) where
+module _ (file : List ℕ) (count : ℕ) (rows₀ : List ℕ) (frame : Framed Full count file) where
   pub taking-start : Taking file count rows₀ rows₀ 0 512
   unfolding fileLength wordsIn
   taking-start =
@@ -67,14 +68,14 @@ module _ (file : List ℕ) (count : ℕ) (rows₀ : List ℕ) (frame : Framed co
             let b : 4 * (8 * done) ≡ 32 * done = omega arith in
             let c : n * 8 ≡ 8 * n = omega arith in
             rw (a, words-split (8 * done) (8 * n) (body file count), b, g .rest, c, here-is, next, some-rows)
-            (ap (λ (l : List ℕ). wordsIn (8 * done) (body file count) ++ l) (words-here (blocksFor 32 (count - done - 15)) (count - done) (drop at file) next left-length))
+            (ap (λ (l : List ℕ). wordsIn (8 * done) (body file count) ++ l) (words-here Full (blocksFor 32 (count - done - 15)) (count - done) (drop at file) next left-length (8 * min 15 (count - done)) (omega arith)))
 
         rest-next : drop (32 * (done + n)) (body file count) ≡ bodyFrom 32 (blocksFor 32 (count - (done + n))) (count - (done + n)) (drop (at + 512) file)
         rest-next =
             let a : 32 * (done + n) ≡ 32 * done + 32 * n = omega arith in
             let b : count - (done + n) ≡ count - done - 15 = omega arith in
             rw (a, b, ← drop-drop (32 * n) (32 * done) (body file count), g .rest, next, some-rows)
-            (body-behind (blocksFor 32 (count - done - 15)) (count - done) (drop at file) next left-length ∙ rw drop-drop)
+            (body-behind Full (blocksFor 32 (count - done - 15)) (count - done) (drop at file) next left-length ∙ rw drop-drop)
 
         module _ (fits : 8 * count ≤ length rows₀) where
           pub from-fits : done * 8 ≤ length rows

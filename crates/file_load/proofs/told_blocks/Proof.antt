@@ -2,7 +2,8 @@
 use mathlib.Core.Path.{_≡_, sym, ap, _∙_}
 use native.Mathlib.Omega.{arith}
 use Prim.Native.Nat.{ℕ}
-use Rattle.file_rules.specs.Files.{rowWordsIn, rowsTold}
+use Rattle.file_rules.specs.Files.{rowsTold}
+use Rattle.form_rules.specs.Shapes.{rowWordsOf}
 use Rattle.rules.specs.declared.Table.{Table}
 use Rattle.file_load.specs.Judged.{standUpto, plainRows, blocksJudged}
 use Rattle.file_load.specs.declared.Blocks.the-variants.{Bad, Sound}
@@ -16,14 +17,14 @@ use Rattle.file_load.proofs.told_blocks.Tie as tie
 sounds : (t : tie.After-stand) →
     let p = t .before .before .before in
     let s = p .before .before .before in
-    AllSound (p .plain-rows .result) (s .args .file .now) (s .args .room) (t .stand .given .0 .0)
+    AllSound (s .args .form) (p .plain-rows .result) (s .args .file .now) (s .args .room) (t .stand .given .0 .0)
 sounds t =
     let p = t .before .before .before in
     let s = p .before .before .before in
-    judged-sound (p .plain-rows .result) (s .args .file .now) (s .args .room) (t .stand .given .0 .0) (sym (t .before .before .judge-blocks .ensures) ∙ t .stand .given .1)
+    judged-sound (s .args .form) (p .plain-rows .result) (s .args .file .now) (s .args .room) (t .stand .given .0 .0) (sym (t .before .before .judge-blocks .ensures) ∙ t .stand .given .1)
 
 ending-in-requires : tie.Need-ending-in-requires
-ending-in-requires c κs = let s = c .before in some-file (s .args .count) (s .args .file .now) (s .pre)
+ending-in-requires c κs = let s = c .before in some-file (s .args .form) (s .args .count) (s .args .file .now) (s .pre)
 
 plain-rows-requires : tie.Need-plain-rows-requires
 plain-rows-requires c κs = search needs
@@ -44,7 +45,7 @@ enum-known-read : tie.Need-enum-known-read
 enum-known-read c = search needs
 
 word-at-requires : tie.Need-word-at-requires
-word-at-requires c κs = let s = c .before .before .before .before .before .before .before .before .before .before in omega (arith, some-file (s .args .count) (s .args .file .now) (s .pre))
+word-at-requires c κs = let s = c .before .before .before .before .before .before .before .before .before .before in omega (arith, some-file (s .args .form) (s .args .count) (s .args .file .now) (s .pre))
 
 told-rows-requires : tie.Need-told-rows-requires
 told-rows-requires c κs =
@@ -53,21 +54,21 @@ told-rows-requires c κs =
     let p = t .before .before .before in
     let s = p .before .before .before in
     let e : p .before .ending-in .result ≡ Ends (r .read .given .0 .0) = r .read .given .1 in
-    (s .pre, sounds t .stands ∙ ap (λ (x : ℕ). standUpto x (s .args .file .now)) (p .plain-rows .ensures .0 ∙ rw e) ∙ sym (standing-is (s .args .count) (s .args .file .now) (s .pre) (r .read .given .0 .0)))
+    (s .pre, sounds t .stands ∙ ap (λ (x : ℕ). standUpto (s .args .form) x (s .args .file .now)) (p .plain-rows .ensures .0 ∙ rw e) ∙ sym (standing-is (s .args .form) (s .args .count) (s .args .file .now) (s .pre) (r .read .given .0 .0)))
 
 returns : tie.Need-returns
 returns c =
     let k = c .before in
     let j = k .before .before in
     let s = j .before .before .before .before in
-    sym (judged-bad (j .before .plain-rows .result) (s .args .file .now) (s .args .room) (k .k .given .0 .0) (sym (j .judge-blocks .ensures) ∙ k .k .given .1))
+    sym (judged-bad (s .args .form) (j .before .plain-rows .result) (s .args .file .now) (s .args .room) (k .k .given .0 .0) (sym (j .judge-blocks .ensures) ∙ k .k .given .1))
 
 returns-2 : tie.Need-returns-2
 returns-2 c =
     let t = c .before .before .before in
     let p = t .before .before .before in
     let s = p .before .before .before in
-    sym (sound-nothing (p .plain-rows .result) (s .args .file .now) (s .args .room) (t .stand .given .0 .0) (sounds t) (sym (p .before .ending-in .ensures) ∙ c .enum-told .given .1))
+    sym (sound-nothing (s .args .form) (p .plain-rows .result) (s .args .file .now) (s .args .room) (t .stand .given .0 .0) (sounds t) (sym (p .before .ending-in .ensures) ∙ c .enum-told .given .1))
 
 returns-3 : tie.Need-returns-3
 returns-3 c =
@@ -77,8 +78,8 @@ returns-3 c =
     let p = t .before .before .before in
     let s = p .before .before .before in
     let e = r .read .given .0 .0 in
-    let f = sound-rows (p .plain-rows .result) (s .args .file .now) (s .args .room) (t .stand .given .0 .0) (sounds t) e (sym (p .before .ending-in .ensures) ∙ r .read .given .1) (s .args .count) (s .pre .count-is) in
-    c .told-rows .ensures ∙ ap (λ (x : ℕ). rowsTold (rowWordsIn (s .args .file .now)) (s .args .room) (record { count = s .args .count; length = x; ending = e })) (w .word-at .ensures) ∙ sym f
+    let f = sound-rows (s .args .form) (p .plain-rows .result) (s .args .file .now) (s .args .room) (t .stand .given .0 .0) (sounds t) e (sym (p .before .ending-in .ensures) ∙ r .read .given .1) (s .args .count) (s .pre .count-is) in
+    c .told-rows .ensures ∙ ap (λ (x : ℕ). rowsTold (rowWordsOf (s .args .form) (s .args .file .now)) (s .args .room) (record { count = s .args .count; length = x; ending = e })) (w .word-at .ensures) ∙ sym f
 
 pub told-blocks-spec : {M : Type 1} → statement M
 told-blocks-spec =
