@@ -19,17 +19,19 @@ use rules::Table;
 use rules::row;
 use scan_place::pass;
 ghost use mathlib.Core.Path.{_≡_};
-ghost use mathlib.Core.Bool.{true};
+ghost use mathlib.Core.Bool.{true, _&&_};
 ghost use mathlib.Core.List.{_++_};
 ghost use Prim.Native.Nat.{_+_, _*_, _≤_};
 ghost use lib.ListN.{length, take, drop};
+ghost use lib.Dec.{eqb};
 ghost use Rattle.rules.specs.Text.{placeAt};
 ghost use Rattle.rules.specs.Rows.{rowPlace, rowWords};
 ghost use Rattle.rules.specs.Scan.{roomOf};
 ghost use Rattle.rows.specs.Shape.{asRow};
 ghost use Rattle.file_rules.specs.declared.Loaded.the-variants.{Rows};
-ghost use Rattle.form_rules.specs.Forms.{rowsBeside, tableBeside, isPlaceIn, endingAgrees, agreesBeside, besideJudged, besideTold, besideLeaves};
-ghost use Rattle.file_beside.specs.Counting.{Counts, Holds, Agrees, lastPlace, rowsAgree, placedAt, tableLeaves};
+ghost use Rattle.form_rules.specs.declared.Form.the-variants.{Full};
+ghost use Rattle.form_rules.specs.Forms.{judged, rowsBeside, tableBeside, endingAgrees, agreesBeside, besideJudged, besideTold, besideLeaves};
+ghost use Rattle.file_beside.specs.Counting.{Counts, CountsTo, Holds, Agrees, lastPlace, rowsAgree, placedAt, tableLeaves};
 
 // Whether the rows looked at agree with the text, and the place of the last of them.
 pub struct Counted {
@@ -111,7 +113,9 @@ fn full_agrees(text: &[u8], file: &[u8], table: Table) -> bool
     if !counted.agree {
         return false;
     }
-    ending_agrees(text, counted.here, table.ending)
+    let here = counted.here;
+    let ending = table.ending;
+    ending_agrees(text, here, ending)
 }
 
 // Whether a file that holds a table agrees with a text: in length, and in lines and columns where it has them.
