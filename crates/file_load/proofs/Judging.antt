@@ -60,7 +60,9 @@ module _ (form : Form) (file : List ℕ) (count plain : ℕ) (frame : Framed for
         blocks = refl;
         fewer = h;
         sounds = rw (← e);
-        rows = rw (words-file form count file e, rows-words form plain count (bodyFrom size (blocksFor size count) count (drop 512 file)) h);
+        rows =
+            let s : List ℕ = bodyFrom size (blocksFor size count) count (drop 512 file) in
+            rw (words-file form count file e, rows-words form plain count s h);
       }
 
   module _ (last : Row) (stands : Bool) (left more k at : ℕ) (g : Judging form file count plain last stands left more k at) where
@@ -75,7 +77,8 @@ module _ (form : Form) (file : List ℕ) (count plain : ℕ) (frame : Framed for
         let s : 0 + k ≡ soundOf form file + 1 = rw (z, b) at (g .sounds) in
         let c : k + 0 ≡ 1 + blocksFor size count = rw (z, b) at (g .blocks) in
         let r : (stands && true) ≡ standUpto form plain file = rw m at (g .rows) in
-        rw (le-ltb (soundOf form file) (blocksFor size (countSaid file)) (rw (← frame .count-is) (omega arith))) (ap Sound (sym r ∙ and-true stands))
+        rw (le-ltb (soundOf form file) (blocksFor size (countSaid file)) (rw (← frame .count-is) (omega arith)))
+        (ap Sound (sym r ∙ and-true stands))
 
     module _ (some : 0 < left) where
       next : blocksFor size left ≡ suc (blocksFor size (left - full))
@@ -99,7 +102,8 @@ module _ (form : Form) (file : List ℕ) (count plain : ℕ) (frame : Framed for
         unfolding blocksJudged left-sound
         judging-bad e =
             let f =
-                first-not size (some-bytes form) (few-bytes form) (blocksFor size (left - full)) k left (drop at file) (rw (here-is, some-rows, row-size) at e)
+                first-not size (some-bytes form) (few-bytes form) (blocksFor size (left - full)) k left (drop at file)
+                (rw (here-is, some-rows, row-size) at e)
             in
             let s : 0 + k ≡ soundOf form file + 1 = rw (next, f) at (g .sounds) in
             let c : 1 + soundOf form file ≡ k = omega arith in
@@ -108,15 +112,16 @@ module _ (form : Form) (file : List ℕ) (count plain : ℕ) (frame : Framed for
         behind : left - n ≡ left - full
         behind = omega (arith, some-rows)
 
-        sounds-next : sound k n (bytes * n) here ≡ true → left-sound form file (left - n) (k + 1) (at + 512) + (k + 1) ≡ soundOf form file + 1
+        sounds-next : sound k n (bytes * n) here ≡ true
+            → left-sound form file (left - n) (k + 1) (at + 512) + (k + 1) ≡ soundOf form file + 1
         unfolding left-sound
         sounds-next e =
             let f =
-                first-sound size (some-bytes form) (few-bytes form) (blocksFor size (left - full)) k left (drop at file) (rw (here-is, some-rows, row-size) at e)
+                first-sound size (some-bytes form) (few-bytes form) (blocksFor size (left - full)) k left (drop at file)
+                (rw (here-is, some-rows, row-size) at e)
             in
-            let s : suc (soundFrom size (blocksFor size (left - full)) (suc k) (left - full) (drop (at + 512) file)) + k ≡ soundOf form file + 1 =
-                rw (next, f, drop-drop) at (g .sounds)
-            in
+            let later : ℕ = soundFrom size (blocksFor size (left - full)) (suc k) (left - full) (drop (at + 512) file) in
+            let s : suc later + k ≡ soundOf form file + 1 = rw (next, f, drop-drop) at (g .sounds) in
             rw (behind, add-one k) (omega arith)
 
         -- the rows of this block, and those behind it

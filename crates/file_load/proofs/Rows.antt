@@ -99,7 +99,8 @@ module _ (form : Form) where
   rows-front zero s t h = refl
   rows-front (suc n) s t h =
       let m = one-more form n in
-      rw (row-front form s t (omega arith), drop-append-le size s t (omega arith), rows-front n (drop size s) t (omega (arith, length-drop size s)))
+      let r = rows-front n (drop size s) t (omega (arith, length-drop size s)) in
+      rw (row-front form s t (omega arith), drop-append-le size s t (omega arith), r)
 
   rows-append : (a n : ℕ) (s : List ℕ) → rowsFrom form (a + n) s ≡ rowsFrom form a s ++ rowsFrom form n (drop (size * a) s)
   unfolding rowsFrom
@@ -140,7 +141,8 @@ row-eight : (xs ys : List ℕ) → length xs ≡ 8 → rowIn (xs ++ ys) ≡ rowI
 unfolding rowIn
 row-eight xs ys e =
     let g : (i : ℕ) → i < 8 → getD (xs ++ ys) i 0 ≡ getD xs i 0 = λ i h. List·getD-append xs ys 0 i (omega arith) in
-    rw (g 0 (omega arith), g 1 (omega arith), g 2 (omega arith), g 3 (omega arith), g 4 (omega arith), g 5 (omega arith), g 6 (omega arith), g 7 (omega arith))
+    rw (g 0 (omega arith), g 1 (omega arith), g 2 (omega arith), g 3 (omega arith))
+    (rw (g 4 (omega arith), g 5 (omega arith), g 6 (omega arith), g 7 (omega arith)))
 
 row-six : (at : ℕ → Cursor) (xs ys : List ℕ) → length xs ≡ 6 → placedRow at (xs ++ ys) ≡ placedRow at xs
 unfolding placedRow
@@ -306,7 +308,9 @@ module _ (form : Form) (m n : ℕ) (s : List ℕ) (e : blocksFor (rowBytesOf for
       let w = mul-le-mul-left (size form) i in
       ap (λ (x : ℕ). rowsFrom form x (bodyFrom (size form) (suc m) n s)) (sym a)
       ∙ rows-append form (min (most form) more) (more - min (most form) more) (bodyFrom (size form) (suc m) n s)
-      ∙ rw (body-is, rows-front form (min (most form) more) content others (omega (arith, content-length)), front-rows (min (most form) more) i, behind (min (most form) more) (more - min (most form) more) (λ z. omega arith))
+      ∙ rw (body-is, rows-front form (min (most form) more) content others (omega (arith, content-length)), front-rows (min (most form) more) i)
+      (ap (λ (l : List Row). rowsFrom form (min (most form) more) (drop 4 (take 512 s)) ++ l)
+      (behind (min (most form) more) (more - min (most form) more) (λ z. omega arith)))
 
   pub body-behind : drop (size form * here) (bodyFrom (size form) (suc m) n s) ≡ bodyFrom (size form) m (n - most form) (drop 512 s)
   unfolding others
@@ -332,7 +336,9 @@ module _ (form : Form) (m n : ℕ) (s : List ℕ) (e : blocksFor (rowBytesOf for
       let a : suc i ≤ here = omega arith in
       let b = mul-le-mul-left (size form) a in
       let d = one-more form i in
-      rw (body-is, drop-append-le (size form * i) c others (omega arith), row-front form (drop (size form * i) c) others (omega (arith, length-drop (size form * i) c)), row-part form (size form * i) (size form * here) (drop 4 (take 512 s)) (omega arith), drop-drop)
+      let f = row-front form (drop (size form * i) c) others (omega (arith, length-drop (size form * i) c)) in
+      let p = row-part form (size form * i) (size form * here) (drop 4 (take 512 s)) (omega arith) in
+      rw (body-is, drop-append-le (size form * i) c others (omega arith), f, p, drop-drop)
 
   pub row-later : (i : ℕ) → i < n → most form ≤ i
       → rowFrom form (drop (size form * i) (bodyFrom (size form) (suc m) n s))
@@ -361,7 +367,8 @@ module _ (form : Form) where
       Rest : Type 0
       Rest = i - most form < n - most form
           → rowFrom form (drop (size form * (i - most form)) (bodyFrom (size form) m (n - most form) (drop 512 s)))
-          ≡ rowFrom form (drop (4 + size form * ((i - most form) % most form)) (take 512 (drop (512 * ((i - most form) / most form)) (drop 512 s))))
+          ≡ rowFrom form (drop (4 + size form * ((i - most form) % most form))
+          (take 512 (drop (512 * ((i - most form) / most form)) (drop 512 s))))
 
       go : Rest → (t : Bool) → ltb i (most form) ≡ t
           → rowFrom form (drop (size form * i) (bodyFrom (size form) (suc m) n s))

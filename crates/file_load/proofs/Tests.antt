@@ -112,7 +112,9 @@ module _ (form : Form) (count : ℕ) (file : List ℕ) (frame : Framed form coun
     row-block = take (row-at + 512 - row-at) (drop row-at file)
 
     pub row-fits : 4 + rowBytesOf form * (i % rows) + rowBytesOf form ≤ length row-block
-    row-fits = omega (arith, row-room, rw (← full) at (rest-bytes form i), length-take (row-at + 512 - row-at) (drop row-at file), length-drop row-at file)
+    row-fits =
+        let l = length-take (row-at + 512 - row-at) (drop row-at file) in
+        omega (arith, row-room, rw (← full) at (rest-bytes form i), length-drop row-at file)
 
     pub row-file : rowNo (rowWordsOf form file) i ≡ rowFrom form (drop (4 + rowBytesOf form * (i % rows)) row-block)
     unfolding fileLength

@@ -23,7 +23,9 @@ returns : tie.Need-returns
 unfolding endingIn
 returns c =
     let d = c .before in
-    rw (c .read-ending .ensures, d .word-at4 .ensures, d .before .word-at3 .ensures, d .before .before .word-at2 .ensures, d .before .before .before .word-at .ensures)
+    let e = d .before in
+    let f = e .before in
+    rw (c .read-ending .ensures, d .word-at4 .ensures, e .word-at3 .ensures, f .word-at2 .ensures, f .before .word-at .ensures)
 
 pub full-ending-spec : {M : Type 1} → statement M
 full-ending-spec =

@@ -26,14 +26,16 @@ returns : tie.Need-returns
 returns c =
     let r = c .before .before in
     let a = r .before .before .args in
-    sym (closes-plain (rowWordsOf (a .form) (a .file .now)) (a .i) (asRow (r .row-of .result)) (r .row-of .ensures) (a .size) (c .if1 .taken))
+    sym (closes-plain (rowWordsOf (a .form) (a .file .now)) (a .i) (asRow (r .row-of .result)) (r .row-of .ensures) (a .size)
+    (c .if1 .taken))
 
 returns-2 : tie.Need-returns-2
 returns-2 c =
     let k = c .before .before in
     let r = k .before .before in
     let a = r .before .before .args in
-    sym (closes-apart (rowWordsOf (a .form) (a .file .now)) (a .i) (asRow (r .row-of .result)) (r .row-of .ensures) (a .size) (k .if1 .left) (c .if2 .taken))
+    sym (closes-apart (rowWordsOf (a .form) (a .file .now)) (a .i) (asRow (r .row-of .result)) (r .row-of .ensures) (a .size)
+    (k .if1 .left) (c .if2 .taken))
 
 row-sane-requires : tie.Need-row-sane-requires
 row-sane-requires c κs = search needs

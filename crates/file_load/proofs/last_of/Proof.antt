@@ -17,7 +17,9 @@ row-in-requires : tie.Need-row-in-requires
 row-in-requires c κs = let s = c .before .before in last-fits (s .args .form) (s .args .n) _ (c .if1 .left) (s .pre)
 
 returns-2 : tie.Need-returns-2
-returns-2 c = let a = c .before .before .before .args in c .row-in .ensures ∙ sym (last-row (a .form) (a .n) (asRow (a .before)) (a .bytes .now) (c .before .if1 .left))
+returns-2 c =
+    let a = c .before .before .before .args in
+    c .row-in .ensures ∙ sym (last-row (a .form) (a .n) (asRow (a .before)) (a .bytes .now) (c .before .if1 .left))
 
 pub last-of-spec : {M : Type 1} → statement M
 last-of-spec = tie.close (tie.spec returns sub-row-in row-in-requires returns-2)

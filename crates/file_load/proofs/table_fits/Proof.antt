@@ -17,7 +17,8 @@ returns-2 : tie.Need-returns-2
 returns-2 c =
     let s = c .before .before .before in
     let a = s .args in
-    sym (unfit (a .form) (a .file .now) (a .table) (s .pre .0) (c .before .if1 .left) (sym (s .pre .1) ∙ not-true (a .stand) (c .if2 .taken)))
+    let e = sym (s .pre .1) ∙ not-true (a .stand) (c .if2 .taken) in
+    sym (unfit (a .form) (a .file .now) (a .table) (s .pre .0) (c .before .if1 .left) e)
 
 enum-told : tie.Need-enum-told
 enum-told c = search needs
@@ -53,7 +54,9 @@ returns-4 c =
     let e = f .before in
     let s = e .before .before in
     let a = s .args in
-    c .last-closes .ensures ∙ sym (fits-none (a .form) (a .file .now) (a .table) (s .pre .0) (e .if1 .left) (m .enum-told .given .1) (sym (s .pre .1) ∙ not-false (a .stand) (f .if2 .left)) (z .if3 .left))
+    let h = sym (s .pre .1) ∙ not-false (a .stand) (f .if2 .left) in
+    c .last-closes .ensures
+    ∙ sym (fits-none (a .form) (a .file .now) (a .table) (s .pre .0) (e .if1 .left) (m .enum-told .given .1) h (z .if3 .left))
 
 returns-5 : tie.Need-returns-5
 returns-5 c =
@@ -62,7 +65,9 @@ returns-5 c =
     let e = f .before in
     let s = e .before .before in
     let a = s .args in
-    c .place-breaks .ensures ∙ sym (fits-refused (a .form) (a .file .now) (a .table) (s .pre .0) (e .if1 .left) _ _ (m .ending .given .1) (sym (s .pre .1) ∙ not-false (a .stand) (f .if2 .left)))
+    let h = sym (s .pre .1) ∙ not-false (a .stand) (f .if2 .left) in
+    c .place-breaks .ensures
+    ∙ sym (fits-refused (a .form) (a .file .now) (a .table) (s .pre .0) (e .if1 .left) _ _ (m .ending .given .1) h)
 
 pub table-fits-spec : {M : Type 1} → statement M
 table-fits-spec =
