@@ -18,7 +18,9 @@ use Rattle.form_rules.specs.Shapes.{numberOf, rowBytesOf, saidIn, bodyOf}
 use Rattle.theory_files.proofs.One.{block-length}
 use Rattle.file_sizes.proofs.Sizes.{few-rows, few-blocks, some-length}
 use Rattle.file_move.proofs.Bodies.{blocksOf, blocks-less, blocks-further, blocks-end, blocks-zero, body-few, body-front, encoded}
-use Rattle.file_beside.specs.Counting.{lastPlace}
+use Rattle.file_beside.specs.Counting.{Agrees, lastPlace}
+use Rattle.file_beside.proofs.Rows.{beside-length, count-is}
+use Rattle.file_beside.proofs.Agreeing.{agrees-long}
 
 -- ---- a part of a file, written over
 
@@ -138,6 +140,11 @@ module _ {form : Form} {ws : List ℕ} {count : ℕ} {moved₀ moved : List ℕ}
             all = rw (mid, mid-take moved ys at r w, mid-drop moved ys at r w (size form count) (last-block n here), e, add-one k)
             (ap (λ (x : List ℕ). x ++ d) (append-assoc (take at moved) x y) ∙ q);
           }
+
+-- the words of all rows of a file that agrees with its text
+pub all-words : {text file : List ℕ} {t : Table} → Agrees text file t → length (rowsBeside text file) ≡ wordsPerRow * t .count
+all-words {text} {file} {t} g =
+    beside-length text file ∙ ap (λ (k : ℕ). wordsPerRow * k) (sym (count-is text file t (g .holds) (agrees-long g)))
 
 -- the loop's invariant: the part's words have their room, and the place of the last row is known
 pub record Moving (form : Form) (text file : List ℕ) (count : ℕ) (moved₀ moved words : List ℕ) (here : Cursor) (done k at : ℕ) : Type 0 where

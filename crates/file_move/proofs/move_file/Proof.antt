@@ -1,37 +1,40 @@
+-- `move_file` meets its contract: a move to each form, and 44 of any other.
+use mathlib.Core.Path.{_≡_, sym, _∙_}
+use lib.ListN.{length}
 use borrow.Author.Needs.{needs}
+use Rattle.theory_forms.proofs.Moves.{move-untouched}
+use Rattle.file_move.proofs.Answers.{told-form}
 use Rattle.file_move.proofs.move_file.Statement.{statement}
 use Rattle.file_move.proofs.move_file.Tie as tie
-use Rattle.file_move.proofs.move_file.Reads as reads
-use Rattle.file_move.proofs.move_file.Lts as lts
-use Rattle.file_move.proofs.move_to.Reads as move-to-reads
 
--- src/lib.rt:118:9
 move-to-requires : tie.Need-move-to-requires
 move-to-requires c κs = search needs
 
--- src/lib.rt:118:9
 same-length : tie.Need-same-length
 same-length c = search needs
 
--- src/lib.rt:118:9
 returns : tie.Need-returns
-returns c = ?
+returns c =
+    let m = c .before .before in
+    rw (m .before .before .if1 .taken) (m .move-to .ensures)
 
--- src/lib.rt:121:9
 move-to-requires-2 : tie.Need-move-to-requires-2
 move-to-requires-2 c κs = search needs
 
--- src/lib.rt:121:9
 same-length-2 : tie.Need-same-length-2
 same-length-2 c = search needs
 
--- src/lib.rt:121:9
 returns-2 : tie.Need-returns-2
-returns-2 c = ?
+returns-2 c =
+    let m = c .before .before in
+    rw (m .before .before .if2 .taken) (m .move-to2 .ensures)
 
--- src/lib.rt:114:1
 returns-3 : tie.Need-returns-3
-returns-3 c = ?
+returns-3 c =
+    let s = c .before .before .before .before .before in
+    let a = s .args in
+    let t = told-form (a .number) (a .text .now) (a .file .now) (length (a .moved .now)) (c .before .if1 .left) (c .if2 .left) in
+    (sym t, sym (move-untouched (a .text .now) (a .file .now) (a .number) (a .moved .now) _ t))
 
 pub move-file-spec : {M : Type 1} → statement M
 move-file-spec =

@@ -8,10 +8,10 @@ use borrow.Author.Needs.{needs}
 use Rattle.rules.specs.Rows.{wordsPerRow}
 use Rattle.form_rules.specs.Forms.{rowsBeside}
 use Rattle.file_sizes.proofs.Sizes.{some-rows, few-rows}
-use Rattle.file_beside.proofs.Rows.{beside-length, count-is, few-count, last-first}
+use Rattle.file_beside.proofs.Rows.{few-count, last-first}
 use Rattle.file_beside.proofs.Agreeing.{agrees-long}
 use Rattle.file_move.proofs.Bodies.{blocksOf}
-use Rattle.file_move.proofs.Going.{Moving, going-start, room-left, few-left, part-room, moving-end, moving-next}
+use Rattle.file_move.proofs.Going.{Moving, going-start, room-left, few-left, part-room, all-words, moving-end, moving-next}
 use Rattle.file_move.proofs.put_blocks.Statement.{statement}
 use Rattle.file_move.proofs.put_blocks.Tie as tie
 
@@ -45,10 +45,7 @@ in-turn c = put (at-part (at-block c .before))
 -- the words of all rows
 lent : (s : tie.Start Inv-loop μ-loop)
     → length (rowsBeside (s .args .text .now) (s .args .file .now)) ≡ wordsPerRow * s .args .table .count
-lent s =
-    let a = s .args in
-    let n = count-is (a .text .now) (a .file .now) (a .table) (s .pre .0 .holds) (agrees-long (s .pre .0)) in
-    beside-length (a .text .now) (a .file .now) ∙ ap (λ (k : ℕ). wordsPerRow * k) (sym n)
+lent s = all-words (s .pre .0)
 
 cast-count : tie.Need-cast-count Inv-loop μ-loop
 cast-count c = search needs
