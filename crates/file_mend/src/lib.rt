@@ -41,8 +41,7 @@ pub struct Survey {
 }
 
 // The text's start.
-fn begin() -> Spot
-{
+fn begin() -> Spot {
     Spot {
         at: 0,
         cursor: Cursor::start(),
@@ -89,7 +88,14 @@ fn write_block(file: &mut [u8], n: usize, k: u32, fresh: &[u8])
 }
 
 // Block k, behind so many entries of the list: if it differs it is written and listed. How many entries there are then is told.
-fn mend_block(file: &mut [u8], n: usize, k: u32, fresh: &[u8], list: &mut [u32], listed: usize) -> usize
+fn mend_block(
+    file: &mut [u8],
+    n: usize,
+    k: u32,
+    fresh: &[u8],
+    list: &mut [u32],
+    listed: usize,
+) -> usize
     requires { ⌜ ((length (now fresh) ≡ 512) × (512 * k + 512 ≤ length (now file))) × ((n ≤ length (now file)) × (listed + length (entryHere n k (now fresh) (now file)) ≤ length (now list))) ⌝ }
     ensures { λ r. ⌜ (r ≡ listed + length (entryHere n k (now (fresh .entry)) (now (file .entry)))) × ((now (file .exit) ≡ take (512 * k) (now (file .entry)) ++ (now (fresh .entry) ++ drop (512 * k + 512) (now (file .entry)))) × (now (list .exit) ≡ take listed (now (list .entry)) ++ (entryHere n k (now (fresh .entry)) (now (file .entry)) ++ drop r (now (list .entry))))) ⌝ }
 {
@@ -159,16 +165,20 @@ fn survey(form: Form, text: &[u8], file: &[u8]) -> Survey
     if length_for(form, table.count) < file.len() {
         listed += 1;
     }
-    Survey {
-        table,
-        listed,
-    }
+    Survey { table, listed }
 }
 
 // ---- the second reading
 
 // The blocks of a text's rows, behind so many entries of the list: each that differs is written and listed. How many entries there are then is told.
-fn mend_rows(form: Form, text: &[u8], file: &mut [u8], n: usize, list: &mut [u32], first: usize) -> usize
+fn mend_rows(
+    form: Form,
+    text: &[u8],
+    file: &mut [u8],
+    n: usize,
+    list: &mut [u32],
+    first: usize,
+) -> usize
     requires { ⌜ Fresh form (now text) n (now file) first (now list) ⌝ }
     ensures { λ r. ⌜ RowsMended form (now (text .entry)) n first r (now (file .entry)) (now (file .exit)) (now (list .entry)) (now (list .exit)) ⌝ }
 {

@@ -117,5 +117,5 @@ module _ (κs : Lfts 4) (a : Dens κs of-mend.ps) (r : Unit {0}) (e : AtExit (en
       → OuterFresh (a .0 .now) (b .1 .1 .0 .now) (f .1 .1 .1 .0 .now) (f .1 .1 .0 .now)
   outer-mend-then-load p s z x y room =
       let g : OuterMended (a .0 .now) (a .1 .0) (a .1 .1 .0 .now) (a .1 .1 .1 .0) (a .1 .1 .1 .1 .0 .now) (e .1 .1 .1 .1 .1 .0 .now)
-          (e .1 .1 .0 .now) (e .1 .1 .1 .1 .0 .now) = record { told = p .0; left = p .1 .0; listed = p .1 .1; mended = z } in
+      (e .1 .1 .0 .now) (e .1 .1 .1 .1 .0 .now) = record { told = p .0; left = p .1 .0; listed = p .1 .1; mended = z } in
       rw (s .0, s .1, x, y) (outer-mended-read _ _ _ _ _ _ _ _ g (b .1 .1 .0 .now) room)

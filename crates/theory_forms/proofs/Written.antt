@@ -133,7 +133,7 @@ module _ (ws : List ℕ) (t : Table) (well : wellFormed ws t ≡ true) (few : t 
   table-is =
       let n = t .count in
       let w : List ℕ = placed onOneLine n (shortened n ws) in
-      let q : wellFormed w (placedTable onOneLine t) ≡ true = 
+      let q : wellFormed w (placedTable onOneLine t) ≡ true =
       well-placed onOneLine ws t (one-lined (t .length) (well-few ws t well)) well in
       let r = told-rows w n n (t .length) (shortEnding onOneLine (shortEncode ws t)) (placedEnding onOneLine (t .ending)) ending-is in
       rw (written-count, said-is 1 (omega arith), written-words) (r ∙ told-table w n (placedTable onOneLine t) few q (omega arith))
