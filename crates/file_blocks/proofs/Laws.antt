@@ -6,7 +6,8 @@ use Prim.Native.Nat.{ℕ, zero, suc, _+_, _-_, _*_, _/_, _%_, _≤_, _<_, min, m
 use native.Mathlib.Nat.{not-suc-le-zero, le-of-suc-le-suc}
 use native.Mathlib.Numerals.{add-one}
 use native.Mathlib.Omega.{arith}
-use lib.ListN.{length, take, drop, getD, set, replicate, length-append, length-take, length-drop, length-replicate, replicate-append-replicate, take-append-drop, drop-of-length-le}
+use lib.ListN.{length, take, drop, getD, set, replicate, length-append, length-take, length-drop, length-replicate}
+use lib.ListN.{replicate-append-replicate, take-append-drop, drop-of-length-le}
 use lib.Seq.{take-suc, drop-cons, drop-drop, getD-drop, sets-eq, set-at, take-at, drop-at, length-take-le, drop-append-add}
 use lib.Dec.{eqb, leb}
 use borrow.Author.Tests.{eqb-true, eq-eqb, ne-eqb, lt-leb, not-true}
@@ -47,7 +48,15 @@ module _ (s : List ℕ) (at : ℕ) where
       let e : at + 1 ≡ suc at = omega arith in
       let f : at + 2 ≡ suc (suc at) = omega arith in
       let g : at + 3 ≡ suc (suc (suc at)) = omega arith in
-      rw (e, f, g, drop-cons s at 0 (omega arith), drop-cons s (suc at) 0 (omega arith), drop-cons s (suc (suc at)) 0 (omega arith), drop-cons s (suc (suc (suc at))) 0 (omega arith))
+      rw (
+        e,
+        f,
+        g,
+        drop-cons s at 0 (omega arith),
+        drop-cons s (suc at) 0 (omega arith),
+        drop-cons s (suc (suc at)) 0 (omega arith),
+        drop-cons s (suc (suc (suc at))) 0 (omega arith),
+      )
       (omega arith)
 
   module _ (x : ℕ) where
@@ -96,18 +105,23 @@ pub larger-zero : (a b : ℕ) → eqb (max a b) 0 ≡ (eqb b 0 && eqb a 0)
 larger-zero a b =
     same-bool (eqb (max a b) 0) (eqb b 0 && eqb a 0)
     (λ e. let h = eqb-true (max a b) 0 e in true-both {p = eqb b 0} {q = eqb a 0} (eq-eqb b 0 (omega arith)) (eq-eqb a 0 (omega arith)))
-    (λ e. let h = both-true (eqb b 0) (eqb a 0) e in let x = eqb-true b 0 (h .0) in let y = eqb-true a 0 (h .1) in eq-eqb (max a b) 0 (omega arith))
+    (λ e. let h = both-true (eqb b 0) (eqb a 0) e in
+    let x = eqb-true b 0 (h .0) in let y = eqb-true a 0 (h .1) in eq-eqb (max a b) 0 (omega arith))
 
 pub filler-more : (s : List ℕ) (from i most : ℕ) → from ≤ i → i < length s → eqb most 0 ≡ zeros (take (i - from) (drop from s))
     → eqb (max most (getD s i 0)) 0 ≡ zeros (take (i + 1 - from) (drop from s))
 filler-more s from i most h l e =
     let f : i + 1 - from ≡ suc (i - from) = omega arith in
     let g : from + (i - from) ≡ i = omega arith in
-    rw (f, take-suc (drop from s) (i - from) 0 (omega (arith, length-drop from s)), zeros-snoc (take (i - from) (drop from s)) (getD (drop from s) (i - from) 0), getD-drop, g, larger-zero most (getD s i 0), e)
+    let d : List ℕ = drop from s in
+    let n : ℕ = i - from in
+    let z = zeros-snoc (take n d) (getD d n 0) in
+    rw (f, take-suc d n 0 (omega (arith, length-drop from s)), z, getD-drop, g, larger-zero most (getD s i 0), e)
 
 -- ---- whether a block is sound
 
-pub sound-last : (k n size : ℕ) (b : List ℕ) → numberAt 2 0 b ≡ k → numberAt 2 2 b ≡ n → zeros (take (504 - size) (drop (4 + size) b)) ≡ true
+pub sound-last : (k n size : ℕ) (b : List ℕ) → numberAt 2 0 b ≡ k → numberAt 2 2 b ≡ n
+    → zeros (take (504 - size) (drop (4 + size) b)) ≡ true
     → sound k n size b ≡ eqb (numberAt 4 508 b) (check (take 508 b))
 unfolding sound
 sound-last k n size b e f g = rw (eq-eqb _ k e, eq-eqb _ n f, g)
@@ -135,8 +149,17 @@ module _ (s : List ℕ) (at : ℕ) where
   unfolding rowFrom rowIn
   row-words =
       let w : (i : ℕ) → i < 8 → getD (wordsIn 8 (drop at s)) i 0 ≡ numberAt 4 (at + 4 * i) s = word-of 8 in
-      rw (w 0 (omega arith), w 1 (omega arith), w 2 (omega arith), w 3 (omega arith), w 4 (omega arith), w 5 (omega arith),
-      w 6 (omega arith), w 7 (omega arith), none-on)
+      rw (
+        w 0 (omega arith),
+        w 1 (omega arith),
+        w 2 (omega arith),
+        w 3 (omega arith),
+        w 4 (omega arith),
+        w 5 (omega arith),
+        w 6 (omega arith),
+        w 7 (omega arith),
+        none-on,
+      )
 
   -- a row without line and column stands in line 1
   pub short-words : rowFrom Short (drop at s) ≡ record {
@@ -195,7 +218,8 @@ module _ (r q : Row) where
           true≢false (sym h ∙ rw (lt-leb Eof (q .kind) l, fits-sane q f))
 
 -- row i, read as q, behind the last, where the rows in front are judged
-module _ (form : Form) (n i : ℕ) (s : List ℕ) (last q : Row) (good : Bool) (h : i < n) (e : q ≡ rowFrom form (drop (4 + rowBytesOf form * i) s)) where
+module _ (form : Form) (n i : ℕ) (s : List ℕ) (last q : Row) (good : Bool) (h : i < n)
+    (e : q ≡ rowFrom form (drop (4 + rowBytesOf form * i) s)) where
   pub stand-not : standsOn last q ≡ false → (good && stand last (rowsFrom form (n - i) (drop (4 + rowBytesOf form * i) s))) ≡ false
   unfolding stand
   stand-not f = rw (rows-more form n i s h, ← e, f) (and-false good)
@@ -218,13 +242,16 @@ words-snoc (suc i) s =
 pub taken-more : (i : ℕ) (s ws : List ℕ) (v : ℕ) → i < length ws → v ≡ numberAt 4 (4 + 4 * i) s
     → set (wordsIn i (drop 4 s) ++ drop i ws) i v ≡ wordsIn (i + 1) (drop 4 s) ++ drop (i + 1) ws
 taken-more i s ws v h e =
-    rw (drop-cons ws i 0 h, set-at (wordsIn i (drop 4 s)) (getD ws i 0) (drop (suc i) ws) v i (words-length i (drop 4 s)), add-one i, words-snoc i (drop 4 s), append-assoc, e)
+    let xs : List ℕ = wordsIn i (drop 4 s) in
+    let n : length xs ≡ i = words-length i (drop 4 s) in
+    rw (drop-cons ws i 0 h, set-at xs (getD ws i 0) (drop (suc i) ws) v i n, add-one i, words-snoc i (drop 4 s), append-assoc, e)
     (ap (λ (x : ℕ). wordsIn i (drop 4 s) ++ (x ∷ drop (suc i) ws)) (sym (number-moved 4 4 (4 * i) s)))
 
 -- ---- written one behind the other
 
 -- v over what stands behind xs
-pub onto : (xs ys v : List ℕ) (a b : ℕ) → length xs ≡ a → a + length v ≡ b → (take a (xs ++ ys) ++ v) ++ drop b (xs ++ ys) ≡ (xs ++ v) ++ drop (length v) ys
+pub onto : (xs ys v : List ℕ) (a b : ℕ) → length xs ≡ a → a + length v ≡ b
+    → (take a (xs ++ ys) ++ v) ++ drop b (xs ++ ys) ≡ (xs ++ v) ++ drop (length v) ys
 onto xs ys v a b e f = rw (take-at xs ys a e, ← f, ← e) (ap (λ (l : List ℕ). (xs ++ v) ++ l) (drop-append-add xs ys (length v)))
 
 -- ---- what is written, one part behind the other
@@ -244,14 +271,16 @@ words-none b₀ ws = rw append-nil (take-append-drop 4 b₀)
 -- one word more of a content
 module _ (b₀ ws b : List ℕ) (i : ℕ) (h : i < length ws) (l : 4 + 4 * length ws ≤ length b₀) where
   pub words-more : b ≡ (take 4 b₀ ++ bytesOf (take i ws)) ++ drop (4 + 4 * i) b₀
-      → (take (4 + 4 * i) b ++ little 4 (getD ws i 0)) ++ drop (4 + 4 * i + 4) b ≡ (take 4 b₀ ++ bytesOf (take (i + 1) ws)) ++ drop (4 + 4 * (i + 1)) b₀
+      → (take (4 + 4 * i) b ++ little 4 (getD ws i 0)) ++ drop (4 + 4 * i + 4) b
+      ≡ (take 4 b₀ ++ bytesOf (take (i + 1) ws)) ++ drop (4 + 4 * (i + 1)) b₀
   words-more e =
       let xs : List ℕ = take 4 b₀ ++ bytesOf (take i ws) in
       let w : List ℕ = little 4 (getD ws i 0) in
       let n : length w ≡ 4 = little-length 4 (getD ws i 0) in
       let m : length xs ≡ 4 + 4 * i = rw (length-append, bytes-length, length-take) (omega (arith, length-take i ws)) in
       let f : 4 + 4 * i + 4 ≡ 4 + 4 * (i + 1) = omega arith in
-      let g : bytesOf (take (i + 1) ws) ≡ bytesOf (take i ws) ++ w = rw (add-one i, take-suc ws i 0 h, bytes-append (take i ws) (getD ws i 0 ∷ [])) one-word in
+      let g : bytesOf (take (i + 1) ws) ≡ bytesOf (take i ws) ++ w
+      = rw (add-one i, take-suc ws i 0 h, bytes-append (take i ws) (getD ws i 0 ∷ [])) one-word in
       rw e (onto xs (drop (4 + 4 * i) b₀) w (4 + 4 * i) (4 + 4 * i + 4) m (omega arith) ∙ rw (n, drop-drop, f, g) (simp append-assoc))
     where
       one-word : bytesOf (take i ws) ++ bytesOf (getD ws i 0 ∷ []) ≡ bytesOf (take i ws) ++ little 4 (getD ws i 0)
@@ -276,7 +305,8 @@ filler-put b₀ b from i h l e =
     rw (e, drop-cons b₀ i 0 l, set-at xs (getD b₀ i 0) (drop (suc i) b₀) 0 i m, f, zeros-one (i - from), add-one i) (simp append-assoc)
 
 -- a content that was written is the block's content
-pub content-put : (b c : List ℕ) (size : ℕ) → length c ≡ size → 4 + size ≤ length b → contentOf size ((take 4 b ++ c) ++ drop (4 + size) b) ≡ c
+pub content-put : (b c : List ℕ) (size : ℕ) → length c ≡ size → 4 + size ≤ length b
+    → contentOf size ((take 4 b ++ c) ++ drop (4 + size) b) ≡ c
 unfolding contentOf
 content-put b c size e h =
     let l : length (take 4 b) ≡ 4 = length-take-le 4 b (omega arith) in
@@ -308,7 +338,8 @@ module _ (k n size : ℕ) (b₀ b₁ b₂ b₃ b₄ : List ℕ) (whole : length 
       let o₃ : drop (length y) (drop 2 b₀) ≡ c ++ r₂ = rw (ly, drop-drop 2 2 b₀) (sym (take-append-drop size (drop 4 b₀))) in
       let f₂ : b₂ ≡ ((x ++ y) ++ c) ++ r₂ = o₂ ∙ rw o₃ (sym (append-assoc (x ++ y) c r₂)) in
       let f₃ : b₃ ≡ (((x ++ y) ++ c) ++ z) ++ r₃ = e₃ ∙ rw f₂ (onto ((x ++ y) ++ c) r₂ z (4 + size) 508 l₂ (omega arith)) in
-      let t₃ : take 508 b₃ ≡ (x ++ y) ++ (c ++ z) = ap (take 508) f₃ ∙ take-at (((x ++ y) ++ c) ++ z) r₃ 508 l₃ ∙ append-assoc (x ++ y) c z in
+      let t₃ : take 508 b₃ ≡ (x ++ y) ++ (c ++ z)
+      = ap (take 508) f₃ ∙ take-at (((x ++ y) ++ c) ++ z) r₃ 508 l₃ ∙ append-assoc (x ++ y) c z in
       let lr : length r₃ ≡ 4 = rw (length-drop, length-drop, length-drop) (omega arith) in
       let d₃ : drop 512 b₃ ≡ [] = drop-of-length-le b₃ {i = 512} (omega (arith, ap length f₃, length-append (((x ++ y) ++ c) ++ z) r₃)) in
       let g : 508 - (4 + size) ≡ 504 - length c = omega arith in

@@ -1,19 +1,19 @@
 -- Laws of the loop over blocks, in either form: the blocks and rows in front are judged, and those that are left give the whole answer.
 use mathlib.Core.Path.{_≡_, refl, sym, ap, _∙_}
 use mathlib.Core.Bool.{Bool, true, false, _&&_, and-true, and-assoc}
-use mathlib.Core.List.{List, [], _∷_, _++_}
-use Prim.Native.Nat.{ℕ, zero, suc, _+_, _-_, _*_, _^_, _≤_, _<_, min}
+use mathlib.Core.List.{List, []}
+use Prim.Native.Nat.{ℕ, suc, _+_, _-_, _*_, _^_, _≤_, _<_, min}
 use native.Mathlib.Numerals.{add-one}
 use native.Mathlib.Omega.{arith}
 use lib.ListN.{length, take, drop, length-take, length-drop}
 use lib.Seq.{drop-drop}
 use borrow.Author.Tests.{lt-ltb, le-ltb}
-use Rattle.rules.specs.Rows.{Row, rowIn, rowsIn}
+use Rattle.rules.specs.Rows.{Row, rowIn}
 use Rattle.file_rules.specs.Blocks.{sound, blocksFor, fileLength, soundFrom, bodyFrom}
 use Rattle.file_rules.specs.Files.{countSaid}
 use Rattle.form_rules.specs.declared.Form.{Form}
 use Rattle.form_rules.specs.declared.Form.the-variants.{Full, Short}
-use Rattle.form_rules.specs.Shapes.{rowBytesOf, rowWordsOf, soundOf}
+use Rattle.form_rules.specs.Shapes.{rowBytesOf, soundOf}
 use Rattle.file_blocks.specs.Standing.{rowsFrom, stand}
 use Rattle.theory_files.proofs.Many.{blocks-none, blocks-more, first-sound, first-not}
 use Rattle.file_load.specs.declared.Blocks.the-variants.{Bad, Sound}
@@ -102,8 +102,8 @@ module _ (form : Form) (file : List ℕ) (count plain : ℕ) (frame : Framed for
         unfolding blocksJudged left-sound
         judging-bad e =
             let f =
-                first-not size (some-bytes form) (few-bytes form) (blocksFor size (left - full)) k left (drop at file)
-                (rw (here-is, some-rows, row-size) at e)
+            first-not size (some-bytes form) (few-bytes form) (blocksFor size (left - full)) k left (drop at file)
+            (rw (here-is, some-rows, row-size) at e)
             in
             let s : 0 + k ≡ soundOf form file + 1 = rw (next, f) at (g .sounds) in
             let c : 1 + soundOf form file ≡ k = omega arith in
@@ -117,8 +117,8 @@ module _ (form : Form) (file : List ℕ) (count plain : ℕ) (frame : Framed for
         unfolding left-sound
         sounds-next e =
             let f =
-                first-sound size (some-bytes form) (few-bytes form) (blocksFor size (left - full)) k left (drop at file)
-                (rw (here-is, some-rows, row-size) at e)
+            first-sound size (some-bytes form) (few-bytes form) (blocksFor size (left - full)) k left (drop at file)
+            (rw (here-is, some-rows, row-size) at e)
             in
             let later : ℕ = soundFrom size (blocksFor size (left - full)) (suc k) (left - full) (drop (at + 512) file) in
             let s : suc later + k ≡ soundOf form file + 1 = rw (next, f, drop-drop) at (g .sounds) in
@@ -132,7 +132,7 @@ module _ (form : Form) (file : List ℕ) (count plain : ℕ) (frame : Framed for
         unfolding left-body
         rows-split =
             let l : length (drop at file) ≡ 512 * suc (blocksFor size (left - full)) =
-                length-drop at file ∙ omega (arith, g .place, g .blocks, next, whole-is)
+            length-drop at file ∙ omega (arith, g .place, g .blocks, next, whole-is)
             in
             rw (next, rows-here-more form (blocksFor size (left - full)) left (drop at file) next l more (g .fewer), here-is, drop-drop)
             (stand-append last (rowsFrom form (min full more) (drop 4 (take 512 (drop at file))))

@@ -308,9 +308,10 @@ module _ (form : Form) (m n : ℕ) (s : List ℕ) (e : blocksFor (rowBytesOf for
       let w = mul-le-mul-left (size form) i in
       ap (λ (x : ℕ). rowsFrom form x (bodyFrom (size form) (suc m) n s)) (sym a)
       ∙ rows-append form (min (most form) more) (more - min (most form) more) (bodyFrom (size form) (suc m) n s)
-      ∙ rw (body-is, rows-front form (min (most form) more) content others (omega (arith, content-length)), front-rows (min (most form) more) i)
+      ∙ rw (body-is, rows-front form (min (most form) more) content others (omega (arith, content-length)))
+      (rw (front-rows (min (most form) more) i)
       (ap (λ (l : List Row). rowsFrom form (min (most form) more) (drop 4 (take 512 s)) ++ l)
-      (behind (min (most form) more) (more - min (most form) more) (λ z. omega arith)))
+      (behind (min (most form) more) (more - min (most form) more) (λ z. omega arith))))
 
   pub body-behind : drop (size form * here) (bodyFrom (size form) (suc m) n s) ≡ bodyFrom (size form) m (n - most form) (drop 512 s)
   unfolding others
@@ -347,7 +348,7 @@ module _ (form : Form) (m n : ℕ) (s : List ℕ) (e : blocksFor (rowBytesOf for
   row-later i h l =
       let b : here + (i - most form) ≡ i = omega arith in
       let a : size form * i ≡ length content + size form * (i - most form) =
-          ap (λ (x : ℕ). size form * x) (sym b) ∙ mul-add (size form) here (i - most form) ∙ omega (arith, content-length)
+      ap (λ (x : ℕ). size form * x) (sym b) ∙ mul-add (size form) here (i - most form) ∙ omega (arith, content-length)
       in
       rw (body-is, a) (ap (rowFrom form) (drop-append-add content others (size form * (i - most form))))
 

@@ -2,9 +2,10 @@
 use mathlib.Core.Path.{_≡_}
 use Prim.Native.Nat.{ℕ, _+_, _-_, _*_, _/_, _≤_}
 use native.Mathlib.Omega.{arith}
-use Rattle.file_rules.specs.Blocks.{blocksFor, fileLength, perBlock}
+use Rattle.file_rules.specs.Blocks.{blockBytes, blocksFor, fileLength, perBlock}
 use Rattle.form_rules.specs.declared.Form.{Form}
 use Rattle.form_rules.specs.declared.Form.the-variants.{Full, Short}
+use Rattle.form_rules.specs.Short.{shortBytes}
 use Rattle.form_rules.specs.Shapes.{rowBytesOf}
 
 -- a block has a row at least
@@ -12,8 +13,8 @@ pub some-rows : (form : Form) → 1 ≤ perBlock (rowBytesOf form)
 some-rows Full = omega arith
 some-rows Short = omega arith
 
--- and 21 at most
-pub few-rows : (form : Form) → perBlock (rowBytesOf form) ≤ 21
+-- and as many as one of form 2 at most
+pub few-rows : (form : Form) → perBlock (rowBytesOf form) ≤ perBlock shortBytes
 few-rows Full = omega arith
 few-rows Short = omega arith
 
@@ -24,12 +25,12 @@ few-blocks Full n = omega arith
 few-blocks Short n = omega arith
 
 -- a file of n rows is no longer than block 0 and a block for each row
-pub short-file : (form : Form) (n : ℕ) → fileLength (rowBytesOf form) n ≤ 512 * (1 + n)
+pub short-file : (form : Form) (n : ℕ) → fileLength (rowBytesOf form) n ≤ blockBytes * (1 + n)
 unfolding fileLength
 short-file form n = omega (arith, few-blocks form n)
 
 -- a file has block 0
-pub some-length : (form : Form) (n : ℕ) → 512 ≤ fileLength (rowBytesOf form) n
+pub some-length : (form : Form) (n : ℕ) → blockBytes ≤ fileLength (rowBytesOf form) n
 unfolding fileLength
 some-length form n = omega arith
 

@@ -98,7 +98,7 @@ module _ {rows : List ℕ} {count : ℕ} {file₀ file : List ℕ} {done k at : 
   pub going-end : count ≤ done → file ≡ done-file rows count file₀
   going-end h =
       let q : (take at file ++ left-blocks rows count done k) ++ drop (fileLength 32 count) file ≡ file
-        = rw (none-left h, append-nil, at-end h) (take-append-drop at file) in
+      = rw (none-left h, append-nil, at-end h) (take-append-drop at file) in
       sym q ∙ g .all
 
   module _ (h : fileLength 32 count ≤ length file₀) (l : done < count) (n : ℕ) (here : n ≡ min 15 (count - done)) where
@@ -151,7 +151,7 @@ module _ {rows : List ℕ} {count : ℕ} {file₀ file : List ℕ} {done k at : 
           blocks = blocks-then;
           same-length = rw mid (mid-length file ys at r w ∙ g .same-length);
           all = rw (mid, mid-take file ys at r w, mid-drop file ys at r w (fileLength 32 count) last-block, e, add-one k)
-          (ap (λ (x : List ℕ). x ++ d) (append-assoc (take at file) x y) ∙ q);
+              (ap (λ (x : List ℕ). x ++ d) (append-assoc (take at file) x y) ∙ q);
         }
 
 -- ---- the whole file

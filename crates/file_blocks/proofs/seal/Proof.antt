@@ -53,7 +53,8 @@ returns c =
     let h = at-rows f in
     let g = at-number h in
     let s = at-start g in
-    seal-put (s .args .k) (s .args .n) (s .args .size) (s .args .bytes .now) (g .put-half .last .0) (h .put-half2 .last .0) (f .put-filler .last .0)
+    let a = s .args in
+    seal-put (a .k) (a .n) (a .size) (a .bytes .now) (g .put-half .last .0) (h .put-half2 .last .0) (f .put-filler .last .0)
     (w .put-word .last .0) (s .pre .0) (s .pre .1) (g .put-half .ensures) (h .put-half2 .ensures) (f .put-filler .ensures)
     (k .check-of .result) (k .check-of .ensures) (w .put-word .ensures)
 

@@ -65,8 +65,15 @@ returns c =
     let d = e .before in
     let b = d .before in
     let s = b .before .before in
-    rw (c .word-at6 .ensures, g .word-at5 .ensures, f .word-at4 .ensures, p .column-of .ensures, e .word-at3 .ensures,
-    d .word-at2 .ensures, b .word-at .ensures)
+    rw (
+      c .word-at6 .ensures,
+      g .word-at5 .ensures,
+      f .word-at4 .ensures,
+      p .column-of .ensures,
+      e .word-at3 .ensures,
+      d .word-at2 .ensures,
+      b .word-at .ensures,
+    )
     (sym (short-words (s .args .bytes .now) (s .args .at)))
 
 pub short-row-at-spec : {M : Type 1} → statement M

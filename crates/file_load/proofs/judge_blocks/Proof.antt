@@ -1,7 +1,6 @@
 -- `judge_blocks` meets its contract: at the loop's head the blocks in front are sound, and those that are left give the whole answer.
-use mathlib.Core.Path.{_≡_, refl, sym, _∙_}
-use mathlib.Core.Bool.{true, false}
-use Prim.Native.Nat.{_+_, _*_, _-_, _≤_, _<_}
+use mathlib.Core.Path.{_≡_, sym, _∙_}
+use Prim.Native.Nat.{_+_, _*_, _-_, _≤_}
 use native.Mathlib.Omega.{arith}
 use lib.ListN.{length, take, drop}
 use borrow.Author.Tests.{not-true, not-false}
@@ -10,7 +9,8 @@ use Rattle.rows.proofs.Lengths.{length-table}
 use Rattle.form_rules.specs.Shapes.{rowBytesOf}
 use Rattle.file_sizes.proofs.Sizes.{some-rows, few-rows}
 use Rattle.file_load.proofs.Rows.{here-bytes}
-use Rattle.file_load.proofs.Judging.{Judging, judging-start, judging-end, judging-bad, judging-next, room-left, here-length, few-blocks}
+use Rattle.file_load.proofs.Judging.{Judging, judging-start, judging-end, judging-bad, judging-next}
+use Rattle.file_load.proofs.Judging.{room-left, here-length, few-blocks}
 use Rattle.file_load.proofs.judge_blocks.Statement.{statement}
 use Rattle.file_load.proofs.judge_blocks.Tie as tie
 
@@ -39,14 +39,17 @@ no-row-requires : tie.Need-no-row-requires Inv-loop μ-loop
 no-row-requires c κs = tt
 
 loop-holds : tie.Need-loop-holds Inv-loop μ-loop
-loop-holds c = let s = c .before .before in rw (c .no-row .ensures) (judging-start (s .args .form) (s .args .file .now) (s .args .count) (s .args .plain) (s .pre .0) (s .pre .1))
+loop-holds c =
+    let s = c .before .before in
+    rw (c .no-row .ensures) (judging-start (s .args .form) (s .args .file .now) (s .args .count) (s .args .plain) (s .pre .0) (s .pre .1))
 
 -- there is one block more, a whole one
 room : (c : tie.In-loop Inv-loop μ-loop) → c .before .loop .at + 512 ≤ length (start c .args .file .now)
 room c =
     let l = c .before .loop in
     let s = start c in
-    room-left (s .args .form) (s .args .file .now) (s .args .count) (s .args .plain) (s .pre .0) (asRow (l .last)) (l .stand) (l .left) (l .more) (l .k) (l .at) (l .inv) (omega arith)
+    room-left (s .args .form) (s .args .file .now) (s .args .count) (s .args .plain) (s .pre .0)
+    (asRow (l .last)) (l .stand) (l .left) (l .more) (l .k) (l .at) (l .inv) (omega arith)
 
 whole : (c : tie.In-loop Inv-loop μ-loop) →
     let l = c .before .loop in
@@ -54,7 +57,8 @@ whole : (c : tie.In-loop Inv-loop μ-loop) →
 whole c =
     let l = c .before .loop in
     let s = start c in
-    here-length (s .args .form) (s .args .file .now) (s .args .count) (s .args .plain) (s .pre .0) (asRow (l .last)) (l .stand) (l .left) (l .more) (l .k) (l .at) (l .inv) (omega arith)
+    here-length (s .args .form) (s .args .file .now) (s .args .count) (s .args .plain) (s .pre .0)
+    (asRow (l .last)) (l .stand) (l .left) (l .more) (l .k) (l .at) (l .inv) (omega arith)
 
 add-end : tie.Need-add-end Inv-loop μ-loop
 add-end c = omega (arith, room c)
@@ -98,7 +102,9 @@ returns c =
     let s = start g in
     let b = i .before .row-bytes in
     let e = sym (i .is-sound .ensures) ∙ not-true (i .is-sound .result) (c .if1 .taken) in
-    sym (judging-bad (s .args .form) (s .args .file .now) (s .args .count) (s .args .plain) (s .pre .0) (asRow (l .last)) (l .stand) (l .left) (l .more) (l .k) (l .at) (l .inv) (omega arith) (r .rows-here .result) (r .rows-here .ensures) (b .result) (b .ensures) e)
+    sym (judging-bad (s .args .form) (s .args .file .now) (s .args .count) (s .args .plain) (s .pre .0)
+    (asRow (l .last)) (l .stand) (l .left) (l .more) (l .k) (l .at) (l .inv) (omega arith)
+    (r .rows-here .result) (r .rows-here .ensures) (b .result) (b .ensures) e)
 
 rows-here-requires-2 : tie.Need-rows-here-requires-2 Inv-loop μ-loop
 rows-here-requires-2 c κs = tt
@@ -127,7 +133,11 @@ add-k c =
     let g = in-loop (behind c) in
     let l = g .before .loop in
     let s = start g in
-    omega (arith, few-blocks (s .args .form) (s .args .file .now) (s .args .count) (s .args .plain) (s .pre .0) (asRow (l .last)) (l .stand) (l .left) (l .more) (l .k) (l .at) (l .inv) (omega arith))
+    omega (
+      arith,
+      few-blocks (s .args .form) (s .args .file .now) (s .args .count) (s .args .plain) (s .pre .0)
+          (asRow (l .last)) (l .stand) (l .left) (l .more) (l .k) (l .at) (l .inv) (omega arith),
+    )
 
 loop-less : tie.Need-loop-less Inv-loop μ-loop
 loop-less c = omega (arith, counted (behind c) .rows-here .ensures, some-rows (start (in-loop (behind c)) .args .form))
@@ -144,13 +154,18 @@ loop-again c =
     let s = start g in
     let b = i .before .row-bytes in
     let y = sym (i .is-sound .ensures) ∙ not-false (i .is-sound .result) (e .if1 .left) in
-    judging-next (s .args .form) (s .args .file .now) (s .args .count) (s .args .plain) (s .pre .0) (asRow (l .last)) (l .stand) (l .left) (l .more) (l .k) (l .at) (l .inv) (omega arith) (r .rows-here .result) (r .rows-here .ensures) (b .result) (b .ensures) y (m .rows-here2 .result) (m .rows-here2 .ensures) (t .rows-stand .result) (t .rows-stand .ensures) (asRow (c .last-of .result)) (c .last-of .ensures)
+    judging-next (s .args .form) (s .args .file .now) (s .args .count) (s .args .plain) (s .pre .0)
+    (asRow (l .last)) (l .stand) (l .left) (l .more) (l .k) (l .at) (l .inv) (omega arith)
+    (r .rows-here .result) (r .rows-here .ensures) (b .result) (b .ensures) y
+    (m .rows-here2 .result) (m .rows-here2 .ensures) (t .rows-stand .result) (t .rows-stand .ensures)
+    (asRow (c .last-of .result)) (c .last-of .ensures)
 
 returns-2 : tie.Need-returns-2 Inv-loop μ-loop
 returns-2 c =
     let l = c .before .loop in
     let s = c .before .before .before .before in
-    sym (judging-end (s .args .form) (s .args .file .now) (s .args .count) (s .args .plain) (s .pre .0) (asRow (l .last)) (l .stand) (l .left) (l .more) (l .k) (l .at) (l .inv) (omega arith))
+    sym (judging-end (s .args .form) (s .args .file .now) (s .args .count) (s .args .plain) (s .pre .0)
+    (asRow (l .last)) (l .stand) (l .left) (l .more) (l .k) (l .at) (l .inv) (omega arith))
 
 pub judge-blocks-spec : {M : Type 1} → statement M
 judge-blocks-spec =

@@ -1,6 +1,7 @@
 -- `told_blocks` meets its contract, a law for each way out.
-use mathlib.Core.Path.{_≡_, sym, ap, _∙_}
+use mathlib.Core.Path.{sym, ap, _∙_}
 use native.Mathlib.Omega.{arith}
+use mathlib.Core.List.{List}
 use Prim.Native.Nat.{ℕ}
 use Rattle.file_rules.specs.Files.{rowsTold}
 use Rattle.form_rules.specs.Shapes.{rowWordsOf}
@@ -68,9 +69,11 @@ told-rows-requires c κs =
     let s = start p in
     let a = s .args in
     let how = r .read .given .0 .0 in
-    let e = p .plain-rows .ensures .0 ∙ ap (λ (x : EndingRead). plainRows x (a .count)) (r .read .given .1) in
-    (s .pre, sounds t .stands ∙ ap (λ (x : ℕ). standUpto (a .form) x (a .file .now)) e
-    ∙ sym (standing-is (a .form) (a .count) (a .file .now) (s .pre) how))
+    let e = p .plain-rows .ensures .0 ∙ ap (λ (x : EndingRead). plainRows x (a .count)) (r .read .given .1) in (
+      s .pre,
+      sounds t .stands ∙ ap (λ (x : ℕ). standUpto (a .form) x (a .file .now)) e
+          ∙ sym (standing-is (a .form) (a .count) (a .file .now) (s .pre) how),
+    )
 
 returns : tie.Need-returns
 returns c =
@@ -100,10 +103,11 @@ returns-3 c =
     let how = r .read .given .0 .0 in
     let e = sym (p .before .ending-in .ensures) ∙ r .read .given .1 in
     let f =
-        sound-rows (a .form) (p .plain-rows .result) (a .file .now) (a .room) (t .stand .given .0 .0) (sounds t) how e (a .count)
-        (s .pre .count-is)
+    sound-rows (a .form) (p .plain-rows .result) (a .file .now) (a .room) (t .stand .given .0 .0) (sounds t) how e (a .count)
+    (s .pre .count-is)
     in
-    let told : ℕ → Loaded = λ x. rowsTold (rowWordsOf (a .form) (a .file .now)) (a .room) (record { count = a .count; length = x; ending = how }) in
+    let words : List ℕ = rowWordsOf (a .form) (a .file .now) in
+    let told : ℕ → Loaded = λ x. rowsTold words (a .room) (record { count = a .count; length = x; ending = how }) in
     c .told-rows .ensures ∙ ap told (w .word-at .ensures) ∙ sym f
 
 pub told-blocks-spec : {M : Type 1} → statement M

@@ -5,9 +5,11 @@ use Prim.Native.Nat.{ℕ, _+_, _*_, _-_, _≤_}
 use native.Mathlib.Omega.{arith}
 use lib.ListN.{length, take, length-take}
 use borrow.Author.Needs.{needs}
+use Rattle.rules.specs.Rows.{wordsPerRow}
 use Rattle.file_rules.specs.Bytes.{bytesOf}
-use Rattle.file_rules.specs.Blocks.{block, contentOf}
-use Rattle.form_rules.specs.Short.{shortened}
+use Rattle.file_rules.specs.Blocks.{block, contentOf, perBlock}
+use Rattle.file_rules.specs.Files.{rowBytes}
+use Rattle.form_rules.specs.Short.{shortBytes, shortened}
 use Rattle.file_blocks.proofs.Laws.{content-put}
 use Rattle.file_parts.proofs.Parts.{full-few, short-few, rows-size}
 use Rattle.file_parts.proofs.put_part.Statement.{statement}
@@ -31,10 +33,10 @@ abbrev short-told : tie.After-put-short-rows → tie.After-enum-told2
 short-told c = c .before .before
 
 -- how many rows a block has at most, by the form
-full-rows : (c : tie.After-enum-told) → full-start c .args .n ≤ 15
+full-rows : (c : tie.After-enum-told) → full-start c .args .n ≤ perBlock rowBytes
 full-rows c = let s = full-start c in full-few (s .args .form) (c .enum-told .given .1) (s .args .n) (s .pre .0 .1)
 
-short-rows : (c : tie.After-enum-told2) → short-start c .args .n ≤ 21
+short-rows : (c : tie.After-enum-told2) → short-start c .args .n ≤ perBlock shortBytes
 short-rows c = let s = short-start c in short-few (s .args .form) (c .enum-told2 .given .1) (s .args .n) (s .pre .0 .1)
 
 enum-told : tie.Need-enum-told
@@ -56,10 +58,10 @@ part-put-block-end : tie.Need-part-put-block-end
 part-put-block-end c = omega (arith, full-start (c .before) .pre .1)
 
 put-block-requires : tie.Need-put-block-requires
-put-block-requires c κs = 
+put-block-requires c κs =
     let s = full-start (c .before .before) in
     let r = s .args .rows .now in
-    (s .pre .0 .0, omega (arith, full-rows (c .before .before), length-take (s .args .n * 8 - 0) r))
+    (s .pre .0 .0, omega (arith, full-rows (c .before .before), length-take (s .args .n * wordsPerRow - 0) r))
 
 enum-told-2 : tie.Need-enum-told-2
 enum-told-2 c = search needs
@@ -80,24 +82,24 @@ same-length : tie.Need-same-length
 same-length c = search needs
 
 returns : tie.Need-returns
-returns c = 
+returns c =
     let p = c .before .before in
     let t = full-told p in
     let a = full-start t .args in
-    let e : a .n * 8 - 0 ≡ 8 * a .n = omega arith in
+    let e : a .n * wordsPerRow - 0 ≡ wordsPerRow * a .n = omega arith in
     rw (t .enum-told .given .1) (p .put-block .ensures ∙ rw e)
 
 same-length-2 : tie.Need-same-length-2
 same-length-2 c = search needs
 
 returns-2 : tie.Need-returns-2
-returns-2 c = 
+returns-2 c =
     let p = c .before .before in
     let w = written p in
     let t = short-told w in
     let s = short-start t in
     let a = s .args in
-    let size : ℕ = 24 * a .n in
+    let size : ℕ = shortBytes * a .n in
     let rows = bytesOf (shortened (a .n) (a .rows .now)) in
     let h = content-put (a .bytes .now) rows size (rows-size (a .n) (a .rows .now)) (omega (arith, short-rows t, s .pre .0 .0)) in
     rw (t .enum-told2 .given .1) (p .seal .ensures ∙ ap (block (a .k) (a .n)) (ap (contentOf size) (w .put-short-rows .ensures) ∙ h))

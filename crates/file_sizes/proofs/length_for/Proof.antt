@@ -3,7 +3,7 @@ use mathlib.Core.Path.{_≡_, ap}
 use native.Mathlib.Omega.{arith}
 use Prim.Native.Nat.{ℕ, _+_, _-_, _*_, _/_}
 use borrow.Author.Needs.{needs}
-use Rattle.file_rules.specs.Blocks.{blocksFor, fileLength}
+use Rattle.file_rules.specs.Blocks.{blockBytes, blocksFor, fileLength}
 use Rattle.form_rules.specs.Shapes.{rowBytesOf}
 use Rattle.file_sizes.proofs.Sizes.{some-rows, few-rows, few-blocks, blocks-by}
 use Rattle.file_sizes.proofs.length_for.Statement.{statement}
@@ -34,7 +34,7 @@ mul-result c = let s = c .before in rw (blocks c) (omega (arith, few-blocks (s .
 
 returns : tie.Need-returns
 unfolding fileLength
-returns c = ap (λ (x : ℕ). 512 * (1 + x)) (blocks c)
+returns c = ap (λ (x : ℕ). blockBytes * (1 + x)) (blocks c)
 
 pub length-for-spec : {M : Type 1} → statement M
 length-for-spec =

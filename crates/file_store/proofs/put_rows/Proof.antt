@@ -1,4 +1,5 @@
--- `put_rows` meets its contract: at the loop's head the blocks in front of k are written, and those of the rows that are left give the whole.
+-- `put_rows` meets its contract: at the loop's head the blocks in front of k are written, and the blocks of the rows that are left
+-- give the whole.
 use mathlib.Core.Path.{_≡_, refl, sym, _∙_}
 use Prim.Native.Nat.{_+_, _*_, _-_, _≤_}
 use native.Mathlib.Omega.{arith}
@@ -99,8 +100,9 @@ loop-again : tie.Need-loop-again Inv-loop μ-loop
 loop-again c =
     let r = in-turn c in
     let t = r .before in
+    let n = r .rows-here in
     let p = at-block c .put-block in
-    going-next (t .before .loop .inv) (start t .pre .1) (omega arith) (r .rows-here .result) (r .rows-here .ensures) (p .last .0) (p .ensures)
+    going-next (t .before .loop .inv) (start t .pre .1) (omega arith) (n .result) (n .ensures) (p .last .0) (p .ensures)
 
 same-length : tie.Need-same-length Inv-loop μ-loop
 same-length c = c .before .loop .inv .same-length

@@ -85,7 +85,8 @@ returns-4 c =
     let f = c .before .before in
     let l = at-room f .before in
     let a = at-length l .args in
-    let t = store-fits (a .rows .now) (a .table) (length (a .file .now)) (well (l .before .before)) (l .before .if2 .left) (room (at-room f)) in
+    let e = l .before in
+    let t = store-fits (a .rows .now) (a .table) (length (a .file .now)) (well (e .before)) (e .if2 .left) (room (at-room f)) in
     let written = store-written (a .rows .now) (a .table) (a .file .now) _ t in
     (ap stored.Bytes (l .length-for .ensures) ∙ sym t, f .put-file .ensures ∙ sym written)
 
