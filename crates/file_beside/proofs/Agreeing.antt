@@ -2,7 +2,7 @@
 use mathlib.Core.Path.{_≡_, refl, sym, ap, subst, _∙_}
 use mathlib.Core.Bool.{Bool, true, false, cond, _&&_}
 use mathlib.Core.List.{List, []}
-use Prim.Native.Nat.{ℕ, zero, suc, _+_, _-_, _*_, _≤_, _<_}
+use Prim.Native.Nat.{ℕ, _+_, _≤_, _<_}
 use native.Mathlib.Omega.{arith}
 use lib.ListN.{length, getD}
 use lib.Dec.{eqb}
@@ -19,12 +19,11 @@ use Rattle.rules.specs.declared.Table.{Table}
 use Rattle.rules.specs.Text.{startPlace, lineAt, columnAt, placeAt}
 use Rattle.rules.specs.Rows.{Row, rowIn, rowNo, rowsIn, rowPlace, every}
 use Rattle.rows.proofs.Lists.{every-at, every-by}
-use Rattle.file_rules.specs.declared.Loaded.the-variants as loaded
 use Rattle.file_rules.specs.Files.{countSaid, rowWordsIn}
 use Rattle.form_rules.specs.declared.Form.{Form}
 use Rattle.form_rules.specs.declared.Form.the-variants.{Full, Short}
 use Rattle.form_rules.specs.Short.{placedEnding}
-use Rattle.form_rules.specs.Forms.{isShort, judged, rowsBeside, tableBeside, isPlaceIn, endingAgrees, agrees, agreesBeside}
+use Rattle.form_rules.specs.Forms.{isShort, rowsBeside, tableBeside, isPlaceIn, endingAgrees, agrees, agreesBeside}
 use Rattle.form_rules.specs.Shapes.{formOf, rowWordsOf}
 use Rattle.file_load.specs.Judged.{Framed}
 use Rattle.file_beside.proofs.Known.{known, is-short, is-full}
@@ -107,9 +106,9 @@ module _ {text file : List ℕ} {t : Table} (h : Holds Full text file t) where
         let n : i ≡ t .count = omega (arith, g .within) in
         let rs = rowsIn (t .count) (rowWordsIn file) in
         let f : (k : ℕ) → k < length rs → inPlace text (getD rs k (rowIn [])) ≡ true = λ k b.
-          let c : k < t .count = omega (arith, rows-length (t .count) (rowWordsIn file)) in
-          let d = below (λ j. inPlace text (rowNo (rowWordsIn file) j)) i (g .agree) k (omega arith) in
-          rw (rows-at (t .count) (rowWordsIn file) (rowIn []) k c) d in
+        let c : k < t .count = omega (arith, rows-length (t .count) (rowWordsIn file)) in
+        let d = below (λ j. inPlace text (rowNo (rowWordsIn file) j)) i (g .agree) k (omega arith) in
+        rw (rows-at (t .count) (rowWordsIn file) (rowIn []) k c) d in
         (every-by (inPlace text) (rowIn []) rs f, g .place ∙ ap (lastPlace text file) n)
 
     module _ (some : i < t .count) (r : Row) (e : r ≡ rowNo (rowWordsIn file) i) where
@@ -168,7 +167,7 @@ rows-placed text file t n s = every-by (inPlace text) (rowIn []) (rowsIn (t .cou
         let c : k < t .count = omega (arith, rows-length (t .count) (rowsBeside text file)) in
         let f = rows-at (t .count) (rowsBeside text file) (rowIn []) k c ∙ row-beside text file k (omega arith) in
         let g : placedAt (formOf file) text (judgedRow file k) ≡ placeAt text (judgedRow file k .start) =
-          ap (λ (x : Form). placedAt x text (judgedRow file k)) s in
+        ap (λ (x : Form). placedAt x text (judgedRow file k)) s in
         rw (f, g) (row-agrees text (judgedRow file k))
 
 -- form 2 has no line and column to disagree
@@ -177,7 +176,7 @@ unfolding agrees tableBeside
 short-agreement {text} {file} {t} h =
     let n = count-is text file t (h .holds) (h .long) in
     let x : endingAgrees text (cond (isShort file) (placedEnding (placeAt text) (t .ending)) (t .ending)) ≡ true =
-      rw (is-short file (h .form-is)) (ending-placed text (t .ending)) in
+    rw (is-short file (h .form-is)) (ending-placed text (t .ending)) in
     true-both (eq-eqb (length text) (t .length) (h .long)) (true-both (rows-placed text file t n (h .form-is)) x)
 
 -- ---- lines and columns held against each other

@@ -1,10 +1,10 @@
 -- The table beside its text, and what is told of a file that holds a table.
 use mathlib.Core.Path.{_≡_, refl, sym, ap, _∙_}
-use mathlib.Core.Bool.{Bool, true, false, cond, not}
-use mathlib.Core.List.{List, _++_}
+use mathlib.Core.Bool.{true, false}
+use mathlib.Core.List.{List}
 use Prim.Native.Nat.{ℕ, _*_, _≤_, _<_}
 use native.Mathlib.Omega.{arith}
-use lib.ListN.{length, take, drop}
+use lib.ListN.{length, take}
 use lib.Seq.{take-all}
 use borrow.Author.Tests.{lt-ltb, le-ltb}
 use Rattle.rules.specs.declared.Cursor.{Cursor}
@@ -24,7 +24,6 @@ use Rattle.file_rules.specs.Files.{countSaid, rowWordsIn}
 use Rattle.form_rules.specs.declared.Apart.the-variants.{File, OtherText}
 use Rattle.form_rules.specs.declared.Beside.{Beside}
 use Rattle.form_rules.specs.declared.Beside.the-variants as beside
-use Rattle.form_rules.specs.declared.Form.{Form}
 use Rattle.form_rules.specs.declared.Form.the-variants.{Full, Short}
 use Rattle.form_rules.specs.Forms.{judged, rowsBeside, tableBeside, agreesBeside, besideJudged, besideTold, besideLeaves}
 use Rattle.form_rules.specs.Shapes.{formOf}

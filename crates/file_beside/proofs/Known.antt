@@ -1,20 +1,20 @@
 -- What is known of a file that holds a table, in the form by which it is judged.
-use mathlib.Core.Path.{_≡_, refl, sym, ap, _∙_}
+use mathlib.Core.Path.{_≡_, refl}
 use mathlib.Core.Bool.{Bool, true, false, cond}
-use mathlib.Core.List.{List, []}
+use mathlib.Core.List.{List}
 use Prim.Native.Nat.{ℕ, _≤_}
 use native.Mathlib.Omega.{arith}
 use lib.ListN.{length}
 use Rattle.rules.specs.declared.Table.{Table}
 use Rattle.rules.specs.Rows.{wellFormed}
 use Rattle.file_rules.specs.declared.Loaded.the-variants as loaded
-use Rattle.file_rules.specs.Blocks.{blockBytes, fileLength}
+use Rattle.file_rules.specs.Blocks.{blockBytes}
 use Rattle.file_rules.specs.Files.{countSaid, loadTold}
 use Rattle.form_rules.specs.declared.Form.{Form}
 use Rattle.form_rules.specs.declared.Form.the-variants.{Full, Short}
 use Rattle.form_rules.specs.Short.{shortJudged}
 use Rattle.form_rules.specs.Forms.{isShort, judged}
-use Rattle.form_rules.specs.Shapes.{rowBytesOf, formOf, rowWordsOf}
+use Rattle.form_rules.specs.Shapes.{formOf, rowWordsOf}
 use Rattle.theory_files.proofs.Said.{reads-of}
 use Rattle.theory_forms.proofs.Short.{reads-short}
 use Rattle.file_load.specs.Judged.{Framed}

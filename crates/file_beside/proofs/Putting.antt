@@ -1,17 +1,17 @@
 -- Laws of the loop that puts rows beside the text: the words of the rows in front are put, and the place of the last of them is known.
 use mathlib.Core.Path.{_≡_, refl, sym, ap, _∙_}
-use mathlib.Core.List.{List, [], _∷_, _++_, append-assoc}
-use Prim.Native.Nat.{ℕ, zero, suc, _+_, _-_, _*_, _≤_, _<_}
+use mathlib.Core.List.{List, _++_, append-assoc}
+use Prim.Native.Nat.{ℕ, _+_, _-_, _*_, _≤_, _<_}
 use native.Mathlib.Omega.{arith}
 use lib.ListN.{length, take, drop, length-append, length-take, length-drop}
-use lib.Seq.{take-at, drop-at, take-all, take-add, drop-drop}
+use lib.Seq.{take-at, drop-at, take-add, drop-drop}
 use borrow.Rule.Slice.PartMut.{putMid}
 use Rattle.laws.proofs.Lists.{lent-tail, back-tail}
 use Rattle.laws.proofs.Rows.{front-words}
 use Rattle.rules.specs.declared.Cursor.{Cursor}
 use Rattle.rules.specs.declared.Table.{Table}
 use Rattle.rules.specs.Text.{placeAt}
-use Rattle.rules.specs.Rows.{Row, wordsPerRow, rowIn, rowNo, rowWords}
+use Rattle.rules.specs.Rows.{Row, wordsPerRow, rowNo, rowWords}
 use Rattle.file_rules.specs.Files.{countSaid}
 use Rattle.form_rules.specs.Forms.{rowsBeside}
 use Rattle.form_rules.specs.Shapes.{formOf}
@@ -121,7 +121,7 @@ module _ {text file : List ℕ} {t : Table} {from n : ℕ} {words₀ : List ℕ}
         putting-next ys q =
             let k : from + (i + 1) ≡ from + i + 1 = omega arith in
             let s : placedAt (formOf file) text r ≡ placeAt text (judgedRow file (from + i) .start) =
-              rw e (placed-is (asked .agree) (from + i) inside) in
+            rw e (placed-is (asked .agree) (from + i) inside) in
             let l = length-append (part text file from (i + 1)) (drop (wordsPerRow * (i + 1)) words₀) in
             let m = part-length (i + 1) (omega (arith, inside)) in
             record {

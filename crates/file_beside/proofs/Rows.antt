@@ -2,10 +2,10 @@
 use mathlib.Core.Path.{_≡_, refl, sym, ap, subst, _∙_}
 use mathlib.Core.Bool.{Bool, true, false, cond}
 use mathlib.Core.List.{List, []}
-use Prim.Native.Nat.{ℕ, zero, suc, _+_, _-_, _*_, _≤_, _<_}
+use Prim.Native.Nat.{ℕ, zero, suc, _+_, _*_, _≤_, _<_}
 use native.Mathlib.Numerals.{add-one}
 use native.Mathlib.Omega.{arith}
-use lib.ListN.{length, take, drop}
+use lib.ListN.{length, drop}
 use lib.Seq.{drop-drop}
 use lib.Dec.{leb}
 use borrow.Author.Tests.{leb-true}
@@ -55,7 +55,7 @@ placed-row at bt (suc n) ws zero h = refl
 placed-row at bt (suc n) ws (suc i) h =
     let k : wordsPerRow * suc i ≡ wordsPerRow + wordsPerRow * i = omega arith in
     let a : (l : List ℕ) → drop (wordsPerRow * suc i) l ≡ drop (wordsPerRow * i) (drop wordsPerRow l) =
-      λ l. ap (λ (j : ℕ). drop j l) k ∙ sym (drop-drop (wordsPerRow * i) wordsPerRow l) in
+    λ l. ap (λ (j : ℕ). drop j l) k ∙ sym (drop-drop (wordsPerRow * i) wordsPerRow l) in
     let x = a (placed at (suc n) ws) in
     let y = a (placed bt (suc n) ws) in
     rw (x, y) (placed-row at bt n (drop shortWords ws) i (omega arith))
@@ -65,7 +65,7 @@ abbrev seatedIn : Form → List ℕ → List ℕ → List ℕ
 seatedIn Full text file = rowWordsIn file
 seatedIn Short text file = placed (placeAt text) (countSaid file) (shortWordsIn file)
 
-pub beside-is : (text file : List ℕ) → rowsBeside text file ≡ seatedIn (formOf file) text file
+beside-is : (text file : List ℕ) → rowsBeside text file ≡ seatedIn (formOf file) text file
 unfolding rowsBeside
 beside-is text file = go (isShort file)
   where
@@ -95,7 +95,7 @@ pub row-beside : (text file : List ℕ) (i : ℕ) → i < countSaid file
     → rowNo (rowsBeside text file) i ≡ seated (judgedRow file i) (placedAt (formOf file) text (judgedRow file i))
 row-beside text file i h = ap (λ (ws : List ℕ). rowNo ws i) (beside-is text file) ∙ row-seated (formOf file) text file i h
 
-pub start-beside : (text file : List ℕ) (i : ℕ) → i < countSaid file → rowNo (rowsBeside text file) i .start ≡ judgedRow file i .start
+start-beside : (text file : List ℕ) (i : ℕ) → i < countSaid file → rowNo (rowsBeside text file) i .start ≡ judgedRow file i .start
 start-beside text file i h = ap (λ (r : Row). r .start) (row-beside text file i h)
 
 -- the text's start is counted from, before the first row
@@ -117,20 +117,20 @@ behind-end r p e = leb-true (r .end) (p .offset .0) (both-true (leb (r .end) (p 
 -- ---- how far is counted, of a file that holds a table of a text's length
 
 module _ (text file : List ℕ) (t : Table) (held : judged file ≡ loaded.Rows t) (long : length text ≡ t .length) where
-  pub are-fine : Fine (rowWordsOf (formOf file) file) t
+  are-fine : Fine (rowWordsOf (formOf file) file) t
   are-fine = fine (rowWordsOf (formOf file) file) t (known file t held .well)
 
   pub count-is : t .count ≡ countSaid file
   count-is = known file t held .frame .count-is
 
-  pub few-bytes : length text ≤ mostBytes
+  few-bytes : length text ≤ mostBytes
   few-bytes = omega (arith, are-fine .short)
 
   pub few-count : t .count ≤ mostBytes + 1
   few-count = omega (arith, few-rows are-fine, are-fine .short)
 
   -- a row lies in the text
-  pub row-inside : (i : ℕ) → i < t .count → judgedRow file i .start ≤ length text
+  row-inside : (i : ℕ) → i < t .count → judgedRow file i .start ≤ length text
   row-inside i h = omega (arith, row-sound are-fine i h .ordered, within are-fine i h)
 
   -- the row before row i ends where it starts at most
@@ -140,7 +140,7 @@ module _ (text file : List ℕ) (t : Table) (held : judged file ≡ loaded.Rows 
   before-below zero k h b = let e = before-first (rowsBeside text file) 0 refl in rw e (omega arith)
   before-below (suc j) k h b =
       let e : rowBefore (rowsBeside text file) (suc j) ≡ rowNo (rowsBeside text file) j =
-        rw (← add-one j) (before-on (rowsBeside text file) j) in
+      rw (← add-one j) (before-on (rowsBeside text file) j) in
       let s = start-beside text file j (omega (arith, count-is)) in
       let o = row-sound are-fine j (omega arith) .ordered in
       rw (e, s) (omega (arith, b j refl))

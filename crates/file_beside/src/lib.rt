@@ -1,4 +1,5 @@
-// A file of either form beside its text: whether it agrees with the text, its rows with lines and columns counted in one pass over it, and the reading.
+// A file of either form beside its text: whether it agrees with the text, its rows with lines and columns counted in one pass over it,
+// and the reading.
 use file_load::form_of;
 use file_load::judge;
 use file_load::row_of;
@@ -80,17 +81,11 @@ fn rows_agree(text: &[u8], file: &[u8], table: Table) -> Counted
         let r = row_of(Form::Full, file, count, i);
         here = place_from(text, here, r.start);
         if !same_line(row_place(r), here) {
-            return Counted {
-                here,
-                agree: false,
-            };
+            return Counted { here, agree: false };
         }
         i += 1;
     }
-    Counted {
-        here,
-        agree: true,
-    }
+    Counted { here, agree: true }
 }
 
 // Whether an ending has the line and column that its offset has in the text, counted from a place that is not behind it.
@@ -148,7 +143,7 @@ fn place_of(form: Form, text: &[u8], here: Cursor, r: Row) -> Cursor
 // The eight words of a row at a place, into the first lent words.
 fn put_row(words: &mut [u32], r: Row, at: Cursor)
     requires { ⌜ 8 ≤ length (now words) ⌝ }
-    ensures { λ _. ⌜ now (words .exit) ≡ rowWords (record { kind = r .kind; start = r .start; end = r .end; line = at .line .0; column = at .column .0; low = r .low; high = r .high; comments = r .comments; }) ++ drop 8 (now (words .entry)) ⌝ }
+    ensures { λ _. ⌜ now (words .exit) ≡ rowWords (record { kind = r .kind; start = r .start; end = r .end; line = at .line .0; column = at .column .0; low = r .low; high = r .high; comments = r .comments }) ++ drop 8 (now (words .entry)) ⌝ }
 {
     words[row::KIND] = r.kind;
     words[row::START] = r.start;
@@ -160,7 +155,8 @@ fn put_row(words: &mut [u32], r: Row, at: Cursor)
     words[row::COMMENTS] = r.comments;
 }
 
-// The n rows of a file behind its first ones, beside its text, into the first lent words; here is the place of the row before them. The place of the last is told.
+// The n rows of a file behind its first ones, beside its text, into the first lent words; begin is the place of the row before them.
+// The place of the last is told.
 pub fn put_rows(
     text: &[u8],
     file: &[u8],

@@ -1,6 +1,6 @@
 -- `load_table` meets its contract, a law for each way out: 4, 45, the table.
-use mathlib.Core.Path.{_≡_, refl, sym, ap, _∙_}
-use mathlib.Core.List.{List, _++_}
+use mathlib.Core.Path.{refl, sym, ap, _∙_}
+use mathlib.Core.List.{_++_}
 use Prim.Native.Nat.{ℕ, _*_}
 use native.Mathlib.Omega.{arith}
 use lib.ListN.{drop}
@@ -15,9 +15,12 @@ use Rattle.file_beside.proofs.Answers.{told-full, told-other, told-rows
 use Rattle.file_beside.proofs.load_table.Statement.{statement}
 use Rattle.file_beside.proofs.load_table.Tie as tie
 
--- the function's entry, as it is seen from behind the test of the room, and from behind the agreement
+-- the function's entry, as it is seen from the test of the room, from behind it, and from behind the agreement
+abbrev entry : tie.After-struct-known → tie.Start
+entry c = c .before .before .before .before
+
 abbrev start : tie.Else1 → tie.Start
-start c = c .before .before .before .before .before
+start c = entry (c .before)
 
 abbrev at-agreed : tie.Else2 → tie.Start
 at-agreed c = start (c .before .before)
@@ -28,7 +31,7 @@ cast-if1 c = search needs
 returns : tie.Need-returns
 unfolding roomOf
 returns c =
-    let a = c .before .before .before .before .before .args in
+    let a = entry (c .before) .args in
     (sym (told-full (a .text .now) (a .file .now) (a .table) (roomOf (a .rows .now)) (c .if1 .taken)), refl)
 
 agrees-requires : tie.Need-agrees-requires
@@ -61,8 +64,8 @@ returns-3 c =
     let e = sym (o .before .agrees .ensures) ∙ not-false (o .before .agrees .result) (o .if2 .left) in
     let n = ap (λ (t : Table). t .count) (w .take-beside .ensures .0) in
     let told = told-rows (a .text .now) (a .file .now) (a .table) (roomOf (a .rows .now)) (o .before .before .if1 .left) e in
-    (ap beside.Rows (w .take-beside .ensures .0) ∙ sym told,
-    w .take-beside .ensures .1 ∙ ap (λ (k : ℕ). rowsBeside (a .text .now) (a .file .now) ++ drop (wordsPerRow * k) (a .rows .now)) (sym n))
+    let left = ap (λ (k : ℕ). rowsBeside (a .text .now) (a .file .now) ++ drop (wordsPerRow * k) (a .rows .now)) (sym n) in
+    (ap beside.Rows (w .take-beside .ensures .0) ∙ sym told, w .take-beside .ensures .1 ∙ left)
 
 pub load-table-spec : {M : Type 1} → statement M
 load-table-spec =

@@ -1,8 +1,5 @@
 -- `place_of` meets its contract, by the form.
-use mathlib.Core.Path.{sym, _∙_}
 use borrow.Author.Needs.{needs}
-use Rattle.rows.specs.Shape.{asRow}
-use Rattle.file_beside.specs.Counting.{placedAt}
 use Rattle.file_beside.proofs.place_of.Statement.{statement}
 use Rattle.file_beside.proofs.place_of.Tie as tie
 

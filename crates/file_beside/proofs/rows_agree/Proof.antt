@@ -1,6 +1,5 @@
 -- `rows_agree` meets its contract: at the loop's head the rows in front agree, and the place of the last of them is known.
 use mathlib.Core.Path.{_≡_, sym, _∙_}
-use mathlib.Core.Bool.{true, false}
 use Prim.Native.Nat.{ℕ, _-_}
 use native.Mathlib.Omega.{arith}
 use borrow.Author.Needs.{needs}

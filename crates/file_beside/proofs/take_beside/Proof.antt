@@ -72,9 +72,10 @@ returns c =
     let f = at-full e in
     let a = start f .args in
     let g = sym (f .form-of .ensures) ∙ e .enum-told .given .1 in
-    let r = sym (rows-full (a .text .now) (a .file .now) (a .table) g) in
-    (sym (table-full (a .text .now) (a .file .now) (a .table) g),
-    w .take-rows .ensures ∙ ap (λ (ws : List ℕ). ws ++ drop (wordsPerRow * a .table .count) (a .rows .now)) r)
+    let r = sym (rows-full (a .text .now) (a .file .now) (a .table) g) in (
+      sym (table-full (a .text .now) (a .file .now) (a .table) g),
+      w .take-rows .ensures ∙ ap (λ (ws : List ℕ). ws ++ drop (wordsPerRow * a .table .count) (a .rows .now)) r,
+    )
 
 same-length-2 : tie.Need-same-length-2
 same-length-2 c = search needs
@@ -86,9 +87,10 @@ returns-2 c =
     let a = s .args in
     let l = agrees-long (s .pre .0) in
     let n = count-is (a .text .now) (a .file .now) (a .table) (s .pre .0 .holds) l in
-    let r = all-rows (a .text .now) (a .file .now) (a .table) n in
-    (c .table-beside .ensures,
-    w .put-rows .ensures .0 ∙ ap (λ (ws : List ℕ). ws ++ drop (wordsPerRow * a .table .count) (a .rows .now)) r)
+    let r = all-rows (a .text .now) (a .file .now) (a .table) n in (
+      c .table-beside .ensures,
+      w .put-rows .ensures .0 ∙ ap (λ (ws : List ℕ). ws ++ drop (wordsPerRow * a .table .count) (a .rows .now)) r,
+    )
 
 pub take-beside-spec : {M : Type 1} → statement M
 take-beside-spec =
