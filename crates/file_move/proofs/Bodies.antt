@@ -37,8 +37,16 @@ front-row : (m : ℕ) (ws : List ℕ) → wordsPerRow ≤ m → rowIn (take m ws
 unfolding rowIn
 front-row m ws h =
     let g : (i : ℕ) → i < wordsPerRow → getD (take m ws) i 0 ≡ getD ws i 0 = λ i l. getD-take m ws i 0 (omega arith) in
-    rw (g 0 (omega arith), g 1 (omega arith), g 2 (omega arith), g 3 (omega arith), g 4 (omega arith), g 5 (omega arith), g 6 (omega arith),
-    g 7 (omega arith))
+    rw (
+      g 0 (omega arith),
+      g 1 (omega arith),
+      g 2 (omega arith),
+      g 3 (omega arith),
+      g 4 (omega arith),
+      g 5 (omega arith),
+      g 6 (omega arith),
+      g 7 (omega arith),
+    )
 
 -- only the words of the rows count
 short-front : (n : ℕ) (ws : List ℕ) → shortened n (take (wordsPerRow * n) ws) ≡ shortened n ws
@@ -46,8 +54,12 @@ unfolding shortened
 short-front zero ws = refl
 short-front (suc n) ws =
     let e : wordsPerRow * suc n ≡ wordsPerRow + wordsPerRow * n = omega arith in
-    rw (e, front-row (wordsPerRow + wordsPerRow * n) ws (omega arith),
-    drop-take wordsPerRow (wordsPerRow * n) ws, short-front n (drop wordsPerRow ws))
+    rw (
+      e,
+      front-row (wordsPerRow + wordsPerRow * n) ws (omega arith),
+      drop-take wordsPerRow (wordsPerRow * n) ws,
+      short-front n (drop wordsPerRow ws),
+    )
 
 -- ---- the words of so many rows
 
@@ -104,8 +116,8 @@ blocks-further form left k n ws l here h =
     let x : List ℕ = bytesOf (bodyOf form n ws) in
     let y : List ℕ = bytesOf (bodyOf form (left - n) (drop (wordsPerRow * n) ws)) in
     let s : bytesOf (bodyOf form left ws) ≡ x ++ y
-      = ap bytesOf (body-split form n left ws (omega arith))
-      ∙ bytes-append (bodyOf form n ws) (bodyOf form (left - n) (drop (wordsPerRow * n) ws)) in
+    = ap bytesOf (body-split form n left ws (omega arith))
+    ∙ bytes-append (bodyOf form n ws) (bodyOf form (left - n) (drop (wordsPerRow * n) ws)) in
     let w : length x ≡ rowBytesOf form * n = body-size form n ws (omega arith) in
     rw (m, ← here, e, s, take-at x y (rowBytesOf form * n) w, drop-at x y (rowBytesOf form * n) w)
 

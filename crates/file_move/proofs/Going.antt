@@ -89,7 +89,7 @@ module _ {form : Form} {ws : List ℕ} {count : ℕ} {moved₀ moved : List ℕ}
   pub going-end : count ≤ done → moved ≡ done-file form ws count moved₀
   going-end h =
       let q : (take at moved ++ left-blocks form ws count done k) ++ drop (size form count) moved ≡ moved
-        = rw (none-left h, append-nil, at-end h) (take-append-drop at moved) in
+      = rw (none-left h, append-nil, at-end h) (take-append-drop at moved) in
       sym q ∙ g .all
 
   module _ (h : size form count ≤ length moved₀) (l : done < count) where
@@ -141,7 +141,7 @@ module _ {form : Form} {ws : List ℕ} {count : ℕ} {moved₀ moved : List ℕ}
             blocks = blocks-then n here;
             same-length = rw mid (mid-length moved ys at r w ∙ g .same-length);
             all = rw (mid, mid-take moved ys at r w, mid-drop moved ys at r w (size form count) (last-block n here), e, add-one k)
-            (ap (λ (x : List ℕ). x ++ d) (append-assoc (take at moved) x y) ∙ q);
+                (ap (λ (x : List ℕ). x ++ d) (append-assoc (take at moved) x y) ∙ q);
           }
 
 -- the words of all rows of a file that agrees with its text
@@ -205,5 +205,5 @@ file-put form ws moved front t l h e =
     let d : List ℕ = drop (size form (t .count)) moved in
     let w : length (take blockBytes moved) ≡ blockBytes = length-take-le blockBytes moved (omega (arith, some-length form (t .count))) in
     let q : drop blockBytes ((take blockBytes moved ++ b) ++ d) ≡ b ++ d
-      = ap (drop blockBytes) (append-assoc (take blockBytes moved) b d) ∙ drop-at (take blockBytes moved) (b ++ d) blockBytes w in
+    = ap (drop blockBytes) (append-assoc (take blockBytes moved) b d) ∙ drop-at (take blockBytes moved) (b ++ d) blockBytes w in
     mid (done-file form ws (t .count) moved) front 0 ∙ rw (q, e, encoded form ws t l) (sym (append-assoc x b d))

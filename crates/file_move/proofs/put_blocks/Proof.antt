@@ -84,9 +84,10 @@ put-rows-requires : tie.Need-put-rows-requires Inv-loop μ-loop
 put-rows-requires c κs =
     let r = c .before in
     let l = r .before .before .loop in
-    let s = start (r .before) in
-    (((s .pre .0, omega (arith, r .rows-here .ensures)), omega (arith, r .rows-here .ensures, few-rows (s .args .form), l .inv .room)),
-    l .inv .last)
+    let s = start (r .before) in (
+      ((s .pre .0, omega (arith, r .rows-here .ensures)), omega (arith, r .rows-here .ensures, few-rows (s .args .form), l .inv .room)),
+      l .inv .last,
+    )
 
 sub-put-part : tie.Need-sub-put-part Inv-loop μ-loop
 sub-put-part c = omega arith
@@ -115,9 +116,10 @@ put-part-requires c κs =
     let r = put w in
     let l = r .before .before .loop in
     let size = length-take (l .at + blockBytes - l .at) (drop (l .at) (l .moved)) in
-    let few = few-rows (start (r .before) .args .form) in
-    ((size ∙ omega (arith, room (r .before), length-drop (l .at) (l .moved)), omega (arith, r .rows-here .ensures)),
-    omega (arith, r .rows-here .ensures, few, part-words w))
+    let few = few-rows (start (r .before) .args .form) in (
+      (size ∙ omega (arith, room (r .before), length-drop (l .at) (l .moved)), omega (arith, r .rows-here .ensures)),
+      omega (arith, r .rows-here .ensures, few, part-words w),
+    )
 
 add-done : tie.Need-add-done Inv-loop μ-loop
 add-done c = omega (arith, in-turn c .rows-here .ensures)
