@@ -9,23 +9,30 @@ use borrow.Author.Needs.{needs}
 use borrow.Author.Tests.{leb-false, not-false}
 use Rattle.rows.specs.Shape.{asRow, sane}
 use Rattle.laws.proofs.Tests.{neither}
+use Rattle.form_rules.specs.Shapes.{rowBytesOf}
 use Rattle.file_blocks.specs.Standing.{rowsFrom, stand}
-use Rattle.file_blocks.proofs.Laws.{stands-on-plain, stands-on-out, stand-not, stand-more}
+use Rattle.file_blocks.proofs.Laws.{row-inside, rows-none, stands-on-plain, stands-on-out, stand-not, stand-more}
 use Rattle.file_blocks.proofs.rows_stand.Statement.{statement}
 use Rattle.file_blocks.proofs.rows_stand.Tie as tie
 
 abbrev Inv-loop : tie.InvT-loop
-Inv-loop least most bytes n last₀ good₀ i₀ last good i =
-    (i ≤ n) × ((good && stand (asRow last) (rowsFrom (n - i) (drop (4 + 32 * i) bytes))) ≡ stand (asRow last₀) (rowsFrom n (drop 4 bytes)))
+Inv-loop least most form bytes n last₀ good₀ i₀ last good i =
+    (i ≤ n) ×
+    ((good && stand (asRow last) (rowsFrom form (n - i) (drop (4 + rowBytesOf form * i) bytes))) ≡ stand (asRow last₀) (rowsFrom form n (drop 4 bytes)))
 
 abbrev μ-loop : tie.MeasureT-loop
-μ-loop least most bytes n last₀ good₀ i₀ last good i = n - i
+μ-loop least most form bytes n last₀ good₀ i₀ last good i = n - i
 
 loop-holds : tie.Need-loop-holds Inv-loop μ-loop
-loop-holds c = let e : c .before .args .n - 0 ≡ c .before .args .n = omega arith in (omega arith, rw e)
+loop-holds c =
+    let a = c .before .args in
+    let e : a .n - 0 ≡ a .n = omega arith in
+    (omega arith, rw (e, rows-none (a .form) (a .bytes .now)))
 
 row-in-requires : tie.Need-row-in-requires Inv-loop μ-loop
-row-in-requires c κs = omega (arith, c .before .before .before .pre .0)
+row-in-requires c κs =
+    let s = c .before .before .before in
+    row-inside (s .args .form) (c .before .loop .i) (s .args .n) (length (s .args .bytes .now)) (omega arith) (s .pre .0)
 
 row-sane-requires : tie.Need-row-sane-requires Inv-loop μ-loop
 row-sane-requires c κs = search needs
@@ -38,7 +45,7 @@ returns c =
     let q = asRow (r .row-in .result) in
     let known = rw (c .before .row-sane .ensures) at (c .if1 .taken) in
     let out = stands-on-out (asRow (l .last)) q known in
-    sym (sym (l .inv .1) ∙ stand-not (a .n) (l .i) (a .bytes .now) (asRow (l .last)) q (l .good) (omega arith) (r .row-in .ensures) out)
+    sym (sym (l .inv .1) ∙ stand-not (a .form) (a .n) (l .i) (a .bytes .now) (asRow (l .last)) q (l .good) (omega arith) (r .row-in .ensures) out)
 
 -- the row is sane, and not Eof
 known : (c : tie.Else1 Inv-loop μ-loop) → let q = c .before .before .before .row-in .result in (q .kind < 52) × (sane (asRow q) ≡ true)
@@ -66,7 +73,7 @@ loop-again c =
     let a = r .before .before .before .before .args in
     let q = asRow (r .row-in .result) in
     let row = c .row-stands .ensures ∙ stands-on-plain (asRow (l .last)) q (known (c .before) .0) in
-    let more = stand-more (a .n) (l .i) (a .bytes .now) (asRow (l .last)) q (l .good) (omega arith) (r .row-in .ensures) in
+    let more = stand-more (a .form) (a .n) (l .i) (a .bytes .now) (asRow (l .last)) q (l .good) (omega arith) (r .row-in .ensures) in
     (omega arith, more (c .row-stands .result) row ∙ l .inv .1)
 
 returns-2 : tie.Need-returns-2 Inv-loop μ-loop
