@@ -52,11 +52,11 @@ module _ (m b : List ℕ) (a : ℕ) (h : a + length b ≤ length m) where
 behind-more : (a b : ℕ) (m m₀ : List ℕ) → drop a m ≡ drop a m₀ → drop (a + b) m ≡ drop (a + b) m₀
 behind-more a b m m₀ e = sym (drop-drop b a m) ∙ ap (drop b) e ∙ drop-drop b a m₀
 
-over-done : (m m₀ b b₀ : List ℕ) (a a₀ : ℕ) → take a m ++ b ≡ take a₀ m₀ ++ b₀ → drop a m ≡ drop a m₀
-    → over m a b ≡ take a₀ m₀ ++ (b₀ ++ drop (a + length b) m₀)
-over-done m m₀ b b₀ a a₀ e f =
+over-done : (m m₀ b b₀ : List ℕ) (a a₀ end : ℕ) → take a m ++ b ≡ take a₀ m₀ ++ b₀ → drop a m ≡ drop a m₀ → a + length b ≡ end
+    → over m a b ≡ take a₀ m₀ ++ (b₀ ++ drop end m₀)
+over-done m m₀ b b₀ a a₀ end e f g =
     sym (append-assoc (take a m) b (drop (a + length b) m))
-    ∙ rw (e, behind-more a (length b) m m₀ f) (append-assoc (take a₀ m₀) b₀ (drop (a + length b) m₀))
+    ∙ rw (e, behind-more a (length b) m m₀ f, g) (append-assoc (take a₀ m₀) b₀ (drop end m₀))
 
 -- what stands in front of a block does not matter to what is held against it
 pub differing-behind : (form : Form) (k : ℕ) (rs : List Row) (n : ℕ) (m m₀ : List ℕ) → drop (512 * k) m ≡ drop (512 * k) m₀
@@ -160,10 +160,12 @@ module _ (form : Form) (text : List ℕ) (n : ℕ) (memory₀ list₀ : List ℕ
 
       -- memory and list keep their lengths
       pub memory-size : length after ≡ length memory₀
-      memory-size = rw after-is (over-size memory _ (512 * k) (going-fits .room) ∙ g .same-memory)
+      memory-size = rw after-is (over-size memory (blocksOf form k (rowsAt form text (spot .at))) (512 * k) (going-fits .room) ∙ g .same-memory)
 
       pub list-size : length list-after ≡ length list₀
-      list-size = rw list-is (over-size list _ listed list-fits ∙ g .same-list)
+      list-size =
+          let d = rowsDiffering form k (rowsAt form text (spot .at)) (take n memory₀) in
+          rw list-is (over-size list d listed list-fits ∙ g .same-list)
 
       -- it is over
       pub going-over : (x : Ending) → r .part .next ≡ Over x → RowsMended form text n first (r .listed) memory₀ after list₀ list-after
@@ -173,32 +175,34 @@ module _ (form : Form) (text : List ℕ) (n : ℕ) (memory₀ list₀ : List ℕ
           let d = rowsDiffering form k (rowsAt form text (spot .at)) (take n memory₀) in
           let end : 512 * k + length b ≡ length (freshFile (numberOf form) text) =
           omega (arith, blocks-size form k (rowsAt form text (spot .at)), rw o at (g .blocks), fresh-blocks form text) in
-          let done = over-done memory memory₀ b (blocksOf form 1 (rowsOf text)) (512 * k) 512 (rw o at (g .written)) (g .behind) in
-          let told = over-done list list₀ d (rowsDiffering form 1 (rowsOf text) (take n memory₀)) listed first (rw o at (g .entries)) (g .list-behind) in
+          let done = over-done memory memory₀ b (blocksOf form 1 (rowsOf text)) (512 * k) 512 _
+          (rw o at (g .written)) (g .behind) end in
+          let told = over-done list list₀ d (rowsDiffering form 1 (rowsOf text) (take n memory₀)) listed first _
+          (rw o at (g .entries)) (g .list-behind) (sym listed-is) in
           record {
             last-is = listed-is ∙ (rw o at (g .found));
-            file-is = after-is ∙ (rw end at done);
-            list-is = list-is ∙ (rw (← listed-is) at told);
+            file-is = after-is ∙ done;
+            list-is = list-is ∙ told;
           }
 
       -- ---- it goes on
 
       module _ (s : Spot) (e : r .part .next ≡ On s) where
         full : length (rowsAt form text (spot .at)) ≡ perBlock (rowBytesOf form)
-        full = on-full (p .part-is) e
+        full = on-full form (p .part-is) e
 
         block-size : length (blocksOf form k (rowsAt form text (spot .at))) ≡ 512
         block-size =
             let h = some-rows form in
             let q = full in
-            rw (blocks-of-one form k (rowsAt form text (spot .at)) (omega arith) (omega arith)) (rows-length form k _ (omega arith))
+            rw (blocks-of-one form k (rowsAt form text (spot .at)) (omega arith) (omega arith)) (rows-length form k (rowsAt form text (spot .at)) (omega arith))
 
         next-end : 512 * k + length (blocksOf form k (rowsAt form text (spot .at))) ≡ 512 * suc k
         next-end = omega (arith, block-size)
 
         blocks-on : suc k + blocksFor (rowBytesOf form) (length (rowsFrom text (s .at))) ≡ 1 + blocksFor (rowBytesOf form) (length (rowsOf text))
         blocks-on =
-            let w = rw (on-rows (p .part-is) e) at (g .blocks) in
+            let w = rw (on-rows form (p .part-is) e) at (g .blocks) in
             omega (arith, w, blocks-then form k (rowsAt form text (spot .at)) (rowsFrom text (s .at)) full)
 
         written-on : take (512 * suc k) after ++ blocksOf form (suc k) (rowsFrom text (s .at)) ≡ take 512 memory₀ ++ blocksOf form 1 (rowsOf text)
@@ -208,7 +212,7 @@ module _ (form : Form) (text : List ℕ) (n : ℕ) (memory₀ list₀ : List ℕ
             let t : take (512 * suc k) after ≡ take (512 * k) memory ++ b
                   = rw (← next-end, after-is) (over-take memory b (512 * k) (going-fits .room)) in
             let q : blocksOf form k (rowsFrom text (spot .at)) ≡ b ++ c
-                  = ap (blocksOf form k) (on-rows (p .part-is) e) ∙ blocks-part form k (rowsAt form text (spot .at)) (rowsFrom text (s .at)) full in
+                  = ap (blocksOf form k) (on-rows form (p .part-is) e) ∙ blocks-part form k (rowsAt form text (spot .at)) (rowsFrom text (s .at)) full in
             rw t (append-assoc (take (512 * k) memory) b c ∙ (rw q at (g .written)))
 
         behind-on : drop (512 * suc k) after ≡ drop (512 * suc k) memory₀
@@ -220,7 +224,7 @@ module _ (form : Form) (text : List ℕ) (n : ℕ) (memory₀ list₀ : List ℕ
         entries-part : rowsDiffering form k (rowsFrom text (spot .at)) (take n memory₀)
             ≡ rowsDiffering form k (rowsAt form text (spot .at)) (take n memory₀) ++ rowsDiffering form (suc k) (rowsFrom text (s .at)) (take n memory₀)
         entries-part =
-            ap (λ (l : List Row). rowsDiffering form k l (take n memory₀)) (on-rows (p .part-is) e)
+            ap (λ (l : List Row). rowsDiffering form k l (take n memory₀)) (on-rows form (p .part-is) e)
             ∙ rows-part form k (take n memory₀) (rowsAt form text (spot .at)) (rowsFrom text (s .at)) full
 
         found-on : r .listed + length (rowsDiffering form (suc k) (rowsFrom text (s .at)) (take n memory₀))

@@ -43,7 +43,7 @@ pub part-within : (form : Form) (text : List ℕ) (at : ℕ) → length (rowsAt 
 unfolding partRows
 part-within form text at = omega (arith, length-take (perBlock (rowBytesOf form)) (rowsFrom text at))
 
-module _ {form : Form} {text : List ℕ} {at : ℕ} {r : Part} (p : PartOf text at (perBlock (rowBytesOf form)) r) where
+module _ (form : Form) {text : List ℕ} {at : ℕ} {r : Part} (p : PartOf text at (perBlock (rowBytesOf form)) r) where
   -- the part's rows, in front of those from where it goes on
   pub on-rows : {s : Spot} → r .next ≡ On s → rowsFrom text at ≡ rowsAt form text at ++ rowsFrom text (s .at)
   on-rows {s} e = ap readRows (p .on s e .1) ∙ put-rows (rowsAt form text at) (readFrom text (s .at))
@@ -102,8 +102,8 @@ module _ {form : Form} {text file : List ℕ} {spot : Spot} {count listed k : �
       let o = p .part-is .on s e .0 in
       let xs = rowsAt form text (spot .at) in
       let ys = rowsFrom text (s .at) in
-      let w = on-rows (p .part-is) e in
-      let d = rows-part form k file xs ys (on-full (p .part-is) e) in
+      let w = on-rows form (p .part-is) e in
+      let d = rows-part form k file xs ys (on-full form (p .part-is) e) in
       let f : length (rowsDiffering form k (rowsFrom text (spot .at)) file)
             ≡ length (rowsDiffering form k xs file) + length (rowsDiffering form (suc k) ys file) =
       ap (λ (l : List Row). length (rowsDiffering form k l file)) w ∙ ap length d
@@ -111,7 +111,7 @@ module _ {form : Form} {text file : List ℕ} {spot : Spot} {count listed k : �
       record {
         begun = o .0 .0;
         rows = omega (arith, g .rows, p .part-is .counted, ap length w, length-append xs ys);
-        ending = sym (on-ending (p .part-is) e) ∙ g .ending;
+        ending = sym (on-ending form (p .part-is) e) ∙ g .ending;
         found = rw (add-one k) (omega (arith, g .found, p .listed-is, f));
         few = omega (arith, listed-few);
         near = omega (arith, g .near, o .0 .1);

@@ -177,8 +177,9 @@ module _ (form : Form) (k : ℕ) (file : List ℕ) where
       let m = blocks-more (rowBytesOf form) (some-size form) (few-size form) (length rs) some in
       let c : blocksFor (rowBytesOf form) (length rs) ≡ 1 = (rw (e, n) at m) in
       let b = rowsBlock form k rs in
-      rw (c, blocks-of-one form k rs some few, ← append-nil b)
-      (differing-block 0 k b [] (drop (512 * k) file) (rows-length form k rs few) ∙ append-nil (entry k b file))
+      rw (c, blocks-of-one form k rs some few)
+      (ap (λ (l : List ℕ). differing 1 k l (drop (512 * k) file)) (sym (append-nil b))
+      ∙ differing-block 0 k b [] (drop (512 * k) file) (rows-length form k rs few) ∙ append-nil (entry k b file))
 
   rows-more : (xs ys : List Row) → length xs ≡ perBlock (rowBytesOf form)
       → rowsDiffering form k (xs ++ ys) file ≡ entry k (rowsBlock form k xs) file ++ rowsDiffering form (suc k) ys file

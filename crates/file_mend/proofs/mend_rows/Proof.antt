@@ -1,59 +1,103 @@
+use Prim.Native.Nat.{_-_}
+use native.Mathlib.Omega.{arith}
+use lib.ListN.{length}
+use borrow.Author.Needs.{needs}
+use Rattle.file_mend.proofs.Going.{Going, going-start, going-fits, going-over, going-on, memory-size, list-size, k-small}
 use Rattle.file_mend.proofs.mend_rows.Statement.{statement}
 use Rattle.file_mend.proofs.mend_rows.Tie as tie
-use Rattle.file_mend.proofs.mend_rows.Reads as reads
-use Rattle.file_mend.proofs.mend_rows.Lts as lts
-use Rattle.file_mend.proofs.begin.Reads as begin-reads
-use Rattle.file_mend.proofs.mend_part.Reads as mend-part-reads
 
 abbrev Inv-loop : tie.InvT-loop
-Inv-loop form text file₀ n list₀ first spot₀ listed₀ k₀ file list spot listed k = ?
+Inv-loop form text file₀ n list₀ first spot₀ listed₀ k₀ file list spot listed k = Going form text n file₀ list₀ first file list spot listed k
 
 abbrev μ-loop : tie.MeasureT-loop
-μ-loop form text file₀ n list₀ first spot₀ listed₀ k₀ file list spot listed k = ?
+μ-loop form text file₀ n list₀ first spot₀ listed₀ k₀ file list spot listed k = length text - spot .at
 
--- src/lib.rt:223:9
+-- ---- the places of a turn
+
+abbrev start : tie.At-loop Inv-loop μ-loop → tie.Start Inv-loop μ-loop
+start l = l .before .before .before .before .before
+
+abbrev lent : tie.After-mend-part-arg2 Inv-loop μ-loop → tie.At-loop Inv-loop μ-loop
+lent c = c .before .before
+
+abbrev loop-of : tie.After-mend-part Inv-loop μ-loop → tie.At-loop Inv-loop μ-loop
+loop-of c = c .before .before .before
+
+abbrev mended-on : tie.After-known-told Inv-loop μ-loop → tie.After-mend-part Inv-loop μ-loop
+mended-on c = c .before .before .before .before .before .before .before .before
+
+abbrev mended-over : tie.After-enum-told Inv-loop μ-loop → tie.After-mend-part Inv-loop μ-loop
+mended-over c = c .before .before .before .before .before .before .before
+
 begin-requires : tie.Need-begin-requires Inv-loop μ-loop
-begin-requires c κs = ?
+begin-requires c κs = search needs
 
--- src/lib.rt:226:5
 loop-holds : tie.Need-loop-holds Inv-loop μ-loop
-loop-holds c = ?
+loop-holds c =
+    let s = c .before .before .before .before in
+    let a = s .args in
+    let b = c .begin in
+    going-start (a .form) (a .text .now) (a .n) (a .file .now) (a .list .now) (a .first) (s .pre) (b .result) (b .ensures .0) (b .ensures .1)
 
--- src/lib.rt:227:13
 mend-part-requires : tie.Need-mend-part-requires Inv-loop μ-loop
-mend-part-requires c κs = ?
+mend-part-requires c κs =
+    let l = lent c in
+    let s = start l in
+    let a = s .args in
+    (l .loop .inv .begun, going-fits (a .form) (a .text .now) (a .n) (a .file .now) (a .list .now) (a .first) (s .pre) (l .loop .inv))
 
--- src/lib.rt:232:22
 enum-known-next : tie.Need-enum-known-next Inv-loop μ-loop
-enum-known-next c = ?
+enum-known-next c = search needs
 
--- src/lib.rt:236:17
 enum-told : tie.Need-enum-told Inv-loop μ-loop
-enum-told c = ?
+enum-told c = search needs
 
--- src/lib.rt:236:17
 same-length : tie.Need-same-length Inv-loop μ-loop
-same-length c = ?
+same-length c =
+    let m = mended-over c in
+    let l = loop-of m in
+    let s = start l in
+    let a = s .args in
+    memory-size (a .form) (a .text .now) (a .n) (a .file .now) (a .list .now) (a .first) (s .pre) (l .loop .inv) (m .mend-part .result) (m .mend-part .ensures)
 
--- src/lib.rt:236:17
 same-length-2 : tie.Need-same-length-2 Inv-loop μ-loop
-same-length-2 c = ?
+same-length-2 c =
+    let m = mended-over c in
+    let l = loop-of m in
+    let s = start l in
+    let a = s .args in
+    list-size (a .form) (a .text .now) (a .n) (a .file .now) (a .list .now) (a .first) (s .pre) (l .loop .inv) (m .mend-part .result) (m .mend-part .ensures)
 
--- src/lib.rt:236:17
 returns : tie.Need-returns Inv-loop μ-loop
-returns c = ?
+returns c =
+    let m = mended-over c in
+    let l = loop-of m in
+    let s = start l in
+    let a = s .args in
+    going-over (a .form) (a .text .now) (a .n) (a .file .now) (a .list .now) (a .first) (s .pre) (l .loop .inv) (m .mend-part .result) (m .mend-part .ensures)
+    _ (c .enum-told .given .1)
 
--- src/lib.rt:239:9
 add-k : tie.Need-add-k Inv-loop μ-loop
-add-k c = ?
+add-k c =
+    let l = loop-of (mended-on c) in
+    let s = start l in
+    let a = s .args in
+    omega (arith, k-small (a .form) (a .text .now) (a .n) (a .file .now) (a .list .now) (a .first) (s .pre) (l .loop .inv))
 
--- src/lib.rt:226:5
 loop-less : tie.Need-loop-less Inv-loop μ-loop
-loop-less c = ?
+loop-less c =
+    let m = mended-on c in
+    let o = m .mend-part .ensures .part-is .on _ (c .before .next .given .1) .0 .0 in
+    omega (arith, o .0 .inside, o .1)
 
--- src/lib.rt:226:5
 loop-again : tie.Need-loop-again Inv-loop μ-loop
-loop-again c = ?
+loop-again c =
+    let m = mended-on c in
+    let l = loop-of m in
+    let s = start l in
+    let a = s .args in
+    going-on (a .form) (a .text .now) (a .n) (a .file .now) (a .list .now) (a .first) (s .pre) (l .loop .inv) (m .mend-part .result) (m .mend-part .ensures)
+    _ (c .before .next .given .1)
 
 pub mend-rows-spec : {M : Type 1} → statement M
 mend-rows-spec =
