@@ -110,6 +110,15 @@ module _ (form : Form) (text : List ℕ) where
     unfolding surplus
     no-tail h = rw (le-ltb (length (freshFile (numberOf form) text)) (length file) h)
 
+    -- one at most
+    pub tail-most : length (surplus (freshFile (numberOf form) text) file) ≤ 1
+    unfolding surplus
+    tail-most = go (ltb (length (freshFile (numberOf form) text)) (length file))
+      where
+        go : (b : Bool) → length (cond b ((length (freshFile (numberOf form) text) / 512) ∷ []) []) ≤ 1
+        go true = omega arith
+        go false = omega arith
+
 -- ---- how many entries there are at most
 
 differing-most : (m k : ℕ) (fresh file : List ℕ) → length (differing m k fresh file) ≤ m

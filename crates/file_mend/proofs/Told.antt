@@ -6,9 +6,9 @@ use Prim.Native.Nat.{ℕ, suc, _+_, _-_, _*_, _/_, _≤_, _<_}
 use native.Mathlib.Numerals.{add-one}
 use native.Mathlib.Omega.{arith}
 use lib.ListN.{length, take, drop, set, getD, length-append, length-take, length-drop, take-append-drop}
-use lib.Seq.{take-at, drop-at, drop-drop, drop-cons, set-at, length-take-le}
+use lib.Seq.{take-at, drop-at, take-all, take-length, drop-drop, drop-cons, set-at, length-take-le}
 use lib.Dec.{ltb}
-use borrow.Author.Tests.{ltb-false}
+use borrow.Author.Tests.{ltb-false, ne-eqb}
 use Rattle.laws.proofs.Tests.{neither}
 use Rattle.laws.proofs.Valid.{fine-text}
 use Rattle.rules.specs.declared.Cursor.{Cursor}
@@ -29,9 +29,11 @@ use Rattle.mend_rules.specs.Mend.{freshTable, freshFile, surplus, listed, tooSm
 use Rattle.theory_mend.proofs.Fresh.{fresh-whole}
 use Rattle.theory_mend.proofs.Listed.{none-right}
 use Rattle.theory_mend.proofs.Mended.{MendOf, told-of}
+use Rattle.file_sizes.proofs.Sizes.{few-blocks}
 use Rattle.scan_part.proofs.Readings.{from-start}
 use Rattle.file_mend.specs.Mending.{blockOf, entry, entryHere, blocksOf, rowsDiffering, rowsOf, Fresh, RowsMended, fileLeft, listLeft}
-use Rattle.file_mend.proofs.Files.{saidBlock, said-length, fresh-parts, fresh-length, fresh-blocks, listed-parts, tail-entry, no-tail, rows-most, entry-most}
+use Rattle.file_mend.proofs.Files.{saidBlock, said-length, fresh-parts, fresh-length, fresh-blocks, listed-parts, tail-entry, no-tail, tail-most}
+use Rattle.file_mend.proofs.Files.{rows-most, entry-most}
 use Rattle.file_mend.proofs.Holding.{few-from}
 use Rattle.file_mend.proofs.Going.{differing-behind}
 
@@ -44,6 +46,10 @@ length-is form text t n e f = f ∙ ap (λ (x : Table). fileLength (rowBytesOf f
 
 rows-small : (text : List ℕ) → textJudged text ≡ Fine → length (rowsOf text) ≤ 65537
 rows-small text fine = omega (arith, few-from text 0, ap length (ap readRows (from-start text)), fine-text text fine .0)
+
+-- it is no longer than block 0 and a block for each row
+pub length-small : (form : Form) (text : List ℕ) → textJudged text ≡ Fine → length (freshFile (numberOf form) text) ≤ 512 * 65538
+length-small form text fine = omega (arith, fresh-blocks form text, few-blocks form (length (rowsOf text)), rows-small text fine)
 
 -- ---- the first reading
 
@@ -65,6 +71,20 @@ module _ (form : Form) (text file : List ℕ) (t : Table) (b : List ℕ) (h m : 
 
   pub survey-all : length file ≤ length (freshFile (numberOf form) text) → h + m ≡ length (listed (freshFile (numberOf form) text) file)
   survey-all l = omega (arith, parts, ap length (no-tail form text file l))
+
+-- how many are listed at most
+pub listed-small : (form : Form) (text file : List ℕ) → textJudged text ≡ Fine
+    → length (listed (freshFile (numberOf form) text) file) ≤ 65539
+listed-small form text file fine =
+    let b = saidBlock form (freshTable text) in
+    omega (
+      arith,
+      parts form text file (freshTable text) b _ _ refl refl refl refl,
+      tail-most form text file,
+      rows-most form 1 (rowsOf text) file,
+      rows-small text fine,
+      entry-most 0 b file,
+    )
 
 -- ---- the second reading
 
@@ -174,6 +194,18 @@ module _ (form : Form) (text : List ℕ) (n : ℕ) (memory list : List ℕ) (roo
           r .list-is ∙ rw (list-front, alike, d)
           (sym (append-assoc (entryHere n 0 b memory) (rowsDiffering form 1 (rowsOf text) (take n memory)) (drop last list)))
 
+      -- it has few entries so far
+      pub last-small : textJudged text ≡ Fine → last ≤ 65538
+      last-small fine =
+          omega (
+            arith,
+            last-is,
+            first-is,
+            rows-most form 1 (rowsOf text) (take n memory),
+            rows-small text fine,
+            entry-most 0 b (take n memory),
+          )
+
       file-size : length (take n memory) ≡ n
       file-size = length-take-le n memory inside
 
@@ -197,7 +229,7 @@ module _ (form : Form) (text : List ℕ) (n : ℕ) (memory list : List ℕ) (roo
         in-list : last < length list
         in-list = omega (arith, all-length, ap length tail, last-is, first-is)
 
-        list-two-size : length list₂ ≡ length list
+        pub list-two-size : length list₂ ≡ length list
         list-two-size =
             ap length list-two ∙ length-append front (drop last list) ∙ omega (arith, front-size, length-drop last list, in-list)
 
@@ -212,10 +244,39 @@ module _ (form : Form) (text : List ℕ) (n : ℕ) (memory list : List ℕ) (roo
             let all : found ≡ front ++ (m ∷ []) = all-front ∙ rw (tail, q) in
             let size : length found ≡ suc last = ap length all ∙ length-append front (m ∷ []) ∙ omega (arith, front-size) in
             let w : set list₂ last m ≡ front ++ (m ∷ drop (suc last) list) =
-            rw (list-two, drop-cons list last 0 in-list) (set-at front (getD list last 0) (drop (suc last) list) m last front-size) in
+            ap (λ (l : List ℕ). set l last m) list-two ∙ ap (λ (l : List ℕ). set (front ++ l) last m) (drop-cons list last 0 in-list)
+            ∙ set-at front (getD list last 0) (drop (suc last) list) m last front-size in
             w ∙ sym (rw (size, all) (append-assoc front (m ∷ []) (drop (suc last) list)))
 
 -- ---- what the call tells and leaves
+
+-- what is shown of the file is all of it that is there
+pub shown-all : (m : List ℕ) (n : ℕ) → length m < n → take (length m) m ≡ take n m
+shown-all m n h = take-length m ∙ sym (take-all n m (omega arith))
+
+-- the test of room
+module _ (form : Form) (text memory : List ℕ) (n : ℕ) (list : List ℕ) (size count : ℕ) (se : size ≡ length (freshFile (numberOf form) text))
+    (ce : count ≡ length (listed (freshFile (numberOf form) text) (take n memory))) where
+  pub small-says : ((ltb (length memory) size || ltb (length memory) n) || ltb (length list) count) ≡ true
+      → tooSmall (freshFile (numberOf form) text) memory n list ≡ true
+  unfolding tooSmall
+  small-says e = rw (← se, ← ce) (go (ltb (length memory) size) (ltb (length memory) n) (ltb (length list) count) e)
+    where
+      go : (a b c : Bool) → ((a || b) || c) ≡ true → (a || (b || c)) ≡ true
+      go true b c e = refl
+      go false b c e = e
+
+  -- it holds of all three
+  pub room-says : ((ltb (length memory) size || ltb (length memory) n) || ltb (length list) count) ≡ false
+      → ((length (freshFile (numberOf form) text) ≤ length memory) × (n ≤ length memory))
+      × (length (listed (freshFile (numberOf form) text) (take n memory)) ≤ length list)
+  room-says e =
+      let a = neither (ltb (length memory) size || ltb (length memory) n) (ltb (length list) count) e in
+      let b = neither (ltb (length memory) size) (ltb (length memory) n) (a .0) in
+      rw (← se, ← ce) ((ltb-false (length memory) size (b .0), ltb-false (length memory) n (b .1)), ltb-false (length list) count (a .1))
+
+pub other-form : (number : ℕ) → (number ≡ 1 → ⊥) → (number ≡ 2 → ⊥) → isForm number ≡ false
+other-form number a b = rw (ne-eqb number 1 a, ne-eqb number 2 b)
 
 pub known : (form : Form) → isForm (numberOf form) ≡ true
 known Full = refl
@@ -241,12 +302,18 @@ module _ (text : List ℕ) (form : ℕ) (memory : List ℕ) (n : ℕ) (list : Li
       (sym e, (rw (mendLeaves, e) f, rw (listLeaves, e) g))
 
   -- nothing is listed, so the file is right
-  pub nothing : (size : ℕ) → MendOf text form memory n list size 0 → Answer (mended.Blocks size 0) memory list
-  nothing size m = by (listed (freshFile form text) (take n memory)) refl
+  pub nothing : (size count : ℕ) → count ≡ 0 → MendOf text form memory n list size count → Answer (mended.Blocks size 0) memory list
+  nothing size count none m = by (listed (freshFile form text) (take n memory)) refl (rw none at m)
     where
-      by : (found : List ℕ) → listed (freshFile form text) (take n memory) ≡ found → Answer (mended.Blocks size 0) memory list
-      by (x ∷ xs) e = absurd (let z : ⊥ = omega (arith, m .count-is, ap length e) in z)
-      by [] e =
+      by : (found : List ℕ) → listed (freshFile form text) (take n memory) ≡ found → MendOf text form memory n list size 0
+          → Answer (mended.Blocks size 0) memory list
+      by (x ∷ xs) e m = absurd (let z : ⊥ = omega (arith, m .count-is, ap length e) in z)
+      by [] e m =
           let q : take n memory ≡ freshFile form text = none-right (freshFile form text) (take n memory) (fresh-whole form text) e in
           let z : n ≡ size = omega (arith, m .size-is, m .held, length-take-le n memory (m .held), ap length q) in
           blocks size 0 memory list m (rw (← q, ← z) (sym (take-append-drop n memory))) (rw e)
+
+-- by a number that is the form's
+pub by-number : (text : List ℕ) (number k : ℕ) (memory : List ℕ) (n : ℕ) (list : List ℕ) (r : Mended) (after list-after : List ℕ) → number ≡ k
+    → Answer text k memory n list r after list-after → Answer text number memory n list r after list-after
+by-number text number k memory n list r after list-after e a = rw e a

@@ -1,72 +1,151 @@
 use borrow.Author.Needs.{needs}
+use mathlib.Core.Path.{_≡_, sym, ap, _∙_}
+use Prim.Native.Nat.{ℕ, _/_, _<_}
+use native.Mathlib.Omega.{arith}
+use lib.ListN.{length, length-set}
+use Rattle.form_rules.specs.Shapes.{numberOf}
+use Rattle.mend_rules.specs.Mend.{freshTable, freshFile}
+use Rattle.file_mend.proofs.Files.{saidBlock}
+use Rattle.file_mend.proofs.Told.{length-is, length-small, first-fits, rows-fit, file-done, list-done, list-tail, last-fits, last-small, list-two-size}
 use Rattle.file_mend.proofs.mend_blocks.Statement.{statement}
 use Rattle.file_mend.proofs.mend_blocks.Tie as tie
-use Rattle.file_mend.proofs.mend_blocks.Reads as reads
-use Rattle.file_mend.proofs.mend_blocks.Lts as lts
-use Rattle.file_mend.proofs.mend_block.Reads as mend-block-reads
-use Rattle.file_mend.proofs.mend_rows.Reads as mend-rows-reads
-use Rattle.file_parts.proofs.put_said.Reads as put-said-reads
-use Rattle.file_sizes.proofs.length_for.Reads as length-for-reads
 
--- src/lib.rt:249:20
+-- ---- the places on the way
+
+abbrev said : tie.After-mend-block-arg2 → tie.After-put-said
+said c = c .before .before .before .before
+
+abbrev start : tie.After-put-said → tie.Start
+start c = c .before .before .before .before .before
+
+abbrev first-of : tie.After-mend-rows-arg2 → tie.After-mend-block
+first-of c = c .before .before .before .before .before .before
+
+abbrev rows-of : tie.After-length-for → tie.After-mend-rows
+rows-of c = c .before .before .before .before .before
+
+abbrev begun : tie.After-mend-block → tie.After-put-said
+begun c = said (c .before)
+
+abbrev entered : tie.After-length-for → tie.Start
+entered c = start (begun (first-of (rows-of c .before)))
+
+-- block 0 was made
+made : (c : tie.After-put-said) → let a = start c .args in c .put-said .last .1 .0 ≡ saidBlock (a .form) (freshTable (a .text .now))
+made c = c .put-said .ensures ∙ ap (saidBlock (start c .args .form)) (start c .pre .0 .1)
+
+-- the length that was computed
+size : (c : tie.After-length-for) → let a = entered c .args in c .length-for .result ≡ length (freshFile (numberOf (a .form)) (a .text .now))
+size c =
+    let s = entered c in
+    let a = s .args in
+    length-is (a .form) (a .text .now) (a .table) _ (s .pre .0 .1) (c .length-for .ensures)
+
+-- there is a tail
+longer : (c : tie.Then1) → let a = entered (c .before) .args in length (freshFile (numberOf (a .form)) (a .text .now)) < a .n
+longer c = let z = size (c .before) in omega arith
+
 slice-aggregate-put-said : tie.Need-slice-aggregate-put-said
 slice-aggregate-put-said c = search needs
 
--- src/lib.rt:249:5
 put-said-requires : tie.Need-put-said-requires
 put-said-requires c κs = search needs
 
--- src/lib.rt:250:40
 slice-aggregate-mend-block : tie.Need-slice-aggregate-mend-block
 slice-aggregate-mend-block c = search needs
 
--- src/lib.rt:250:9
 mend-block-requires : tie.Need-mend-block-requires
-mend-block-requires c κs = ?
+mend-block-requires c κs =
+    let p = said c in
+    let s = start p in
+    let a = s .args in
+    first-fits (a .form) (a .text .now) (a .n) (a .file .now) (a .list .now)
+    (s .pre .1 .0 .0) (s .pre .1 .0 .1) (s .pre .1 .1) _ (made p)
 
--- src/lib.rt:251:9
 mend-rows-requires : tie.Need-mend-rows-requires
-mend-rows-requires c κs = ?
+mend-rows-requires c κs =
+    let m = first-of c in
+    let p = begun m in
+    let s = start p in
+    let a = s .args in
+    rows-fit (a .form) (a .text .now) (a .n) (a .file .now) (a .list .now)
+    (s .pre .1 .0 .0) (s .pre .1 .0 .1) (s .pre .1 .1) _ (made p) _ _ _ (m .mend-block .ensures) (s .pre .0 .0)
 
--- src/lib.rt:252:9
 length-for-requires : tie.Need-length-for-requires
 length-for-requires c κs = search needs
 
--- src/lib.rt:254:22
 cast-list : tie.Need-cast-list
-cast-list c = ?
+cast-list c =
+    let s = entered (c .before) in
+    omega (arith, size (c .before), length-small (s .args .form) (s .args .text .now) (s .pre .0 .0))
 
--- src/lib.rt:254:9
 mul-list : tie.Need-mul-list
-mul-list c = ?
+mul-list c =
+    let r = rows-of (c .before) in
+    let m = first-of (r .before) in
+    let p = begun m in
+    let s = start p in
+    let a = s .args in
+    let l = last-small (a .form) (a .text .now) (a .n) (a .file .now) (a .list .now)
+    (s .pre .1 .0 .0) (s .pre .1 .0 .1) (s .pre .1 .1) _ (made p) _ _ _ (m .mend-block .ensures) _ _ _ (r .mend-rows .ensures) (s .pre .0 .0) in
+    omega arith
 
--- src/lib.rt:254:9
 slice-write-list : tie.Need-slice-write-list
-slice-write-list c = ?
+slice-write-list c =
+    let r = rows-of (c .before) in
+    let m = first-of (r .before) in
+    let p = begun m in
+    let s = start p in
+    let a = s .args in
+    last-fits (a .form) (a .text .now) (a .n) (a .file .now) (a .list .now)
+    (s .pre .1 .0 .0) (s .pre .1 .0 .1) (s .pre .1 .1) _ (made p) _ _ _ (m .mend-block .ensures) _ _ _ (r .mend-rows .ensures) (longer c)
 
--- src/lib.rt:244:1
 same-length : tie.Need-same-length
 same-length c = search needs
 
--- src/lib.rt:244:1
 same-length-2 : tie.Need-same-length-2
-same-length-2 c = ?
+same-length-2 c =
+    let r = rows-of (c .before) in
+    let m = first-of (r .before) in
+    let p = begun m in
+    let s = start p in
+    let a = s .args in
+    length-set (r .mend-rows .last .1 .1 .1 .1 .0) _ _
+    ∙ list-two-size (a .form) (a .text .now) (a .n) (a .file .now) (a .list .now)
+    (s .pre .1 .0 .0) (s .pre .1 .0 .1) (s .pre .1 .1) _ (made p) _ _ _ (m .mend-block .ensures) _ _ _ (r .mend-rows .ensures) (longer c)
 
--- src/lib.rt:244:1
 returns : tie.Need-returns
-returns c = ?
+returns c =
+    let r = rows-of (c .before) in
+    let m = first-of (r .before) in
+    let p = begun m in
+    let s = start p in
+    let a = s .args in
+    let done = file-done (a .form) (a .text .now) (a .n) (a .file .now) (a .list .now)
+    (s .pre .1 .0 .0) (s .pre .1 .0 .1) (s .pre .1 .1) _ (made p) _ _ _ (m .mend-block .ensures) _ _ _ (r .mend-rows .ensures) in
+    let told = list-tail (a .form) (a .text .now) (a .n) (a .file .now) (a .list .now)
+    (s .pre .1 .0 .0) (s .pre .1 .0 .1) (s .pre .1 .1) _ (made p) _ _ _ (m .mend-block .ensures) _ _ _ (r .mend-rows .ensures) (longer c) in
+    (done, told _ (ap (λ (x : ℕ). x / 512) (size (c .before))))
 
--- src/lib.rt:244:1
 same-length-3 : tie.Need-same-length-3
 same-length-3 c = search needs
 
--- src/lib.rt:244:1
 same-length-4 : tie.Need-same-length-4
 same-length-4 c = search needs
 
--- src/lib.rt:244:1
 returns-2 : tie.Need-returns-2
-returns-2 c = ?
+returns-2 c =
+    let r = rows-of (c .before) in
+    let m = first-of (r .before) in
+    let p = begun m in
+    let s = start p in
+    let a = s .args in
+    let z = size (c .before) in
+    let done = file-done (a .form) (a .text .now) (a .n) (a .file .now) (a .list .now)
+    (s .pre .1 .0 .0) (s .pre .1 .0 .1) (s .pre .1 .1) _ (made p) _ _ _ (m .mend-block .ensures) _ _ _ (r .mend-rows .ensures) in
+    let told = list-done (a .form) (a .text .now) (a .n) (a .file .now) (a .list .now)
+    (s .pre .1 .0 .0) (s .pre .1 .0 .1) (s .pre .1 .1) _ (made p) _ _ _ (m .mend-block .ensures) _ _ _ (r .mend-rows .ensures) in
+    (done, told (omega arith))
 
 pub mend-blocks-spec : {M : Type 1} → statement M
 mend-blocks-spec =
