@@ -1,10 +1,10 @@
 -- The fresh file is block 0 and the blocks of its rows, and what is listed of it is block 0's entry, those of the rows' blocks, and that of a surplus tail.
-use mathlib.Core.Path.{_≡_, refl, sym, ap, _∙_}
+use mathlib.Core.Path.{_≡_, refl, _∙_}
 use mathlib.Core.Bool.{Bool, true, false, cond}
-use mathlib.Core.List.{List, [], _∷_, _++_, append-assoc}
-use Prim.Native.Nat.{ℕ, zero, suc, _+_, _-_, _*_, _/_, _≤_, _<_}
+use mathlib.Core.List.{List, [], _∷_, _++_}
+use Prim.Native.Nat.{ℕ, zero, suc, _+_, _*_, _/_, _≤_, _<_}
 use native.Mathlib.Omega.{arith}
-use lib.ListN.{length, take, drop, length-append}
+use lib.ListN.{length, take, drop}
 use lib.Seq.{take-at, drop-at, take-all}
 use lib.Dec.{ltb}
 use borrow.Author.Tests.{lt-ltb, le-ltb}
@@ -14,15 +14,15 @@ use Rattle.rules.specs.declared.Ending.the-variants.{None, Refused}
 use Rattle.rules.specs.declared.Table.{Table}
 use Rattle.rules.specs.Kinds.{sameBytes}
 use Rattle.rules.specs.Rows.{Row, wordsOf}
-use Rattle.rules.specs.Scan.{readRows, readEnding, scan}
+use Rattle.rules.specs.Scan.{readRows, scan}
 use Rattle.file_rules.specs.Bytes.{bytesOf}
-use Rattle.file_rules.specs.Blocks.{blockBytes, block, blocksFor, fileLength, fileOf}
-use Rattle.file_rules.specs.Files.{endingSaid, said, encode}
+use Rattle.file_rules.specs.Blocks.{block, blocksFor, fileLength, fileOf}
+use Rattle.file_rules.specs.Files.{endingSaid, encode}
 use Rattle.form_rules.specs.declared.Form.{Form}
 use Rattle.form_rules.specs.declared.Form.the-variants.{Full, Short}
-use Rattle.form_rules.specs.Short.{shortSaid, shortEndingSaid, shortened, shortEncode}
-use Rattle.form_rules.specs.Forms.{rowBytesIn, encodeIn}
-use Rattle.form_rules.specs.Shapes.{numberOf, rowBytesOf, saidIn, bodyOf}
+use Rattle.form_rules.specs.Short.{shortEndingSaid, shortEncode}
+use Rattle.form_rules.specs.Forms.{encodeIn}
+use Rattle.form_rules.specs.Shapes.{numberOf, rowBytesOf, saidIn}
 use Rattle.mend_rules.specs.Mend.{freshTable, freshWords, freshFile, differing, surplus, listed}
 use Rattle.theory_files.proofs.Numbers.{bytes-length}
 use Rattle.theory_files.proofs.One.{block-length}
@@ -30,7 +30,7 @@ use Rattle.theory_forms.proofs.Moves.{encoded-length}
 use Rattle.theory_mend.proofs.Listed.{listed-first}
 use Rattle.file_sizes.proofs.Sizes.{few-blocks}
 use Rattle.file_mend.specs.Mending.{blockOf, entry, blocksOf, rowsDiffering, rowsOf}
-use Rattle.file_mend.proofs.Parts.{some-size, few-size, blocks-size}
+use Rattle.file_mend.proofs.Parts.{blocks-size}
 
 -- ---- block 0
 

@@ -1,16 +1,16 @@
 -- Laws of the second reading: what holds of memory and list where a part begins, and behind each part.
 use mathlib.Core.Path.{_≡_, refl, sym, ap, _∙_}
-use mathlib.Core.List.{List, [], _∷_, _++_, append-assoc}
-use Prim.Native.Nat.{ℕ, suc, _+_, _-_, _*_, _≤_, _<_}
+use mathlib.Core.List.{List, _++_, append-assoc}
+use Prim.Native.Nat.{ℕ, suc, _+_, _*_, _≤_}
 use native.Mathlib.Decide.{decLe}
 use native.Mathlib.Numerals.{add-one}
 use native.Mathlib.Omega.{arith}
-use lib.ListN.{length, take, drop, length-append, length-take, length-drop, take-append-drop}
+use lib.ListN.{length, take, drop, length-append, length-drop, take-append-drop}
 use lib.Seq.{take-at, drop-at, drop-drop, take-all, length-take-le}
 use Rattle.rules.specs.declared.Ending.{Ending}
 use Rattle.rules.specs.Text.{startPlace}
 use Rattle.rules.specs.Rows.{Row}
-use Rattle.rules.specs.Scan.{readRows, scan}
+use Rattle.rules.specs.Scan.{scan}
 use Rattle.file_rules.specs.Blocks.{perBlock, blocksFor}
 use Rattle.form_rules.specs.declared.Form.{Form}
 use Rattle.form_rules.specs.declared.Form.the-variants.{Full, Short}

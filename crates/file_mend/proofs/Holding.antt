@@ -1,15 +1,15 @@
 -- Laws of the first reading: what holds where a part begins, and behind each part.
-use mathlib.Core.Path.{_≡_, refl, sym, ap, _∙_}
-use mathlib.Core.List.{List, [], _∷_, _++_}
-use Prim.Native.Nat.{ℕ, suc, _+_, _-_, _*_, _≤_, _<_}
+use mathlib.Core.Path.{_≡_, sym, ap, _∙_}
+use mathlib.Core.List.{List, _++_}
+use Prim.Native.Nat.{ℕ, suc, _+_, _≤_, _<_}
 use native.Mathlib.Numerals.{add-one}
 use native.Mathlib.Omega.{arith}
-use lib.ListN.{length, take, drop, length-append, length-take, length-drop}
+use lib.ListN.{length, drop, length-append, length-take, length-drop}
 use Rattle.laws.proofs.Valid.{fine-text}
 use Rattle.rules.specs.declared.Ending.{Ending}
 use Rattle.rules.specs.declared.Judged.the-variants.{Fine}
 use Rattle.rules.specs.declared.Table.{Table}
-use Rattle.rules.specs.Text.{mostBytes, startPlace, placeAt, textJudged}
+use Rattle.rules.specs.Text.{startPlace, placeAt, textJudged}
 use Rattle.rules.specs.Rows.{Row}
 use Rattle.rules.specs.Scan.{readRows, readEnding, scan}
 use Rattle.file_rules.specs.Blocks.{perBlock}

@@ -1,19 +1,19 @@
 -- Rows in the blocks of either form: their bytes, and the blocks and the entries of a part and of the rows behind it.
-use mathlib.Core.Path.{_≡_, refl, sym, ap, _∙_}
+use mathlib.Core.Path.{_≡_, sym, ap, _∙_}
 use mathlib.Core.Bool.{Bool, true, false, cond}
-use mathlib.Core.List.{List, [], _∷_, _++_, append-assoc, append-nil}
+use mathlib.Core.List.{List, [], _∷_, _++_, append-nil}
 use Prim.Native.Nat.{ℕ, zero, suc, pred, _+_, _-_, _*_, _≤_, _<_, min}
 use native.Mathlib.Omega.{arith}
-use lib.ListN.{length, take, drop, length-append, length-take}
+use lib.ListN.{length, take, drop, length-append}
 use lib.Seq.{take-at, drop-at, take-all, take-append-le, drop-drop}
 use Rattle.laws.proofs.Rows.{words-length, words-append}
 use Rattle.rules.specs.declared.Cursor.{Cursor}
 use Rattle.rules.specs.Kinds.{sameBytes}
 use Rattle.rules.specs.Rows.{Row, rowWords, rowIn, wordsOf, rowAt}
 use Rattle.rules.specs.Lex.{Piece, blank, comment, row, refused, piece}
-use Rattle.rules.specs.Scan.{Reading, put, ends, stops, readRows, read}
+use Rattle.rules.specs.Scan.{Reading, put, stops, readRows, read}
 use Rattle.file_rules.specs.Bytes.{bytesOf}
-use Rattle.file_rules.specs.Blocks.{blockBytes, block, perBlock, rowsHere, blocksFor, blocksFrom}
+use Rattle.file_rules.specs.Blocks.{block, perBlock, blocksFor, blocksFrom}
 use Rattle.form_rules.specs.declared.Form.{Form}
 use Rattle.form_rules.specs.declared.Form.the-variants.{Full, Short}
 use Rattle.form_rules.specs.Short.{shortRow, shortened}
@@ -21,7 +21,7 @@ use Rattle.form_rules.specs.Shapes.{rowBytesOf, bodyOf}
 use Rattle.mend_rules.specs.Mend.{differing}
 use Rattle.theory_files.proofs.Numbers.{bytes-length, bytes-append}
 use Rattle.theory_files.proofs.One.{block-length}
-use Rattle.theory_files.proofs.Many.{blocks-none, blocks-more, blocks-length, here-few}
+use Rattle.theory_files.proofs.Many.{blocks-none, blocks-more, blocks-length}
 use Rattle.file_parts.proofs.Parts.{rows-size}
 use Rattle.file_sizes.proofs.Sizes.{some-rows}
 use Rattle.file_mend.specs.Mending.{blockOf, entry, blocksOf, rowsDiffering, rowsBlock}

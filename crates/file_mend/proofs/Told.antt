@@ -3,9 +3,8 @@ use mathlib.Core.Path.{_≡_, refl, sym, ap, _∙_}
 use mathlib.Core.Bool.{Bool, true, false, _||_}
 use mathlib.Core.List.{List, [], _∷_, _++_, append-assoc, append-nil}
 use Prim.Native.Nat.{ℕ, suc, _+_, _-_, _*_, _/_, _≤_, _<_}
-use native.Mathlib.Numerals.{add-one}
 use native.Mathlib.Omega.{arith}
-use lib.ListN.{length, take, drop, set, getD, length-append, length-take, length-drop, take-append-drop}
+use lib.ListN.{length, take, drop, set, getD, length-append, length-drop, take-append-drop}
 use lib.Seq.{take-at, drop-at, take-all, take-length, drop-drop, drop-cons, set-at, length-take-le}
 use lib.Dec.{ltb}
 use borrow.Author.Tests.{ltb-false, ne-eqb}
@@ -15,10 +14,9 @@ use Rattle.rules.specs.declared.Cursor.{Cursor}
 use Rattle.rules.specs.declared.Judged.the-variants.{Fine}
 use Rattle.rules.specs.declared.Table.{Table}
 use Rattle.rules.specs.Text.{textJudged}
-use Rattle.rules.specs.Scan.{readRows, scan}
+use Rattle.rules.specs.Scan.{readRows}
 use Rattle.file_rules.specs.declared.Fault.{Fault}
 use Rattle.file_rules.specs.Blocks.{fileLength}
-use Rattle.file_rules.specs.Files.{mostRows}
 use Rattle.form_rules.specs.declared.Form.{Form}
 use Rattle.form_rules.specs.declared.Form.the-variants.{Full, Short}
 use Rattle.form_rules.specs.Forms.{isForm}
@@ -31,7 +29,7 @@ use Rattle.theory_mend.proofs.Listed.{none-right}
 use Rattle.theory_mend.proofs.Mended.{MendOf, told-of}
 use Rattle.file_sizes.proofs.Sizes.{few-blocks}
 use Rattle.scan_part.proofs.Readings.{from-start}
-use Rattle.file_mend.specs.Mending.{blockOf, entry, entryHere, blocksOf, rowsDiffering, rowsOf, Fresh, RowsMended, fileLeft, listLeft}
+use Rattle.file_mend.specs.Mending.{entry, entryHere, blocksOf, rowsDiffering, rowsOf, Fresh, RowsMended, fileLeft, listLeft}
 use Rattle.file_mend.proofs.Files.{saidBlock, said-length, fresh-parts, fresh-length, fresh-blocks, listed-parts, tail-entry, no-tail, tail-most}
 use Rattle.file_mend.proofs.Files.{rows-most, entry-most}
 use Rattle.file_mend.proofs.Holding.{few-from}

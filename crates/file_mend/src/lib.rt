@@ -263,6 +263,7 @@ fn mend_text(form: Form, text: &[u8], file: &mut [u8], n: usize, list: &mut [u32
     ensures { λ r. ⌜ (r ≡ mendTold (now (text .entry)) (numberOf form) (now (file .entry)) n (now (list .entry))) × ((now (file .exit) ≡ mendLeaves (now (text .entry)) (numberOf form) (now (file .entry)) n (now (list .entry))) × (now (list .exit) ≡ listLeaves (now (text .entry)) (numberOf form) (now (file .entry)) n (now (list .entry)))) ⌝ }
 {
     let room = file.len();
+    let slots = list.len();
     let there = if room < n { room } else { n };
     let seen = survey(form, text, &file[..there]);
     let table = seen.table;
@@ -270,7 +271,7 @@ fn mend_text(form: Form, text: &[u8], file: &mut [u8], n: usize, list: &mut [u32
         return Mended::Refused(Fault::TooManyRows, Cursor::start());
     }
     let length = length_for(form, table.count);
-    if (room < length) | (room < n) | (list.len() < seen.listed) {
+    if (room < length) | (room < n) | (slots < seen.listed) {
         return Mended::Refused(Fault::Outer(Outer::NoRowRoom), Cursor::start());
     }
     if seen.listed == 0 {

@@ -1,7 +1,7 @@
-use borrow.Author.Needs.{needs}
-use mathlib.Core.Path.{_≡_, sym, ap, _∙_}
-use mathlib.Core.Bool.{true, false}
+-- `count_block` meets its contract: a right block has no entry, and one that differs has one.
+use mathlib.Core.Path.{sym, ap, _∙_}
 use lib.ListN.{length}
+use borrow.Author.Needs.{needs}
 use Rattle.file_mend.proofs.One.{entry-right, entry-wrong}
 use Rattle.file_mend.proofs.count_block.Statement.{statement}
 use Rattle.file_mend.proofs.count_block.Tie as tie

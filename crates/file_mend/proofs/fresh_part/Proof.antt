@@ -1,7 +1,7 @@
-use borrow.Author.Needs.{needs}
-use mathlib.Core.Path.{_≡_, sym, ap, _∙_}
-use Prim.Native.Nat.{ℕ, _≤_}
+-- `fresh_part` meets its contract: as many rows are asked for as stand in a block, and their words give it.
+use mathlib.Core.Path.{_≡_, _∙_}
 use native.Mathlib.Omega.{arith}
+use borrow.Author.Needs.{needs}
 use Rattle.file_rules.specs.Blocks.{perBlock}
 use Rattle.form_rules.specs.Shapes.{rowBytesOf}
 use Rattle.file_sizes.proofs.Sizes.{some-rows, few-rows}

@@ -1,8 +1,9 @@
-use borrow.Author.Needs.{needs}
+-- `is_right` meets its contract: a block that is cut or missing differs, and any other is compared byte for byte.
 use mathlib.Core.Path.{_≡_, sym, _∙_}
 use Prim.Native.Nat.{_+_, _-_, _*_, _<_}
 use native.Mathlib.Omega.{arith}
 use lib.ListN.{length}
+use borrow.Author.Needs.{needs}
 use Rattle.laws.proofs.Spelled.{same-says}
 use Rattle.file_mend.proofs.One.{cut-differs}
 use Rattle.file_mend.proofs.is_right.Statement.{statement}

@@ -1,5 +1,6 @@
-use borrow.Author.Needs.{needs}
+-- `mend` meets its contract: each form by its number, and 44 for any other.
 use mathlib.Core.Path.{sym, ap, _∙_}
+use borrow.Author.Needs.{needs}
 use Rattle.rules.specs.declared.Cursor.{Cursor}
 use Rattle.file_rules.specs.declared.Fault.the-variants as fault
 use Rattle.mend_rules.specs.declared.Mended.the-variants as mended

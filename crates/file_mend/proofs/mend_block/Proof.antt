@@ -1,11 +1,12 @@
-use borrow.Author.Needs.{needs}
+-- `mend_block` meets its contract: a right block stays as it is, and one that differs is written and listed.
 use mathlib.Core.Path.{_≡_, sym, ap, _∙_}
-use mathlib.Core.Bool.{true, false}
+use mathlib.Core.Bool.{false}
 use mathlib.Core.List.{[], _∷_}
-use Prim.Native.Nat.{_+_, _<_}
+use Prim.Native.Nat.{_<_}
 use native.Mathlib.Omega.{arith}
 use lib.ListN.{length, take}
 use lib.Seq.{length-take-le}
+use borrow.Author.Needs.{needs}
 use Rattle.rules.specs.Kinds.{sameBytes}
 use Rattle.file_mend.specs.Mending.{blockOf, entryHere}
 use Rattle.file_mend.proofs.One.{entry-right, entry-wrong, right-stays, list-stays, list-more}

@@ -1,8 +1,9 @@
-use borrow.Author.Needs.{needs}
-use mathlib.Core.Path.{_≡_, sym, ap, _∙_}
+-- `mend_blocks` meets its contract: block 0, the blocks of the rows, and the entry of a tail where there is one.
+use mathlib.Core.Path.{_≡_, ap, _∙_}
 use Prim.Native.Nat.{ℕ, _/_, _<_}
 use native.Mathlib.Omega.{arith}
 use lib.ListN.{length, length-set}
+use borrow.Author.Needs.{needs}
 use Rattle.form_rules.specs.Shapes.{numberOf}
 use Rattle.mend_rules.specs.Mend.{freshTable, freshFile}
 use Rattle.file_mend.proofs.Files.{saidBlock}

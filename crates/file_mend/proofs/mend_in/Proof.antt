@@ -1,5 +1,6 @@
-use borrow.Author.Needs.{needs}
+-- `mend_in` meets its contract: a text that is refused, or what `mend_text` says of one that is fine.
 use mathlib.Core.Path.{sym, _∙_}
+use borrow.Author.Needs.{needs}
 use Rattle.form_rules.specs.Shapes.{numberOf}
 use Rattle.theory_mend.proofs.Ways.{told-text}
 use Rattle.file_mend.proofs.Told.{known, refused}

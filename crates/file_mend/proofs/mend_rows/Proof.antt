@@ -1,3 +1,4 @@
+-- `mend_rows` meets its contract: the loop's invariant is `Going`, and each way through a turn is one of its laws.
 use Prim.Native.Nat.{_-_}
 use native.Mathlib.Omega.{arith}
 use lib.ListN.{length}

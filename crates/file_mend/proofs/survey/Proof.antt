@@ -1,8 +1,9 @@
-use borrow.Author.Needs.{needs}
+-- `survey` meets its contract: block 0's entry, those of the rows' blocks, and that of a surplus tail are all that are listed.
 use mathlib.Core.Path.{_≡_}
 use Prim.Native.Nat.{_+_, _≤_}
 use native.Mathlib.Omega.{arith}
 use lib.ListN.{length}
+use borrow.Author.Needs.{needs}
 use Rattle.form_rules.specs.Shapes.{numberOf}
 use Rattle.mend_rules.specs.Mend.{freshFile}
 use Rattle.file_mend.proofs.Told.{length-is, survey-few, survey-long, survey-all}

@@ -1,3 +1,4 @@
+-- `survey_rows` meets its contract: the loop's invariant is `Holding`, and each way through a turn is one of its laws.
 use Prim.Native.Nat.{_-_}
 use native.Mathlib.Omega.{arith}
 use lib.ListN.{length}
