@@ -1,4 +1,5 @@
--- The fresh file is block 0 and the blocks of its rows, and what is listed of it is block 0's entry, those of the rows' blocks, and that of a surplus tail.
+-- The fresh file is block 0 and the blocks of its rows, and what is listed of it is block 0's entry, those of the rows' blocks, and that
+-- of a surplus tail.
 use mathlib.Core.Path.{_≡_, refl, _∙_}
 use mathlib.Core.Bool.{Bool, true, false, cond}
 use mathlib.Core.List.{List, [], _∷_, _++_}
@@ -34,6 +35,7 @@ use Rattle.file_mend.proofs.Parts.{blocks-size}
 
 -- ---- block 0
 
+-- block 0 of a table
 abbrev pub saidBlock : Form → Table → List ℕ
 saidBlock form t = block 0 0 (bytesOf (saidIn form t))
 
@@ -49,11 +51,13 @@ said-few Short t = go (t .ending)
     go None = omega (arith, bytes-length (2 ∷ t .length ∷ t .count ∷ shortEndingSaid None))
     go (Refused why p) = omega (arith, bytes-length (2 ∷ t .length ∷ t .count ∷ shortEndingSaid (Refused why p)))
 
+-- Block 0 has 512 bytes.
 pub said-length : (form : Form) (t : Table) → length (saidBlock form t) ≡ 512
 said-length form t = block-length 0 0 (bytesOf (saidIn form t)) (said-few form t)
 
 -- ---- the file
 
+-- The fresh file is block 0 and the blocks of the rows.
 pub fresh-parts : (form : Form) (text : List ℕ)
     → freshFile (numberOf form) text ≡ saidBlock form (freshTable text) ++ blocksOf form 1 (rowsOf text)
 unfolding freshFile encodeIn encode shortEncode fileOf blocksOf freshWords freshTable
@@ -64,7 +68,8 @@ fresh-parts Full text =
 fresh-parts Short text = refl
 
 -- how long it is
-pub fresh-length : (form : Form) (text : List ℕ) → length (freshFile (numberOf form) text) ≡ fileLength (rowBytesOf form) (freshTable text .count)
+pub fresh-length : (form : Form) (text : List ℕ)
+    → length (freshFile (numberOf form) text) ≡ fileLength (rowBytesOf form) (freshTable text .count)
 unfolding freshFile
 fresh-length Full text = encoded-length (numberOf Full) (freshWords text) (freshTable text)
 fresh-length Short text = encoded-length (numberOf Short) (freshWords text) (freshTable text)
@@ -76,11 +81,13 @@ module _ (form : Form) (text : List ℕ) where
   unfolding fileLength freshTable
   fresh-blocks = fresh-length form text ∙ omega arith
 
+  -- Block 0 stands in front,
   pub fresh-front : take 512 (freshFile (numberOf form) text) ≡ saidBlock form (freshTable text)
   fresh-front =
       rw (fresh-parts form text)
       (take-at (saidBlock form (freshTable text)) (blocksOf form 1 (rowsOf text)) 512 (said-length form (freshTable text)))
 
+  -- and the blocks of the rows behind it.
   pub fresh-behind : drop 512 (freshFile (numberOf form) text) ≡ blocksOf form 1 (rowsOf text)
   fresh-behind =
       rw (fresh-parts form text)
@@ -94,18 +101,20 @@ module _ (form : Form) (text : List ℕ) where
   module _ (file : List ℕ) where
     -- block 0's entry, those of the rows' blocks, and that of a surplus tail
     pub listed-parts : listed (freshFile (numberOf form) text) file
-        ≡ entry 0 (saidBlock form (freshTable text)) file ++ (rowsDiffering form 1 (rowsOf text) file ++ surplus (freshFile (numberOf form) text) file)
+        ≡ entry 0 (saidBlock form (freshTable text)) file
+        ++ (rowsDiffering form 1 (rowsOf text) file ++ surplus (freshFile (numberOf form) text) file)
     unfolding rowsDiffering
     listed-parts =
         listed-first (freshFile (numberOf form) text) file (omega (arith, fresh-blocks))
         ∙ rw (fresh-front, fresh-behind, many)
 
-    -- a tail's entry is the number of blocks, and there is none where the file is no longer
+    -- A longer file has a tail, whose entry is the number of blocks.
     pub tail-entry : length (freshFile (numberOf form) text) < length file
         → surplus (freshFile (numberOf form) text) file ≡ (length (freshFile (numberOf form) text) / 512) ∷ []
     unfolding surplus
     tail-entry h = rw (lt-ltb (length (freshFile (numberOf form) text)) (length file) h)
 
+    -- A file that is no longer has no tail.
     pub no-tail : length file ≤ length (freshFile (numberOf form) text) → surplus (freshFile (numberOf form) text) file ≡ []
     unfolding surplus
     no-tail h = rw (le-ltb (length (freshFile (numberOf form) text)) (length file) h)
@@ -132,11 +141,14 @@ differing-most (suc m) k fresh file =
     go true h = omega arith
     go false h = omega arith
 
+-- There are no more entries than rows.
 pub rows-most : (form : Form) (k : ℕ) (rs : List Row) (file : List ℕ) → length (rowsDiffering form k rs file) ≤ length rs
 unfolding rowsDiffering
 rows-most form k rs file =
-    omega (arith, few-blocks form (length rs), differing-most (blocksFor (rowBytesOf form) (length rs)) k (blocksOf form k rs) (drop (512 * k) file))
+    let m = blocksFor (rowBytesOf form) (length rs) in
+    omega (arith, few-blocks form (length rs), differing-most m k (blocksOf form k rs) (drop (512 * k) file))
 
+-- A block has one entry at most.
 pub entry-most : (k : ℕ) (fresh file : List ℕ) → length (entry k fresh file) ≤ 1
 entry-most k fresh file = go (sameBytes fresh (blockOf k file))
   where

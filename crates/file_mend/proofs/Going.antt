@@ -31,20 +31,23 @@ use Rattle.file_mend.proofs.Holding.{rowsFrom, part-within, on-rows, on
 -- ---- a part written into a list
 
 -- b in place of what stands from a on
-abbrev pub over : List ℕ → ℕ → List ℕ → List ℕ
+abbrev over : List ℕ → ℕ → List ℕ → List ℕ
 over m a b = take a m ++ (b ++ drop (a + length b) m)
 
 module _ (m b : List ℕ) (a : ℕ) (h : a + length b ≤ length m) where
   front-size : length (take a m ++ b) ≡ a + length b
   front-size = length-append (take a m) b ∙ omega (arith, length-take-le a m (omega arith))
 
-  pub over-take : take (a + length b) (over m a b) ≡ take a m ++ b
+  -- It stands behind what was in front of it,
+  over-take : take (a + length b) (over m a b) ≡ take a m ++ b
   over-take = rw (← append-assoc (take a m) b) (take-at (take a m ++ b) (drop (a + length b) m) (a + length b) front-size)
 
-  pub over-drop : drop (a + length b) (over m a b) ≡ drop (a + length b) m
+  -- in front of what was behind it,
+  over-drop : drop (a + length b) (over m a b) ≡ drop (a + length b) m
   over-drop = rw (← append-assoc (take a m) b) (drop-at (take a m ++ b) (drop (a + length b) m) (a + length b) front-size)
 
-  pub over-size : length (over m a b) ≡ length m
+  -- and the length stays.
+  over-size : length (over m a b) ≡ length m
   over-size =
       rw (← append-assoc (take a m) b)
       (length-append (take a m ++ b) (drop (a + length b) m) ∙ omega (arith, front-size, length-drop (a + length b) m))
@@ -86,8 +89,10 @@ part-entries form k file rs = go (decLe (perBlock (rowBytesOf form)) (length rs)
 
 -- ---- the loop
 
-pub record Going (form : Form) (text : List ℕ) (n : ℕ) (memory₀ list₀ : List ℕ) (first : ℕ) (memory list : List ℕ) (spot : Spot) (listed k : ℕ)
-    : Type 0 where
+-- The parts in front of the spot are mended, k is the next block, and `listed` entries stand in the list: with the blocks and the entries
+-- of the rows that are left, memory and list are what they should be, and what stands behind is as it was.
+pub record Going (form : Form) (text : List ℕ) (n : ℕ) (memory₀ list₀ : List ℕ) (first : ℕ) (memory list : List ℕ) (spot : Spot)
+    (listed k : ℕ) : Type 0 where
   pub begun : Begun text spot
   pub near : k ≤ 1 + spot .at
   pub blocks : k + blocksFor (rowBytesOf form) (length (rowsFrom text (spot .at))) ≡ 1 + blocksFor (rowBytesOf form) (length (rowsOf text))
@@ -101,7 +106,8 @@ pub record Going (form : Form) (text : List ℕ) (n : ℕ) (memory₀ list₀ : 
       ≡ take first list₀ ++ rowsDiffering form 1 (rowsOf text) (take n memory₀)
   pub list-behind : drop listed list ≡ drop listed list₀
 
-module _ (form : Form) (text : List ℕ) (n : ℕ) (memory₀ list₀ : List ℕ) (first : ℕ) (f : Fresh form text n memory₀ first list₀) where
+module _ {form : Form} {text : List ℕ} {n : ℕ} {memory₀ list₀ : List ℕ} {first : ℕ} (f : Fresh form text n memory₀ first list₀) where
+  -- It holds at the text's start.
   pub going-start : (s : Spot) → s .at ≡ 0 → s .cursor ≡ startPlace → Going form text n memory₀ list₀ first memory₀ list₀ s first 1
   going-start s e c =
       let same : readFrom text (s .at) ≡ scan text = ap (readFrom text) e ∙ from-start text in
@@ -131,7 +137,7 @@ module _ (form : Form) (text : List ℕ) (n : ℕ) (memory₀ list₀ : List ℕ
           omega (
             arith,
             blocks-size form k (rowsAt form text (spot .at)),
-            blocks-within form (length (rowsAt form text (spot .at))) (length (rowsFrom text (spot .at))) (part-within form text (spot .at)),
+            blocks-within form _ _ (part-within form text (spot .at)),
             g .blocks,
             fresh-blocks form text,
             f .room,
@@ -142,6 +148,7 @@ module _ (form : Form) (text : List ℕ) (n : ℕ) (memory₀ list₀ : List ℕ
           (omega (arith, part-entries form k (take n memory₀) (rowsFrom text (spot .at)), g .found, f .list-room, g .same-list));
     }
 
+    -- Blocks are few.
     pub k-small : k ≤ 65537
     k-small = omega (arith, g .near, g .begun .inside, g .begun .few)
 
@@ -158,10 +165,13 @@ module _ (form : Form) (text : List ℕ) (n : ℕ) (memory₀ list₀ : List ℕ
       list-fits : listed + length (rowsDiffering form k (rowsAt form text (spot .at)) (take n memory₀)) ≤ length list
       list-fits = rw (← alike (rowsAt form text (spot .at))) (going-fits .list-room)
 
-      -- memory and list keep their lengths
+      -- Memory keeps its length.
       pub memory-size : length after ≡ length memory₀
-      memory-size = rw after-is (over-size memory (blocksOf form k (rowsAt form text (spot .at))) (512 * k) (going-fits .room) ∙ g .same-memory)
+      memory-size =
+          let b = blocksOf form k (rowsAt form text (spot .at)) in
+          rw after-is (over-size memory b (512 * k) (going-fits .room) ∙ g .same-memory)
 
+      -- The list keeps its length.
       pub list-size : length list-after ≡ length list₀
       list-size =
           let d = rowsDiffering form k (rowsAt form text (spot .at)) (take n memory₀) in
@@ -195,24 +205,28 @@ module _ (form : Form) (text : List ℕ) (n : ℕ) (memory₀ list₀ : List ℕ
         block-size =
             let h = some-rows form in
             let q = full in
-            rw (blocks-of-one form k (rowsAt form text (spot .at)) (omega arith) (omega arith)) (rows-length form k (rowsAt form text (spot .at)) (omega arith))
+            let xs = rowsAt form text (spot .at) in
+            rw (blocks-of-one form k xs (omega arith) (omega arith)) (rows-length form k xs (omega arith))
 
         next-end : 512 * k + length (blocksOf form k (rowsAt form text (spot .at))) ≡ 512 * suc k
         next-end = omega (arith, block-size)
 
-        blocks-on : suc k + blocksFor (rowBytesOf form) (length (rowsFrom text (s .at))) ≡ 1 + blocksFor (rowBytesOf form) (length (rowsOf text))
+        blocks-on : suc k + blocksFor (rowBytesOf form) (length (rowsFrom text (s .at)))
+            ≡ 1 + blocksFor (rowBytesOf form) (length (rowsOf text))
         blocks-on =
             let w = rw (on-rows form (p .part-is) e) at (g .blocks) in
             omega (arith, w, blocks-then form k (rowsAt form text (spot .at)) (rowsFrom text (s .at)) full)
 
-        written-on : take (512 * suc k) after ++ blocksOf form (suc k) (rowsFrom text (s .at)) ≡ take 512 memory₀ ++ blocksOf form 1 (rowsOf text)
+        written-on : take (512 * suc k) after ++ blocksOf form (suc k) (rowsFrom text (s .at))
+            ≡ take 512 memory₀ ++ blocksOf form 1 (rowsOf text)
         written-on =
             let b = blocksOf form k (rowsAt form text (spot .at)) in
             let c = blocksOf form (suc k) (rowsFrom text (s .at)) in
             let t : take (512 * suc k) after ≡ take (512 * k) memory ++ b
                   = rw (← next-end, after-is) (over-take memory b (512 * k) (going-fits .room)) in
             let q : blocksOf form k (rowsFrom text (spot .at)) ≡ b ++ c
-                  = ap (blocksOf form k) (on-rows form (p .part-is) e) ∙ blocks-part form k (rowsAt form text (spot .at)) (rowsFrom text (s .at)) full in
+                  = ap (blocksOf form k) (on-rows form (p .part-is) e)
+                  ∙ blocks-part form k (rowsAt form text (spot .at)) (rowsFrom text (s .at)) full in
             rw t (append-assoc (take (512 * k) memory) b c ∙ (rw q at (g .written)))
 
         behind-on : drop (512 * suc k) after ≡ drop (512 * suc k) memory₀
@@ -222,7 +236,8 @@ module _ (form : Form) (text : List ℕ) (n : ℕ) (memory₀ list₀ : List ℕ
             (over-drop memory b (512 * k) (going-fits .room) ∙ behind-more (512 * k) (length b) memory memory₀ (g .behind))
 
         entries-part : rowsDiffering form k (rowsFrom text (spot .at)) (take n memory₀)
-            ≡ rowsDiffering form k (rowsAt form text (spot .at)) (take n memory₀) ++ rowsDiffering form (suc k) (rowsFrom text (s .at)) (take n memory₀)
+            ≡ rowsDiffering form k (rowsAt form text (spot .at)) (take n memory₀)
+            ++ rowsDiffering form (suc k) (rowsFrom text (s .at)) (take n memory₀)
         entries-part =
             ap (λ (l : List Row). rowsDiffering form k l (take n memory₀)) (on-rows form (p .part-is) e)
             ∙ rows-part form k (take n memory₀) (rowsAt form text (spot .at)) (rowsFrom text (s .at)) full

@@ -31,14 +31,17 @@ use Rattle.file_mend.proofs.Parts.{few-rows, rows-part, rows-few}
 abbrev pub rowsFrom : List ℕ → ℕ → List Row
 rowsFrom text at = readRows (readFrom text at)
 
+-- From an offset on a text has few rows.
 pub few-from : (text : List ℕ) (at : ℕ) → length (rowsFrom text at) ≤ length text + 1
 unfolding readFrom
 few-from text at = omega (arith, few-rows (placeAt text) 0 0 at (drop at text), length-drop at text)
 
+-- A part has no more rows than a block,
 pub part-few : (form : Form) (text : List ℕ) (at : ℕ) → length (rowsAt form text at) ≤ perBlock (rowBytesOf form)
 unfolding partRows
 part-few form text at = omega (arith, length-take (perBlock (rowBytesOf form)) (rowsFrom text at))
 
+-- and no more than are left.
 pub part-within : (form : Form) (text : List ℕ) (at : ℕ) → length (rowsAt form text at) ≤ length (rowsFrom text at)
 unfolding partRows
 part-within form text at = omega (arith, length-take (perBlock (rowBytesOf form)) (rowsFrom text at))
@@ -48,9 +51,11 @@ module _ (form : Form) {text : List ℕ} {at : ℕ} {r : Part} (p : PartOf text 
   pub on-rows : {s : Spot} → r .next ≡ On s → rowsFrom text at ≡ rowsAt form text at ++ rowsFrom text (s .at)
   on-rows {s} e = ap readRows (p .on s e .1) ∙ put-rows (rowsAt form text at) (readFrom text (s .at))
 
+  -- The ending stays.
   pub on-ending : {s : Spot} → r .next ≡ On s → readEnding (readFrom text at) ≡ readEnding (readFrom text (s .at))
   on-ending {s} e = ap readEnding (p .on s e .1) ∙ put-ending (rowsAt form text at) (readFrom text (s .at))
 
+  -- A part behind which the reading goes on is full.
   pub on-full : {s : Spot} → r .next ≡ On s → length (rowsAt form text at) ≡ perBlock (rowBytesOf form)
   on-full {s} e = sym (p .counted) ∙ p .on s e .0 .1
 
@@ -62,6 +67,7 @@ begins text s fine e f =
 
 -- ---- the loop
 
+-- So many rows stand in front of the spot, k is the next block, and `listed` of those in front differ; with what is left they are all.
 pub record Holding (form : Form) (text file : List ℕ) (spot : Spot) (count listed k : ℕ) : Type 0 where
   pub begun : Begun text spot
   pub rows : count + length (rowsFrom text (spot .at)) ≡ length (rowsOf text)
@@ -70,6 +76,7 @@ pub record Holding (form : Form) (text file : List ℕ) (spot : Spot) (count lis
   pub few : listed < k
   pub near : k ≤ 1 + spot .at
 
+-- It holds at the text's start.
 pub holding-start : (form : Form) (text file : List ℕ) (s : Spot) → textJudged text ≡ Fine → s .at ≡ 0 → s .cursor ≡ startPlace
     → Holding form text file s 0 0 1
 holding-start form text file s fine e f =
@@ -88,11 +95,21 @@ module _ {form : Form} {text file : List ℕ} {spot : Spot} {count listed k : �
   -- all rows are few
   pub count-few : count + r .part .count ≤ 65537
   count-few =
-      omega (arith, g .rows, p .part-is .counted, part-within form text (spot .at), few-from text 0, g .begun .few, ap length (ap readRows (from-start text)))
+      omega (
+        arith,
+        g .rows,
+        p .part-is .counted,
+        part-within form text (spot .at),
+        few-from text 0,
+        g .begun .few,
+        ap length (ap readRows (from-start text)),
+      )
 
+  -- No more blocks differ than there are,
   pub listed-few : listed + r .listed ≤ k
   listed-few = omega (arith, g .few, p .listed-is, rows-few form k file (rowsAt form text (spot .at)) (part-few form text (spot .at)))
 
+  -- and these are few.
   pub k-few : k ≤ 65537
   k-few = omega (arith, g .near, g .begun .inside, g .begun .few)
 

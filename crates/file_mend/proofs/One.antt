@@ -33,10 +33,11 @@ module _ (fresh file : List ℕ) (k : ℕ) where
       differs fresh (blockOf k file)
       (λ e. omega (arith, ap length e, length-take 512 (drop (512 * k) file), length-drop (512 * k) file))
 
-  -- a block that is right has no entry, and one that differs has its number
+  -- A block that is right has no entry.
   pub entry-right : sameBytes fresh (blockOf k file) ≡ true → entry k fresh file ≡ []
   entry-right e = rw e
 
+  -- A block that differs has its number.
   pub entry-wrong : sameBytes fresh (blockOf k file) ≡ false → entry k fresh file ≡ k ∷ []
   entry-wrong e = rw e
 

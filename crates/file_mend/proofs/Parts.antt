@@ -26,8 +26,9 @@ use Rattle.file_parts.proofs.Parts.{rows-size}
 use Rattle.file_sizes.proofs.Sizes.{some-rows}
 use Rattle.file_mend.specs.Mending.{blockOf, entry, blocksOf, rowsDiffering, rowsBlock}
 
--- ---- as many rows as bytes and one more, at most
+-- ---- how many rows there are
 
+-- A reading has as many rows as bytes and one more, at most.
 pub few-rows : (pos : ℕ → Cursor) (c n k : ℕ) (s : List ℕ) → length (readRows (read pos c n k s)) ≤ length s + 1
 unfolding read readRows
 few-rows pos c n k [] = omega arith
@@ -66,7 +67,8 @@ body-append Full xs ys = rw (all-words (xs ++ ys), all-words xs, all-words ys) (
 body-append Short xs ys = rw (length-append xs ys, words-append xs ys) (short-append xs (length ys) (wordsOf ys))
 
 -- of rows in front of other words
-pub body-front : (form : Form) (xs : List Row) (ws : List ℕ) → bodyOf form (length xs) (wordsOf xs ++ ws) ≡ bodyOf form (length xs) (wordsOf xs)
+pub body-front : (form : Form) (xs : List Row) (ws : List ℕ)
+    → bodyOf form (length xs) (wordsOf xs ++ ws) ≡ bodyOf form (length xs) (wordsOf xs)
 unfolding shortened
 body-front Full xs ws = take-append-le (8 * length xs) (wordsOf xs) ws (omega (arith, words-length xs))
 body-front Short xs ws =
@@ -80,11 +82,13 @@ body-size Short rs = rows-size (length rs) (wordsOf rs)
 
 -- ---- so many rows in a block
 
-pub some-size : (form : Form) → 0 < rowBytesOf form
+-- A row of either form has some bytes,
+some-size : (form : Form) → 0 < rowBytesOf form
 some-size Full = omega arith
 some-size Short = omega arith
 
-pub few-size : (form : Form) → rowBytesOf form ≤ 504
+-- and no more than a block has room for.
+few-size : (form : Form) → rowBytesOf form ≤ 504
 few-size Full = omega arith
 few-size Short = omega arith
 
@@ -95,7 +99,8 @@ block-fits Short n h = omega arith
 -- a block of rows has 512 bytes
 pub rows-length : (form : Form) (k : ℕ) (rs : List Row) → length rs ≤ perBlock (rowBytesOf form) → length (rowsBlock form k rs) ≡ 512
 rows-length form k rs h =
-    block-length k (length rs) (bytesOf (bodyOf form (length rs) (wordsOf rs))) (omega (arith, body-size form rs, block-fits form (length rs) h))
+    block-length k (length rs) (bytesOf (bodyOf form (length rs) (wordsOf rs)))
+    (omega (arith, body-size form rs, block-fits form (length rs) h))
 
 -- ---- blocks one further
 
@@ -113,9 +118,11 @@ module _ (form : Form) (k : ℕ) where
   unfolding blocksOf blocksFrom
   blocks-of-none = rw (blocks-none (rowBytesOf form) (some-size form) (few-size form))
 
+  -- Each block has 512 bytes.
   pub blocks-size : (rs : List Row) → length (blocksOf form k rs) ≡ 512 * blocksFor (rowBytesOf form) (length rs)
   unfolding blocksOf
-  blocks-size rs = blocks-length (rowBytesOf form) (some-size form) (few-size form) (blocksFor (rowBytesOf form) (length rs)) k (length rs) _
+  blocks-size rs =
+      blocks-length (rowBytesOf form) (some-size form) (few-size form) (blocksFor (rowBytesOf form) (length rs)) k (length rs) _
 
   -- rows of one block have that one
   pub blocks-of-one : (rs : List Row) → 0 < length rs → length rs ≤ perBlock (rowBytesOf form) → blocksOf form k rs ≡ rowsBlock form k rs
@@ -125,10 +132,12 @@ module _ (form : Form) (k : ℕ) where
       let x : List ℕ = bytesOf (bodyOf form (length rs) (wordsOf rs)) in
       let z : length rs + 0 ≡ length rs = omega arith in
       let n = blocks-none (rowBytesOf form) (some-size form) (few-size form) in
-      let s = split-blocks (rowBytesOf form) (some-size form) (few-size form) (length rs) 0 k x [] some (omega arith) (omega arith) (body-size form rs) in
+      let s = split-blocks (rowBytesOf form) (some-size form) (few-size form) (length rs) 0 k x [] some
+      (omega arith) (omega arith) (body-size form rs) in
       (rw (z, append-nil x, n) at s) ∙ append-nil (rowsBlock form k rs)
 
   module _ (xs ys : List Row) (full : length xs ≡ perBlock (rowBytesOf form)) where
+    -- Behind a full block stand those of the rows behind it.
     pub blocks-then : blocksFor (rowBytesOf form) (length (xs ++ ys)) ≡ suc (blocksFor (rowBytesOf form) (length ys))
     blocks-then =
         let p = some-rows form in
@@ -147,6 +156,7 @@ module _ (form : Form) (k : ℕ) where
         (split-blocks (rowBytesOf form) (some-size form) (few-size form) (length xs) (length ys) k x y
         (omega arith) (omega arith) (omega arith) (body-size form xs))
 
+    -- The blocks of a full part stand in front of those of the rows behind it.
     pub blocks-part : blocksOf form k (xs ++ ys) ≡ blocksOf form k xs ++ blocksOf form (suc k) ys
     blocks-part =
         let p = some-rows form in
@@ -164,10 +174,12 @@ next-drop : (k : ℕ) (file : List ℕ) → drop 512 (drop (512 * k) file) ≡ d
 next-drop k file = let e : 512 * k + 512 ≡ 512 * suc k = omega arith in drop-drop 512 (512 * k) file ∙ rw e
 
 module _ (form : Form) (k : ℕ) (file : List ℕ) where
+  -- No rows have no entries.
   pub rows-none : rowsDiffering form k [] file ≡ []
   unfolding rowsDiffering differing
   rows-none = rw (blocks-none (rowBytesOf form) (some-size form) (few-size form))
 
+  -- Rows of one block have its entry.
   pub rows-one : (rs : List Row) → 0 < length rs → length rs ≤ perBlock (rowBytesOf form)
       → rowsDiffering form k rs file ≡ entry k (rowsBlock form k rs) file
   unfolding rowsDiffering differing
@@ -190,6 +202,7 @@ module _ (form : Form) (k : ℕ) (file : List ℕ) where
       rw (blocks-then form k xs ys full, blocks-of-more form k xs ys full)
       (differing-block m k b (blocksOf form (suc k) ys) (drop (512 * k) file) (rows-length form k xs (omega arith)) ∙ rw next-drop)
 
+  -- The entries of a full part stand in front of those of the rows behind it.
   pub rows-part : (xs ys : List Row) → length xs ≡ perBlock (rowBytesOf form)
       → rowsDiffering form k (xs ++ ys) file ≡ rowsDiffering form k xs file ++ rowsDiffering form (suc k) ys file
   rows-part xs ys full =

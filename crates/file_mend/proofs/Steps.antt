@@ -57,6 +57,7 @@ module _ (form : Form) (text : List ℕ) (at k : ℕ) {r : Part} (p : PartOf tex
 
   -- ---- held
 
+  -- A part that has no rows has no entry.
   pub held-none : (file : List ℕ) → r .count ≡ 0 → PartHeld form text at k file (record { part = r; listed = 0 })
   held-none file e = record { part-is = p; listed-is = rw (no-rows e, rows-none form k file) }
 
@@ -68,10 +69,13 @@ module _ (form : Form) (text : List ℕ) (at k : ℕ) {r : Part} (p : PartOf tex
     entry-is file =
         rows-one form k file (rowsAt form text at) (some-rows ne) (part-few form text at) ∙ ap (λ (b : List ℕ). entry k b file) (sym made)
 
-    pub fresh-size : length fresh ≡ 512
+    -- The block of a part has 512 bytes.
+    fresh-size : length fresh ≡ 512
     fresh-size = ap length made ∙ rows-length form k (rowsAt form text at) (part-few form text at)
 
-    pub held-some : (file : List ℕ) (m : ℕ) → m ≡ length (entry k fresh file) → PartHeld form text at k file (record { part = r; listed = m })
+    -- A part that has rows has the entry of its block.
+    pub held-some : (file : List ℕ) (m : ℕ) → m ≡ length (entry k fresh file)
+        → PartHeld form text at k file (record { part = r; listed = m })
     held-some file m e = record { part-is = p; listed-is = e ∙ ap length (sym (entry-is file)) }
 
     -- ---- mended
@@ -84,6 +88,7 @@ module _ (form : Form) (text : List ℕ) (at k : ℕ) {r : Part} (p : PartOf tex
         let l = fresh-size in
         ((l, omega (arith, f .room, ap length fresh-is)), (f .inside, omega (arith, f .list-room, ap length (entry-is (take n memory)))))
 
+    -- A part that has rows is mended where its block is.
     pub mended-some : (n listed m : ℕ) (memory after list list-after : List ℕ)
         → (m ≡ listed + length (entryHere n k fresh memory))
         × ((after ≡ take (512 * k) memory ++ (fresh ++ drop (512 * k + 512) memory))
@@ -96,6 +101,7 @@ module _ (form : Form) (text : List ℕ) (at k : ℕ) {r : Part} (p : PartOf tex
       list-is = rw (entry-is (take n memory)) (e .1 .1);
     }
 
+  -- A part that has no rows leaves all as it is.
   pub mended-none : (n listed : ℕ) (memory list : List ℕ) → r .count ≡ 0
       → PartMended form text at k n listed (record { part = r; listed = listed }) memory memory list list
   mended-none n listed memory list e =

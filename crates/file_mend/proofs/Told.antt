@@ -30,8 +30,8 @@ use Rattle.theory_mend.proofs.Mended.{MendOf, told-of}
 use Rattle.file_sizes.proofs.Sizes.{few-blocks}
 use Rattle.scan_part.proofs.Readings.{from-start}
 use Rattle.file_mend.specs.Mending.{entry, entryHere, blocksOf, rowsDiffering, rowsOf, Fresh, RowsMended, fileLeft, listLeft}
-use Rattle.file_mend.proofs.Files.{saidBlock, said-length, fresh-parts, fresh-length, fresh-blocks, listed-parts, tail-entry, no-tail, tail-most}
-use Rattle.file_mend.proofs.Files.{rows-most, entry-most}
+use Rattle.file_mend.proofs.Files.{saidBlock, said-length, fresh-parts, fresh-length, fresh-blocks}
+use Rattle.file_mend.proofs.Files.{listed-parts, tail-entry, no-tail, tail-most, rows-most, entry-most}
 use Rattle.file_mend.proofs.Holding.{few-from}
 use Rattle.file_mend.proofs.Going.{differing-behind}
 
@@ -61,12 +61,16 @@ module _ (form : Form) (text file : List ℕ) (t : Table) (b : List ℕ) (h m : 
       let q : length (entry 0 b file) ≡ length e = rw (be, te) in
       ap length (listed-parts form text file) ∙ length-append e (d ++ s) ∙ omega (arith, length-append d s)
 
+  -- The sum of both counts is small.
   pub survey-few : textJudged text ≡ Fine → h + m ≤ 65538
   survey-few fine = omega (arith, rows-most form 1 (rowsOf text) file, rows-small text fine, entry-most 0 b file)
 
-  pub survey-long : length (freshFile (numberOf form) text) < length file → h + m + 1 ≡ length (listed (freshFile (numberOf form) text) file)
+  -- With a tail's entry it is how many are listed,
+  pub survey-long : length (freshFile (numberOf form) text) < length file
+      → h + m + 1 ≡ length (listed (freshFile (numberOf form) text) file)
   survey-long l = omega (arith, parts, ap length (tail-entry form text file l))
 
+  -- and without a tail as it is.
   pub survey-all : length file ≤ length (freshFile (numberOf form) text) → h + m ≡ length (listed (freshFile (numberOf form) text) file)
   survey-all l = omega (arith, parts, ap length (no-tail form text file l))
 
@@ -85,6 +89,17 @@ listed-small form text file fine =
     )
 
 -- ---- the second reading
+
+-- What is left where block 0 and the blocks of the rows were mended, with `last` entries: the fresh file, and the list but for a tail's
+-- entry, for which there is room.
+pub record Left (form : Form) (text : List ℕ) (n : ℕ) (memory list : List ℕ) (last : ℕ) (memory₂ list₂ : List ℕ) : Type 0 where
+  pub small : last ≤ 65538
+  pub file : memory₂ ≡ fileLeft form text memory
+  pub all : n ≤ length (freshFile (numberOf form) text) → list₂ ≡ listLeft form text n memory list
+  pub fits : length (freshFile (numberOf form) text) < n → last < length list₂
+  pub same-size : length (freshFile (numberOf form) text) < n → length list₂ ≡ length list
+  pub tail : length (freshFile (numberOf form) text) < n → (m : ℕ) → m ≡ length (freshFile (numberOf form) text) / 512
+      → set list₂ last m ≡ listLeft form text n memory list
 
 module _ (form : Form) (text : List ℕ) (n : ℕ) (memory list : List ℕ) (room : length (freshFile (numberOf form) text) ≤ length memory)
     (inside : n ≤ length memory) (listing : length (listed (freshFile (numberOf form) text) (take n memory)) ≤ length list)
@@ -166,10 +181,11 @@ module _ (form : Form) (text : List ℕ) (n : ℕ) (memory list : List ℕ) (roo
           (rw z at (sym (drop-drop (c - a) a x) ∙ ap (drop (c - a)) q ∙ drop-drop (c - a) a y))
 
       -- memory is the fresh file, and then what was there
-      pub file-done : memory₂ ≡ fileLeft form text memory
+      file-done : memory₂ ≡ fileLeft form text memory
       file-done =
           let size = length (freshFile (numberOf form) text) in
-          let d : drop size memory₁ ≡ drop size memory = further 512 size memory₁ memory memory-behind (omega (arith, fresh-blocks form text)) in
+          let l : 512 ≤ size = omega (arith, fresh-blocks form text) in
+          let d : drop size memory₁ ≡ drop size memory = further 512 size memory₁ memory memory-behind l in
           r .file-is ∙ rw (memory-front, d, made)
           (sym (append-assoc (saidBlock form (freshTable text)) (blocksOf form 1 (rowsOf text)) (drop size memory))
           ∙ ap (λ (x : List ℕ). x ++ drop size memory) (sym (fresh-parts form text)))
@@ -193,7 +209,7 @@ module _ (form : Form) (text : List ℕ) (n : ℕ) (memory list : List ℕ) (roo
           (sym (append-assoc (entryHere n 0 b memory) (rowsDiffering form 1 (rowsOf text) (take n memory)) (drop last list)))
 
       -- it has few entries so far
-      pub last-small : textJudged text ≡ Fine → last ≤ 65538
+      last-small : textJudged text ≡ Fine → last ≤ 65538
       last-small fine =
           omega (
             arith,
@@ -207,14 +223,16 @@ module _ (form : Form) (text : List ℕ) (n : ℕ) (memory list : List ℕ) (roo
       file-size : length (take n memory) ≡ n
       file-size = length-take-le n memory inside
 
-      all-front : listed (freshFile (numberOf form) text) (take n memory) ≡ front ++ surplus (freshFile (numberOf form) text) (take n memory)
+      all-front : listed (freshFile (numberOf form) text) (take n memory)
+          ≡ front ++ surplus (freshFile (numberOf form) text) (take n memory)
       unfolding front
       all-front =
-          all-entries
-          ∙ sym (append-assoc (entryHere n 0 b memory) (rowsDiffering form 1 (rowsOf text) (take n memory)) (surplus (freshFile (numberOf form) text) (take n memory)))
+          let d = rowsDiffering form 1 (rowsOf text) (take n memory) in
+          let s = surplus (freshFile (numberOf form) text) (take n memory) in
+          all-entries ∙ sym (append-assoc (entryHere n 0 b memory) d s)
 
       -- no tail: the list is done
-      pub list-done : n ≤ length (freshFile (numberOf form) text) → list₂ ≡ listLeft form text n memory list
+      list-done : n ≤ length (freshFile (numberOf form) text) → list₂ ≡ listLeft form text n memory list
       list-done h =
           let s = no-tail form text (take n memory) (omega (arith, file-size)) in
           let q : listed (freshFile (numberOf form) text) (take n memory) ≡ front = all-front ∙ rw s (append-nil front) in
@@ -227,16 +245,16 @@ module _ (form : Form) (text : List ℕ) (n : ℕ) (memory list : List ℕ) (roo
         in-list : last < length list
         in-list = omega (arith, all-length, ap length tail, last-is, first-is)
 
-        pub list-two-size : length list₂ ≡ length list
+        list-two-size : length list₂ ≡ length list
         list-two-size =
             ap length list-two ∙ length-append front (drop last list) ∙ omega (arith, front-size, length-drop last list, in-list)
 
         -- there is room for the tail's entry
-        pub last-fits : last < length list₂
+        last-fits : last < length list₂
         last-fits = omega (arith, list-two-size, in-list)
 
         -- and with it the list is done
-        pub list-tail : (m : ℕ) → m ≡ length (freshFile (numberOf form) text) / 512 → set list₂ last m ≡ listLeft form text n memory list
+        list-tail : (m : ℕ) → m ≡ length (freshFile (numberOf form) text) / 512 → set list₂ last m ≡ listLeft form text n memory list
         list-tail m q =
             let found = listed (freshFile (numberOf form) text) (take n memory) in
             let all : found ≡ front ++ (m ∷ []) = all-front ∙ rw (tail, q) in
@@ -245,6 +263,17 @@ module _ (form : Form) (text : List ℕ) (n : ℕ) (memory list : List ℕ) (roo
             ap (λ (l : List ℕ). set l last m) list-two ∙ ap (λ (l : List ℕ). set (front ++ l) last m) (drop-cons list last 0 in-list)
             ∙ set-at front (getD list last 0) (drop (suc last) list) m last front-size in
             w ∙ sym (rw (size, all) (append-assoc front (m ∷ []) (drop (suc last) list)))
+
+      -- all of it
+      pub rows-left : textJudged text ≡ Fine → Left form text n memory list last memory₂ list₂
+      rows-left fine = record {
+        small = last-small fine;
+        file = file-done;
+        all = list-done;
+        fits = last-fits;
+        same-size = list-two-size;
+        tail = list-tail;
+      }
 
 -- ---- what the call tells and leaves
 
@@ -255,6 +284,7 @@ shown-all m n h = take-length m ∙ sym (take-all n m (omega arith))
 -- the test of room
 module _ (form : Form) (text memory : List ℕ) (n : ℕ) (list : List ℕ) (size count : ℕ) (se : size ≡ length (freshFile (numberOf form) text))
     (ce : count ≡ length (listed (freshFile (numberOf form) text) (take n memory))) where
+  -- If it refuses, something has too little room.
   pub small-says : ((ltb (length memory) size || ltb (length memory) n) || ltb (length list) count) ≡ true
       → tooSmall (freshFile (numberOf form) text) memory n list ≡ true
   unfolding tooSmall
@@ -273,20 +303,25 @@ module _ (form : Form) (text memory : List ℕ) (n : ℕ) (list : List ℕ) (siz
       let b = neither (ltb (length memory) size) (ltb (length memory) n) (a .0) in
       rw (← se, ← ce) ((ltb-false (length memory) size (b .0), ltb-false (length memory) n (b .1)), ltb-false (length list) count (a .1))
 
+-- Any other number is no form.
 pub other-form : (number : ℕ) → (number ≡ 1 → ⊥) → (number ≡ 2 → ⊥) → isForm number ≡ false
 other-form number a b = rw (ne-eqb number 1 a, ne-eqb number 2 b)
 
+-- The number of each form is one.
 pub known : (form : Form) → isForm (numberOf form) ≡ true
 known Full = refl
 known Short = refl
 
 module _ (text : List ℕ) (form : ℕ) (memory : List ℕ) (n : ℕ) (list : List ℕ) where
+  -- what is told, and what is left of memory and list
   abbrev pub Answer : Mended → List ℕ → List ℕ → Type 0
   Answer r after list-after =
-      (r ≡ mendTold text form memory n list) × ((after ≡ mendLeaves text form memory n list) × (list-after ≡ listLeaves text form memory n list))
+      (r ≡ mendTold text form memory n list)
+      × ((after ≡ mendLeaves text form memory n list) × (list-after ≡ listLeaves text form memory n list))
 
   -- refused, and nothing is done
-  pub refused : (why : Fault) (p : Cursor) → mendTold text form memory n list ≡ mended.Refused why p → Answer (mended.Refused why p) memory list
+  pub refused : (why : Fault) (p : Cursor) → mendTold text form memory n list ≡ mended.Refused why p
+      → Answer (mended.Refused why p) memory list
   unfolding mendLeaves listLeaves
   refused why p e = (sym e, (rw (mendLeaves, e), rw (listLeaves, e)))
 
@@ -312,6 +347,6 @@ module _ (text : List ℕ) (form : ℕ) (memory : List ℕ) (n : ℕ) (list : Li
           blocks size 0 memory list m (rw (← q, ← z) (sym (take-append-drop n memory))) (rw e)
 
 -- by a number that is the form's
-pub by-number : (text : List ℕ) (number k : ℕ) (memory : List ℕ) (n : ℕ) (list : List ℕ) (r : Mended) (after list-after : List ℕ) → number ≡ k
-    → Answer text k memory n list r after list-after → Answer text number memory n list r after list-after
+pub by-number : (text : List ℕ) (number k : ℕ) (memory : List ℕ) (n : ℕ) (list : List ℕ) (r : Mended) (after list-after : List ℕ)
+    → number ≡ k → Answer text k memory n list r after list-after → Answer text number memory n list r after list-after
 by-number text number k memory n list r after list-after e a = rw e a

@@ -67,7 +67,8 @@ returns c =
     let r = read (to-write w) in
     let a = start (asked r) .args in
     let e = r .read-part .ensures in
-    (part r, w .put-part .ensures ∙ fresh-made (a .form) (a .text .now) (a .spot .at) (a .k) _ (r .read-part .result) _ _ (most (asked r)) (e .0) (e .1))
+    let b = fresh-made (a .form) (a .text .now) (a .spot .at) (a .k) _ (r .read-part .result) _ _ (most (asked r)) (e .0) (e .1) in
+    (part r, w .put-part .ensures ∙ b)
 
 pub fresh-part-spec : {M : Type 1} → statement M
 fresh-part-spec =

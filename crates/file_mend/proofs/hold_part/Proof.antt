@@ -41,8 +41,8 @@ returns-2 c =
     let e = rows c in
     let p = some-rows e in
     let a = start p .args in
-    held-some (a .form) (a .text .now) (a .spot .at) (a .k) (p .fresh-part .ensures .0) (e .if1 .left) _ (p .fresh-part .ensures .1) (a .file .now) _
-    (c .count-block .ensures)
+    held-some (a .form) (a .text .now) (a .spot .at) (a .k) (p .fresh-part .ensures .0) (e .if1 .left) _ (p .fresh-part .ensures .1)
+    (a .file .now) _ (c .count-block .ensures)
 
 pub hold-part-spec : {M : Type 1} → statement M
 hold-part-spec =

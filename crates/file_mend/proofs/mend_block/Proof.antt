@@ -62,7 +62,8 @@ returns c =
     let a = s .args in
     let e = sym (c .before .is-right .ensures) ∙ c .if1 .taken in
     let z = none c in
-    (omega (arith, ap length z), (right-stays (a .fresh .now) (a .file .now) (a .n) (a .k) (s .pre .0 .0) e, list-stays (a .list .now) (a .listed) _ z))
+    let r = right-stays (a .fresh .now) (a .file .now) (a .n) (a .k) (s .pre .0 .0) e in
+    (omega (arith, ap length z), (r, list-stays (a .list .now) (a .listed) _ z))
 
 write-block-requires : tie.Need-write-block-requires
 write-block-requires c κs =

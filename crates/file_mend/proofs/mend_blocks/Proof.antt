@@ -7,7 +7,7 @@ use borrow.Author.Needs.{needs}
 use Rattle.form_rules.specs.Shapes.{numberOf}
 use Rattle.mend_rules.specs.Mend.{freshTable, freshFile}
 use Rattle.file_mend.proofs.Files.{saidBlock}
-use Rattle.file_mend.proofs.Told.{length-is, length-small, first-fits, rows-fit, file-done, list-done, list-tail, last-fits, last-small, list-two-size}
+use Rattle.file_mend.proofs.Told.{length-is, length-small, first-fits, rows-fit, Left, rows-left}
 use Rattle.file_mend.proofs.mend_blocks.Statement.{statement}
 use Rattle.file_mend.proofs.mend_blocks.Tie as tie
 
@@ -36,7 +36,8 @@ made : (c : tie.After-put-said) → let a = start c .args in c .put-said .last .
 made c = c .put-said .ensures ∙ ap (saidBlock (start c .args .form)) (start c .pre .0 .1)
 
 -- the length that was computed
-size : (c : tie.After-length-for) → let a = entered c .args in c .length-for .result ≡ length (freshFile (numberOf (a .form)) (a .text .now))
+size : (c : tie.After-length-for) → let a = entered c .args in
+    c .length-for .result ≡ length (freshFile (numberOf (a .form)) (a .text .now))
 size c =
     let s = entered c in
     let a = s .args in
@@ -45,6 +46,18 @@ size c =
 -- there is a tail
 longer : (c : tie.Then1) → let a = entered (c .before) .args in length (freshFile (numberOf (a .form)) (a .text .now)) < a .n
 longer c = let z = size (c .before) in omega arith
+
+-- what both readings left
+left : (c : tie.After-length-for) → let a = entered c .args in let r = rows-of c .mend-rows in
+    Left (a .form) (a .text .now) (a .n) (a .file .now) (a .list .now) (r .result) (r .last .1 .1 .0) (r .last .1 .1 .1 .1 .0)
+left c =
+    let r = rows-of c in
+    let m = first-of (r .before) in
+    let p = begun m in
+    let s = start p in
+    let a = s .args in
+    rows-left (a .form) (a .text .now) (a .n) (a .file .now) (a .list .now) (s .pre .1 .0 .0) (s .pre .1 .0 .1) (s .pre .1 .1) _ (made p)
+    _ _ _ (m .mend-block .ensures) _ _ _ (r .mend-rows .ensures) (s .pre .0 .0)
 
 slice-aggregate-put-said : tie.Need-slice-aggregate-put-said
 slice-aggregate-put-said c = search needs
@@ -81,25 +94,10 @@ cast-list c =
     omega (arith, size (c .before), length-small (s .args .form) (s .args .text .now) (s .pre .0 .0))
 
 mul-list : tie.Need-mul-list
-mul-list c =
-    let r = rows-of (c .before) in
-    let m = first-of (r .before) in
-    let p = begun m in
-    let s = start p in
-    let a = s .args in
-    let l = last-small (a .form) (a .text .now) (a .n) (a .file .now) (a .list .now)
-    (s .pre .1 .0 .0) (s .pre .1 .0 .1) (s .pre .1 .1) _ (made p) _ _ _ (m .mend-block .ensures) _ _ _ (r .mend-rows .ensures) (s .pre .0 .0) in
-    omega arith
+mul-list c = omega (arith, left (c .before) .small)
 
 slice-write-list : tie.Need-slice-write-list
-slice-write-list c =
-    let r = rows-of (c .before) in
-    let m = first-of (r .before) in
-    let p = begun m in
-    let s = start p in
-    let a = s .args in
-    last-fits (a .form) (a .text .now) (a .n) (a .file .now) (a .list .now)
-    (s .pre .1 .0 .0) (s .pre .1 .0 .1) (s .pre .1 .1) _ (made p) _ _ _ (m .mend-block .ensures) _ _ _ (r .mend-rows .ensures) (longer c)
+slice-write-list c = left (c .before) .fits (longer c)
 
 same-length : tie.Need-same-length
 same-length c = search needs
@@ -107,26 +105,12 @@ same-length c = search needs
 same-length-2 : tie.Need-same-length-2
 same-length-2 c =
     let r = rows-of (c .before) in
-    let m = first-of (r .before) in
-    let p = begun m in
-    let s = start p in
-    let a = s .args in
-    length-set (r .mend-rows .last .1 .1 .1 .1 .0) _ _
-    ∙ list-two-size (a .form) (a .text .now) (a .n) (a .file .now) (a .list .now)
-    (s .pre .1 .0 .0) (s .pre .1 .0 .1) (s .pre .1 .1) _ (made p) _ _ _ (m .mend-block .ensures) _ _ _ (r .mend-rows .ensures) (longer c)
+    length-set (r .mend-rows .last .1 .1 .1 .1 .0) _ _ ∙ left (c .before) .same-size (longer c)
 
 returns : tie.Need-returns
 returns c =
-    let r = rows-of (c .before) in
-    let m = first-of (r .before) in
-    let p = begun m in
-    let s = start p in
-    let a = s .args in
-    let done = file-done (a .form) (a .text .now) (a .n) (a .file .now) (a .list .now)
-    (s .pre .1 .0 .0) (s .pre .1 .0 .1) (s .pre .1 .1) _ (made p) _ _ _ (m .mend-block .ensures) _ _ _ (r .mend-rows .ensures) in
-    let told = list-tail (a .form) (a .text .now) (a .n) (a .file .now) (a .list .now)
-    (s .pre .1 .0 .0) (s .pre .1 .0 .1) (s .pre .1 .1) _ (made p) _ _ _ (m .mend-block .ensures) _ _ _ (r .mend-rows .ensures) (longer c) in
-    (done, told _ (ap (λ (x : ℕ). x / 512) (size (c .before))))
+    let w = left (c .before) in
+    (w .file, w .tail (longer c) _ (ap (λ (x : ℕ). x / 512) (size (c .before))))
 
 same-length-3 : tie.Need-same-length-3
 same-length-3 c = search needs
@@ -136,17 +120,9 @@ same-length-4 c = search needs
 
 returns-2 : tie.Need-returns-2
 returns-2 c =
-    let r = rows-of (c .before) in
-    let m = first-of (r .before) in
-    let p = begun m in
-    let s = start p in
-    let a = s .args in
+    let w = left (c .before) in
     let z = size (c .before) in
-    let done = file-done (a .form) (a .text .now) (a .n) (a .file .now) (a .list .now)
-    (s .pre .1 .0 .0) (s .pre .1 .0 .1) (s .pre .1 .1) _ (made p) _ _ _ (m .mend-block .ensures) _ _ _ (r .mend-rows .ensures) in
-    let told = list-done (a .form) (a .text .now) (a .n) (a .file .now) (a .list .now)
-    (s .pre .1 .0 .0) (s .pre .1 .0 .1) (s .pre .1 .1) _ (made p) _ _ _ (m .mend-block .ensures) _ _ _ (r .mend-rows .ensures) in
-    (done, told (omega arith))
+    (w .file, w .all (omega arith))
 
 pub mend-blocks-spec : {M : Type 1} → statement M
 mend-blocks-spec =

@@ -31,7 +31,8 @@ returns : tie.Need-returns
 returns c =
     let p = no-rows c in
     let a = start p .args in
-    mended-none (a .form) (a .text .now) (a .spot .at) (a .k) (p .fresh-part .ensures .0) (a .n) (a .listed) (a .file .now) (a .list .now) (c .if1 .taken)
+    mended-none (a .form) (a .text .now) (a .spot .at) (a .k) (p .fresh-part .ensures .0)
+    (a .n) (a .listed) (a .file .now) (a .list .now) (c .if1 .taken)
 
 slice-aggregate-mend-block : tie.Need-slice-aggregate-mend-block
 slice-aggregate-mend-block c = search needs

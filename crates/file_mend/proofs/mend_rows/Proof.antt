@@ -8,7 +8,8 @@ use Rattle.file_mend.proofs.mend_rows.Statement.{statement}
 use Rattle.file_mend.proofs.mend_rows.Tie as tie
 
 abbrev Inv-loop : tie.InvT-loop
-Inv-loop form text file₀ n list₀ first spot₀ listed₀ k₀ file list spot listed k = Going form text n file₀ list₀ first file list spot listed k
+Inv-loop form text file₀ n list₀ first spot₀ listed₀ k₀ file list spot listed k =
+    Going form text n file₀ list₀ first file list spot listed k
 
 abbrev μ-loop : tie.MeasureT-loop
 μ-loop form text file₀ n list₀ first spot₀ listed₀ k₀ file list spot listed k = length text - spot .at
@@ -36,16 +37,14 @@ begin-requires c κs = search needs
 loop-holds : tie.Need-loop-holds Inv-loop μ-loop
 loop-holds c =
     let s = c .before .before .before .before in
-    let a = s .args in
     let b = c .begin in
-    going-start (a .form) (a .text .now) (a .n) (a .file .now) (a .list .now) (a .first) (s .pre) (b .result) (b .ensures .0) (b .ensures .1)
+    going-start (s .pre) (b .result) (b .ensures .0) (b .ensures .1)
 
 mend-part-requires : tie.Need-mend-part-requires Inv-loop μ-loop
 mend-part-requires c κs =
     let l = lent c in
     let s = start l in
-    let a = s .args in
-    (l .loop .inv .begun, going-fits (a .form) (a .text .now) (a .n) (a .file .now) (a .list .now) (a .first) (s .pre) (l .loop .inv))
+    (l .loop .inv .begun, going-fits (s .pre) (l .loop .inv))
 
 enum-known-next : tie.Need-enum-known-next Inv-loop μ-loop
 enum-known-next c = search needs
@@ -58,32 +57,27 @@ same-length c =
     let m = mended-over c in
     let l = loop-of m in
     let s = start l in
-    let a = s .args in
-    memory-size (a .form) (a .text .now) (a .n) (a .file .now) (a .list .now) (a .first) (s .pre) (l .loop .inv) (m .mend-part .result) (m .mend-part .ensures)
+    memory-size (s .pre) (l .loop .inv) (m .mend-part .result) (m .mend-part .ensures)
 
 same-length-2 : tie.Need-same-length-2 Inv-loop μ-loop
 same-length-2 c =
     let m = mended-over c in
     let l = loop-of m in
     let s = start l in
-    let a = s .args in
-    list-size (a .form) (a .text .now) (a .n) (a .file .now) (a .list .now) (a .first) (s .pre) (l .loop .inv) (m .mend-part .result) (m .mend-part .ensures)
+    list-size (s .pre) (l .loop .inv) (m .mend-part .result) (m .mend-part .ensures)
 
 returns : tie.Need-returns Inv-loop μ-loop
 returns c =
     let m = mended-over c in
     let l = loop-of m in
     let s = start l in
-    let a = s .args in
-    going-over (a .form) (a .text .now) (a .n) (a .file .now) (a .list .now) (a .first) (s .pre) (l .loop .inv) (m .mend-part .result) (m .mend-part .ensures)
-    _ (c .enum-told .given .1)
+    going-over (s .pre) (l .loop .inv) (m .mend-part .result) (m .mend-part .ensures) _ (c .enum-told .given .1)
 
 add-k : tie.Need-add-k Inv-loop μ-loop
 add-k c =
     let l = loop-of (mended-on c) in
     let s = start l in
-    let a = s .args in
-    omega (arith, k-small (a .form) (a .text .now) (a .n) (a .file .now) (a .list .now) (a .first) (s .pre) (l .loop .inv))
+    omega (arith, k-small (s .pre) (l .loop .inv))
 
 loop-less : tie.Need-loop-less Inv-loop μ-loop
 loop-less c =
@@ -96,9 +90,7 @@ loop-again c =
     let m = mended-on c in
     let l = loop-of m in
     let s = start l in
-    let a = s .args in
-    going-on (a .form) (a .text .now) (a .n) (a .file .now) (a .list .now) (a .first) (s .pre) (l .loop .inv) (m .mend-part .result) (m .mend-part .ensures)
-    _ (c .before .next .given .1)
+    going-on (s .pre) (l .loop .inv) (m .mend-part .result) (m .mend-part .ensures) _ (c .before .next .given .1)
 
 pub mend-rows-spec : {M : Type 1} → statement M
 mend-rows-spec =

@@ -17,7 +17,8 @@ use Rattle.mend_rules.specs.declared.Mended.the-variants as mended
 use Rattle.mend_rules.specs.Mend.{freshTable, freshFile, listed}
 use Rattle.theory_mend.proofs.Mended.{MendOf}
 use Rattle.theory_mend.proofs.Ways.{told-many, told-small}
-use Rattle.file_mend.proofs.Told.{length-is, length-small, listed-small, shown-all, small-says, room-says, known, refused, blocks, nothing}
+use Rattle.file_mend.proofs.Told.{length-is, length-small, listed-small, shown-all, small-says, room-says}
+use Rattle.file_mend.proofs.Told.{known, refused, blocks, nothing}
 use Rattle.file_mend.proofs.mend_text.Statement.{statement}
 use Rattle.file_mend.proofs.mend_text.Tie as tie
 
@@ -90,7 +91,8 @@ small c =
     omega (arith, size c, length-small (s .args .form) (s .args .text .now) (s .pre))
 
 mends : (c : tie.Else3) → let v = surveyed (at-length c) in let a = start v .args in
-    MendOf (a .text .now) (numberOf (a .form)) (a .file .now) (a .n) (a .list .now) (at-length c .length-for .result) (v .survey .result .listed)
+    MendOf (a .text .now) (numberOf (a .form)) (a .file .now) (a .n) (a .list .now)
+    (at-length c .length-for .result) (v .survey .result .listed)
 mends c =
     let l = at-length c in
     let v = surveyed l in
@@ -150,7 +152,8 @@ returns-2 c =
     let s = start v in
     let a = s .args in
     let e = small-says (a .form) (a .text .now) (a .file .now) (a .n) (a .list .now) _ _ (size l) (found v) (b .if3 .taken) in
-    let t = told-small (a .text .now) (numberOf (a .form)) (a .file .now) (a .n) (a .list .now) (known (a .form)) (s .pre) (few (l .before)) e in
+    let t = told-small (a .text .now) (numberOf (a .form)) (a .file .now) (a .n) (a .list .now)
+    (known (a .form)) (s .pre) (few (l .before)) e in
     refused (a .text .now) (numberOf (a .form)) (a .file .now) (a .n) (a .list .now) _ _
     (t ∙ ap (λ (p : Cursor). mended.Refused (fault.Outer NoRowRoom) p) (sym (c .start2 .ensures)))
 

@@ -31,8 +31,8 @@ small c =
     let r = rows p in
     let s = start r in
     let h = r .survey-rows .ensures in
-    survey-few (s .args .form) (s .args .text .now) (s .args .file .now) (r .survey-rows .result .table) _ _ _ (h .table-is) (p .put-said .ensures)
-    (h .listed-is) (c .count-block .ensures) (s .pre)
+    survey-few (s .args .form) (s .args .text .now) (s .args .file .now) (r .survey-rows .result .table) _ _ _ (h .table-is)
+    (p .put-said .ensures) (h .listed-is) (c .count-block .ensures) (s .pre)
 
 -- the length that was computed
 size : (c : tie.After-length-for) → let a = start (rows (said (counted c))) .args in
