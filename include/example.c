@@ -166,6 +166,21 @@ static void open_characters(void) {
     print_rows();
 }
 
+/* A file moved to the second form, read beside its text, and mended where it is damaged. */
+static void move_and_mend(const uint8_t *file, size_t length) {
+    static uint8_t moved[SH_SHORT_FILE_ROOM(9)];
+    static uint32_t rows[9 * SH_ROW_WORDS];
+    uint32_t told[SH_WORDS], blocks[1];
+    spoonharbor_move(opened->text, opened->length, file, length, SH_FORM_SHORT, moved, sizeof moved, told);
+    printf("moved: %" PRIu32 " blocks, %" PRIu32 " bytes\n", told[SH_COUNT], told[SH_LENGTH]);
+    uint32_t size = told[SH_LENGTH];
+    spoonharbor_load_beside(opened->text, opened->length, moved, size, rows, 9 * SH_ROW_WORDS, told);
+    printf("loaded beside the text: %" PRIu32 " rows, number %" PRIu32 "\n", told[SH_COUNT], told[SH_NUMBER]);
+    moved[600] ^= 1;
+    spoonharbor_mend(opened->text, opened->length, SH_FORM_SHORT, moved, sizeof moved, size, blocks, 1, told);
+    printf("mended: %" PRIu32 " of %" PRIu32 " bytes, block %" PRIu32 "\n", told[SH_COUNT], told[SH_LENGTH], blocks[0]);
+}
+
 /* The table as a file, read back, and with one of its bytes changed. */
 static void store_and_load(void) {
     static uint8_t file[SH_FILE_ROOM(9)];
@@ -175,6 +190,7 @@ static void store_and_load(void) {
     printf("stored: %" PRIu32 " blocks, %" PRIu32 " bytes\n", stored[SH_COUNT], stored[SH_LENGTH]);
     spoonharbor_load(file, stored[SH_LENGTH], rows, 9 * SH_ROW_WORDS, loaded);
     printf("loaded: %" PRIu32 " rows, number %" PRIu32 "\n", loaded[SH_COUNT], loaded[SH_NUMBER]);
+    move_and_mend(file, stored[SH_LENGTH]);
     file[600] ^= 1;
     spoonharbor_load(file, stored[SH_LENGTH], rows, 9 * SH_ROW_WORDS, loaded);
     printf("changed: %" PRIu32 " in block %" PRIu32 "\n", loaded[SH_NUMBER], loaded[SH_FIRST]);

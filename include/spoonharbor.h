@@ -15,8 +15,8 @@
  * a caret counts characters for itself. Rows of a scanned text start and end between characters; so does the restart place of an edit.
  * A table that no text has may be well formed and have rows that cut one: what such a row spells are bytes.
  *
- * An answer is eight words, always all written. A table (what stands beside rows) is lent in the words in which a scan, a change or an edit
- * told it, so keep them as they are.
+ * An answer is eight words, always all written. A table (what stands beside rows) is lent in the words in which a scan, a change, an edit or
+ * the reading of a file told it, so keep them as they are.
  *
  * Room. A text of n bytes has at most n + 1 rows, since every row but the text's end has a byte: SH_ROW_ROOM(n) words hold them. A tree has
  * at most as many nodes as the text has rows: SH_NODE_ROOM(rows) words suffice, and a parse asks for them.
@@ -36,7 +36,7 @@ extern "C" {
 
 /* This header's version, a byte for each part. `spoonharbor_version()` tells the archive's: hold them together once at the start. */
 #define SPOONHARBOR_VERSION_MAJOR 0
-#define SPOONHARBOR_VERSION_MINOR 7
+#define SPOONHARBOR_VERSION_MINOR 9
 #define SPOONHARBOR_VERSION_PATCH 0
 #define SPOONHARBOR_VERSION (SPOONHARBOR_VERSION_MAJOR * 65536u + SPOONHARBOR_VERSION_MINOR * 256u + SPOONHARBOR_VERSION_PATCH)
 
@@ -52,9 +52,9 @@ enum sh_answer_word {
     SH_FIRST = 4,  /* refusals that tell kinds: those of 0 to 31; SH_REFUSED_MAP_LACKS: the field; SH_FILE_BAD_BLOCK: the block;
                     * spelling: start; sets: the number */
     SH_SECOND = 5, /* refusals that tell kinds: those of 32 to 52; spelling: end */
-    SH_COUNT = 6,  /* rows, nodes or blocks written */
-    SH_LENGTH = 7, /* scan, change, edit, load: the text's length; 0 where refused below 11 or from 40 on; store: the file's length;
-                    * SH_REFUSED_WANTED: the kind that was found */
+    SH_COUNT = 6,  /* rows, nodes or blocks written; mend: blocks listed */
+    SH_LENGTH = 7, /* scan, change, edit, load: the text's length; 0 where refused below 11 or from 40 on; store, move, mend: the file's
+                    * length; SH_REFUSED_WANTED: the kind that was found */
     SH_WORDS = 8
 };
 
@@ -236,7 +236,7 @@ enum sh_method {
     SH_METHOD_PROBE_READ_KERNEL_STR = 15
 };
 
-/* Refusal numbers: 1 to 7 of the call, 11 to 17 of the scan, 21 to 32 of the parse; 40 to 44 are below. A later version may have more. */
+/* Refusal numbers: 1 to 7 of the call, 11 to 17 of the scan, 21 to 32 of the parse; 40 to 45 are below. A later version may have more. */
 enum sh_refusal {
     SH_REFUSED_TEXT_TOO_LONG = 1,     /* over SH_LONGEST_TEXT bytes */
     SH_REFUSED_BAD_BYTE = 2,          /* no valid UTF-8: its place is where the first character starts that is broken or cut by the end */
@@ -276,13 +276,19 @@ enum sh_file_refusal {
     SH_FILE_BAD_BLOCK = 41,     /* check, number, row count or filler is wrong of the block that SH_FIRST tells; blocks count from 0 */
     SH_FILE_WRONG_LENGTH = 42,  /* under 512 bytes, or not as block 0 says */
     SH_FILE_NO_TABLE = 43,      /* sound blocks, and no table that can be stored */
-    SH_FILE_OTHER_FORM = 44     /* block 0 says another form than 1 */
+    SH_FILE_OTHER_FORM = 44,    /* block 0 says another form than 1, and where the text is lent than 1 and 2; or such a form is asked for */
+    SH_FILE_OTHER_TEXT = 45     /* the text's length, or a line or column, does not agree with the text */
 };
 
 enum { SH_MOST_STORED_ROWS = 65535 };
 
-/* How many bytes the file of so many rows has. */
+/* The forms of a file. In the second a row has neither line nor column, which follow from the text, and so takes three quarters of the
+ * bytes. */
+enum sh_form { SH_FORM_FULL = 1, SH_FORM_SHORT = 2 };
+
+/* How many bytes the file of so many rows has, in each form. */
 #define SH_FILE_ROOM(rows) (512 * (1 + ((size_t)(rows) + 14) / 15))
+#define SH_SHORT_FILE_ROOM(rows) (512 * (1 + ((size_t)(rows) + 20) / 21))
 
 /* The field that a map lacks. */
 enum sh_map_field {
@@ -345,6 +351,29 @@ void spoonharbor_store(const uint32_t *rows, size_t row_words, const uint32_t ta
  * length which is not its own is taken by every call, and only a scan tells. Refusals in this order: 42 (under 512 bytes), 41 of block 0,
  * 44, 42, 41 of the first other bad block, 43, 4; they leave the rows untouched. */
 void spoonharbor_load(const uint8_t *file, size_t file_length, uint32_t *rows, size_t row_words, uint32_t answer[SH_WORDS]);
+
+/* Read a file of either form beside its text, from which lines and columns follow; else as `spoonharbor_load`. A file that agrees with the
+ * text in its length and, in the first form, in each line and column is taken; only a scan tells whether it is the text's own. Refusals in
+ * this order: 42 (under 512 bytes), 41 of block 0, 44, 42, 41 of the first other bad block, 43, 4, 45; they leave the rows untouched. The
+ * text itself is not judged: one that is too long agrees with no file. */
+void spoonharbor_load_beside(const uint8_t *text, size_t text_length, const uint8_t *file, size_t file_length, uint32_t *rows,
+                             size_t row_words, uint32_t answer[SH_WORDS]);
+
+/* Move a file to a form, beside its text: SH_LENGTH bytes from the front of `moved`, SH_COUNT blocks. There and back gives the same bytes,
+ * and so does a move to the form that the file has. SH_FILE_ROOM or SH_SHORT_FILE_ROOM of the row count suffices. Refusals in this order: 44
+ * (the form asked for), then as `spoonharbor_load_beside`; they leave `moved` untouched. */
+void spoonharbor_move(const uint8_t *text, size_t text_length, const uint8_t *file, size_t file_length, uint32_t form, uint8_t *moved,
+                      size_t moved_room, uint32_t answer[SH_WORDS]);
+
+/* Mend a file in place: the first `file_length` bytes of `file` become the file that a scan of the text gives in the form asked for,
+ * SH_LENGTH bytes of it. The numbers of the SH_COUNT blocks that differed from that stand in `blocks` then, from the lowest on: damaged,
+ * cut and missing ones, and last, if the file was longer, the first block of what is too much, whose bytes stay behind SH_LENGTH. Nothing is
+ * written over a block that was right. An empty file is written whole. What the file says of itself plays no part, so a file of the other
+ * form is written anew. The list needs room for what is listed, at most SH_LENGTH / 512 + 1. Refusals in this order: 44, 1, 2 (as a scan), 40,
+ * 4 (file or list, or `file_length` is above `file_room`); they leave file and list untouched. The text is read twice where a block differed,
+ * else once, and no rows are kept. */
+void spoonharbor_mend(const uint8_t *text, size_t text_length, uint32_t form, uint8_t *file, size_t file_room, size_t file_length,
+                      uint32_t *blocks, size_t block_words, uint32_t answer[SH_WORDS]);
 
 /* SH_FIRST is 1 if a program kind (0 to 10) allows a context method (0 to 15), else 0. Refusal 3. */
 void spoonharbor_allows(uint32_t kind, uint32_t method, uint32_t answer[SH_WORDS]);

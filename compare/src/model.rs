@@ -5,6 +5,7 @@
 
 pub mod edit;
 pub mod file;
+pub mod forms;
 pub mod lex;
 pub mod parse;
 pub mod scan;

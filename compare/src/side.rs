@@ -7,6 +7,7 @@ pub mod chains;
 pub mod edit;
 pub mod files;
 pub mod fitting;
+pub mod forms;
 pub mod parse;
 pub mod scan;
 pub mod tables;

@@ -2,6 +2,7 @@
 
 mod check;
 mod columns;
+mod mended;
 mod message;
 mod output;
 mod rows;
@@ -12,7 +13,7 @@ mod verb;
 
 use output::Output;
 use source::{Source, Trouble};
-use spoonharbor::{lent, Document, Refusal, VERSION};
+use spoonharbor::{lent, Document, Form, Refusal, LONGEST_TEXT, VERSION};
 use std::ffi::{OsStr, OsString};
 use std::io::{self, Write};
 use std::process::ExitCode;
@@ -45,12 +46,22 @@ enum Asked {
     Misused(String),
 }
 
-/// A verb, the files that it is done with, the file that `-o` names to be written, and whether `--style` asks for style.
+/// A verb, the files that it is done with, and its options.
 struct Task {
     verb: Verb,
     files: Vec<OsString>,
+    options: Options,
+}
+
+/// The file that `-o` names to be written, the text that `--text` names, the form that `--form` asks for, whether `--style` asks for style,
+/// and whether with `--check` something is only told.
+#[derive(Default)]
+pub struct Options {
     output: Option<OsString>,
+    text: Option<OsString>,
+    form: Option<Form>,
     with_style: bool,
+    only_told: bool,
 }
 
 /// Runs the command and gives back its exit status.
@@ -89,29 +100,47 @@ fn asked(arguments: &[OsString]) -> Asked {
 /// Reads a verb's arguments. What stands behind `--` is a file, whatever it begins with.
 fn asked_of(verb: Verb, arguments: &[OsString]) -> Asked {
     let mut files = Vec::new();
-    let mut output = None;
-    let mut with_style = false;
+    let mut options = Options::default();
     let mut rest = arguments.iter();
     while let Some(argument) = rest.next() {
-        match argument.to_str() {
+        let option = argument.to_str().filter(|option| verb.takes(option));
+        match option.or(argument.to_str()) {
             Some("--") => files.extend(rest.by_ref().cloned()),
             Some("--help" | "-h") => return Asked::Help(verb.usage()),
             Some("--version" | "-V") => return Asked::Version,
-            Some("-o") if verb == Verb::Store => output = rest.next().cloned(),
-            Some("--style") if verb == Verb::Check => with_style = true,
+            Some("-o") if option.is_some() => options.output = rest.next().cloned(),
+            Some("--text") if option.is_some() => options.text = rest.next().cloned(),
+            Some("--style") if option.is_some() => options.with_style = true,
+            Some("--check") if option.is_some() => options.only_told = true,
+            Some("--form") if option.is_some() => {
+                match rest.next().and_then(|form| form_of(form)) {
+                    Some(form) => options.form = Some(form),
+                    None => {
+                        return Asked::Misused(format!(
+                            "{}: behind --form 1 or 2 is wanted",
+                            verb.name()
+                        ))
+                    }
+                }
+            }
             _ if is_option(argument) => return Asked::Misused(unknown_option(argument)),
             _ => files.push(argument.clone()),
         }
     }
-    match verb.lacks(files.len(), output.as_deref()) {
+    match verb.lacks(files.len(), &options) {
         Some(lack) => Asked::Misused(format!("{}: {lack}", verb.name())),
         None => Asked::Run(Task {
             verb,
             files,
-            output,
-            with_style,
+            options,
         }),
     }
+}
+
+/// The form that an argument names.
+fn form_of(argument: &OsStr) -> Option<Form> {
+    let number = argument.to_str()?.parse().ok()?;
+    Form::from_number(number)
 }
 
 /// Whether an argument is an option; `-` is a file.
@@ -156,22 +185,37 @@ fn answered(asked: Asked, out: &mut impl Write) -> io::Result<Outcome> {
 
 /// Does a task with one of its files.
 fn done(task: &Task, file: &OsStr, out: &mut impl Write) -> io::Result<Outcome> {
-    let source = match Source::read(file, task.verb.most_bytes()) {
-        Ok(source) => source,
+    let Options {
+        output,
+        text,
+        form,
+        with_style,
+        only_told,
+    } = &task.options;
+    let read = Source::read(file, task.verb.most_bytes()).and_then(|source| {
+        let text = text.as_deref().map(|text| Source::read(text, LONGEST_TEXT));
+        Ok((source, text.transpose()?))
+    });
+    let (source, text) = match read {
+        Ok(read) => read,
         Err(trouble) => return troubled(&trouble, out),
     };
-    match task.verb {
-        Verb::Check => check::check(&source, task.with_style, out),
-        Verb::Rows => shown(&source, out, rows::print),
-        Verb::Tree => shown(&source, out, tree::print),
-        Verb::Load => stored::load(&source, out),
-        Verb::Store => {
-            let output = task.output.as_deref().unwrap_or_default();
-            match stored::store(&source, file, output, out)? {
-                Ok(outcome) => Ok(outcome),
-                Err(trouble) => troubled(&trouble, out),
-            }
+    let output = output.as_deref().unwrap_or_default();
+    let written = match (task.verb, &text) {
+        (Verb::Check, _) => Ok(check::check(&source, *with_style, out)?),
+        (Verb::Rows, _) => Ok(shown(&source, out, rows::print)?),
+        (Verb::Tree, _) => Ok(shown(&source, out, tree::print)?),
+        (Verb::Load, text) => Ok(stored::load(&source, text.as_ref(), out)?),
+        (Verb::Store, _) => stored::store(&source, file, output, out)?,
+        (Verb::Move, Some(text)) => {
+            mended::move_to(&source, text, form.unwrap_or(Form::Full), output, out)?
         }
+        (Verb::Mend, Some(text)) => mended::mend(&source, file, text, *form, *only_told, out)?,
+        (Verb::Move | Verb::Mend, None) => Ok(Outcome::Trouble),
+    };
+    match written {
+        Ok(outcome) => Ok(outcome),
+        Err(trouble) => troubled(&trouble, out),
     }
 }
 

@@ -39,7 +39,7 @@ impl Document {
     }
 
     /// Opens a text with the table that was stored for it, and does not read the text again. Refused are a text that is too long (1) or
-    /// not valid UTF-8 (2), as [`Document::open`] refuses it, and a table that the text cannot have ([`Reason::OtherText`]): it is of a
+    /// not valid UTF-8 (2), as [`Document::open`] refuses it, and a table that the text cannot have (45, [`Reason::OtherText`]): it is of a
     /// text of another length, or something in it stands inside a character.
     ///
     /// The table is trusted no further. A table of a text of the same length is taken, as nothing but a reading tells it from the

@@ -90,6 +90,39 @@ extern "C" {
         answer: *mut Words,
     );
 
+    pub fn spoonharbor_load_beside(
+        text: *const u8,
+        text_length: usize,
+        file: *const u8,
+        file_length: usize,
+        rows: *mut u32,
+        row_words: usize,
+        answer: *mut Words,
+    );
+
+    pub fn spoonharbor_move(
+        text: *const u8,
+        text_length: usize,
+        file: *const u8,
+        file_length: usize,
+        form: u32,
+        moved: *mut u8,
+        moved_room: usize,
+        answer: *mut Words,
+    );
+
+    pub fn spoonharbor_mend(
+        text: *const u8,
+        text_length: usize,
+        form: u32,
+        file: *mut u8,
+        file_room: usize,
+        file_length: usize,
+        blocks: *mut u32,
+        block_words: usize,
+        answer: *mut Words,
+    );
+
     pub fn spoonharbor_allows(kind: u32, method: u32, answer: *mut Words);
 
     pub fn spoonharbor_set_size(kind: u32, answer: *mut Words);

@@ -1,7 +1,7 @@
 //! The library's calls over lent slices, as they are: every answer is eight words in the layout below.
 //!
 //! Every call answers for every argument, so nothing here can go wrong but what the answer says. Lengths travel with the
-//! slices; a table is lent in the words in which [`scan`], [`change`], [`edit`] or [`load`] told it.
+//! slices; a table is lent in the words in which [`scan`], [`change`], [`edit`], [`load`] or [`load_beside`] told it.
 
 use crate::ffi;
 
@@ -21,10 +21,10 @@ pub const COLUMN: usize = 3;
 pub const FIRST: usize = 4;
 /// Of 21, 22, 23, 25 and 30 the kinds from 32 on that would have fitted, bit 0 for kind 32; or a spelling's end.
 pub const SECOND: usize = 5;
-/// How many rows, nodes or blocks were written.
+/// How many rows, nodes or blocks were written, or how many blocks listed.
 pub const COUNT: usize = 6;
-/// The text's length, of a store the file's, of a parse that is refused with 21 the kind that was found; 0 where a call that tells a length
-/// is refused and told no table.
+/// The text's length, of a store, a move and a mending the file's, of a parse that is refused with 21 the kind that was found; 0 where a
+/// call that tells a length is refused and told no table.
 pub const LENGTH: usize = 7;
 
 /// The words of a row: kind, start, end, line, column, value low, value high, comments in the gap before it.
@@ -211,6 +211,68 @@ pub fn load(file: &[u8], rows: &mut [u32]) -> Words {
             file.len(),
             rows.as_mut_ptr(),
             rows.len(),
+            &mut answer,
+        );
+    }
+    answer
+}
+
+/// Reads a file of either form beside its text; else as [`load`]. Refusals in this order: those of [`load`] up to 4, then 45; they leave the
+/// rows untouched. The text itself is not judged.
+pub fn load_beside(text: &[u8], file: &[u8], rows: &mut [u32]) -> Words {
+    let mut answer = [0; 8];
+    // SAFETY: `text` and `file` are lent for reading, `rows` and `answer` for writing, with their own lengths.
+    unsafe {
+        ffi::spoonharbor_load_beside(
+            text.as_ptr(),
+            text.len(),
+            file.as_ptr(),
+            file.len(),
+            rows.as_mut_ptr(),
+            rows.len(),
+            &mut answer,
+        );
+    }
+    answer
+}
+
+/// Moves a file to the form of a number, beside its text: at [`LENGTH`] how many bytes of `moved` are written, at [`COUNT`] how many
+/// blocks. Refusals in this order: 44 of the form asked for, then those of [`load_beside`]; they leave `moved` untouched.
+pub fn move_file(text: &[u8], file: &[u8], form: u32, moved: &mut [u8]) -> Words {
+    let mut answer = [0; 8];
+    // SAFETY: `text` and `file` are lent for reading, `moved` and `answer` for writing, with their own lengths.
+    unsafe {
+        ffi::spoonharbor_move(
+            text.as_ptr(),
+            text.len(),
+            file.as_ptr(),
+            file.len(),
+            form,
+            moved.as_mut_ptr(),
+            moved.len(),
+            &mut answer,
+        );
+    }
+    answer
+}
+
+/// Mends a file, the first `length` bytes of `file`, to what a scan of the text gives in the form of a number: at [`LENGTH`] how long it is
+/// then, at [`COUNT`] how many blocks differed, whose numbers stand in `blocks`. Refusals in this order: 44, 1, 2, 40, 4; they leave file
+/// and list untouched.
+pub fn mend(text: &[u8], form: u32, file: &mut [u8], length: usize, blocks: &mut [u32]) -> Words {
+    let mut answer = [0; 8];
+    // SAFETY: `text` is lent for reading, `file`, `blocks` and `answer` for writing, with their own lengths; a `length` above that of
+    // `file` is refused.
+    unsafe {
+        ffi::spoonharbor_mend(
+            text.as_ptr(),
+            text.len(),
+            form,
+            file.as_mut_ptr(),
+            file.len(),
+            length,
+            blocks.as_mut_ptr(),
+            blocks.len(),
             &mut answer,
         );
     }

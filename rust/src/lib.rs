@@ -29,11 +29,27 @@
 //! # Ok::<(), spoonharbor::Refusal>(())
 //! ```
 //!
+//! With the text at hand a file is kept shorter, without lines and columns, and a damaged one is mended.
+//!
+//! ```
+//! use spoonharbor::{mend_file, move_file, Document, Form, Table};
+//!
+//! let text = "unit u{ x = 1; }";
+//! let full = Document::open(text)?.table().store()?;
+//! let mut short = move_file(text.as_bytes(), &full, Form::Short)?;
+//! assert_eq!(move_file(text.as_bytes(), &short, Form::Full)?, full);
+//! short[600] ^= 1;
+//! assert_eq!(mend_file(text.as_bytes(), &mut short, Form::Short)?, [1]);
+//! assert_eq!(Table::load_beside(text.as_bytes(), &short)?, Table::load(&full)?);
+//! # Ok::<(), spoonharbor::Refusal>(())
+//! ```
+//!
 //! [`lent`] has the library's calls themselves, over slices, for those who keep their own memory: a table there may be anyone's, so what
 //! its rows spell are bytes.
 
 mod document;
 mod ffi;
+mod file;
 mod kind;
 mod kind_set;
 pub mod lent;
@@ -44,6 +60,7 @@ mod table;
 mod tree;
 
 pub use document::Document;
+pub use file::{mend_file, move_file, Form};
 pub use kind::Kind;
 pub use kind_set::{KindSet, Kinds};
 pub use refusal::{MapField, Place, Reason, Refusal};

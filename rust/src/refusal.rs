@@ -33,8 +33,6 @@ pub enum Reason {
     BadByte,
     /// 3: a table, a row or a set number that is not well formed.
     NotWellFormed,
-    /// 3 as well, but told by [`crate::Document::open_with`] alone: a table that the text cannot have.
-    OtherText,
     /// 4: more rows than lent room.
     NoRowRoom,
     /// 5: node room below the row count.
@@ -93,8 +91,10 @@ pub enum Reason {
     WrongLength,
     /// 43: a file whose blocks are sound and hold no table.
     NoTable,
-    /// 44: a file in another form than 1.
+    /// 44: a file in another form than 1, or where the text is at hand than 1 and 2, or such a form asked for.
     OtherForm,
+    /// 45: a stored table that the text cannot have: it is of a text of another length, or lines and columns are not the text's.
+    OtherText,
     /// A number that this version has no name for. The library of this version gives none.
     Other(u32),
 }
@@ -135,7 +135,7 @@ impl Reason {
         match self {
             Reason::TextTooLong => 1,
             Reason::BadByte => 2,
-            Reason::NotWellFormed | Reason::OtherText => 3,
+            Reason::NotWellFormed => 3,
             Reason::NoRowRoom => 4,
             Reason::NoNodeRoom => 5,
             Reason::EditNotSensible | Reason::InsideCharacter => 6,
@@ -164,6 +164,7 @@ impl Reason {
             Reason::WrongLength => 42,
             Reason::NoTable => 43,
             Reason::OtherForm => 44,
+            Reason::OtherText => 45,
             Reason::Other(number) => number,
         }
     }
@@ -187,7 +188,7 @@ impl Reason {
 
     /// Whether it is about a file or about a table as a whole, so that no place in a text is meant.
     fn has_no_place(self) -> bool {
-        self == Reason::OtherText || matches!(self.number(), 40..=44)
+        matches!(self.number(), 40..=45)
     }
 
     /// The reason of an answer whose number is not 0.
@@ -229,6 +230,7 @@ impl Reason {
             42 => Reason::WrongLength,
             43 => Reason::NoTable,
             44 => Reason::OtherForm,
+            45 => Reason::OtherText,
             number => Reason::Other(number),
         }
     }
@@ -327,7 +329,7 @@ impl fmt::Display for Reason {
             }
             Reason::NoTable => out.write_str("its blocks are sound, but they hold no table"),
             Reason::OtherForm => {
-                out.write_str("stored in a form that this version does not read")
+                out.write_str("stored in a form that is not read here")
             }
             Reason::OtherText => out.write_str("the stored table is another text's"),
             Reason::Other(number) => write!(out, "refused with {number}"),

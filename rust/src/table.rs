@@ -1,5 +1,6 @@
 //! A table without its text: rows and how they end, stored as a file and read back.
 
+use crate::file::{most_rows, Form};
 use crate::lent::{self, Words, ROW_WORDS};
 use crate::refusal::Refusal;
 use crate::row::{Row, Rows};
@@ -7,10 +8,6 @@ use std::fmt;
 
 /// The most rows that a file holds.
 pub const MOST_STORED_ROWS: usize = 65_535;
-
-/// The bytes of a file's block, and how many rows one holds.
-const BLOCK: usize = 512;
-const BLOCK_ROWS: usize = 15;
 
 /// The rows of a text and how they end, without the text: what a [`crate::Document`] has beside its text, or what a file holds. Which text
 /// it is the table of is not in it, but for the text's length.
@@ -44,20 +41,30 @@ impl Table {
     }
 
     /// Reads a stored table. The file is judged before any of it is taken: 42 if it is cut short or longer than it says, 41 with the block
-    /// ([`crate::Reason::BadBlock`]) if one is damaged, 44 if it is stored in another form, 43 if its blocks are sound and hold no
+    /// ([`crate::Reason::BadBlock`]) if one is damaged, 44 if it is stored in another form than 1, 43 if its blocks are sound and hold no
     /// table. What is read is the table that was stored; that it is the table of a certain text nobody can tell without the text.
     pub fn load(file: &[u8]) -> Result<Table, Refusal> {
-        let most = (file.len() / BLOCK * BLOCK_ROWS).min(MOST_STORED_ROWS);
-        let mut rows = vec![0; most * ROW_WORDS];
-        let words = lent::load(file, &mut rows);
+        Table::read(file, |rows| lent::load(file, rows))
+    }
+
+    /// Reads a file of either form beside its text. A file of [`Form::Short`] has its lines and columns from there, one of [`Form::Full`] is
+    /// held against them. Refused is what [`Table::load`] refuses, but for a file of form 2, and last a text whose length, lines or columns
+    /// do not agree with the file's (45, [`crate::Reason::OtherText`]). That the table is the text's own only a reading tells.
+    pub fn load_beside(text: &[u8], file: &[u8]) -> Result<Table, Refusal> {
+        Table::read(file, |rows| lent::load_beside(text, file, rows))
+    }
+
+    /// What a reading of a file gives, in room for all rows that it can have.
+    fn read(file: &[u8], load: impl FnOnce(&mut [u32]) -> Words) -> Result<Table, Refusal> {
+        let mut rows = vec![0; most_rows(file.len()) * ROW_WORDS];
+        let words = load(&mut rows);
         rows.truncate(count(&words) * ROW_WORDS);
         Table::told(words, rows)
     }
 
-    /// The file that holds the table; the same table gives the same bytes. A table of over [`MOST_STORED_ROWS`] rows is 40.
+    /// The file of [`Form::Full`] that holds the table; the same table gives the same bytes. A table of over [`MOST_STORED_ROWS`] rows is 40.
     pub fn store(&self) -> Result<Vec<u8>, Refusal> {
-        let rows = count(&self.words).min(MOST_STORED_ROWS);
-        let mut file = vec![0; BLOCK * (1 + rows.div_ceil(BLOCK_ROWS))];
+        let mut file = vec![0; Form::Full.file_length(count(&self.words))];
         let answer = lent::store(self.row_words(), &self.words, &mut file);
         match Refusal::from_words(&answer) {
             Some(refusal) => Err(refusal),

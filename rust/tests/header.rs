@@ -3,8 +3,8 @@
 use compare::model::file::seal;
 use spoonharbor::lent::{self, Change, Words};
 use spoonharbor::{
-    section_kind, Document, FieldType, Kind, MapField, MapType, Method, NodeKind, Operator,
-    ProgramKind, Reason, Refusal, Type, LONGEST_TEXT, MOST_STORED_ROWS, VERSION,
+    mend_file, section_kind, Document, FieldType, Form, Kind, MapField, MapType, Method, NodeKind,
+    Operator, ProgramKind, Reason, Refusal, Type, LONGEST_TEXT, MOST_STORED_ROWS, VERSION,
 };
 use std::collections::{BTreeMap, BTreeSet};
 use std::fmt::Debug;
@@ -248,6 +248,7 @@ fn refused_files() -> Vec<Words> {
         lent::load(&file[..512], &mut []),
         said(8, 0),
         said(4, 2),
+        lent::load_beside(b"xy", &file, &mut [0; 16]),
     ]
 }
 
@@ -262,10 +263,31 @@ fn file_refusals_are_the_librarys() {
         }
         made.insert(in_c(reason), number);
     }
-    assert_eq!(made.len(), 5);
+    assert_eq!(made.len(), 6);
     assert_eq!(enumerated("sh_file_refusal", "SH_FILE_"), made);
     let most = format!("enum {{ SH_MOST_STORED_ROWS = {MOST_STORED_ROWS} }};");
     assert!(code().contains(&most));
+}
+
+/// The forms have the numbers that their files say, and room for so many rows is what a move writes.
+#[test]
+fn forms_are_the_librarys() {
+    let forms = Form::ALL.map(|form| (in_c(form), form.number()));
+    assert_eq!(enumerated("sh_form", "SH_FORM_"), Numbers::from(forms));
+    let rooms = [
+        "#define SH_FILE_ROOM(rows) (512 * (1 + ((size_t)(rows) + 14) / 15))",
+        "#define SH_SHORT_FILE_ROOM(rows) (512 * (1 + ((size_t)(rows) + 20) / 21))",
+    ];
+    assert!(rooms.iter().all(|room| HEADER.contains(room)));
+    for count in [1, 15, 16, 21, 22, 42, 43, 315, 316] {
+        let text = ";".repeat(count - 1);
+        let mut file = Vec::new();
+        for (form, per_block) in [(Form::Full, 15), (Form::Short, 21)] {
+            mend_file(text.as_bytes(), &mut file, form).unwrap();
+            assert_eq!(file.len(), 512 * (1 + count.div_ceil(per_block)));
+            assert_eq!(file[4..8], form.number().to_le_bytes());
+        }
+    }
 }
 
 #[test]
@@ -435,7 +457,7 @@ fn every_call_is_declared() {
         include_str!("../../crates/spoonharbor/src/change.rt"),
     ];
     let exported = names_behind(&sources.concat(), "pub extern \"C\" fn ");
-    assert_eq!(exported.len(), 13);
+    assert_eq!(exported.len(), 16);
     let called = names_behind(include_str!("../src/ffi.rs"), "pub fn ");
     assert_eq!(called, exported);
     let code = code();

@@ -124,9 +124,10 @@ fn each_refusal_of_a_file_has_its_words() {
         (file[..3 * BLOCK].to_vec(), length),
         ([&file[..], b"\n"].concat(), length),
         (probe().into_bytes(), length),
+        (said(4, 3), "stored in a form that is not read here"),
         (
             said(4, 2),
-            "stored in a form that this version does not read",
+            "stored in form 2, which is read beside its text: --text names it",
         ),
         (said(16, 9), "its blocks are sound, but they hold no table"),
         (

@@ -139,7 +139,7 @@ fn a_table_that_the_text_cannot_have_is_refused() {
     let table = Table::load(&file_of(TEXT)).unwrap();
     let other = |text: &str, table: &Table| {
         let refusal = Document::open_with(text, table.clone()).unwrap_err();
-        assert_eq!((refusal.reason, refusal.number()), (Reason::OtherText, 3));
+        assert_eq!((refusal.reason, refusal.number()), (Reason::OtherText, 45));
         assert_eq!(refusal.to_string(), "the stored table is another text's");
     };
     other("", &table);

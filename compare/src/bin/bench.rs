@@ -16,7 +16,7 @@ use compare::generate::probe::{half_greek, probe_text};
 use compare::lexer::Lexer;
 use compare::parser::{parse_program, Parser, Token};
 use spoonharbor::lent::{self, Change, Words};
-use spoonharbor::{Document, Table};
+use spoonharbor::{move_file, Document, Form, Table};
 use std::hint::black_box;
 
 const SEED: u64 = 7;
@@ -60,6 +60,8 @@ fn main() {
         replaced("65,536 newlines", &vec![b'\n'; 64 << 10], rounds);
         stored("probes", &probe_text(PROBE, SEED), rounds);
         stored("dense text", &dense_text(PROBE, SEED), rounds);
+        beside("probes", &probe_text(PROBE, SEED), rounds);
+        beside("dense text", &dense_text(PROBE, SEED), rounds);
         keystrokes(&probe_text(PROBE, SEED), rounds);
         spellings(&probe_text(PROBE, SEED), rounds);
     });
@@ -416,6 +418,89 @@ fn stored(what: &str, text: &[u8], rounds: Rounds) {
     );
     let against = ["own scan", "Document::open"];
     report(&heading, "row", rows.len() / 8, sides, &against, rounds);
+}
+
+/// Files of both forms with their text at hand: read, moved and mended, beside the scan of the text.
+fn beside(what: &str, text: &[u8], rounds: Rounds) {
+    let (rows, table) = scanned(text);
+    let full = Document::open(text)
+        .expect("a probe is taken")
+        .table()
+        .store();
+    let full = full.expect("its table is stored");
+    let short = move_file(text, &full, Form::Short).expect("its file is moved");
+    let count = rows.len() / 8;
+    let heading = format!(
+        "beside the text, {} bytes of {what}, {count} rows, form 1 of {} bytes, form 2 of {}",
+        text.len(),
+        full.len(),
+        short.len()
+    );
+    let memory = || vec![1; full.len()];
+    let mut read = [vec![1; rows.len()], vec![1; rows.len()]];
+    let mut moved = [memory(), memory(), memory(), memory()];
+    let (full, short) = (&full[..], &short[..]);
+    let mut sides = vec![fresh("own scan", text)];
+    for ((name, file), rows) in [("form 1", full), ("form 2", short)]
+        .into_iter()
+        .zip(&mut read)
+    {
+        assert_eq!(
+            lent::load_beside(text, file, rows),
+            table,
+            "the table is read"
+        );
+        sides.push(Side::new(&format!("read beside the text, {name}"), || {
+            black_box(lent::load_beside(text, black_box(file), rows));
+        }));
+    }
+    let moves = [
+        ("1 to 2", full, 2),
+        ("2 to 1", short, 1),
+        ("1 to 1", full, 1),
+        ("2 to 2", short, 2),
+    ];
+    for ((name, file, form), moved) in moves.into_iter().zip(&mut moved) {
+        sides.push(Side::new(&format!("moved, {name}"), move || {
+            black_box(lent::move_file(text, black_box(file), form, moved));
+        }));
+    }
+    for (form, file) in [(1, full), (2, short)] {
+        let mut right = file.to_vec();
+        let mut damaged = file.to_vec();
+        let mut blocks = vec![0; file.len() / 512 + 1];
+        let mut other = blocks.clone();
+        sides.push(Side::new(
+            &format!("mended, form {form}, a right file"),
+            move || {
+                let length = right.len();
+                black_box(lent::mend(
+                    text,
+                    form,
+                    black_box(&mut right),
+                    length,
+                    &mut blocks,
+                ));
+            },
+        ));
+        sides.push(Side::new(
+            &format!("mended, form {form}, three blocks damaged"),
+            move || {
+                let length = damaged.len();
+                for block in [0, length / 1024, length / 512 - 1] {
+                    damaged[512 * block + 9] ^= 1;
+                }
+                black_box(lent::mend(
+                    text,
+                    form,
+                    black_box(&mut damaged),
+                    length,
+                    &mut other,
+                ));
+            },
+        ));
+    }
+    report(&heading, "row", count, sides, &["own scan"], rounds);
 }
 
 /// A thousand bytes typed one after the other into a document.

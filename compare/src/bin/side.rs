@@ -2,7 +2,7 @@
 //! often; stops at the first difference with status 1.
 
 use compare::deep::on_deep_stack;
-use compare::side::{chains, edit, files, fitting, parse, scan, tables, Compared};
+use compare::side::{chains, edit, files, fitting, forms, parse, scan, tables, Compared};
 use std::process::ExitCode;
 use std::time::Instant;
 
@@ -16,11 +16,12 @@ usage: side scan [TEXTS [SEED]]      rows, values, refusals, every lent word, of
        side chains [EDITS [SEED]]    edits one after the other on documents of up to 60,000 bytes
        side tables [TABLES [SEED]]   tables with words changed, sets, sections
        side files [TABLES [SEED]]    tables stored and read back, of files that are sound and damaged
+       side forms [TEXTS [SEED]]     files of both forms, sound and damaged, read beside a text, moved and mended
        side full                     all of them, at length
 ";
 
 /// The counts of a full run.
-const FULL: [(&str, u64); 9] = [
+const FULL: [(&str, u64); 10] = [
     ("scan", 1_000_000),
     ("parse", 1_000_000),
     ("fitting", 100_000),
@@ -30,6 +31,7 @@ const FULL: [(&str, u64); 9] = [
     ("chains", 40_000),
     ("tables", 1_000_000),
     ("files", 1_000_000),
+    ("forms", 1_000_000),
 ];
 
 fn main() -> ExitCode {
@@ -84,6 +86,7 @@ fn run(part: &str, count: u64, seed: u64) -> Compared {
         "parts" => edit::run_parts(count.min(8) as u32),
         "chains" => chains::run(count, seed),
         "files" => files::run(count, seed),
+        "forms" => forms::run(count, seed),
         _ => tables::run(count, seed),
     }
 }

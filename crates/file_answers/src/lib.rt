@@ -6,12 +6,17 @@ use file_rules::Fault;
 use file_rules::Loaded;
 use file_rules::Stored;
 use file_rules::form;
+use form_rules::Apart;
+use form_rules::Beside;
+use form_rules::Moved;
+use mend_rules::Mended;
 use refusals::outer_number;
 use rules::Cursor;
 use rules::Told;
 ghost use mathlib.Core.Path.{_≡_};
 ghost use Rattle.file_rules.specs.Files.{faultNumber, blockTold};
-ghost use Rattle.file_answers.specs.Layout.{faultWords, storedWords, loadedWords};
+ghost use Rattle.form_rules.specs.Forms.{apartNumber, apartBlock};
+ghost use Rattle.file_answers.specs.Layout.{faultWords, storedWords, loadedWords, apartWords, besideWords, movedWords, mendedWords};
 
 // The bytes of a block, in a word.
 const BLOCK: u32 = form::BLOCK as u32;
@@ -83,6 +88,85 @@ pub fn put_loaded(answer: &mut [u32; 8], told: Loaded)
         }
         Loaded::Refused(why) => {
             put_fault(answer, why);
+        }
+    }
+}
+
+// ---- with the text at hand
+
+// The number of a refusal of a call that has the text.
+pub fn apart_number(why: Apart) -> u32
+    ensures { λ r. ⌜ r ≡ apartNumber why ⌝ }
+{
+    match why {
+        Apart::File(x) => fault_number(x),
+        Apart::OtherText => 45,
+    }
+}
+
+// The block that such a refusal tells.
+pub fn apart_block(why: Apart) -> u32
+    ensures { λ r. ⌜ r ≡ apartBlock why ⌝ }
+{
+    match why {
+        Apart::File(x) => block_told(x),
+        Apart::OtherText => 0,
+    }
+}
+
+// A refusal of a call that has the text.
+fn put_apart(answer: &mut [u32; 8], why: Apart)
+    ensures { λ _. ⌜ now (answer .exit) ≡ apartWords why ⌝ }
+{
+    put(
+        answer,
+        apart_number(why),
+        Cursor::start(),
+        apart_block(why),
+        0,
+        0,
+        0,
+    );
+}
+
+// What a reading beside the text tells.
+pub fn put_beside(answer: &mut [u32; 8], told: Beside)
+    ensures { λ _. ⌜ now (answer .exit) ≡ besideWords told ⌝ }
+{
+    match told {
+        Beside::Rows(table) => {
+            put_told(answer, Told::Rows(table));
+        }
+        Beside::Refused(why) => {
+            put_apart(answer, why);
+        }
+    }
+}
+
+// What a move tells.
+pub fn put_moved(answer: &mut [u32; 8], told: Moved)
+    ensures { λ _. ⌜ now (answer .exit) ≡ movedWords told ⌝ }
+{
+    match told {
+        Moved::Bytes(n) => {
+            put(answer, 0, no_place(), 0, 0, n / BLOCK, n);
+        }
+        Moved::Refused(why) => {
+            put_apart(answer, why);
+        }
+    }
+}
+
+// What a mending tells.
+pub fn put_mended(answer: &mut [u32; 8], told: Mended)
+    ensures { λ _. ⌜ now (answer .exit) ≡ mendedWords told ⌝ }
+{
+    match told {
+        Mended::Blocks(n, count) => {
+            put(answer, 0, no_place(), 0, 0, count, n);
+        }
+        Mended::Refused(why, at) => {
+            put(answer, fault_number(why), at, 0, 0, 0, 0);
         }
     }
 }

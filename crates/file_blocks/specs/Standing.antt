@@ -6,15 +6,19 @@ use lib.ListN.{drop}
 use Rattle.rules.specs.Rows.{Row, rowIn, wordsPerRow, isEof, rowFits}
 use Rattle.rows.specs.Shape.{fitsAfter}
 use Rattle.file_rules.specs.Bytes.{wordsIn}
-use Rattle.file_rules.specs.Files.{rowBytes}
+use Rattle.form_rules.specs.declared.Form.{Form}
+use Rattle.form_rules.specs.declared.Form.the-variants.{Full, Short}
+use Rattle.form_rules.specs.Short.{shortWords, placedRow, onOneLine}
+use Rattle.form_rules.specs.Shapes.{rowBytesOf}
 
--- the row whose bytes stand at the front, and the first n rows
-unfoldable pub rowFrom : List ℕ → Row
-rowFrom s = rowIn (wordsIn wordsPerRow s)
+-- the row whose bytes stand at the front, in a form, and the first n rows
+unfoldable pub rowFrom : Form → List ℕ → Row
+rowFrom Full s = rowIn (wordsIn wordsPerRow s)
+rowFrom Short s = rowIn (placedRow onOneLine (wordsIn shortWords s))
 
-unfoldable pub rowsFrom : ℕ → List ℕ → List Row
-rowsFrom zero s = []
-rowsFrom (suc n) s = rowFrom s ∷ rowsFrom n (drop rowBytes s)
+unfoldable pub rowsFrom : Form → ℕ → List ℕ → List Row
+rowsFrom form zero s = []
+rowsFrom form (suc n) s = rowFrom form s ∷ rowsFrom form n (drop (rowBytesOf form) s)
 
 -- a row fits after another, and is not Eof
 unfoldable pub standsOn : Row → Row → Bool

@@ -1,16 +1,22 @@
 // One block of a stored table: its numbers, its check, whether it is sound, its rows, and the writing of it.
 use file_rules::form;
+use form_rules::Form;
+use form_rules::short;
 use rows::shape;
 use rows::shape::Row;
 use rules::kind;
+use rules::limit;
 use rules::row;
 ghost use mathlib.Core.Path.{_≡_};
 ghost use mathlib.Core.List.{_++_};
-ghost use Prim.Native.Nat.{_+_, _-_, _*_, _≤_, max};
+ghost use Prim.Native.Nat.{_+_, _-_, _*_, _≤_, min, max};
 ghost use lib.ListN.{length, take, drop, replicate};
+ghost use Rattle.rules.specs.Text.{mostBytes};
 ghost use Rattle.rows.specs.Shape.{LengthTable, asRow};
 ghost use Rattle.file_rules.specs.Bytes.{little, numberAt, bytesOf, wordsIn};
-ghost use Rattle.file_rules.specs.Blocks.{check, block, zeros, sound};
+ghost use Rattle.file_rules.specs.Blocks.{check, contentOf, block, zeros, sound};
+ghost use Rattle.form_rules.specs.declared.Form.the-variants.{Full, Short};
+ghost use Rattle.form_rules.specs.Shapes.{rowBytesOf};
 ghost use Rattle.file_blocks.specs.Columns.{plus, strip, total, Within, Added};
 ghost use Rattle.file_blocks.specs.Standing.{rowFrom, rowsFrom, stand};
 
@@ -74,7 +80,7 @@ fn put_half(bytes: &mut [u8], at: usize, x: u32)
 }
 
 // A number into four bytes.
-fn put_word(bytes: &mut [u8], at: usize, x: u32)
+pub fn put_word(bytes: &mut [u8], at: usize, x: u32)
     requires { ⌜ at + 4 ≤ length (now bytes) ⌝ }
     ensures { λ _. ⌜ now (bytes .exit) ≡ (take at (now (bytes .entry)) ++ little 4 x) ++ drop (at + 4) (now (bytes .entry)) ⌝ }
 {
@@ -197,7 +203,7 @@ pub fn is_sound(bytes: &[u8], k: u32, n: u32, size: usize) -> bool
 // The row whose bytes start at one.
 fn row_at(bytes: &[u8], at: usize) -> Row
     requires { ⌜ at + 32 ≤ length (now bytes) ⌝ }
-    ensures { λ r. ⌜ asRow r ≡ rowFrom (drop at (now (bytes .entry))) ⌝ }
+    ensures { λ r. ⌜ asRow r ≡ rowFrom Full (drop at (now (bytes .entry))) ⌝ }
 {
     Row {
         kind: word_at(bytes, at),
@@ -211,30 +217,62 @@ fn row_at(bytes: &[u8], at: usize) -> Row
     }
 }
 
-// Row i of a block.
-pub fn row_in(bytes: &[u8], i: usize) -> Row
-    requires { ⌜ 4 + 32 * i + 32 ≤ length (now bytes) ⌝ }
-    ensures { λ r. ⌜ asRow r ≡ rowFrom (drop (4 + 32 * i) (now (bytes .entry))) ⌝ }
+// The column of an offset in a text of one line.
+pub fn column_of(offset: u32) -> u32
+    ensures { λ r. ⌜ r ≡ 1 + min offset mostBytes ⌝ }
 {
-    row_at(bytes, form::CONTENT + form::ROW * i)
+    if limit::MOST_BYTES_U32 < offset {
+        return limit::MOST_BYTES_U32 + 1;
+    }
+    offset + 1
+}
+
+// The row without line and column whose bytes start at one, as it stands in a text of one line.
+fn short_row_at(bytes: &[u8], at: usize) -> Row
+    requires { ⌜ at + 24 ≤ length (now bytes) ⌝ }
+    ensures { λ r. ⌜ asRow r ≡ rowFrom Short (drop at (now (bytes .entry))) ⌝ }
+{
+    let start = word_at(bytes, at + form::WORD * row::START);
+    Row {
+        kind: word_at(bytes, at),
+        start,
+        end: word_at(bytes, at + form::WORD * row::END),
+        line: 1,
+        column: column_of(start),
+        low: word_at(bytes, at + form::WORD * short::LOW),
+        high: word_at(bytes, at + form::WORD * short::HIGH),
+        comments: word_at(bytes, at + form::WORD * short::COMMENTS),
+    }
+}
+
+// Row i of a block of a form.
+pub fn row_in(form: Form, bytes: &[u8], i: usize) -> Row
+    requires { ⌜ 4 + rowBytesOf form * i + rowBytesOf form ≤ length (now bytes) ⌝ }
+    ensures { λ r. ⌜ asRow r ≡ rowFrom form (drop (4 + rowBytesOf form * i) (now (bytes .entry))) ⌝ }
+{
+    match form {
+        Form::Full => row_at(bytes, form::CONTENT + form::ROW * i),
+        Form::Short => short_row_at(bytes, form::CONTENT + short::ROW * i),
+    }
 }
 
 // Whether the first n rows of a block fit behind a row and one behind the other, none of them Eof.
 pub fn rows_stand(
     least: &[u32; kind::KINDS],
     most: &[u32; kind::KINDS],
+    form: Form,
     bytes: &[u8],
     n: usize,
     before: Row,
 ) -> bool
-    requires { ⌜ (4 + 32 * n ≤ length (now bytes)) × LengthTable (now least) (now most) ⌝ }
-    ensures { λ r. ⌜ r ≡ stand (asRow before) (rowsFrom n (drop 4 (now (bytes .entry)))) ⌝ }
+    requires { ⌜ (4 + rowBytesOf form * n ≤ length (now bytes)) × LengthTable (now least) (now most) ⌝ }
+    ensures { λ r. ⌜ r ≡ stand (asRow before) (rowsFrom form n (drop 4 (now (bytes .entry)))) ⌝ }
 {
     let mut last = before;
     let mut good = true;
     let mut i = 0;
     while i < n {
-        let r = row_in(bytes, i);
+        let r = row_in(form, bytes, i);
         if (kind::EOF <= r.kind) | !shape::row_sane(r) {
             return false;
         }
@@ -283,15 +321,23 @@ fn put_filler(bytes: &mut [u8], from: usize)
     }
 }
 
+// A block whose content stands in it already: its numbers, filler and check are written.
+pub fn seal(bytes: &mut [u8], k: u32, n: u32, size: usize)
+    requires { ⌜ (length (now bytes) ≡ 512) × (size ≤ 504) ⌝ }
+    ensures { λ _. ⌜ now (bytes .exit) ≡ block k n (contentOf size (now (bytes .entry))) ⌝ }
+{
+    put_half(bytes, 0, k);
+    put_half(bytes, 2, n);
+    put_filler(bytes, form::CONTENT + size);
+    let sum = check_of(bytes);
+    put_word(bytes, form::CHECKED, sum);
+}
+
 // Block k of n rows, with some words for content.
 pub fn put_block(bytes: &mut [u8], k: u32, n: u32, words: &[u32])
     requires { ⌜ (length (now bytes) ≡ 512) × (4 * length (now words) ≤ 504) ⌝ }
     ensures { λ _. ⌜ now (bytes .exit) ≡ block k n (bytesOf (now (words .entry))) ⌝ }
 {
-    put_half(bytes, 0, k);
-    put_half(bytes, 2, n);
     put_words(bytes, words);
-    put_filler(bytes, form::CONTENT + form::WORD * words.len());
-    let sum = check_of(bytes);
-    put_word(bytes, form::CHECKED, sum);
+    seal(bytes, k, n, form::WORD * words.len());
 }

@@ -12,15 +12,17 @@ use Rattle.rules.specs.Rows.{Row, rowIn, rowsIn}
 use Rattle.file_rules.specs.declared.EndingRead.{EndingRead}
 use Rattle.file_rules.specs.declared.EndingRead.the-variants.{Ends, Nothing}
 use Rattle.file_rules.specs.Blocks.{blocksFor, fileLength}
-use Rattle.file_rules.specs.Files.{rowBytes, reasons, readRefused, countSaid, rowWordsIn, soundIn}
+use Rattle.file_rules.specs.Files.{reasons, readRefused, countSaid}
+use Rattle.form_rules.specs.declared.Form.{Form}
+use Rattle.form_rules.specs.Shapes.{rowBytesOf, rowWordsOf, soundOf}
 use Rattle.file_blocks.specs.Standing.{stand}
 use Rattle.file_load.specs.declared.Blocks.{Blocks}
 use Rattle.file_load.specs.declared.Blocks.the-variants.{Bad, Sound}
 
--- the file is as long as block 0 says, and says so many rows
-pub record Framed (count : ℕ) (file : List ℕ) : Type 0 where
+-- the file is as long as block 0 says, in a form, and says so many rows
+pub record Framed (form : Form) (count : ℕ) (file : List ℕ) : Type 0 where
   pub count-is : count ≡ countSaid file
-  pub whole : length file ≡ fileLength rowBytes count
+  pub whole : length file ≡ fileLength (rowBytesOf form) count
 
 abbrev pub refusedRead : ℕ → Cursor → EndingRead
 refusedRead number p = readRefused reasons number p
@@ -40,12 +42,14 @@ plainRows Nothing count = 0
 plainRows (Ends e) count = plainBy e count
 
 -- the first n rows of a file stand
-unfoldable pub standUpto : ℕ → List ℕ → Bool
-standUpto n file = stand (rowIn []) (rowsIn n (rowWordsIn file))
+unfoldable pub standUpto : Form → ℕ → List ℕ → Bool
+standUpto form n file = stand (rowIn []) (rowsIn n (rowWordsOf form file))
 
-unfoldable pub standing : Ending → List ℕ → Bool
-standing e file = standUpto (plainBy e (countSaid file)) file
+unfoldable pub standing : Form → Ending → List ℕ → Bool
+standing form e file = standUpto form (plainBy e (countSaid file)) file
 
 -- the first block that is not sound, or whether n rows stand
-unfoldable pub blocksJudged : ℕ → List ℕ → Blocks
-blocksJudged n file = cond (ltb (soundIn file) (blocksFor rowBytes (countSaid file))) (Bad (1 + soundIn file)) (Sound (standUpto n file))
+unfoldable pub blocksJudged : Form → ℕ → List ℕ → Blocks
+blocksJudged form n file =
+    cond (ltb (soundOf form file) (blocksFor (rowBytesOf form) (countSaid file))) (Bad (1 + soundOf form file))
+    (Sound (standUpto form n file))

@@ -1,4 +1,5 @@
-// A file of form 1 into a table: 42, 41, 44, 42, 41, 43, then 4, or the table and its rows.
+// A file into a table: judged in either form, and a file of form 1 read, 42, 41, 44, 42, 41, 43, then 4, or the table and its rows.
+use file_blocks::column_of;
 use file_blocks::is_sound;
 use file_blocks::row_in;
 use file_blocks::rows_stand;
@@ -8,8 +9,12 @@ use file_rules::EndingRead;
 use file_rules::Fault;
 use file_rules::Loaded;
 use file_rules::form;
-use file_store::length_for;
-use file_store::rows_here;
+use file_sizes::block_rows;
+use file_sizes::length_for;
+use file_sizes::row_bytes;
+use file_sizes::rows_here;
+use form_rules::Form;
+use form_rules::short;
 use refusals::lexical_number;
 use rows::shape;
 use rows::shape::Row;
@@ -33,7 +38,11 @@ ghost use Rattle.rules.specs.Rows.{wellFormed};
 ghost use Rattle.rules.specs.Scan.{roomOf};
 ghost use Rattle.rows.specs.Shape.{asRow, rowNo, rowBefore, closes, breaks};
 ghost use Rattle.file_rules.specs.Blocks.{fileLength};
-ghost use Rattle.file_rules.specs.Files.{rowBytes, mostRows, readEnding, endingIn, countSaid, rowWordsIn, rowsTold, blocksTold, saidTold, loadTold, loadLeaves};
+ghost use Rattle.file_rules.specs.Files.{readEnding, endingIn, rowWordsIn, rowsTold, loadTold, loadLeaves};
+ghost use Rattle.form_rules.specs.declared.Form.the-variants.{Full};
+ghost use Rattle.form_rules.specs.Short.{onOneLine, shortEnding, shortJudged};
+ghost use Rattle.form_rules.specs.Forms.{judged};
+ghost use Rattle.form_rules.specs.Shapes.{rowBytesOf, formOf, rowWordsOf, endingOf, blocksIn};
 ghost use Rattle.file_blocks.specs.Standing.{rowsFrom};
 ghost use Rattle.file_load.specs.Judged.{Framed, lastOf, plainRows, blocksJudged, refusedRead, standing};
 
@@ -107,8 +116,8 @@ fn read_ending(number: u32, p: Cursor) -> EndingRead
     EndingRead::Ends(Ending::None)
 }
 
-// The ending that block 0 tells.
-fn ending_in(file: &[u8]) -> EndingRead
+// The ending that block 0 of form 1 tells.
+fn full_ending(file: &[u8]) -> EndingRead
     requires { ⌜ 512 ≤ length (now file) ⌝ }
     ensures { λ r. ⌜ r ≡ endingIn (now (file .entry)) ⌝ }
 {
@@ -124,6 +133,40 @@ fn ending_in(file: &[u8]) -> EndingRead
             column: Column(column),
         },
     )
+}
+
+// The ending that block 0 of form 2 tells: a refusal's place is that of a text of one line.
+fn short_ending(file: &[u8]) -> EndingRead
+    requires { ⌜ 512 ≤ length (now file) ⌝ }
+    ensures { λ r. ⌜ r ≡ shortEnding onOneLine (now (file .entry)) ⌝ }
+{
+    let number = word_at(file, ENDING_AT);
+    let offset = word_at(file, OFFSET_AT);
+    if number != 0 {
+        return read_refused(
+            number,
+            Cursor {
+                offset: Offset(offset),
+                line: Line(1),
+                column: Column(column_of(offset)),
+            },
+        );
+    }
+    if offset != 0 {
+        return EndingRead::Nothing;
+    }
+    EndingRead::Ends(Ending::None)
+}
+
+// The ending that block 0 of a form tells.
+fn ending_in(form: Form, file: &[u8]) -> EndingRead
+    requires { ⌜ 512 ≤ length (now file) ⌝ }
+    ensures { λ r. ⌜ r ≡ endingOf form (now (file .entry)) ⌝ }
+{
+    match form {
+        Form::Full => full_ending(file),
+        Form::Short => short_ending(file),
+    }
 }
 
 // ---- the blocks behind it
@@ -147,20 +190,20 @@ fn plain_rows(read: EndingRead, count: u32) -> u32
 }
 
 // The last of n rows of a block, or the row before them.
-fn last_of(bytes: &[u8], n: usize, before: Row) -> Row
-    requires { ⌜ 4 + 32 * n ≤ length (now bytes) ⌝ }
-    ensures { λ r. ⌜ asRow r ≡ lastOf (asRow before) (rowsFrom n (drop 4 (now (bytes .entry)))) ⌝ }
+fn last_of(form: Form, bytes: &[u8], n: usize, before: Row) -> Row
+    requires { ⌜ 4 + rowBytesOf form * n ≤ length (now bytes) ⌝ }
+    ensures { λ r. ⌜ asRow r ≡ lastOf (asRow before) (rowsFrom form n (drop 4 (now (bytes .entry)))) ⌝ }
 {
     if n == 0 {
         return before;
     }
-    row_in(bytes, n - 1)
+    row_in(form, bytes, n - 1)
 }
 
 // Whether the blocks behind block 0 are sound, and whether so many of their rows stand.
-fn judge_blocks(file: &[u8], count: u32, plain: u32) -> Blocks
-    requires { ⌜ Framed count (now file) × (plain ≤ count) ⌝ }
-    ensures { λ r. ⌜ r ≡ blocksJudged plain (now (file .entry)) ⌝ }
+fn judge_blocks(form: Form, file: &[u8], count: u32, plain: u32) -> Blocks
+    requires { ⌜ Framed form count (now file) × (plain ≤ count) ⌝ }
+    ensures { λ r. ⌜ r ≡ blocksJudged form plain (now (file .entry)) ⌝ }
 {
     let least = shape::LEAST;
     let most = shape::MOST;
@@ -173,13 +216,13 @@ fn judge_blocks(file: &[u8], count: u32, plain: u32) -> Blocks
     while 0 < left {
         let end = at + form::BLOCK;
         let block = &file[at..end];
-        let n = rows_here(left);
-        if !is_sound(block, k, n as u32, form::ROW * n) {
+        let n = rows_here(form, left);
+        if !is_sound(block, k, n as u32, row_bytes(form) * n) {
             return Blocks::Bad(k);
         }
-        let m = rows_here(more);
-        stand = stand & rows_stand(&least, &most, block, m, last);
-        last = last_of(block, m, last);
+        let m = rows_here(form, more);
+        stand = stand & rows_stand(&least, &most, form, block, m, last);
+        last = last_of(form, block, m, last);
         left -= n;
         more -= m;
         k += 1;
@@ -191,34 +234,35 @@ fn judge_blocks(file: &[u8], count: u32, plain: u32) -> Blocks
 // ---- the table
 
 // Row i of the file.
-fn row_of(file: &[u8], count: u32, i: usize) -> Row
-    requires { ⌜ Framed count (now file) × (i < count) ⌝ }
-    ensures { λ r. ⌜ asRow r ≡ rowNo (rowWordsIn (now (file .entry))) i ⌝ }
+pub fn row_of(form: Form, file: &[u8], count: u32, i: usize) -> Row
+    requires { ⌜ Framed form count (now file) × (i < count) ⌝ }
+    ensures { λ r. ⌜ asRow r ≡ rowNo (rowWordsOf form (now (file .entry))) i ⌝ }
 {
-    let at = form::BLOCK * (1 + i / form::ROWS);
+    let rows = block_rows(form);
+    let at = form::BLOCK * (1 + i / rows);
     let end = at + form::BLOCK;
-    row_in(&file[at..end], i % form::ROWS)
+    row_in(form, &file[at..end], i % rows)
 }
 
 // The row before row i of the file, and before the first a row of zeros.
-fn row_before(file: &[u8], count: u32, i: usize) -> Row
-    requires { ⌜ Framed count (now file) × (i < count) ⌝ }
-    ensures { λ r. ⌜ asRow r ≡ rowBefore (rowWordsIn (now (file .entry))) i ⌝ }
+fn row_before(form: Form, file: &[u8], count: u32, i: usize) -> Row
+    requires { ⌜ Framed form count (now file) × (i < count) ⌝ }
+    ensures { λ r. ⌜ asRow r ≡ rowBefore (rowWordsOf form (now (file .entry))) i ⌝ }
 {
     if i == 0 {
         return shape::no_row();
     }
-    row_of(file, count, i - 1)
+    row_of(form, file, count, i - 1)
 }
 
 // Whether the last row closes the table: it is Eof, at the text's length, and fits behind the row before it.
-fn last_closes(file: &[u8], count: u32, size: u32, i: usize) -> bool
-    requires { ⌜ Framed count (now file) × (i < count) ⌝ }
-    ensures { λ r. ⌜ r ≡ closes (rowWordsIn (now (file .entry))) size i ⌝ }
+fn last_closes(form: Form, file: &[u8], count: u32, size: u32, i: usize) -> bool
+    requires { ⌜ Framed form count (now file) × (i < count) ⌝ }
+    ensures { λ r. ⌜ r ≡ closes (rowWordsOf form (now (file .entry))) size i ⌝ }
 {
     let least = shape::LEAST;
     let most = shape::MOST;
-    let r = row_of(file, count, i);
+    let r = row_of(form, file, count, i);
     if r.kind != kind::EOF {
         return false;
     }
@@ -226,15 +270,15 @@ fn last_closes(file: &[u8], count: u32, size: u32, i: usize) -> bool
         return false;
     }
     if shape::row_sane(r) {
-        return shape::row_stands(&least, &most, row_before(file, count, i), r);
+        return shape::row_stands(&least, &most, row_before(form, file, count, i), r);
     }
     false
 }
 
 // Whether a refused ending's place fits behind the last row, within the text's length.
-fn place_breaks(file: &[u8], count: u32, size: u32, p: Cursor) -> bool
-    requires { ⌜ Framed count (now file) ⌝ }
-    ensures { λ r. ⌜ r ≡ breaks (rowWordsIn (now (file .entry))) size count p ⌝ }
+fn place_breaks(form: Form, file: &[u8], count: u32, size: u32, p: Cursor) -> bool
+    requires { ⌜ Framed form count (now file) ⌝ }
+    ensures { λ r. ⌜ r ≡ breaks (rowWordsOf form (now (file .entry))) size count p ⌝ }
 {
     let offset = p.offset.0;
     if size < offset {
@@ -246,14 +290,14 @@ fn place_breaks(file: &[u8], count: u32, size: u32, p: Cursor) -> bool
     if count == 0 {
         return true;
     }
-    let r = row_of(file, count, count as usize - 1);
+    let r = row_of(form, file, count, count as usize - 1);
     shape::place_behind(r, p)
 }
 
 // Whether a table is well formed, of which it is known whether its plain rows stand.
-fn table_fits(file: &[u8], table: Table, stand: bool) -> bool
-    requires { ⌜ Framed (table .count) (now file) × (stand ≡ standing (table .ending) (now file)) ⌝ }
-    ensures { λ r. ⌜ r ≡ wellFormed (rowWordsIn (now (file .entry))) table ⌝ }
+fn table_fits(form: Form, file: &[u8], table: Table, stand: bool) -> bool
+    requires { ⌜ Framed form (table .count) (now file) × (stand ≡ standing form (table .ending) (now file)) ⌝ }
+    ensures { λ r. ⌜ r ≡ wellFormed (rowWordsOf form (now (file .entry))) table ⌝ }
 {
     let count = table.count;
     let size = table.length;
@@ -269,22 +313,22 @@ fn table_fits(file: &[u8], table: Table, stand: bool) -> bool
             if count == 0 {
                 return false;
             }
-            last_closes(file, count, size, count as usize - 1)
+            last_closes(form, file, count, size, count as usize - 1)
         }
-        Ending::Refused(_, p) => place_breaks(file, count, size, p),
+        Ending::Refused(_, p) => place_breaks(form, file, count, size, p),
     }
 }
 
 // What is told of sound blocks: 43, then 4, or the table.
-fn told_rows(file: &[u8], table: Table, stand: bool, room: usize) -> Loaded
-    requires { ⌜ Framed (table .count) (now file) × (stand ≡ standing (table .ending) (now file)) ⌝ }
-    ensures { λ r. ⌜ r ≡ rowsTold (rowWordsIn (now (file .entry))) room table ⌝ }
+fn told_rows(form: Form, file: &[u8], table: Table, stand: bool, room: usize) -> Loaded
+    requires { ⌜ Framed form (table .count) (now file) × (stand ≡ standing form (table .ending) (now file)) ⌝ }
+    ensures { λ r. ⌜ r ≡ rowsTold (rowWordsOf form (now (file .entry))) room table ⌝ }
 {
     let count = table.count;
     if form::MOST_ROWS < count {
         return Loaded::Refused(Fault::NoTable);
     }
-    if !table_fits(file, table, stand) {
+    if !table_fits(form, file, table, stand) {
         return Loaded::Refused(Fault::NoTable);
     }
     if room < count as usize {
@@ -294,19 +338,20 @@ fn told_rows(file: &[u8], table: Table, stand: bool, room: usize) -> Loaded
 }
 
 // What is told of the blocks behind block 0: 41, then 43 and 4.
-fn told_blocks(file: &[u8], count: u32, room: usize) -> Loaded
-    requires { ⌜ Framed count (now file) ⌝ }
-    ensures { λ r. ⌜ r ≡ blocksTold (now (file .entry)) room ⌝ }
+fn told_blocks(form: Form, file: &[u8], count: u32, room: usize) -> Loaded
+    requires { ⌜ Framed form count (now file) ⌝ }
+    ensures { λ r. ⌜ r ≡ blocksIn form (now (file .entry)) room ⌝ }
 {
-    let read = ending_in(file);
+    let read = ending_in(form, file);
     let plain = plain_rows(read, count);
-    match judge_blocks(file, count, plain) {
+    match judge_blocks(form, file, count, plain) {
         Blocks::Bad(k) => Loaded::Refused(Fault::BadBlock(k)),
         Blocks::Sound(stand) => match read {
             EndingRead::Nothing => Loaded::Refused(Fault::NoTable),
             EndingRead::Ends(ending) => {
                 let length = word_at(file, LENGTH_AT);
                 told_rows(
+                    form,
                     file,
                     Table {
                         count,
@@ -335,15 +380,54 @@ fn told(file: &[u8], room: usize) -> Loaded
         return Loaded::Refused(Fault::OtherForm);
     }
     let count = word_at(file, COUNT_AT);
-    if file.len() != length_for(count) {
+    if file.len() != length_for(Form::Full, count) {
         return Loaded::Refused(Fault::WrongLength);
     }
-    told_blocks(file, count, room)
+    told_blocks(Form::Full, file, count, room)
+}
+
+// What is told of a file that says 2: 41 for block 0, 42, and then the blocks behind it.
+fn short_told(file: &[u8]) -> Loaded
+    requires { ⌜ 512 ≤ length (now file) ⌝ }
+    ensures { λ r. ⌜ r ≡ shortJudged (now (file .entry)) ⌝ }
+{
+    if !is_sound(&file[0..form::BLOCK], 0, 0, short::SAID) {
+        return Loaded::Refused(Fault::BadBlock(0));
+    }
+    let count = word_at(file, COUNT_AT);
+    if file.len() != length_for(Form::Short, count) {
+        return Loaded::Refused(Fault::WrongLength);
+    }
+    told_blocks(Form::Short, file, count, count as usize)
+}
+
+// What is told of a file of either form, in room for all of its rows.
+pub fn judge(file: &[u8]) -> Loaded
+    ensures { λ r. ⌜ r ≡ judged (now (file .entry)) ⌝ }
+{
+    if file.len() < form::BLOCK {
+        return Loaded::Refused(Fault::WrongLength);
+    }
+    if word_at(file, FORM_AT) == short::NUMBER {
+        return short_told(file);
+    }
+    told(file, word_at(file, COUNT_AT) as usize)
+}
+
+// The form by which a file is judged.
+pub fn form_of(file: &[u8]) -> Form
+    requires { ⌜ 512 ≤ length (now file) ⌝ }
+    ensures { λ r. ⌜ r ≡ formOf (now (file .entry)) ⌝ }
+{
+    if word_at(file, FORM_AT) == short::NUMBER {
+        return Form::Short;
+    }
+    Form::Full
 }
 
 // The words of all rows into the first lent words.
-fn take_rows(file: &[u8], count: u32, rows: &mut [u32])
-    requires { ⌜ Framed count (now file) × (8 * count ≤ length (now rows)) ⌝ }
+pub fn take_rows(file: &[u8], count: u32, rows: &mut [u32])
+    requires { ⌜ Framed Full count (now file) × (8 * count ≤ length (now rows)) ⌝ }
     ensures { λ _. ⌜ now (rows .exit) ≡ rowWordsIn (now (file .entry)) ++ drop (8 * count) (now (rows .entry)) ⌝ }
 {
     let all = count as usize;
@@ -351,7 +435,7 @@ fn take_rows(file: &[u8], count: u32, rows: &mut [u32])
     let mut at = form::BLOCK;
     while done < all {
         let end = at + form::BLOCK;
-        let n = rows_here(all - done);
+        let n = rows_here(Form::Full, all - done);
         let from = done * row::WORDS;
         take_words(&file[at..end], n * row::WORDS, &mut rows[from..]);
         done += n;

@@ -91,7 +91,7 @@ pub record Case : Type 0 where
   pub told : Loaded
 
 -- one block with its check made anew
-pub sealed : List ℕ → List ℕ
+unfoldable pub sealed : List ℕ → List ℕ
 unfolding Bytes.little Blocks.check Blocks.sumFrom
 sealed s = take 508 s ++ little 4 (check (take 508 s))
 

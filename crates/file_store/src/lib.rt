@@ -1,54 +1,23 @@
 // A table into a file of form 1: 3, 40, then 4, or the one file that the table has.
 use file_blocks::put_block;
+use file_parts::put_said;
 use file_rules::Fault;
 use file_rules::Stored;
 use file_rules::form;
-use refusals::lexical_number;
+use file_sizes::length_for;
+use file_sizes::rows_here;
+use form_rules::Form;
 use rows::well_formed;
-use rules::Ending;
 use rules::Outer;
 use rules::Table;
 use rules::row;
 ghost use mathlib.Core.Path.{_≡_};
 ghost use mathlib.Core.List.{_++_};
-ghost use Prim.Native.Nat.{_+_, _*_, _≤_, min};
+ghost use Prim.Native.Nat.{_+_, _*_, _≤_};
 ghost use lib.ListN.{length, take, drop};
 ghost use Rattle.file_rules.specs.Bytes.{bytesOf};
 ghost use Rattle.file_rules.specs.Blocks.{blocksFor, blocksFrom, fileLength};
-ghost use Rattle.file_rules.specs.Files.{rowBytes, mostRows, said, encode, storeTold, storeLeaves};
-
-// How many of n rows stand in the next block.
-pub fn rows_here(n: usize) -> usize
-    ensures { λ r. ⌜ r ≡ min 15 n ⌝ }
-{
-    if n < form::ROWS { n } else { form::ROWS }
-}
-
-// How long the file of n rows is.
-pub fn length_for(n: u32) -> usize
-    ensures { λ r. ⌜ r ≡ fileLength rowBytes n ⌝ }
-{
-    form::BLOCK * (1 + (n as usize + (form::ROWS - 1)) / form::ROWS)
-}
-
-// What block 0 says of a table.
-fn words_of(table: Table) -> [u32; 7]
-    ensures { λ r. ⌜ r ≡ said table ⌝ }
-{
-    let ending = table.ending;
-    match ending {
-        Ending::None => [form::NUMBER, table.length, table.count, 0, 0, 0, 0],
-        Ending::Refused(why, p) => [
-            form::NUMBER,
-            table.length,
-            table.count,
-            lexical_number(why),
-            p.offset.0,
-            p.line.0,
-            p.column.0,
-        ],
-    }
-}
+ghost use Rattle.file_rules.specs.Files.{rowBytes, mostRows, encode, storeTold, storeLeaves};
 
 // The blocks of so many rows, behind block 0.
 fn put_rows(rows: &[u32], count: usize, file: &mut [u8])
@@ -60,7 +29,7 @@ fn put_rows(rows: &[u32], count: usize, file: &mut [u8])
     let mut at = form::BLOCK;
     while done < count {
         let end = at + form::BLOCK;
-        let n = rows_here(count - done);
+        let n = rows_here(Form::Full, count - done);
         let from = done * row::WORDS;
         let to = from + n * row::WORDS;
         put_block(&mut file[at..end], k, n as u32, &rows[from..to]);
@@ -75,8 +44,7 @@ fn put_file(rows: &[u32], table: Table, file: &mut [u8])
     requires { ⌜ ((8 * table .count ≤ length (now rows)) × (table .count ≤ mostRows)) × (fileLength rowBytes (table .count) ≤ length (now file)) ⌝ }
     ensures { λ _. ⌜ now (file .exit) ≡ encode (now (rows .entry)) table ++ drop (fileLength rowBytes (table .count)) (now (file .entry)) ⌝ }
 {
-    let words = words_of(table);
-    put_block(&mut file[0..form::BLOCK], 0, 0, &words);
+    put_said(Form::Full, &mut file[0..form::BLOCK], table);
     put_rows(rows, table.count as usize, file);
 }
 
@@ -91,7 +59,7 @@ pub fn store(rows: &[u32], table: Table, file: &mut [u8]) -> Stored
     if form::MOST_ROWS < count {
         return Stored::Refused(Fault::TooManyRows);
     }
-    let length = length_for(count);
+    let length = length_for(Form::Full, count);
     if file.len() < length {
         return Stored::Refused(Fault::Outer(Outer::NoRowRoom));
     }

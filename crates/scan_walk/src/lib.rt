@@ -1,8 +1,8 @@
 // The walk over bytes that begin at a place of a text: their rows are written as far as there is room, up to the text's end, a refusal,
 // a spot where an old row meets, or where more bytes must be shown. A scan meets no old rows; an edit looks at its window by a walk with no room.
 mod meeting;
-mod puts;
-mod spots;
+pub mod puts;
+pub mod spots;
 
 use meeting::find;
 use puts::put_behind;
@@ -54,7 +54,7 @@ pub struct Walked {
 
 // The walk stops behind n rows, and so many comments, at what was told there: the text's end, which has a row, a refusal, or that more
 // bytes must be shown.
-fn finish(rows: &mut [u32], n: usize, at: Cursor, comments: u32, told: Brief) -> Walked
+pub fn finish(rows: &mut [u32], n: usize, at: Cursor, comments: u32, told: Brief) -> Walked
     requires { ⌜ Last n at told ⌝ }
     ensures { λ r. ⌜ Finished n at comments told r (now (rows .entry)) (now (rows .exit)) ⌝ }
 {

@@ -12,12 +12,13 @@ use Rattle.rules.specs.declared.Outer.the-variants as outer
 use Rattle.rules.specs.declared.Table.{Table}
 use Rattle.rules.specs.declared.Told.the-variants.{Rows}
 use Rattle.rules.specs.Scan.{roomOf}
+use Rattle.file_rules.specs.declared.Fault.{Fault}
 use Rattle.file_rules.specs.declared.Fault.the-variants as fault
 use Rattle.file_rules.specs.declared.Stored.{Stored}
 use Rattle.file_rules.specs.declared.Stored.the-variants as stored
 use Rattle.file_rules.specs.declared.Loaded.{Loaded}
 use Rattle.file_rules.specs.declared.Loaded.the-variants as loaded
-use Rattle.file_rules.specs.Files.{storeTold, loadTold, loadLeaves}
+use Rattle.file_rules.specs.Files.{faultNumber, storeTold, loadTold, loadLeaves}
 use Rattle.file_answers.specs.Layout.{storedWords, loadedWords}
 use Rattle.theory_files.specs.Bounds.{Bytes, Words}
 use Rattle.theory_files.proofs.Files.{stored-loaded, stored-left, read-well}
@@ -31,21 +32,25 @@ use Rattle.spoonharbor.proofs.spoonharbor_load.Reads.{Post as LoadPost}
 
 -- ---- what the answer's number tells
 
+-- no fault has number 0
+pub fault-some : (why : Fault) → faultNumber why ≡ 0 → ⊥
+fault-some (fault.Outer outer.TextTooLong) e = omega arith
+fault-some (fault.Outer outer.BadByte) e = omega arith
+fault-some (fault.Outer outer.NotWellFormed) e = omega arith
+fault-some (fault.Outer outer.NoRowRoom) e = omega arith
+fault-some (fault.Outer outer.NoNodeRoom) e = omega arith
+fault-some (fault.Outer outer.EditNotSensible) e = omega arith
+fault-some (fault.Outer outer.WindowShort) e = omega arith
+fault-some fault.TooManyRows e = omega arith
+fault-some (fault.BadBlock k) e = omega arith
+fault-some fault.WrongLength e = omega arith
+fault-some fault.NoTable e = omega arith
+fault-some fault.OtherForm e = omega arith
+
 -- an answer of number 0 tells a file, of the length that stands in it
 bytes-told : (x : Stored) → getD (storedWords x) 0 0 ≡ 0 → x ≡ stored.Bytes (getD (storedWords x) 7 0)
 bytes-told (stored.Bytes n) e = refl
-bytes-told (stored.Refused (fault.Outer outer.TextTooLong)) e = absurd (omega arith)
-bytes-told (stored.Refused (fault.Outer outer.BadByte)) e = absurd (omega arith)
-bytes-told (stored.Refused (fault.Outer outer.NotWellFormed)) e = absurd (omega arith)
-bytes-told (stored.Refused (fault.Outer outer.NoRowRoom)) e = absurd (omega arith)
-bytes-told (stored.Refused (fault.Outer outer.NoNodeRoom)) e = absurd (omega arith)
-bytes-told (stored.Refused (fault.Outer outer.EditNotSensible)) e = absurd (omega arith)
-bytes-told (stored.Refused (fault.Outer outer.WindowShort)) e = absurd (omega arith)
-bytes-told (stored.Refused fault.TooManyRows) e = absurd (omega arith)
-bytes-told (stored.Refused (fault.BadBlock k)) e = absurd (omega arith)
-bytes-told (stored.Refused fault.WrongLength) e = absurd (omega arith)
-bytes-told (stored.Refused fault.NoTable) e = absurd (omega arith)
-bytes-told (stored.Refused fault.OtherForm) e = absurd (omega arith)
+bytes-told (stored.Refused why) e = absurd (fault-some why e)
 
 -- an answer whose number is an ending's tells the table that is read from its words
 rows-told : (x : Loaded) → isEnding (getD (loadedWords x) 0 0) ≡ true → x ≡ loaded.Rows (tableOf (loadedWords x))

@@ -16,6 +16,9 @@ use Rattle.spoonharbor.proofs.spoonharbor_section_kind
 use Rattle.spoonharbor.proofs.spoonharbor_version
 use Rattle.spoonharbor.proofs.spoonharbor_store
 use Rattle.spoonharbor.proofs.spoonharbor_load
+use Rattle.spoonharbor.proofs.spoonharbor_load_beside
+use Rattle.spoonharbor.proofs.spoonharbor_move
+use Rattle.spoonharbor.proofs.spoonharbor_mend
 
 pub outer-scan-tight : Tight spoonharbor_scan.Kinds.ps spoonharbor_scan.Kinds.r spoonharbor_scan.Reads.Asked spoonharbor_scan.Reads.Learnt
 outer-scan-tight κs a = (tt, λ r₁ r₂ m₁ m₂ p q. (refl, refl ▸ alike (p .1) (q .1) ▸ alike (p .0) (q .0) ▸ refl))
@@ -55,3 +58,14 @@ outer-store-tight κs a = (tt, λ r₁ r₂ m₁ m₂ p q. (refl, refl ▸ refl 
 
 pub outer-load-tight : Tight spoonharbor_load.Kinds.ps spoonharbor_load.Kinds.r spoonharbor_load.Reads.Asked spoonharbor_load.Reads.Learnt
 outer-load-tight κs a = (tt, λ r₁ r₂ m₁ m₂ p q. (refl, refl ▸ alike (p .1) (q .1) ▸ alike (p .0) (q .0) ▸ refl))
+
+pub outer-load-beside-tight :
+    Tight spoonharbor_load_beside.Kinds.ps spoonharbor_load_beside.Kinds.r spoonharbor_load_beside.Reads.Asked spoonharbor_load_beside.Reads.Learnt
+outer-load-beside-tight κs a = (tt, λ r₁ r₂ m₁ m₂ p q. (refl, refl ▸ refl ▸ alike (p .1) (q .1) ▸ alike (p .0) (q .0) ▸ refl))
+
+pub outer-move-tight : Tight spoonharbor_move.Kinds.ps spoonharbor_move.Kinds.r spoonharbor_move.Reads.Asked spoonharbor_move.Reads.Learnt
+outer-move-tight κs a = (tt, λ r₁ r₂ m₁ m₂ p q. (refl, refl ▸ refl ▸ refl ▸ alike (p .1) (q .1) ▸ alike (p .0) (q .0) ▸ refl))
+
+pub outer-mend-tight : Tight spoonharbor_mend.Kinds.ps spoonharbor_mend.Kinds.r spoonharbor_mend.Reads.Asked spoonharbor_mend.Reads.Learnt
+outer-mend-tight κs a =
+    (tt, λ r₁ r₂ m₁ m₂ p q. (refl, refl ▸ refl ▸ alike (p .1 .0) (q .1 .0) ▸ refl ▸ alike (p .1 .1) (q .1 .1) ▸ alike (p .0) (q .0) ▸ refl))

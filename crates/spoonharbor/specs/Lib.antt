@@ -2,5 +2,6 @@
 pub mod OuterChange
 pub mod OuterEdit
 pub mod OuterFiles
+pub mod OuterForms
 pub mod OuterParse
 pub mod Version

@@ -9,7 +9,10 @@ use answers::put_parsed;
 use answers::put_restart;
 use answers::put_told;
 use answers::table_of;
+use file_answers::put_beside;
 use file_answers::put_loaded;
+use file_answers::put_mended;
+use file_answers::put_moved;
 use file_answers::put_stored;
 use refusals::outer_number;
 use rules::Judged;
@@ -24,7 +27,9 @@ ghost use Rattle.rules.specs.Sets.{fromSection};
 ghost use Rattle.rules.specs.Calls.{memberAsked, sizeAsked, parseTold, parseLeaves, nodeRoom};
 ghost use Rattle.answers.specs.Layout.{toldWords, askedWords, restartWords, parsedWords, tableOf, spellingWords};
 ghost use Rattle.file_rules.specs.Files.{storeTold, storeLeaves, loadTold, loadLeaves};
-ghost use Rattle.file_answers.specs.Layout.{storedWords, loadedWords};
+ghost use Rattle.form_rules.specs.Forms.{besideTold, besideLeaves, moveTold, moveLeaves};
+ghost use Rattle.mend_rules.specs.Mend.{mendTold, mendLeaves, listLeaves};
+ghost use Rattle.file_answers.specs.Layout.{storedWords, loadedWords, besideWords, movedWords, mendedWords};
 ghost use Rattle.spoonharbor.specs.Version.{version};
 
 // The library's version: major, minor and patch in a byte each.
@@ -32,7 +37,7 @@ ghost use Rattle.spoonharbor.specs.Version.{version};
 pub extern "C" fn spoonharbor_version() -> u32
     ensures { λ r. ⌜ r ≡ version ⌝ }
 {
-    0x00_07_00
+    0x00_09_00
 }
 
 // The rows of a text into lent words, and the table or the refusal into the answer.
@@ -171,4 +176,50 @@ pub extern "C" fn spoonharbor_load(file: &[u8], rows: &mut [u32], answer: &mut [
     ensures { λ _. ⌜ (now (answer .exit) ≡ loadedWords (loadTold (now (file .entry)) (roomOf (now (rows .entry))))) × (now (rows .exit) ≡ loadLeaves (now (file .entry)) (now (rows .entry))) ⌝ }
 {
     put_loaded(answer, file_load::load(file, rows));
+}
+
+// A file of either form beside its text into the rows of its table, and the table or the refusal into the answer.
+#[no_mangle]
+pub extern "C" fn spoonharbor_load_beside(
+    text: &[u8],
+    file: &[u8],
+    rows: &mut [u32],
+    answer: &mut [u32; 8],
+)
+    ensures { λ _. ⌜ (now (answer .exit) ≡ besideWords (besideTold (now (text .entry)) (now (file .entry)) (roomOf (now (rows .entry))))) × (now (rows .exit) ≡ besideLeaves (now (text .entry)) (now (file .entry)) (now (rows .entry))) ⌝ }
+{
+    put_beside(answer, file_beside::load_beside(text, file, rows));
+}
+
+// A file of either form into the file of the form of a number, beside its text, and how long that is, or the refusal, into the answer.
+#[no_mangle]
+pub extern "C" fn spoonharbor_move(
+    text: &[u8],
+    file: &[u8],
+    form: u32,
+    moved: &mut [u8],
+    answer: &mut [u32; 8],
+)
+    ensures { λ _. ⌜ (now (answer .exit) ≡ movedWords (moveTold (now (text .entry)) (now (file .entry)) form (length (now (moved .entry))))) × (now (moved .exit) ≡ moveLeaves (now (text .entry)) (now (file .entry)) form (now (moved .entry))) ⌝ }
+{
+    put_moved(answer, file_move::move_file(text, file, form, moved));
+}
+
+// A file in the first bytes of lent memory mended to what a scan of the text stores, the blocks that differed listed, and how long the file
+// is and how many are listed, or the refusal, into the answer.
+#[no_mangle]
+pub extern "C" fn spoonharbor_mend(
+    text: &[u8],
+    form: u32,
+    file: &mut [u8],
+    file_length: usize,
+    blocks: &mut [u32],
+    answer: &mut [u32; 8],
+)
+    ensures { λ _. ⌜ (now (answer .exit) ≡ mendedWords (mendTold (now (text .entry)) form (now (file .entry)) file_length (now (blocks .entry)))) × ((now (file .exit) ≡ mendLeaves (now (text .entry)) form (now (file .entry)) file_length (now (blocks .entry))) × (now (blocks .exit) ≡ listLeaves (now (text .entry)) form (now (file .entry)) file_length (now (blocks .entry)))) ⌝ }
+{
+    put_mended(
+        answer,
+        file_mend::mend(text, form, file, file_length, blocks),
+    );
 }

@@ -1,17 +1,19 @@
--- Laws of rows in blocks, over any row size: what is written is sound and is read back, what is sound is what is written, and the block of a changed byte is
--- the first that is not sound.
+-- Laws of rows in blocks, over any row size: what is written is sound and is read back, what is sound is what is written, and the block
+-- of a changed byte is the first that is not sound.
 use mathlib.Core.Path.{_≡_, refl, sym, ap, _∙_}
 use mathlib.Core.Bool.{Bool, true, false}
-use mathlib.Core.List.{List, [], _∷_, _++_, append-assoc}
+use mathlib.Core.List.{List, _++_, append-assoc}
 use Prim.Native.Nat.{ℕ, zero, suc, _+_, _-_, _*_, _/_, _≤_, _<_, min}
-use native.Mathlib.Nat.{not-suc-le-zero, le-of-suc-le-suc, mul-le-mul-left, mul-div-le, le-div-iff-mul-le, add-div-right, div-eq-of-lt, mul-add, div-le-self}
+use native.Mathlib.Nat.{le-of-suc-le-suc, mul-le-mul-left, mul-div-le, le-div-iff-mul-le, add-div-right, div-eq-of-lt, mul-add, div-le-self}
+use native.Mathlib.Nat.{div-lt-iff-lt-mul}
 use native.Mathlib.Omega.{arith}
-use lib.ListN.{length, take, drop, getD, set, length-append, length-take, length-drop, length-set, take-append-drop}
-use lib.Seq.{take-add, drop-drop, take-at, drop-at, take-all, take-append-le, take-set-lt, take-set-le, drop-set-add, getD-drop, getD-take}
+use lib.ListN.{length, take, drop, getD, set, length-append, length-take, length-drop, take-append-drop}
+use lib.Seq.{take-add, take-at, drop-at, take-set-lt, take-set-le, drop-set-add, getD-drop, getD-take}
 use lib.Dec.{ltb}
 use borrow.Author.Tests.{ltb-true, ltb-false}
 use Rattle.file_rules.specs.Blocks.{block, contentOf, sound, perBlock, rowsHere, bytesHere, blocksFor, blocksFrom, soundFrom, bodyFrom}
-use Rattle.theory_files.specs.Bounds.{Below, none, some, Bytes}
+use Rattle.file_rules.specs.Blocks.{blockBytes, contentRoom}
+use Rattle.theory_files.specs.Bounds.{none, some, Bytes}
 use Rattle.theory_files.proofs.Numbers.{below-take, below-drop, below-append}
 use Rattle.theory_files.proofs.One.{block-length, block-bytes, block-sound, content-block, sound-holds, sound-block, changed-unsound}
 
@@ -37,32 +39,32 @@ up-more p n h l = go (ltb n p) refl
         rw (x, add-div-right ((n - p) + (p - 1)) h) (omega arith)
 
 -- rows of so many bytes: some stand in a block
-module _ (size : ℕ) (small : 0 < size) (large : size ≤ 504) where
+module _ (size : ℕ) (small : 0 < size) (large : size ≤ contentRoom) where
   pub per-pos : 0 < perBlock size
-  per-pos = le-div-iff-mul-le {k = size} {x = 1} {y = 504} small .1 (omega arith)
+  per-pos = le-div-iff-mul-le {k = size} {x = 1} {y = contentRoom} small .1 (omega arith)
 
-  pub here-few : (n : ℕ) → bytesHere size n ≤ 504
+  pub here-few : (n : ℕ) → bytesHere size n ≤ contentRoom
   here-few n =
-      let a : min (504 / size) n ≤ 504 / size = omega arith in
-      let b : size * min (504 / size) n ≤ size * (504 / size) = mul-le-mul-left size a in
-      omega (arith, mul-div-le 504 size)
+      let a : min (contentRoom / size) n ≤ contentRoom / size = omega arith in
+      let b : size * min (contentRoom / size) n ≤ size * (contentRoom / size) = mul-le-mul-left size a in
+      omega (arith, mul-div-le contentRoom size)
 
   rows-few : (n : ℕ) → rowsHere size n < 65536
-  rows-few n = omega (arith, div-le-self 504 size)
+  rows-few n = omega (arith, div-le-self contentRoom size)
 
   -- the rows of the next block, and those behind it
   pub here-split : (n : ℕ) → size * n ≡ bytesHere size n + size * (n - perBlock size)
   here-split n =
-      let e : n ≡ min (504 / size) n + (n - 504 / size) = omega arith in
-      ap (λ (x : ℕ). size * x) e ∙ mul-add size (min (504 / size) n) (n - 504 / size)
+      let e : n ≡ min (contentRoom / size) n + (n - contentRoom / size) = omega arith in
+      ap (λ (x : ℕ). size * x) e ∙ mul-add size (min (contentRoom / size) n) (n - contentRoom / size)
 
   pub blocks-none : blocksFor size 0 ≡ 0
   unfolding blocksFor
-  blocks-none = up-none (504 / size) per-pos
+  blocks-none = up-none (contentRoom / size) per-pos
 
   pub blocks-more : (n : ℕ) → 0 < n → blocksFor size n ≡ suc (blocksFor size (n - perBlock size))
   unfolding blocksFor
-  blocks-more n h = up-more (504 / size) n per-pos h
+  blocks-more n h = up-more (contentRoom / size) n per-pos h
 
   -- n rows take m blocks
   pub blocks-next : (n m : ℕ) → blocksFor size n ≡ suc m → blocksFor size (n - perBlock size) ≡ m
@@ -73,28 +75,39 @@ module _ (size : ℕ) (small : 0 < size) (large : size ≤ 504) where
   blocks-zero zero e = refl
   blocks-zero (suc n) e = absurd (let f = blocks-more (suc n) (omega arith) in omega arith)
 
+  -- no more than there are rows
+  pub blocks-few : (n : ℕ) → blocksFor size n ≤ n
+  unfolding blocksFor
+  blocks-few n =
+      let p = contentRoom / size in
+      let a : n * 1 ≤ n * p = mul-le-mul-left n per-pos in
+      let b : n + (p - 1) < suc n * p = omega (arith, per-pos) in
+      le-of-suc-le-suc (div-lt-iff-lt-mul per-pos .1 b)
+
   -- ---- the next block, sound or not
 
-  pub first-sound : (m k n : ℕ) (s : List ℕ) → sound k (rowsHere size n) (bytesHere size n) (take 512 s) ≡ true
-      → soundFrom size (suc m) k n s ≡ suc (soundFrom size m (suc k) (n - perBlock size) (drop 512 s))
+  pub first-sound : (m k n : ℕ) (s : List ℕ) → sound k (rowsHere size n) (bytesHere size n) (take blockBytes s) ≡ true
+      → soundFrom size (suc m) k n s ≡ suc (soundFrom size m (suc k) (n - perBlock size) (drop blockBytes s))
   unfolding soundFrom
   first-sound m k n s e = rw (soundFrom, e)
 
-  pub first-not : (m k n : ℕ) (s : List ℕ) → sound k (rowsHere size n) (bytesHere size n) (take 512 s) ≡ false → soundFrom size (suc m) k n s ≡ 0
+  pub first-not : (m k n : ℕ) (s : List ℕ) → sound k (rowsHere size n) (bytesHere size n) (take blockBytes s) ≡ false
+      → soundFrom size (suc m) k n s ≡ 0
   unfolding soundFrom
   first-not m k n s e = rw (soundFrom, e)
 
   -- ---- written
 
-  part-few : (n : ℕ) (body : List ℕ) → length (take (bytesHere size n) body) ≤ 504
+  part-few : (n : ℕ) (body : List ℕ) → length (take (bytesHere size n) body) ≤ contentRoom
   part-few n body = omega (arith, here-few n, length-take (bytesHere size n) body)
 
-  pub blocks-length : (m k n : ℕ) (body : List ℕ) → length (blocksFrom size m k n body) ≡ 512 * m
+  pub blocks-length : (m k n : ℕ) (body : List ℕ) → length (blocksFrom size m k n body) ≡ blockBytes * m
   unfolding blocksFrom
   blocks-length zero k n body = refl
   blocks-length (suc m) k n body =
-      rw (length-append, block-length k (rowsHere size n) (take (bytesHere size n) body) (part-few n body), blocks-length m (suc k) (n - perBlock size) (drop (bytesHere size n) body))
-      (omega arith)
+      let c : List ℕ = take (bytesHere size n) body in
+      let r = blocks-length m (suc k) (n - perBlock size) (drop (bytesHere size n) body) in
+      rw (length-append, block-length k (rowsHere size n) c (part-few n body), r) (omega arith)
 
   pub blocks-bytes : (m k n : ℕ) {body : List ℕ} → Bytes body → Bytes (blocksFrom size m k n body)
   unfolding blocksFrom
@@ -112,7 +125,8 @@ module _ (size : ℕ) (small : 0 < size) (large : size ≤ 504) where
     rest-length = omega (arith, here-split n, length-drop (bytesHere size n) body)
 
   -- what is written is sound
-  pub written-sound : (m k n : ℕ) {body : List ℕ} (tail : List ℕ) → blocksFor size n ≡ m → k + m ≤ 65536 → size * n ≤ length body → Bytes body
+  pub written-sound : (m k n : ℕ) {body : List ℕ} (tail : List ℕ) → blocksFor size n ≡ m → k + m ≤ 65536 → size * n ≤ length body
+      → Bytes body
       → soundFrom size m k n (blocksFrom size m k n body ++ tail) ≡ m
   unfolding blocksFrom soundFrom
   written-sound zero k n tail e h l b = refl
@@ -120,11 +134,16 @@ module _ (size : ℕ) (small : 0 < size) (large : size ≤ 504) where
       let c : List ℕ = take (bytesHere size n) body in
       let x : List ℕ = block k (rowsHere size n) c in
       let rest : List ℕ = blocksFrom size m (suc k) (n - perBlock size) (drop (bytesHere size n) body) in
-      let w : length x ≡ 512 = block-length k (rowsHere size n) c (part-few n body) in
-      let s : sound k (rowsHere size n) (bytesHere size n) x ≡ true = rw (part-length n body l) at (block-sound k (rowsHere size n) c (part-few n body) (omega arith) (rows-few n) (below-take (bytesHere size n) b)) in
-      let i = written-sound m (suc k) (n - perBlock size) tail (blocks-next n m e) (omega arith) (rest-length n body l) (below-drop (bytesHere size n) b) in
+      let w : length x ≡ blockBytes = block-length k (rowsHere size n) c (part-few n body) in
+      let s : sound k (rowsHere size n) (bytesHere size n) x ≡ true =
+      rw (part-length n body l) at
+      (block-sound k (rowsHere size n) c (part-few n body) (omega arith) (rows-few n) (below-take (bytesHere size n) b)) in
+      let i =
+      written-sound m (suc k) (n - perBlock size) tail (blocks-next n m e) (omega arith) (rest-length n body l)
+      (below-drop (bytesHere size n) b) in
       rw (append-assoc x rest tail)
-      (first-sound m k n (x ++ (rest ++ tail)) (rw (take-at x (rest ++ tail) 512 w) s) ∙ rw (drop-at x (rest ++ tail) 512 w) (ap suc i))
+      (first-sound m k n (x ++ (rest ++ tail)) (rw (take-at x (rest ++ tail) blockBytes w) s)
+      ∙ rw (drop-at x (rest ++ tail) blockBytes w) (ap suc i))
 
   -- and is read back
   pub written-read : (m k n : ℕ) (body tail : List ℕ) → blocksFor size n ≡ m → size * n ≤ length body
@@ -135,102 +154,120 @@ module _ (size : ℕ) (small : 0 < size) (large : size ≤ 504) where
       let c : List ℕ = take (bytesHere size n) body in
       let x : List ℕ = block k (rowsHere size n) c in
       let rest : List ℕ = blocksFrom size m (suc k) (n - perBlock size) (drop (bytesHere size n) body) in
-      let w : length x ≡ 512 = block-length k (rowsHere size n) c (part-few n body) in
+      let w : length x ≡ blockBytes = block-length k (rowsHere size n) c (part-few n body) in
       let s : contentOf (bytesHere size n) x ≡ c = rw (part-length n body l) at (content-block k (rowsHere size n) c (part-few n body)) in
       let i = written-read m (suc k) (n - perBlock size) (drop (bytesHere size n) body) tail (blocks-next n m e) (rest-length n body l) in
-      rw (append-assoc x rest tail, take-at x (rest ++ tail) 512 w, drop-at x (rest ++ tail) 512 w, s, i, here-split n) (sym (take-add (bytesHere size n) (size * (n - perBlock size)) body))
+      rw (append-assoc x rest tail, take-at x (rest ++ tail) blockBytes w, drop-at x (rest ++ tail) blockBytes w, s, i, here-split n)
+      (sym (take-add (bytesHere size n) (size * (n - perBlock size)) body))
 
   -- ---- read
 
   -- the next block is sound, and so are those behind it
   sound-step : (m k n : ℕ) (s : List ℕ) → soundFrom size (suc m) k n s ≡ suc m
-      → (sound k (rowsHere size n) (bytesHere size n) (take 512 s) ≡ true) × (soundFrom size m (suc k) (n - perBlock size) (drop 512 s) ≡ m)
+      → (sound k (rowsHere size n) (bytesHere size n) (take blockBytes s) ≡ true)
+      × (soundFrom size m (suc k) (n - perBlock size) (drop blockBytes s) ≡ m)
   unfolding soundFrom
-  sound-step m k n s e = go (sound k (rowsHere size n) (bytesHere size n) (take 512 s)) refl e
+  sound-step m k n s e = go (sound k (rowsHere size n) (bytesHere size n) (take blockBytes s)) refl e
     where
-      go : (t : Bool) → sound k (rowsHere size n) (bytesHere size n) (take 512 s) ≡ t
-          → elim t as (λ _. ℕ) [ true ↦ suc (soundFrom size m (suc k) (n - perBlock size) (drop 512 s)) | false ↦ 0 ] ≡ suc m
-          → (sound k (rowsHere size n) (bytesHere size n) (take 512 s) ≡ true) × (soundFrom size m (suc k) (n - perBlock size) (drop 512 s) ≡ m)
+      go : (t : Bool) → sound k (rowsHere size n) (bytesHere size n) (take blockBytes s) ≡ t
+          → elim t as (λ _. ℕ) [ true ↦ suc (soundFrom size m (suc k) (n - perBlock size) (drop blockBytes s)) | false ↦ 0 ] ≡ suc m
+          → (sound k (rowsHere size n) (bytesHere size n) (take blockBytes s) ≡ true)
+          × (soundFrom size m (suc k) (n - perBlock size) (drop blockBytes s) ≡ m)
       go true f e = (f, omega arith)
       go false f e = absurd (omega arith)
 
   pub sound-most : (m k n : ℕ) (s : List ℕ) → soundFrom size m k n s ≤ m
   unfolding soundFrom
   sound-most zero k n s = omega arith
-  sound-most (suc m) k n s = go (sound k (rowsHere size n) (bytesHere size n) (take 512 s)) (sound-most m (suc k) (n - perBlock size) (drop 512 s))
+  sound-most (suc m) k n s =
+      go (sound k (rowsHere size n) (bytesHere size n) (take blockBytes s)) (sound-most m (suc k) (n - perBlock size) (drop blockBytes s))
     where
-      go : (t : Bool) → soundFrom size m (suc k) (n - perBlock size) (drop 512 s) ≤ m
-          → elim t as (λ _. ℕ) [ true ↦ suc (soundFrom size m (suc k) (n - perBlock size) (drop 512 s)) | false ↦ 0 ] ≤ suc m
+      go : (t : Bool) → soundFrom size m (suc k) (n - perBlock size) (drop blockBytes s) ≤ m
+          → elim t as (λ _. ℕ) [ true ↦ suc (soundFrom size m (suc k) (n - perBlock size) (drop blockBytes s)) | false ↦ 0 ] ≤ suc m
       go true h = omega arith
       go false h = omega arith
 
   -- one block in front of so many
-  module _ (m : ℕ) (s : List ℕ) (whole : length s ≡ 512 * suc m) where
-    front-length : length (take 512 s) ≡ 512
-    front-length = length-take 512 s ∙ omega arith
+  module _ (m : ℕ) (s : List ℕ) (whole : length s ≡ blockBytes * suc m) where
+    front-length : length (take blockBytes s) ≡ blockBytes
+    front-length = length-take blockBytes s ∙ omega arith
 
-    behind-length : length (drop 512 s) ≡ 512 * m
-    behind-length = length-drop 512 s ∙ omega arith
+    behind-length : length (drop blockBytes s) ≡ blockBytes * m
+    behind-length = length-drop blockBytes s ∙ omega arith
 
-  content-size : (n : ℕ) (b : List ℕ) → length b ≡ 512 → length (contentOf (bytesHere size n) b) ≡ bytesHere size n
+  content-size : (n : ℕ) (b : List ℕ) → length b ≡ blockBytes → length (contentOf (bytesHere size n) b) ≡ bytesHere size n
   unfolding contentOf
   content-size n b w = length-take (bytesHere size n) (drop 4 b) ∙ omega (arith, length-drop 4 b, here-few n)
 
-  pub body-length : (m n : ℕ) (s : List ℕ) → blocksFor size n ≡ m → length s ≡ 512 * m → length (bodyFrom size m n s) ≡ size * n
+  pub body-length : (m n : ℕ) (s : List ℕ) → blocksFor size n ≡ m → length s ≡ blockBytes * m → length (bodyFrom size m n s) ≡ size * n
   unfolding bodyFrom
   body-length zero n s e w = let z : n ≡ 0 = blocks-zero n e in rw z (omega arith)
   body-length (suc m) n s e w =
-      rw (length-append, content-size n (take 512 s) (front-length m s w), body-length m (n - perBlock size) (drop 512 s) (blocks-next n m e) (behind-length m s w))
-      (sym (here-split n))
+      let r = body-length m (n - perBlock size) (drop blockBytes s) (blocks-next n m e) (behind-length m s w) in
+      rw (length-append, content-size n (take blockBytes s) (front-length m s w), r) (sym (here-split n))
 
   pub body-bytes : (m n : ℕ) {s : List ℕ} → Bytes s → Bytes (bodyFrom size m n s)
   unfolding bodyFrom contentOf
   body-bytes zero n b = none
-  body-bytes (suc m) n b = below-append (below-take (bytesHere size n) (below-drop 4 (below-take 512 b))) (body-bytes m (n - perBlock size) (below-drop 512 b))
+  body-bytes (suc m) n b =
+      below-append (below-take (bytesHere size n) (below-drop 4 (below-take blockBytes b)))
+      (body-bytes m (n - perBlock size) (below-drop blockBytes b))
 
   -- what is sound is what is written
-  pub read-written : (m k n : ℕ) {s : List ℕ} (more : List ℕ) → Bytes s → length s ≡ 512 * m → soundFrom size m k n s ≡ m
+  pub read-written : (m k n : ℕ) {s : List ℕ} (more : List ℕ) → Bytes s → length s ≡ blockBytes * m → soundFrom size m k n s ≡ m
       → blocksFrom size m k n (bodyFrom size m n s ++ more) ≡ s
   unfolding blocksFrom bodyFrom
   read-written zero k n more none w e = refl
   read-written zero k n more (some h b) w e = absurd (omega arith)
   read-written (suc m) k n {s} more b w e =
       let f = sound-step m k n s e in
-      let t : List ℕ = take 512 s in
+      let t : List ℕ = take blockBytes s in
       let c : List ℕ = contentOf (bytesHere size n) t in
-      let rest : List ℕ = bodyFrom size m (n - perBlock size) (drop 512 s) in
+      let rest : List ℕ = bodyFrom size m (n - perBlock size) (drop blockBytes s) in
       let l : length c ≡ bytesHere size n = content-size n t (front-length m s w) in
-      let g : block k (rowsHere size n) c ≡ t = sound-block k (rowsHere size n) (bytesHere size n) (below-take 512 b) (front-length m s w) (sound-holds k (rowsHere size n) (bytesHere size n) t (f .0)) (here-few n) in
-      let i = read-written m (suc k) (n - perBlock size) more (below-drop 512 b) (behind-length m s w) (f .1) in
-      rw (append-assoc c rest more, take-at c (rest ++ more) (bytesHere size n) l, drop-at c (rest ++ more) (bytesHere size n) l, g, i) (take-append-drop 512 s)
+      let g : block k (rowsHere size n) c ≡ t =
+      sound-block k (rowsHere size n) (bytesHere size n) (below-take blockBytes b) (front-length m s w)
+      (sound-holds k (rowsHere size n) (bytesHere size n) t (f .0)) (here-few n) in
+      let i = read-written m (suc k) (n - perBlock size) more (below-drop blockBytes b) (behind-length m s w) (f .1) in
+      rw (append-assoc c rest more, take-at c (rest ++ more) (bytesHere size n) l, drop-at c (rest ++ more) (bytesHere size n) l, g, i)
+      (take-append-drop blockBytes s)
 
   -- ---- one byte changed
 
-  pub changed-first : (m k n : ℕ) {s : List ℕ} → Bytes s → length s ≡ 512 * m → soundFrom size m k n s ≡ m
-      → (i v : ℕ) → i < 512 * m → v < 256 → (getD s i 0 ≡ v → ⊥) → soundFrom size m k n (set s i v) ≡ i / 512
+  pub changed-first : (m k n : ℕ) {s : List ℕ} → Bytes s → length s ≡ blockBytes * m → soundFrom size m k n s ≡ m
+      → (i v : ℕ) → i < blockBytes * m → v < 256 → (getD s i 0 ≡ v → ⊥) → soundFrom size m k n (set s i v) ≡ i / blockBytes
   changed-first zero k n b w e i v h l ne = absurd (omega arith)
   changed-first (suc m) k n {s} b w e i v h l ne =
-      go (λ o u. changed-first m (suc k) (n - perBlock size) (below-drop 512 b) (behind-length m s w) (f .1) (i - 512) v o l u) (ltb i 512) refl
+      let c = below-drop blockBytes b in
+      let r = changed-first m (suc k) (n - perBlock size) c (behind-length m s w) (f .1) (i - blockBytes) v in
+      go (λ o u. r o l u) (ltb i blockBytes) refl
     where
       Rest : Type 0
-      Rest = i - 512 < 512 * m → (getD (drop 512 s) (i - 512) 0 ≡ v → ⊥) → soundFrom size m (suc k) (n - perBlock size) (set (drop 512 s) (i - 512) v) ≡ (i - 512) / 512
+      Rest =
+          i - blockBytes < blockBytes * m → (getD (drop blockBytes s) (i - blockBytes) 0 ≡ v → ⊥)
+          → soundFrom size m (suc k) (n - perBlock size) (set (drop blockBytes s) (i - blockBytes) v) ≡ (i - blockBytes) / blockBytes
 
-      f : (sound k (rowsHere size n) (bytesHere size n) (take 512 s) ≡ true) × (soundFrom size m (suc k) (n - perBlock size) (drop 512 s) ≡ m)
+      f : (sound k (rowsHere size n) (bytesHere size n) (take blockBytes s) ≡ true)
+          × (soundFrom size m (suc k) (n - perBlock size) (drop blockBytes s) ≡ m)
       f = sound-step m k n s e
 
-      here : i < 512 → soundFrom size (suc m) k n (set s i v) ≡ i / 512
+      here : i < blockBytes → soundFrom size (suc m) k n (set s i v) ≡ i / blockBytes
       here g =
-          let u = changed-unsound k (rowsHere size n) (bytesHere size n) (below-take 512 b) (front-length m s w) (f .0) i v g l (λ q. ne (sym (getD-take 512 s i 0 g) ∙ q)) in
-          first-not m k n (set s i v) (rw (take-set-lt 512 s i v g) u) ∙ omega arith
+          let u =
+          changed-unsound k (rowsHere size n) (bytesHere size n) (below-take blockBytes b) (front-length m s w) (f .0) i v g l
+          (λ q. ne (sym (getD-take blockBytes s i 0 g) ∙ q)) in
+          first-not m k n (set s i v) (rw (take-set-lt blockBytes s i v g) u) ∙ omega arith
 
-      later : Rest → 512 ≤ i → soundFrom size (suc m) k n (set s i v) ≡ i / 512
+      later : Rest → blockBytes ≤ i → soundFrom size (suc m) k n (set s i v) ≡ i / blockBytes
       later rest g =
-          let j : i ≡ 512 + (i - 512) = omega arith in
-          let d : drop 512 (set s i v) ≡ set (drop 512 s) (i - 512) v = ap (λ (x : ℕ). drop 512 (set s x v)) j ∙ drop-set-add 512 s (i - 512) v in
-          let o : getD (drop 512 s) (i - 512) 0 ≡ getD s i 0 = getD-drop 512 s (i - 512) 0 ∙ ap (λ (x : ℕ). getD s x 0) (sym j) in
+          let j : i ≡ blockBytes + (i - blockBytes) = omega arith in
+          let d : drop blockBytes (set s i v) ≡ set (drop blockBytes s) (i - blockBytes) v =
+          ap (λ (x : ℕ). drop blockBytes (set s x v)) j ∙ drop-set-add blockBytes s (i - blockBytes) v in
+          let o : getD (drop blockBytes s) (i - blockBytes) 0 ≡ getD s i 0 =
+          getD-drop blockBytes s (i - blockBytes) 0 ∙ ap (λ (x : ℕ). getD s x 0) (sym j) in
           let r = rest (omega arith) (λ q. ne (sym o ∙ q)) in
-          first-sound m k n (set s i v) (rw (take-set-le 512 s i v g) (f .0)) ∙ rw (d, r) (omega arith)
+          first-sound m k n (set s i v) (rw (take-set-le blockBytes s i v g) (f .0)) ∙ rw (d, r) (omega arith)
 
-      go : Rest → (t : Bool) → ltb i 512 ≡ t → soundFrom size (suc m) k n (set s i v) ≡ i / 512
-      go rest true t = here (ltb-true i 512 t)
-      go rest false t = later rest (ltb-false i 512 t)
+      go : Rest → (t : Bool) → ltb i blockBytes ≡ t → soundFrom size (suc m) k n (set s i v) ≡ i / blockBytes
+      go rest true t = here (ltb-true i blockBytes t)
+      go rest false t = later rest (ltb-false i blockBytes t)

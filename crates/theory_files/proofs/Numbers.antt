@@ -1,12 +1,12 @@
 -- Laws of lists below a bound, of numbers in bytes and of words in bytes: each is the other's inverse.
 use mathlib.Core.Path.{_≡_, refl, sym, ap, _∙_}
 use mathlib.Core.List.{List, [], _∷_, _++_, append-assoc}
-use Prim.Native.Nat.{ℕ, zero, suc, _+_, _-_, _*_, _/_, _%_, _^_, _≤_, _<_}
+use Prim.Native.Nat.{ℕ, zero, suc, _+_, _*_, _/_, _%_, _^_, _≤_, _<_}
 use native.Mathlib.Nat.{not-suc-le-zero, le-of-suc-le-suc}
 use native.Mathlib.Omega.{arith}
 use lib.ListN.{length, take, drop, getD, set, replicate, length-append, length-take, length-drop}
 use lib.Seq.{take-add, drop-drop, take-at, drop-at, take-append-le, drop-append-le}
-use Rattle.file_rules.specs.Bytes.{little, number, numberAt, bytesOf, wordsIn}
+use Rattle.file_rules.specs.Bytes.{little, number, bytesOf, wordsIn}
 use Rattle.theory_files.specs.Bounds.{Below, none, some, Bytes, Words}
 
 -- ---- below a bound
@@ -94,6 +94,16 @@ number-below (some l none) h = omega arith
 number-below (some l (some k none)) h = omega arith
 number-below (some l (some k (some j b))) h = absurd (not-suc-le-zero (le-of-suc-le-suc (le-of-suc-le-suc h)))
 
+four-below : {s : List ℕ} → Bytes s → length s ≤ 4 → number s < 2 ^ 32
+unfolding number
+four-below none h = omega arith
+four-below (some a none) h = omega arith
+four-below (some a (some b none)) h = omega arith
+four-below (some a (some b (some c none))) h = omega arith
+four-below (some a (some b (some c (some d none)))) h = omega arith
+four-below (some a (some b (some c (some d (some e s))))) h =
+    absurd (not-suc-le-zero (le-of-suc-le-suc (le-of-suc-le-suc (le-of-suc-le-suc (le-of-suc-le-suc h)))))
+
 -- ---- words in bytes
 
 pub bytes-length : (ws : List ℕ) → length (bytesOf ws) ≡ 4 * length ws
@@ -112,7 +122,9 @@ bytes-take zero ws = refl
 bytes-take (suc n) [] = let e : 4 * suc n ≡ suc (4 * n + 3) = omega arith in rw e
 bytes-take (suc n) (w ∷ ws) =
     let e : 4 * suc n ≡ 4 + 4 * n = omega arith in
-    rw (e, take-add 4 (4 * n) (little 4 w ++ bytesOf ws), take-at (little 4 w) (bytesOf ws) 4 (little-length 4 w), drop-at (little 4 w) (bytesOf ws) 4 (little-length 4 w), bytes-take n ws)
+    let t = take-at (little 4 w) (bytesOf ws) 4 (little-length 4 w) in
+    let d = drop-at (little 4 w) (bytesOf ws) 4 (little-length 4 w) in
+    rw (e, take-add 4 (4 * n) (little 4 w ++ bytesOf ws), t, d, bytes-take n ws)
 
 pub bytes-drop : (n : ℕ) (ws : List ℕ) → drop (4 * n) (bytesOf ws) ≡ bytesOf (drop n ws)
 unfolding bytesOf
@@ -132,12 +144,20 @@ unfolding wordsIn
 words-length zero s = refl
 words-length (suc n) s = ap suc (words-length n (drop 4 s))
 
+-- words that are read of bytes fit
+pub read-words : (n : ℕ) {s : List ℕ} → Bytes s → Words (wordsIn n s)
+unfolding wordsIn
+read-words zero b = none
+read-words (suc n) {s} b = some (four-below (below-take 4 b) (omega (arith, length-take 4 s))) (read-words n (below-drop 4 b))
+
 -- words that were written are read
 pub words-bytes : {ws : List ℕ} → Words ws → (t : List ℕ) → wordsIn (length ws) (bytesOf ws ++ t) ≡ ws
 unfolding bytesOf wordsIn
 words-bytes none t = refl
 words-bytes (some {x = w} {xs = ws} h b) t =
-    rw (append-assoc, take-at (little 4 w) (bytesOf ws ++ t) 4 (little-length 4 w), drop-at (little 4 w) (bytesOf ws ++ t) 4 (little-length 4 w), number-four w h, words-bytes b t)
+    let f = take-at (little 4 w) (bytesOf ws ++ t) 4 (little-length 4 w) in
+    let d = drop-at (little 4 w) (bytesOf ws ++ t) 4 (little-length 4 w) in
+    rw (append-assoc, f, d, number-four w h, words-bytes b t)
 
 -- bytes that are read are those that are written
 pub bytes-words : (n : ℕ) {s : List ℕ} → Bytes s → 4 * n ≤ length s → bytesOf (wordsIn n s) ≡ take (4 * n) s
@@ -171,4 +191,5 @@ words-append zero n [] t e = let f : 0 + n ≡ n = omega arith in rw f
 words-append zero n (x ∷ s) t e = absurd (omega arith)
 words-append (suc a) n s t e =
     let f : suc a + n ≡ suc (a + n) = omega arith in
-    rw (f, take-append-le 4 s t (omega arith), drop-append-le 4 s t (omega arith), words-append a n (drop 4 s) t (length-drop 4 s ∙ omega arith))
+    let r = words-append a n (drop 4 s) t (length-drop 4 s ∙ omega arith) in
+    rw (f, take-append-le 4 s t (omega arith), drop-append-le 4 s t (omega arith), r)

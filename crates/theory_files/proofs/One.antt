@@ -1,20 +1,23 @@
--- Laws of one block: how long it is, that a block is sound, that a sound block is the block of its content, and that no change of one byte leaves it sound.
+-- Laws of one block: how long it is, that a block is sound, that a sound block is the block of its content, and that no change of one
+-- byte leaves it sound.
 use mathlib.Core.Path.{_≡_, refl, sym, ap, _∙_}
-use mathlib.Core.Logic.{_≢_}
-use mathlib.Core.Bool.{Bool, true, false, _&&_, and-false}
+use mathlib.Core.Bool.{Bool, true, false}
 use mathlib.Core.List.{List, [], _∷_, _++_, append-assoc}
-use Prim.Native.Nat.{ℕ, zero, suc, _+_, _-_, _*_, _/_, _%_, _^_, _≤_, _<_}
+use Prim.Native.Nat.{ℕ, zero, suc, _+_, _-_, _*_, _^_, _≤_, _<_}
 use native.Mathlib.Nat.{not-suc-le-zero, le-of-suc-le-suc, mul-le-mul, eq-of-mul-eq-mul-left, mul-comm}
 use native.Mathlib.Omega.{arith}
-use lib.ListN.{length, take, drop, getD, set, replicate, length-append, length-take, length-drop, length-replicate, length-set, take-append-drop}
-use lib.Seq.{take-add, drop-drop, take-at, drop-at, take-append-le, drop-append-le, take-all, take-set-lt, take-set-le, drop-set-add, getD-drop, getD-take, set-getD, drop-set-lt, take-take, drop-append-add, getD-set-same}
-use lib.Dec.{eqb, ltb, leb}
-use borrow.Author.Tests.{eqb-true, eq-eqb, ne-eqb, ltb-true, ltb-false}
-use Rattle.laws.proofs.Tests.{both-true, true-both, false-by}
+use lib.ListN.{length, take, drop, getD, set, replicate, length-append, length-take, length-drop, length-replicate, length-set}
+use lib.ListN.{take-append-drop}
+use lib.Seq.{take-add, drop-drop, take-at, drop-at, take-all, take-set-lt, take-set-le, drop-set-add, getD-drop, getD-take, drop-set-lt}
+use lib.Seq.{getD-set-same}
+use lib.Dec.{eqb, ltb}
+use borrow.Author.Tests.{eqb-true, eq-eqb, ltb-true, ltb-false}
+use Rattle.laws.proofs.Tests.{both-true, false-by}
 use Rattle.file_rules.specs.Bytes.{little, number, numberAt}
-use Rattle.file_rules.specs.Blocks.{sumFrom, check, checked, block, contentOf, zeros, sound}
-use Rattle.theory_files.specs.Bounds.{Below, none, some, Bytes}
-use Rattle.theory_files.proofs.Numbers.{below-take, below-drop, below-append, below-set, below-zeros, little-length, little-bytes, number-two, number-four, little-number, number-same, number-below}
+use Rattle.file_rules.specs.Blocks.{sumFrom, check, checked, block, contentOf, zeros, sound, blockBytes, checkedBytes, contentRoom}
+use Rattle.theory_files.specs.Bounds.{none, some, Bytes}
+use Rattle.theory_files.proofs.Numbers.{below-take, below-drop, below-append, below-set, below-zeros, little-length, little-bytes}
+use Rattle.theory_files.proofs.Numbers.{number-two, number-four, little-number, number-same, number-below}
 
 -- ---- the check
 
@@ -24,11 +27,11 @@ unfolding sumFrom
 sum-bound p none h = omega arith
 sum-bound p (some {x = b} {xs = s} l r) h =
     let c : b ≤ 255 = omega arith in
-    let d : p ≤ 508 = omega arith in
-    let f : b * p ≤ 255 * 508 = mul-le-mul c d in
+    let d : p ≤ checkedBytes = omega arith in
+    let f : b * p ≤ 255 * checkedBytes = mul-le-mul c d in
     omega (arith, sum-bound (suc p) r (omega arith))
 
-pub check-bound : {s : List ℕ} → Bytes s → length s ≡ 508 → check s < 2 ^ 32
+pub check-bound : {s : List ℕ} → Bytes s → length s ≡ checkedBytes → check s < 2 ^ 32
 unfolding check
 check-bound b e = omega (arith, sum-bound 1 b (omega arith))
 
@@ -71,39 +74,42 @@ zeros-are (b ∷ s) e =
 
 -- ---- a block and its parts
 
-module _ (k n : ℕ) (content : List ℕ) (few : length content ≤ 504) where
-  pub checked-length : length (checked k n content) ≡ 508
+module _ (k n : ℕ) (content : List ℕ) (few : length content ≤ contentRoom) where
+  pub checked-length : length (checked k n content) ≡ checkedBytes
   unfolding checked
   checked-length = rw (length-append, length-append, little-length, little-length, length-append, length-replicate) (omega arith)
 
-  pub block-length : length (block k n content) ≡ 512
+  pub block-length : length (block k n content) ≡ blockBytes
   unfolding block
   block-length = rw (length-append, checked-length, little-length)
 
   pub checked-bytes : Bytes content → Bytes (checked k n content)
   unfolding checked
   checked-bytes b =
-      below-append (below-append (little-bytes 2 k) (little-bytes 2 n)) (below-append b (below-zeros (504 - length content) (omega arith)))
+      below-append (below-append (little-bytes 2 k) (little-bytes 2 n))
+      (below-append b (below-zeros (contentRoom - length content) (omega arith)))
 
   pub block-bytes : Bytes content → Bytes (block k n content)
   unfolding block
   block-bytes b = below-append (checked-bytes b) (little-bytes 4 (check (checked k n content)))
 
-  pub take-block : take 508 (block k n content) ≡ checked k n content
+  pub take-block : take checkedBytes (block k n content) ≡ checked k n content
   unfolding block
-  take-block = take-at (checked k n content) (little 4 (check (checked k n content))) 508 checked-length
+  take-block = take-at (checked k n content) (little 4 (check (checked k n content))) checkedBytes checked-length
 
-  drop-block : drop 508 (block k n content) ≡ little 4 (check (checked k n content))
+  drop-block : drop checkedBytes (block k n content) ≡ little 4 (check (checked k n content))
   unfolding block
-  drop-block = drop-at (checked k n content) (little 4 (check (checked k n content))) 508 checked-length
+  drop-block = drop-at (checked k n content) (little 4 (check (checked k n content))) checkedBytes checked-length
 
   -- its bytes from the content on
   tail : List ℕ
-  tail = (content ++ replicate (504 - length content) 0) ++ little 4 (check (checked k n content))
+  tail = (content ++ replicate (contentRoom - length content) 0) ++ little 4 (check (checked k n content))
 
   block-split : block k n content ≡ (little 2 k ++ little 2 n) ++ tail
   unfolding block checked tail
-  block-split = append-assoc (little 2 k ++ little 2 n) (content ++ replicate (504 - length content) 0) (little 4 (check (checked k n content)))
+  block-split =
+      append-assoc (little 2 k ++ little 2 n) (content ++ replicate (contentRoom - length content) 0)
+      (little 4 (check (checked k n content)))
 
   head-length : length (little 2 k ++ little 2 n) ≡ 4
   head-length = rw (length-append, little-length, little-length)
@@ -118,27 +124,32 @@ module _ (k n : ℕ) (content : List ℕ) (few : length content ≤ 504) where
   rows-of : n < 65536 → numberAt 2 2 (block k n content) ≡ n
   unfolding numberAt
   rows-of h =
-      rw (block-split, append-assoc, drop-at (little 2 k) (little 2 n ++ tail) 2 (little-length 2 k), take-at (little 2 n) tail 2 (little-length 2 n)) (number-two n h)
+      let d = drop-at (little 2 k) (little 2 n ++ tail) 2 (little-length 2 k) in
+      rw (block-split, append-assoc, d, take-at (little 2 n) tail 2 (little-length 2 n)) (number-two n h)
 
-  check-of : Bytes content → numberAt 4 508 (block k n content) ≡ check (take 508 (block k n content))
+  check-of : Bytes content → numberAt 4 checkedBytes (block k n content) ≡ check (take checkedBytes (block k n content))
   unfolding numberAt
   check-of b =
-      rw (drop-block, take-block, take-all 4 (little 4 (check (checked k n content))) (omega (arith, little-length 4 (check (checked k n content)))))
-      (number-four (check (checked k n content)) (check-bound (checked-bytes b) checked-length))
+      let c = check (checked k n content) in
+      rw (drop-block, take-block, take-all 4 (little 4 c) (omega (arith, little-length 4 c)))
+      (number-four c (check-bound (checked-bytes b) checked-length))
 
-  filler-of : zeros (take (504 - length content) (drop (4 + length content) (block k n content))) ≡ true
+  filler-of : zeros (take (contentRoom - length content) (drop (4 + length content) (block k n content))) ≡ true
   unfolding tail
   filler-of =
-      let z : List ℕ = replicate (504 - length content) 0 in
+      let z : List ℕ = replicate (contentRoom - length content) 0 in
       let c : List ℕ = little 4 (check (checked k n content)) in
-      rw (← drop-drop (length content) 4 (block k n content), drop-head, append-assoc, drop-at content (z ++ c) (length content) refl, take-at z c (504 - length content) (length-replicate (504 - length content) 0))
-      (zeros-replicate (504 - length content))
+      let d = drop-at content (z ++ c) (length content) refl in
+      let t = take-at z c (contentRoom - length content) (length-replicate (contentRoom - length content) 0) in
+      rw (← drop-drop (length content) 4 (block k n content), drop-head, append-assoc, d, t)
+      (zeros-replicate (contentRoom - length content))
 
   -- the content comes back
   pub content-block : contentOf (length content) (block k n content) ≡ content
   unfolding contentOf tail
   content-block =
-      rw (drop-head, append-assoc) (take-at content (replicate (504 - length content) 0 ++ little 4 (check (checked k n content))) (length content) refl)
+      rw (drop-head, append-assoc)
+      (take-at content (replicate (contentRoom - length content) 0 ++ little 4 (check (checked k n content))) (length content) refl)
 
   -- a block is sound
   pub block-sound : k < 65536 → n < 65536 → Bytes content → sound k n (length content) (block k n content) ≡ true
@@ -151,8 +162,8 @@ module _ (k n : ℕ) (content : List ℕ) (few : length content ≤ 504) where
 pub record Sound (k n size : ℕ) (b : List ℕ) : Type 0 where
   pub number-is : numberAt 2 0 b ≡ k
   pub rows-are : numberAt 2 2 b ≡ n
-  pub filler : zeros (take (504 - size) (drop (4 + size) b)) ≡ true
-  pub check-is : numberAt 4 508 b ≡ check (take 508 b)
+  pub filler : zeros (take (contentRoom - size) (drop (4 + size) b)) ≡ true
+  pub check-is : numberAt 4 checkedBytes b ≡ check (take checkedBytes b)
 
 pub sound-holds : (k n size : ℕ) (b : List ℕ) → sound k n size b ≡ true → Sound k n size b
 unfolding sound
@@ -167,7 +178,7 @@ unfolding sound
 holds-sound k n size b s =
     rw (eq-eqb _ k (s .number-is), eq-eqb _ n (s .rows-are), s .filler, eq-eqb _ _ (s .check-is))
 
-module _ (k n size : ℕ) {b : List ℕ} (bytes : Bytes b) (whole : length b ≡ 512) (s : Sound k n size b) where
+module _ (k n size : ℕ) {b : List ℕ} (bytes : Bytes b) (whole : length b ≡ blockBytes) (s : Sound k n size b) where
   number-bytes : little 2 k ≡ take 2 b
   unfolding numberAt
   number-bytes =
@@ -180,35 +191,37 @@ module _ (k n size : ℕ) {b : List ℕ} (bytes : Bytes b) (whole : length b ≡
       let l : length (take 2 (drop 2 b)) ≡ 2 = length-take 2 (drop 2 b) ∙ omega (arith, length-drop 2 b) in
       rw (← s .rows-are) (rw l at (little-number (below-take 2 (below-drop 2 bytes))))
 
-  check-bytes : little 4 (check (take 508 b)) ≡ drop 508 b
+  check-bytes : little 4 (check (take checkedBytes b)) ≡ drop checkedBytes b
   unfolding numberAt
   check-bytes =
-      let d : length (drop 508 b) ≡ 4 = length-drop 508 b ∙ omega arith in
-      let t : take 4 (drop 508 b) ≡ drop 508 b = take-all 4 (drop 508 b) (omega arith) in
-      rw (← s .check-is, t) (rw d at (little-number (below-drop 508 bytes)))
+      let d : length (drop checkedBytes b) ≡ 4 = length-drop checkedBytes b ∙ omega arith in
+      let t : take 4 (drop checkedBytes b) ≡ drop checkedBytes b = take-all 4 (drop checkedBytes b) (omega arith) in
+      rw (← s .check-is, t) (rw d at (little-number (below-drop checkedBytes bytes)))
 
-  module _ (few : size ≤ 504) where
+  module _ (few : size ≤ contentRoom) where
     pub content-length : length (contentOf size b) ≡ size
     unfolding contentOf
     content-length = length-take size (drop 4 b) ∙ omega (arith, length-drop 4 b)
 
-    filler-bytes : replicate (504 - size) 0 ≡ take (504 - size) (drop (4 + size) b)
+    filler-bytes : replicate (contentRoom - size) 0 ≡ take (contentRoom - size) (drop (4 + size) b)
     filler-bytes =
-        let z : List ℕ = take (504 - size) (drop (4 + size) b) in
-        let l : length z ≡ 504 - size = length-take (504 - size) (drop (4 + size) b) ∙ omega (arith, length-drop (4 + size) b) in
+        let z : List ℕ = take (contentRoom - size) (drop (4 + size) b) in
+        let l : length z ≡ contentRoom - size =
+        length-take (contentRoom - size) (drop (4 + size) b) ∙ omega (arith, length-drop (4 + size) b) in
         ap (λ (x : ℕ). replicate x 0) (sym l) ∙ sym (zeros-are z (s .filler))
 
-    checked-is : checked k n (contentOf size b) ≡ take 508 b
+    checked-is : checked k n (contentOf size b) ≡ take checkedBytes b
     unfolding checked contentOf
     checked-is =
-        let e : 504 - length (take size (drop 4 b)) ≡ 504 - size = ap (λ (x : ℕ). 504 - x) content-length in
-        let f : size + (504 - size) ≡ 504 = omega arith in
-        rw (number-bytes, rows-bytes, e, filler-bytes, ← drop-drop size 4 b, ← take-add size (504 - size) (drop 4 b), f, ← take-add 2 2 b) (sym (take-add 4 504 b))
+        let e : contentRoom - length (take size (drop 4 b)) ≡ contentRoom - size = ap (λ (x : ℕ). contentRoom - x) content-length in
+        let f : size + (contentRoom - size) ≡ contentRoom = omega arith in
+        let j = take-add size (contentRoom - size) (drop 4 b) in
+        rw (number-bytes, rows-bytes, e, filler-bytes, ← drop-drop size 4 b, ← j, f, ← take-add 2 2 b) (sym (take-add 4 contentRoom b))
 
     -- a sound block is the block of its content
     pub sound-block : block k n (contentOf size b) ≡ b
     unfolding block
-    sound-block = rw (checked-is, check-bytes) (take-append-drop 508 b)
+    sound-block = rw (checked-is, check-bytes) (take-append-drop checkedBytes b)
 
   pub sound-number : k < 65536
   unfolding numberAt
@@ -216,36 +229,51 @@ module _ (k n size : ℕ) {b : List ℕ} (bytes : Bytes b) (whole : length b ≡
 
 -- ---- one byte changed
 
-module _ (k n size : ℕ) {b : List ℕ} (bytes : Bytes b) (whole : length b ≡ 512) (e : sound k n size b ≡ true) (i v : ℕ) (h : i < 512) (l : v < 256) (ne : getD b i 0 ≡ v → ⊥) where
-  in-front : i < 508 → Sound k n size (set b i v) → ⊥
-  unfolding numberAt
+module _ (k n size : ℕ) {b : List ℕ} (bytes : Bytes b) (whole : length b ≡ blockBytes) (e : sound k n size b ≡ true) (i v : ℕ)
+    (h : i < blockBytes) (l : v < 256) (ne : getD b i 0 ≡ v → ⊥) where
+  -- the check is another
+  Checks : Type 0
+  Checks = numberAt 4 checkedBytes (set b i v) ≡ check (take checkedBytes (set b i v))
+
+  in-front : i < checkedBytes → Checks → ⊥
+  unfolding numberAt Checks
   in-front f s =
       let o = sound-holds k n size b e in
-      let a : drop 508 (set b i v) ≡ drop 508 b = drop-set-lt 508 b i v f in
-      let c : take 508 (set b i v) ≡ set (take 508 b) i v = take-set-lt 508 b i v f in
-      let z = rw (a, c) at (s .check-is) in
-      check-set (take 508 b) i v (omega (arith, length-take 508 b)) (λ q. ne (sym (getD-take 508 b i 0 f) ∙ q)) (sym z ∙ o .check-is)
+      let a : drop checkedBytes (set b i v) ≡ drop checkedBytes b = drop-set-lt checkedBytes b i v f in
+      let c : take checkedBytes (set b i v) ≡ set (take checkedBytes b) i v = take-set-lt checkedBytes b i v f in
+      let z = rw (a, c) at s in
+      check-set (take checkedBytes b) i v (omega (arith, length-take checkedBytes b)) (λ q. ne (sym (getD-take checkedBytes b i 0 f) ∙ q))
+      (sym z ∙ o .check-is)
 
-  behind : (j : ℕ) → i ≡ 508 + j → Sound k n size (set b i v) → ⊥
-  unfolding numberAt
+  behind : (j : ℕ) → i ≡ checkedBytes + j → Checks → ⊥
+  unfolding numberAt Checks
   behind j f s =
       let o = sound-holds k n size b e in
-      let a : drop 508 (set b i v) ≡ set (drop 508 b) j v = ap (λ (x : ℕ). drop 508 (set b x v)) f ∙ drop-set-add 508 b j v in
-      let c : take 508 (set b i v) ≡ take 508 b = take-set-le 508 b i v (omega arith) in
-      let z = rw (a, c) at (s .check-is) in
-      let d : length (drop 508 b) ≡ 4 = length-drop 508 b ∙ omega arith in
-      let t : take 4 (drop 508 b) ≡ drop 508 b = take-all 4 (drop 508 b) (omega arith) in
-      let u : take 4 (set (drop 508 b) j v) ≡ set (drop 508 b) j v = take-all 4 _ (omega (arith, length-set (drop 508 b) j v)) in
-      let m : number (set (drop 508 b) j v) ≡ number (drop 508 b) = rw u at z ∙ sym (rw t at (o .check-is)) in
-      let w = number-same (below-set j v l (below-drop 508 bytes)) (below-drop 508 bytes) (length-set (drop 508 b) j v) m in
-      let g : getD (drop 508 b) j 0 ≡ getD b i 0 = getD-drop 508 b j 0 ∙ ap (λ (x : ℕ). getD b x 0) (sym f) in
-      ne (sym g ∙ ap (λ (x : List ℕ). getD x j 0) (sym w) ∙ getD-set-same (drop 508 b) j v 0 (omega arith))
+      let a : drop checkedBytes (set b i v) ≡ set (drop checkedBytes b) j v =
+      ap (λ (x : ℕ). drop checkedBytes (set b x v)) f ∙ drop-set-add checkedBytes b j v in
+      let c : take checkedBytes (set b i v) ≡ take checkedBytes b = take-set-le checkedBytes b i v (omega arith) in
+      let z = rw (a, c) at s in
+      let d : length (drop checkedBytes b) ≡ 4 = length-drop checkedBytes b ∙ omega arith in
+      let t : take 4 (drop checkedBytes b) ≡ drop checkedBytes b = take-all 4 (drop checkedBytes b) (omega arith) in
+      let u : take 4 (set (drop checkedBytes b) j v) ≡ set (drop checkedBytes b) j v =
+      take-all 4 _ (omega (arith, length-set (drop checkedBytes b) j v)) in
+      let m : number (set (drop checkedBytes b) j v) ≡ number (drop checkedBytes b) = rw u at z ∙ sym (rw t at (o .check-is)) in
+      let w =
+      number-same (below-set j v l (below-drop checkedBytes bytes)) (below-drop checkedBytes bytes)
+      (length-set (drop checkedBytes b) j v) m in
+      let g : getD (drop checkedBytes b) j 0 ≡ getD b i 0 = getD-drop checkedBytes b j 0 ∙ ap (λ (x : ℕ). getD b x 0) (sym f) in
+      ne (sym g ∙ ap (λ (x : List ℕ). getD x j 0) (sym w) ∙ getD-set-same (drop checkedBytes b) j v 0 (omega arith))
 
-  -- any one changed byte is found
-  pub changed-unsound : sound k n size (set b i v) ≡ false
-  changed-unsound =
-      false-by (sound k n size (set b i v)) (λ t. pick (sound-holds k n size (set b i v) t) (ltb i 508) refl)
+  -- any one changed byte is found, whatever number, row count and content the block is judged by
+  pub changed-judged : (k' n' size' : ℕ) → sound k' n' size' (set b i v) ≡ false
+  unfolding Checks
+  changed-judged k' n' size' =
+      false-by (sound k' n' size' (set b i v)) (λ t. pick (sound-holds k' n' size' (set b i v) t .check-is) (ltb i checkedBytes) refl)
     where
-      pick : Sound k n size (set b i v) → (t : Bool) → ltb i 508 ≡ t → ⊥
-      pick s true f = in-front (ltb-true i 508 f) s
-      pick s false f = let g : 508 ≤ i = ltb-false i 508 f in behind (i - 508) (omega arith) s
+      pick : Checks → (t : Bool) → ltb i checkedBytes ≡ t → ⊥
+      pick s true f = in-front (ltb-true i checkedBytes f) s
+      pick s false f = let g : checkedBytes ≤ i = ltb-false i checkedBytes f in behind (i - checkedBytes) (omega arith) s
+
+  -- by its own it is found too
+  pub changed-unsound : sound k n size (set b i v) ≡ false
+  changed-unsound = changed-judged k n size

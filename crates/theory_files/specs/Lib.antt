@@ -1,2 +1,3 @@
 -- The words in which the theorems about stored tables are stated.
 pub mod Bounds
+pub mod Whole

@@ -1,8 +1,8 @@
-//! `spoonharbor store` and `load`: a text's table into a file, and a file's rows listed without their text.
+//! `spoonharbor store` and `load`: a text's table into a file, and a file's rows listed, with their text at hand or without.
 
 use super::source::{Source, Trouble};
 use super::{message, rows, Outcome};
-use spoonharbor::{Document, Reason, Refusal, Table};
+use spoonharbor::{Document, Form, Reason, Refusal, Table};
 use std::ffi::OsStr;
 use std::fs;
 use std::io::{self, Write};
@@ -10,7 +10,7 @@ use std::path::Path;
 
 /// The bytes of the longest file, which has 65,535 rows, and of each of its blocks.
 pub const LONGEST_FILE: usize = 2_237_440;
-const BLOCK: usize = 512;
+pub const BLOCK: usize = 512;
 
 /// Stores the table of the text of a path, or says why it cannot be written. Of a text that scans only up to a place, the rows up to
 /// there are stored, and the refusal is told.
@@ -61,9 +61,9 @@ fn write(path: &OsStr, output: &OsStr, file: &[u8]) -> io::Result<()> {
     fs::write(output, file)
 }
 
-/// Lists the rows of a stored table.
-pub fn load(source: &Source, out: &mut impl Write) -> io::Result<Outcome> {
-    let table = match loaded(&source.bytes) {
+/// Lists the rows of a stored table, read beside its text where that is given.
+pub fn load(source: &Source, text: Option<&Source>, out: &mut impl Write) -> io::Result<Outcome> {
+    let table = match loaded(&source.bytes, text) {
         Ok(table) => table,
         Err(complaint) => {
             writeln!(out, "{}: {complaint}", source.name)?;
@@ -81,15 +81,47 @@ pub fn load(source: &Source, out: &mut impl Write) -> io::Result<Outcome> {
 }
 
 /// The table that a file holds, or what is wrong with the file. Of one that is too long not all was read.
-fn loaded(file: &[u8]) -> Result<Table, String> {
-    if file.len() > LONGEST_FILE {
-        return Err("longer than any stored table, which is at most 2,237,440 bytes".to_string());
+fn loaded(file: &[u8], text: Option<&Source>) -> Result<Table, String> {
+    if let Some(complaint) = too_long(file) {
+        return Err(complaint);
     }
-    Table::load(file).map_err(|refusal| match refusal.reason {
-        Reason::BadBlock(block) => {
-            let from = block as usize * BLOCK;
-            format!("{refusal} (bytes {from} to {})", from + BLOCK - 1)
+    let loaded = match text {
+        Some(text) => Table::load_beside(&text.bytes, file),
+        None => Table::load(file),
+    };
+    loaded.map_err(|refusal| match (refusal.reason, text) {
+        (Reason::OtherForm, None) if says_short(file) => {
+            "stored in form 2, which is read beside its text: --text names it".to_string()
         }
-        _ => refusal.to_string(),
+        _ => complaint(&refusal),
     })
+}
+
+/// Whether a file's first block says form 2.
+pub fn says_short(file: &[u8]) -> bool {
+    file.get(4..8) == Some(&Form::Short.number().to_le_bytes())
+}
+
+/// What is said of a file that is longer than any.
+pub fn too_long(file: &[u8]) -> Option<String> {
+    (file.len() > LONGEST_FILE)
+        .then(|| "longer than any stored table, which is at most 2,237,440 bytes".to_string())
+}
+
+/// What is said of a refused file; a damaged block is told with its bytes.
+pub fn complaint(refusal: &Refusal) -> String {
+    match refusal.reason {
+        Reason::BadBlock(block) => damaged(block),
+        _ => refusal.to_string(),
+    }
+}
+
+/// What is said of a damaged block.
+pub fn damaged(block: u32) -> String {
+    let from = block as usize * BLOCK;
+    format!(
+        "{} (bytes {from} to {})",
+        Reason::BadBlock(block),
+        from + BLOCK - 1
+    )
 }

@@ -1,6 +1,8 @@
 //! The command's verbs and what is said of them.
 
+use super::mended::MOST_MENDED;
 use super::stored::LONGEST_FILE;
+use super::Options;
 use spoonharbor::LONGEST_TEXT;
 use std::ffi::OsStr;
 
@@ -11,6 +13,8 @@ usage: spoonharbor check FILE..            say of each file whether it is a prog
        spoonharbor tree FILE               print its tree
        spoonharbor store FILE -o TABLE     store its rows in a file
        spoonharbor load TABLE              print the rows of such a file
+       spoonharbor move TABLE --form 2 --text FILE -o OTHER   store it in another form, with its text at hand
+       spoonharbor mend TABLE --text FILE  mend such a file by its text
        spoonharbor VERB --help             say more of one of these
        spoonharbor --version               print the version
 FILE is a path, or - for standard input. Exit status: 0 all is well, 1 a text or a stored table is refused, 2 trouble.
@@ -59,14 +63,38 @@ Exit status: 0 the text scans to its end and is stored, 1 it is refused, 2 troub
 ";
 
 const LOAD_USAGE: &str = "\
-usage: spoonharbor load [--] FILE
+usage: spoonharbor load [--text TEXT] [--] FILE
 
 Prints the rows of a stored table as `spoonharbor rows` prints those of a text, but without spellings, which stand in the text alone; and
 the refusal in which they end, if they do. A file that is not as it was stored is refused, a damaged one with the number of its first
-damaged block and that block's bytes; blocks and bytes count from 0.
+damaged block and that block's bytes; blocks and bytes count from 0. With --text the file is read beside that text, as a file of form 2
+must be, and refused if its length, lines or columns do not agree with it.
 
-FILE is a path, or - for standard input; behind -- a path may begin with -.
+FILE is a path, or - for standard input; TEXT is a path; behind -- a path may begin with -.
 Exit status: 0 the table is sound and its text scans to the end, 1 file or text is refused, 2 trouble.
+";
+
+const MOVE_USAGE: &str = "\
+usage: spoonharbor move [--] FILE --form FORM --text TEXT -o OTHER
+
+Stores a stored table in another form, with its text at hand: form 2 leaves out lines and columns, which the text has, and takes three
+quarters of the bytes; form 1 has them. There and back gives the same bytes. A file that is damaged, or whose length, lines or columns do
+not agree with the text, is refused. OTHER is written beside its place and then put there, and may be FILE.
+
+FILE is a path, or - for standard input; TEXT and OTHER are paths; behind -- the path FILE may begin with -.
+Exit status: 0 the file is written, 1 FILE is refused, 2 trouble.
+";
+
+const MEND_USAGE: &str = "\
+usage: spoonharbor mend [--check] [--form FORM] [--] FILE --text TEXT
+
+Makes a stored table what a reading of its text stores, and tells each block that differed from that: damaged, cut, missing, or too much.
+With --check it is only told. The form is that of which more of the file is right, or the one that --form names. A file that is right is
+left alone; else the mended one is written beside it and then put in its place, so that the old one stays where the writing fails. An
+empty file is written whole, and a text that scans only up to a place is stored up to there, as by `spoonharbor store`.
+
+FILE and TEXT are paths; behind -- the path FILE may begin with -.
+Exit status: 0 the file is right now, 1 with --check it is not, or the text is refused, 2 trouble.
 ";
 
 /// What can be done with files.
@@ -77,12 +105,22 @@ pub enum Verb {
     Tree,
     Store,
     Load,
+    Move,
+    Mend,
 }
 
 impl Verb {
     /// The verb that a word names.
     pub fn named(word: &OsStr) -> Option<Verb> {
-        let verbs = [Verb::Check, Verb::Rows, Verb::Tree, Verb::Store, Verb::Load];
+        let verbs = [
+            Verb::Check,
+            Verb::Rows,
+            Verb::Tree,
+            Verb::Store,
+            Verb::Load,
+            Verb::Move,
+            Verb::Mend,
+        ];
         verbs.into_iter().find(|verb| word == verb.name())
     }
 
@@ -93,6 +131,8 @@ impl Verb {
             Verb::Tree => "tree",
             Verb::Store => "store",
             Verb::Load => "load",
+            Verb::Move => "move",
+            Verb::Mend => "mend",
         }
     }
 
@@ -104,27 +144,55 @@ impl Verb {
             Verb::Tree => TREE_USAGE,
             Verb::Store => STORE_USAGE,
             Verb::Load => LOAD_USAGE,
+            Verb::Move => MOVE_USAGE,
+            Verb::Mend => MEND_USAGE,
         }
     }
 
     /// The most bytes of its file that are read, but for one more.
     pub fn most_bytes(self) -> usize {
         match self {
-            Verb::Load => LONGEST_FILE,
+            Verb::Load | Verb::Move => LONGEST_FILE,
+            Verb::Mend => MOST_MENDED,
             _ => LONGEST_TEXT,
         }
     }
 
-    /// What is wrong with so many files, and with what `-o` names, if anything.
-    pub fn lacks(self, files: usize, output: Option<&OsStr>) -> Option<&'static str> {
+    /// Whether it takes an option.
+    pub fn takes(self, option: &str) -> bool {
+        match option {
+            "--style" => self == Verb::Check,
+            "--check" => self == Verb::Mend,
+            "--text" => matches!(self, Verb::Load | Verb::Move | Verb::Mend),
+            "--form" => matches!(self, Verb::Move | Verb::Mend),
+            "-o" => matches!(self, Verb::Store | Verb::Move),
+            _ => false,
+        }
+    }
+
+    /// What is wrong with so many files, and with what the options name, if anything.
+    pub fn lacks(self, files: usize, options: &Options) -> Option<&'static str> {
+        let output = match options.output.as_deref() {
+            None => Some("-o and the file to write are missing"),
+            Some(path) if path == "-" => Some("behind -o a path is wanted"),
+            _ => None,
+        };
+        let text = match options.text.as_deref() {
+            None => Some("--text and the file's text are missing"),
+            Some(path) if path == "-" => Some("behind --text a path is wanted"),
+            _ => None,
+        };
+        let form = match options.form {
+            None => Some("--form and 1 or 2 are missing"),
+            _ => None,
+        };
         match (self, files) {
             (Verb::Check, 0) => Some("a file is missing"),
             (Verb::Check, _) => None,
-            (Verb::Store, 1) => match output {
-                None => Some("-o and the file to write are missing"),
-                Some(path) if path == "-" => Some("behind -o a path is wanted"),
-                _ => None,
-            },
+            (Verb::Store, 1) => output,
+            (Verb::Load, 1) if options.text.is_some() => text,
+            (Verb::Move, 1) => form.or(text).or(output),
+            (Verb::Mend, 1) => text,
             (_, 1) => None,
             _ => Some("one file is wanted"),
         }

@@ -1,0 +1,3 @@
+-- "Mend a damaged file" as definitions.
+pub mod Mend
+pub mod Cases

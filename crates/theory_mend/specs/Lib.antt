@@ -1,0 +1,2 @@
+-- What is claimed of mended files.
+pub mod Mended
