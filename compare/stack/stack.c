@@ -42,6 +42,22 @@ static void store(void) { spoonharbor_store(rows, ROWS * SH_ROW_WORDS, table, fi
 
 static void load(void) { spoonharbor_load(file, SH_FILE_ROOM(table[SH_COUNT]), new_rows, ROWS * SH_ROW_WORDS, answer); }
 
+static uint8_t moved[SH_SHORT_FILE_ROOM(ROWS)];
+static uint32_t blocks[sizeof moved / 512 + 1];
+
+static void move(void) {
+    spoonharbor_move(text, length, file, SH_FILE_ROOM(table[SH_COUNT]), SH_FORM_SHORT, moved, sizeof moved, answer);
+}
+
+static void read_beside(void) {
+    spoonharbor_load_beside(text, length, moved, SH_SHORT_FILE_ROOM(table[SH_COUNT]), new_rows, ROWS * SH_ROW_WORDS, answer);
+}
+
+/* Over nothing, so that every block is written. */
+static void mend(void) {
+    spoonharbor_mend(text, length, SH_FORM_SHORT, moved, sizeof moved, 0, blocks, sizeof blocks / sizeof *blocks, answer);
+}
+
 /* How many bytes of the stack a call takes. */
 static size_t used_by(void (*call)(void)) {
     memset(stack, FILLED, STACK_BYTES);
@@ -93,8 +109,14 @@ static void report(const char *what) {
     if (answer[SH_NUMBER] != 0) exit(1);
     size_t by_load = used_by(load) - empty;
     if (answer[SH_NUMBER] != 0) exit(1);
-    printf("%s: scan %zu, parse %zu, edit %zu, change %zu, table test %zu, section %zu, store %zu, load %zu bytes of stack\n", what,
-           by_scan, by_parse, by_edit, by_change, by_test, by_section, by_store, by_load);
+    size_t by_move = used_by(move) - empty;
+    if (answer[SH_NUMBER] != 0) exit(1);
+    size_t by_read = used_by(read_beside) - empty;
+    if (answer[SH_NUMBER] != 0) exit(1);
+    size_t by_mend = used_by(mend) - empty;
+    if (answer[SH_NUMBER] != 0) exit(1);
+    printf("%s: scan %zu, parse %zu, edit %zu, change %zu, table test %zu, section %zu, store %zu, load %zu, move %zu, read beside %zu, mend %zu bytes of stack\n", what,
+           by_scan, by_parse, by_edit, by_change, by_test, by_section, by_store, by_load, by_move, by_read, by_mend);
 }
 
 int main(void) {

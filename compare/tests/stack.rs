@@ -4,7 +4,7 @@ use std::path::Path;
 use std::process::Command;
 
 /// The calls that are measured, in the order of the report, and how much stack each may take.
-const MOST: [(&str, usize); 8] = [
+const MOST: [(&str, usize); 11] = [
     ("scan", 1_024),
     ("parse", 32 * 1_024),
     ("edit", 1_024),
@@ -13,6 +13,9 @@ const MOST: [(&str, usize); 8] = [
     ("section", 64),
     ("store", 1_024),
     ("load", 1_024),
+    ("move", 2 * 1_024),
+    ("read beside", 1_024),
+    ("mend", 4 * 1_024),
 ];
 
 /// How many texts are measured.
