@@ -14,7 +14,6 @@ use Rattle.rules.specs.Scan.{roomOf, laid}
 use Rattle.rules.specs.Edit.{isShort, kept, endPlace, lastEnd, restart, firstPlace, meets, windowPlace, seen}
 use Rattle.laws.proofs.Places.{roomy-less, roomy-over}
 use Rattle.laws.proofs.Rows.{rows-length, rows-at, take-rows, laid-all}
-use Rattle.scan_reader.specs.declared.Spot.{Spot}
 use Rattle.scan_reader.specs.Read.{onward}
 use Rattle.rows.specs.Shape.{rowNo}
 use Rattle.rows.proofs.Inside
@@ -177,9 +176,9 @@ module _ {ws : List ℕ} {j : Job} {w : List ℕ} (r : Ready ws j w) where
       over-by y f = let q = by-over ws j w (jobSeen ws j w whole) y (stopped ∙ f) in (q .0 ∙ ours-seen, q .1)
 
       -- an old row meets, with c comments before it
-      module _ (s : Spot) (row c : ℕ) (f : x .stop ≡ Met s row c) where
-        there : Meeting ws j w (jobSeen ws j w whole) s row c
-        there = by-met ws j w (r .begin) whole begin (jobSeen ws j w whole) (omega arith) is-shown s row c (stopped ∙ f)
+      module _ (p : Cursor) (row c : ℕ) (f : x .stop ≡ Met p row c) where
+        there : Meeting ws j w (jobSeen ws j w whole) p row c
+        there = by-met ws j w (r .begin) whole begin (jobSeen ws j w whole) (omega arith) is-shown p row c (stopped ∙ f)
 
         row-there : row < j .table .count
         row-there = rw (rows-length (j .table .count) ws) at (there .there)
@@ -190,28 +189,28 @@ module _ {ws : List ℕ} {j : Job} {w : List ℕ} (r : Ready ws j w) where
             ap firstPlace (drop-cons (oldRows ws j) row (rowIn []) (there .there))
             ∙ ap rowPlace (rows-at (j .table .count) ws (rowIn []) row row-there)
 
-        pub met-rows : jobRows ws j w whole ≡ ours ++ rowsBehind ws (j .table) row (s .cursor) c
+        pub met-rows : jobRows ws j w whole ≡ ours ++ rowsBehind ws (j .table) row p c
         unfolding jobRows rowsBehind
         met-rows = there .rows-met ∙ rw (place-old, ours-seen)
 
-        pub met-ending : jobEnding ws j w whole ≡ endingBehind ws (j .table) row (s .cursor)
+        pub met-ending : jobEnding ws j w whole ≡ endingBehind ws (j .table) row p
         unfolding jobEnding endingBehind
         met-ending = there .ending-met ∙ rw place-old
 
-        room-spot : Roomy (2 ^ 31) (s .cursor)
+        room-place : Roomy (2 ^ 31) p
         unfolding onward
-        room-spot =
+        room-place =
             let t = take (there .at) w in
             let n : 2 ^ 31 + length t ≡ 2 ^ 31 + there .at = rw (length-take-le (there .at) w (omega (arith, there .inside))) in
-            subst (Roomy (2 ^ 31)) (sym (ap (λ (q : Spot). q .cursor) (there .spot)))
+            subst (Roomy (2 ^ 31)) (sym (there .place))
             (roomy-over (2 ^ 31) (j .begin) t
             (roomy-less (2 ^ 31 + length w) (2 ^ 31 + length t) (j .begin) (omega (arith, n, there .inside)) room-begin))
 
-        pub met-follows : Follows ws (j .table) row (s .cursor)
+        pub met-follows : Follows ws (j .table) row p
         met-follows =
             record {
               lent = sound .lent;
               there = row-there;
-              rows = moves-row sound row row-there (s .cursor) room-spot;
-              ending = moves-ending sound row row-there (s .cursor) room-spot;
+              rows = moves-row sound row row-there p room-place;
+              ending = moves-ending sound row row-there p room-place;
             }

@@ -16,7 +16,6 @@ use Rattle.rules.specs.Lex.{Item, item, piece, decidedAt, known, blank, comment
 use Rattle.rules.specs.Edit.{Seen, sees, over′, met, short, isShort, look, opens, from, some, firstPlace, carryRow, carryEnding, recounted}
 use Rattle.rules.specs.Edit.{oldOffset, restart, windowPlace, seenRows, seenEnding}
 use Rattle.laws.proofs.Tests.{both-true}
-use Rattle.scan_reader.specs.declared.Spot.{Spot}
 use Rattle.scan_reader.specs.Read.{onward}
 use Rattle.scan_walk.specs.declared.Stop.{Stop}
 use Rattle.scan_walk.specs.declared.Stop.the-variants.{Met, Over, Short}
@@ -146,7 +145,7 @@ module _ (pos : ℕ → Cursor) (meet : ℕ → Bool) (whole : Bool) where
 
 -- it stopped for want of bytes
 unfoldable pub isLacking : Stop → Bool
-isLacking (Met s r c) = false
+isLacking (Met p r c) = false
 isLacking (Over e) = false
 isLacking Short = true
 
@@ -215,55 +214,55 @@ module _ (ws : List ℕ) (j : Job) (w : List ℕ) where
   by-over short y q = absurd (let z : _≡_ {A = ℕ} 0 1 = cc in omega arith)
 
   -- an old row meets at an index of the window, with c comments before it, and the rows from it on follow
-  pub record Meeting (x : Seen) (s : Spot) (r c : ℕ) : Type 0 where
+  pub record Meeting (x : Seen) (p : Cursor) (r c : ℕ) : Type 0 where
     pub at : ℕ
     pub inside : at < length w
-    pub spot : s ≡ onward w (startOf (j .begin)) at
+    pub place : p ≡ onward w (startOf (j .begin)) at .cursor
     pub there : r < length olds
-    pub rows-met : rowsOf x ≡ rowsSeen x ++ recounted c (map (carryRow (firstPlace (drop r olds)) (s .cursor)) (drop r olds))
-    pub ending-met : endingOf x ≡ carryEnding (firstPlace (drop r olds)) (s .cursor) (j .table .ending)
+    pub rows-met : rowsOf x ≡ rowsSeen x ++ recounted c (map (carryRow (firstPlace (drop r olds)) p) (drop r olds))
+    pub ending-met : endingOf x ≡ carryEnding (firstPlace (drop r olds)) p (j .table .ending)
 
   module _ (begin : j .begin ≡ restart olds (j .a)) where
     meeting : (m d : ℕ) → Lies meetsOf (j .begin .offset .0) (j .begin .offset .0 + length w) m →
-        (s : Spot) (r c : ℕ) → stopOf (met m d) ≡ Met s r c → Meeting (met m d) s r c
+        (p : Cursor) (r c : ℕ) → stopOf (met m d) ≡ Met p r c → Meeting (met m d) p r c
     unfolding seenRows seenEnding rowsSeen stopSeen meetsAt windowPlace onward
-    meeting m d l s r c q =
+    meeting m d l p r c q =
         let i = m - j .begin .offset .0 in
         let f = old-from m in
         let g = both-true (leb (j .a + j .n) m) (some f) (l .meeting) in
         let y : r ≡ length olds - length f = cc in
-        let z : s ≡ onward w (startOf (j .begin)) i = cc in
+        let z : p ≡ onward w (startOf (j .begin)) i .cursor = cc in
         let x : d ≡ c = cc in
         let v : f ≡ drop r olds = from-drop (old-at m) olds ∙ ap (λ (k : ℕ). drop k olds) (sym y) in
-        let u : place-at m ≡ s .cursor = rw (← begin) (sym (ap (λ (h : Spot). h .cursor) z)) in
+        let u : place-at m ≡ p = rw (← begin) (sym z) in
         record {
           at = i;
           inside = omega (arith, l .low, l .high);
-          spot = z;
+          place = z;
           there = omega (arith, some-length f (g .1), from-few (old-at m) olds);
           rows-met =
               ap (λ (h : Cursor). recounted d (map (carryRow (firstPlace f) h) f)) u
-              ∙ ap (λ (rs : List Row). recounted d (map (carryRow (firstPlace rs) (s .cursor)) rs)) v
-              ∙ ap (λ (k : ℕ). recounted k (map (carryRow (firstPlace (drop r olds)) (s .cursor)) (drop r olds))) x;
+              ∙ ap (λ (rs : List Row). recounted d (map (carryRow (firstPlace rs) p) rs)) v
+              ∙ ap (λ (k : ℕ). recounted k (map (carryRow (firstPlace (drop r olds)) p) (drop r olds))) x;
           ending-met =
               ap (λ (h : Cursor). carryEnding (firstPlace f) h (j .table .ending)) u
-              ∙ ap (λ (rs : List Row). carryEnding (firstPlace rs) (s .cursor) (j .table .ending)) v;
+              ∙ ap (λ (rs : List Row). carryEnding (firstPlace rs) p (j .table .ending)) v;
         }
 
     pub by-met : (whole : Bool) (k : ℕ) (x : Seen) → j .begin .offset .0 ≤ k → Shown meetsOf whole k (j .begin .offset .0 + length w) x →
-        (s : Spot) (r c : ℕ) → stopOf x ≡ Met s r c → Meeting x s r c
+        (p : Cursor) (r c : ℕ) → stopOf x ≡ Met p r c → Meeting x p r c
     unfolding seenRows seenEnding rowsSeen stopSeen Shown
-    by-met whole k (sees z x) h l s r c q =
-        let m = by-met whole (suc k) x (omega arith) (l .1) s r c q in
+    by-met whole k (sees z x) h l p r c q =
+        let m = by-met whole (suc k) x (omega arith) (l .1) p r c q in
         record {
           at = m .at;
           inside = m .inside;
-          spot = m .spot;
+          place = m .place;
           there = m .there;
           rows-met = ap (_∷_ z) (m .rows-met);
           ending-met = m .ending-met;
         }
-    by-met whole k (met m d) h l s r c q =
-        meeting m d (record { meeting = l .meeting; low = omega (arith, l .low); high = l .high }) s r c q
-    by-met whole k (over′ x) h l s r c q = absurd (let z : _≡_ {A = ℕ} 0 1 = cc in omega arith)
-    by-met whole k short h l s r c q = absurd (let z : _≡_ {A = ℕ} 0 1 = cc in omega arith)
+    by-met whole k (met m d) h l p r c q =
+        meeting m d (record { meeting = l .meeting; low = omega (arith, l .low); high = l .high }) p r c q
+    by-met whole k (over′ x) h l p r c q = absurd (let z : _≡_ {A = ℕ} 0 1 = cc in omega arith)
+    by-met whole k short h l p r c q = absurd (let z : _≡_ {A = ℕ} 0 1 = cc in omega arith)

@@ -159,10 +159,9 @@ fn fill_tail(old: &[u32], job: Job, window: &[u8], whole: bool, tail: &mut [u32]
     }
     let stop = walked.stop;
     match stop {
-        Stop::Met(spot, row, comments) => {
+        Stop::Met(p, row, comments) => {
             let base = count * row::WORDS;
             let table = job.table;
-            let p = spot.cursor;
             behind(
                 count,
                 follow(old, table, row, p, comments, &mut tail[base..]),

@@ -29,7 +29,7 @@ pub record Counts (text : List ℕ) (here : Cursor) (offset : ℕ) : Type 0 wher
 
 -- an ending's place, if it has one
 abbrev pub CountsTo : List ℕ → Cursor → Ending → Type 0
-CountsTo text here ending.None = ⊤
+CountsTo text here ending.None = Unit {0}
 CountsTo text here (ending.Refused why p) = Counts text here (p .offset .0)
 
 -- a file of a form holds a table of a text's length

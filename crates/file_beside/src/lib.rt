@@ -1,4 +1,5 @@
-// A file of either form beside its text: whether it agrees with the text, its rows with lines and columns counted in one pass over it, and the reading.
+// A file of either form beside its text: whether it agrees with the text, its rows with lines and columns counted in one pass over it,
+// and the reading.
 use file_load::form_of;
 use file_load::judge;
 use file_load::row_of;
@@ -19,17 +20,19 @@ use rules::Table;
 use rules::row;
 use scan_place::pass;
 ghost use mathlib.Core.Path.{_≡_};
-ghost use mathlib.Core.Bool.{true};
+ghost use mathlib.Core.Bool.{true, _&&_};
 ghost use mathlib.Core.List.{_++_};
 ghost use Prim.Native.Nat.{_+_, _*_, _≤_};
 ghost use lib.ListN.{length, take, drop};
+ghost use lib.Dec.{eqb};
 ghost use Rattle.rules.specs.Text.{placeAt};
 ghost use Rattle.rules.specs.Rows.{rowPlace, rowWords};
 ghost use Rattle.rules.specs.Scan.{roomOf};
 ghost use Rattle.rows.specs.Shape.{asRow};
 ghost use Rattle.file_rules.specs.declared.Loaded.the-variants.{Rows};
-ghost use Rattle.form_rules.specs.Forms.{rowsBeside, tableBeside, isPlaceIn, endingAgrees, agreesBeside, besideJudged, besideTold, besideLeaves};
-ghost use Rattle.file_beside.specs.Counting.{Counts, Holds, Agrees, lastPlace, rowsAgree, placedAt, tableLeaves};
+ghost use Rattle.form_rules.specs.declared.Form.the-variants.{Full};
+ghost use Rattle.form_rules.specs.Forms.{judged, rowsBeside, tableBeside, endingAgrees, agreesBeside, besideJudged, besideTold, besideLeaves};
+ghost use Rattle.file_beside.specs.Counting.{Counts, CountsTo, Holds, Agrees, lastPlace, rowsAgree, placedAt, tableLeaves};
 
 // Whether the rows looked at agree with the text, and the place of the last of them.
 pub struct Counted {
@@ -78,17 +81,11 @@ fn rows_agree(text: &[u8], file: &[u8], table: Table) -> Counted
         let r = row_of(Form::Full, file, count, i);
         here = place_from(text, here, r.start);
         if !same_line(row_place(r), here) {
-            return Counted {
-                here,
-                agree: false,
-            };
+            return Counted { here, agree: false };
         }
         i += 1;
     }
-    Counted {
-        here,
-        agree: true,
-    }
+    Counted { here, agree: true }
 }
 
 // Whether an ending has the line and column that its offset has in the text, counted from a place that is not behind it.
@@ -111,7 +108,9 @@ fn full_agrees(text: &[u8], file: &[u8], table: Table) -> bool
     if !counted.agree {
         return false;
     }
-    ending_agrees(text, counted.here, table.ending)
+    let here = counted.here;
+    let ending = table.ending;
+    ending_agrees(text, here, ending)
 }
 
 // Whether a file that holds a table agrees with a text: in length, and in lines and columns where it has them.
@@ -144,7 +143,7 @@ fn place_of(form: Form, text: &[u8], here: Cursor, r: Row) -> Cursor
 // The eight words of a row at a place, into the first lent words.
 fn put_row(words: &mut [u32], r: Row, at: Cursor)
     requires { ⌜ 8 ≤ length (now words) ⌝ }
-    ensures { λ _. ⌜ now (words .exit) ≡ rowWords (record { kind = r .kind; start = r .start; end = r .end; line = at .line .0; column = at .column .0; low = r .low; high = r .high; comments = r .comments; }) ++ drop 8 (now (words .entry)) ⌝ }
+    ensures { λ _. ⌜ now (words .exit) ≡ rowWords (record { kind = r .kind; start = r .start; end = r .end; line = at .line .0; column = at .column .0; low = r .low; high = r .high; comments = r .comments }) ++ drop 8 (now (words .entry)) ⌝ }
 {
     words[row::KIND] = r.kind;
     words[row::START] = r.start;
@@ -156,7 +155,8 @@ fn put_row(words: &mut [u32], r: Row, at: Cursor)
     words[row::COMMENTS] = r.comments;
 }
 
-// The n rows of a file behind its first ones, beside its text, into the first lent words; here is the place of the row before them. The place of the last is told.
+// The n rows of a file behind its first ones, beside its text, into the first lent words; begin is the place of the row before them.
+// The place of the last is told.
 pub fn put_rows(
     text: &[u8],
     file: &[u8],

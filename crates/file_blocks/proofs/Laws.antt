@@ -2,22 +2,28 @@
 use mathlib.Core.Path.{_≡_, refl, sym, ap, _∙_}
 use mathlib.Core.Bool.{Bool, true, false, not, _&&_, _||_, true≢false, and-false, and-comm, and-assoc}
 use mathlib.Core.List.{List, [], _∷_, _++_, append-assoc, append-nil}
-use Prim.Native.Nat.{ℕ, zero, suc, _+_, _-_, _*_, _/_, _%_, _≤_, _<_, max}
+use Prim.Native.Nat.{ℕ, zero, suc, _+_, _-_, _*_, _/_, _%_, _≤_, _<_, min, max}
 use native.Mathlib.Nat.{not-suc-le-zero, le-of-suc-le-suc}
 use native.Mathlib.Numerals.{add-one}
 use native.Mathlib.Omega.{arith}
-use lib.ListN.{length, take, drop, getD, set, replicate, length-append, length-take, length-drop, length-replicate, replicate-append-replicate, take-append-drop, drop-of-length-le}
+use lib.ListN.{length, take, drop, getD, set, replicate, length-append, length-take, length-drop, length-replicate}
+use lib.ListN.{replicate-append-replicate, take-append-drop, drop-of-length-le}
 use lib.Seq.{take-suc, drop-cons, drop-drop, getD-drop, sets-eq, set-at, take-at, drop-at, length-take-le, drop-append-add}
 use lib.Dec.{eqb, leb}
 use borrow.Author.Tests.{eqb-true, eq-eqb, ne-eqb, lt-leb, not-true}
 use Rattle.laws.proofs.Tests.{false-by, same-bool, both-true, true-both}
+use Rattle.rules.specs.Text.{mostBytes}
 use Rattle.rules.specs.Kinds.{Eof}
 use Rattle.rules.specs.Rows.{Row, rowIn, isEof, rowFits}
 use Rattle.rows.specs.Shape.{sane, fitsAfter}
 use Rattle.rows.proofs.Inside.{sound as inside, plain-kind}
 use Rattle.rows.proofs.Shapes.{made-le, fits-sane}
 use Rattle.file_rules.specs.Bytes.{little, number, numberAt, bytesOf, wordsIn}
-use Rattle.file_rules.specs.Blocks.{sumFrom, check, checked, block, zeros, sound}
+use Rattle.file_rules.specs.Blocks.{sumFrom, check, checked, block, contentOf, zeros, sound}
+use Rattle.form_rules.specs.declared.Form.{Form}
+use Rattle.form_rules.specs.declared.Form.the-variants.{Full, Short}
+use Rattle.form_rules.specs.Short.{placedRow, onOneLine}
+use Rattle.form_rules.specs.Shapes.{rowBytesOf}
 use Rattle.file_blocks.specs.Standing.{rowFrom, rowsFrom, standsOn, stand}
 use Rattle.theory_files.proofs.Said.{words-at}
 use Rattle.theory_files.proofs.Numbers.{words-length, little-length, bytes-length, bytes-append}
@@ -42,7 +48,15 @@ module _ (s : List ℕ) (at : ℕ) where
       let e : at + 1 ≡ suc at = omega arith in
       let f : at + 2 ≡ suc (suc at) = omega arith in
       let g : at + 3 ≡ suc (suc (suc at)) = omega arith in
-      rw (e, f, g, drop-cons s at 0 (omega arith), drop-cons s (suc at) 0 (omega arith), drop-cons s (suc (suc at)) 0 (omega arith), drop-cons s (suc (suc (suc at))) 0 (omega arith))
+      rw (
+        e,
+        f,
+        g,
+        drop-cons s at 0 (omega arith),
+        drop-cons s (suc at) 0 (omega arith),
+        drop-cons s (suc (suc at)) 0 (omega arith),
+        drop-cons s (suc (suc (suc at))) 0 (omega arith),
+      )
       (omega arith)
 
   module _ (x : ℕ) where
@@ -91,49 +105,98 @@ pub larger-zero : (a b : ℕ) → eqb (max a b) 0 ≡ (eqb b 0 && eqb a 0)
 larger-zero a b =
     same-bool (eqb (max a b) 0) (eqb b 0 && eqb a 0)
     (λ e. let h = eqb-true (max a b) 0 e in true-both {p = eqb b 0} {q = eqb a 0} (eq-eqb b 0 (omega arith)) (eq-eqb a 0 (omega arith)))
-    (λ e. let h = both-true (eqb b 0) (eqb a 0) e in let x = eqb-true b 0 (h .0) in let y = eqb-true a 0 (h .1) in eq-eqb (max a b) 0 (omega arith))
+    (λ e. let h = both-true (eqb b 0) (eqb a 0) e in
+    let x = eqb-true b 0 (h .0) in let y = eqb-true a 0 (h .1) in eq-eqb (max a b) 0 (omega arith))
 
 pub filler-more : (s : List ℕ) (from i most : ℕ) → from ≤ i → i < length s → eqb most 0 ≡ zeros (take (i - from) (drop from s))
     → eqb (max most (getD s i 0)) 0 ≡ zeros (take (i + 1 - from) (drop from s))
 filler-more s from i most h l e =
     let f : i + 1 - from ≡ suc (i - from) = omega arith in
     let g : from + (i - from) ≡ i = omega arith in
-    rw (f, take-suc (drop from s) (i - from) 0 (omega (arith, length-drop from s)), zeros-snoc (take (i - from) (drop from s)) (getD (drop from s) (i - from) 0), getD-drop, g, larger-zero most (getD s i 0), e)
+    let d : List ℕ = drop from s in
+    let n : ℕ = i - from in
+    let z = zeros-snoc (take n d) (getD d n 0) in
+    rw (f, take-suc d n 0 (omega (arith, length-drop from s)), z, getD-drop, g, larger-zero most (getD s i 0), e)
 
 -- ---- whether a block is sound
 
-pub sound-last : (k n size : ℕ) (b : List ℕ) → numberAt 2 0 b ≡ k → numberAt 2 2 b ≡ n → zeros (take (504 - size) (drop (4 + size) b)) ≡ true
+pub sound-last : (k n size : ℕ) (b : List ℕ) → numberAt 2 0 b ≡ k → numberAt 2 2 b ≡ n
+    → zeros (take (504 - size) (drop (4 + size) b)) ≡ true
     → sound k n size b ≡ eqb (numberAt 4 508 b) (check (take 508 b))
 unfolding sound
 sound-last k n size b e f g = rw (eq-eqb _ k e, eq-eqb _ n f, g)
 
 -- ---- one row more
 
-pub row-words : (s : List ℕ) (at : ℕ) → rowFrom (drop at s) ≡ record {
-  kind = numberAt 4 at s;
-  start = numberAt 4 (at + 4) s;
-  end = numberAt 4 (at + 8) s;
-  line = numberAt 4 (at + 12) s;
-  column = numberAt 4 (at + 16) s;
-  low = numberAt 4 (at + 20) s;
-  high = numberAt 4 (at + 24) s;
-  comments = numberAt 4 (at + 28) s;
-}
-unfolding rowFrom rowIn
-row-words s at = rw (word 0 (omega arith), word 1 (omega arith), word 2 (omega arith), word 3 (omega arith), word 4 (omega arith), word 5 (omega arith), word 6 (omega arith), word 7 (omega arith), zero-on)
-  where
-    zero-on : at + 0 ≡ at
-    zero-on = omega arith
+module _ (s : List ℕ) (at : ℕ) where
+  none-on : at + 0 ≡ at
+  none-on = omega arith
 
-    word : (i : ℕ) → i < 8 → getD (wordsIn 8 (drop at s)) i 0 ≡ numberAt 4 (at + 4 * i) s
-    word i h = words-at 8 (drop at s) i h ∙ number-moved 4 at (4 * i) s
+  -- word i of n words from a byte on
+  word-of : (n i : ℕ) → i < n → getD (wordsIn n (drop at s)) i 0 ≡ numberAt 4 (at + 4 * i) s
+  word-of n i h = words-at n (drop at s) i h ∙ number-moved 4 at (4 * i) s
 
-pub rows-more : (n i : ℕ) (s : List ℕ) → i < n → rowsFrom (n - i) (drop (4 + 32 * i) s) ≡ rowFrom (drop (4 + 32 * i) s) ∷ rowsFrom (n - (i + 1)) (drop (4 + 32 * (i + 1)) s)
+  pub row-words : rowFrom Full (drop at s) ≡ record {
+    kind = numberAt 4 at s;
+    start = numberAt 4 (at + 4) s;
+    end = numberAt 4 (at + 8) s;
+    line = numberAt 4 (at + 12) s;
+    column = numberAt 4 (at + 16) s;
+    low = numberAt 4 (at + 20) s;
+    high = numberAt 4 (at + 24) s;
+    comments = numberAt 4 (at + 28) s;
+  }
+  unfolding rowFrom rowIn
+  row-words =
+      let w : (i : ℕ) → i < 8 → getD (wordsIn 8 (drop at s)) i 0 ≡ numberAt 4 (at + 4 * i) s = word-of 8 in
+      rw (
+        w 0 (omega arith),
+        w 1 (omega arith),
+        w 2 (omega arith),
+        w 3 (omega arith),
+        w 4 (omega arith),
+        w 5 (omega arith),
+        w 6 (omega arith),
+        w 7 (omega arith),
+        none-on,
+      )
+
+  -- a row without line and column stands in line 1
+  pub short-words : rowFrom Short (drop at s) ≡ record {
+    kind = numberAt 4 at s;
+    start = numberAt 4 (at + 4) s;
+    end = numberAt 4 (at + 8) s;
+    line = 1;
+    column = 1 + min (numberAt 4 (at + 4) s) mostBytes;
+    low = numberAt 4 (at + 12) s;
+    high = numberAt 4 (at + 16) s;
+    comments = numberAt 4 (at + 20) s;
+  }
+  unfolding rowFrom rowIn placedRow onOneLine
+  short-words =
+      let w : (i : ℕ) → i < 6 → getD (wordsIn 6 (drop at s)) i 0 ≡ numberAt 4 (at + 4 * i) s = word-of 6 in
+      rw (w 0 (omega arith), w 1 (omega arith), w 2 (omega arith), w 3 (omega arith), w 4 (omega arith), w 5 (omega arith), none-on)
+
+-- where the next row starts, and that it lies inside
+pub row-next : (form : Form) (i : ℕ) → 4 + rowBytesOf form * i + rowBytesOf form ≡ 4 + rowBytesOf form * (i + 1)
+row-next Full i = omega arith
+row-next Short i = omega arith
+
+pub row-inside : (form : Form) (i n l : ℕ) → i < n → 4 + rowBytesOf form * n ≤ l → 4 + rowBytesOf form * i + rowBytesOf form ≤ l
+row-inside Full i n l h g = omega arith
+row-inside Short i n l h g = omega arith
+
+pub rows-none : (form : Form) (s : List ℕ) → drop (4 + rowBytesOf form * 0) s ≡ drop 4 s
+rows-none Full s = refl
+rows-none Short s = refl
+
+rows-more : (form : Form) (n i : ℕ) (s : List ℕ) → i < n
+    → rowsFrom form (n - i) (drop (4 + rowBytesOf form * i) s)
+    ≡ rowFrom form (drop (4 + rowBytesOf form * i) s) ∷ rowsFrom form (n - (i + 1)) (drop (4 + rowBytesOf form * (i + 1)) s)
 unfolding rowsFrom
-rows-more n i s h =
+rows-more form n i s h =
     let e : n - i ≡ suc (n - (i + 1)) = omega arith in
-    let f : 4 + 32 * i + 32 ≡ 4 + 32 * (i + 1) = omega arith in
-    rw (e, drop-drop, f)
+    rw (e, drop-drop, row-next form i)
 
 -- ---- a row behind another
 
@@ -155,16 +218,17 @@ module _ (r q : Row) where
           true≢false (sym h ∙ rw (lt-leb Eof (q .kind) l, fits-sane q f))
 
 -- row i, read as q, behind the last, where the rows in front are judged
-module _ (n i : ℕ) (s : List ℕ) (last q : Row) (good : Bool) (h : i < n) (e : q ≡ rowFrom (drop (4 + 32 * i) s)) where
-  pub stand-not : standsOn last q ≡ false → (good && stand last (rowsFrom (n - i) (drop (4 + 32 * i) s))) ≡ false
+module _ (form : Form) (n i : ℕ) (s : List ℕ) (last q : Row) (good : Bool) (h : i < n)
+    (e : q ≡ rowFrom form (drop (4 + rowBytesOf form * i) s)) where
+  pub stand-not : standsOn last q ≡ false → (good && stand last (rowsFrom form (n - i) (drop (4 + rowBytesOf form * i) s))) ≡ false
   unfolding stand
-  stand-not f = rw (rows-more n i s h, ← e, f) (and-false good)
+  stand-not f = rw (rows-more form n i s h, ← e, f) (and-false good)
 
   pub stand-more : (p : Bool) → p ≡ standsOn last q
-      → ((p && good) && stand q (rowsFrom (n - (i + 1)) (drop (4 + 32 * (i + 1)) s)))
-      ≡ (good && stand last (rowsFrom (n - i) (drop (4 + 32 * i) s)))
+      → ((p && good) && stand q (rowsFrom form (n - (i + 1)) (drop (4 + rowBytesOf form * (i + 1)) s)))
+      ≡ (good && stand last (rowsFrom form (n - i) (drop (4 + rowBytesOf form * i) s)))
   unfolding stand
-  stand-more p f = rw (rows-more n i s h, ← e, ← f, and-comm p good) (and-assoc good p _)
+  stand-more p f = rw (rows-more form n i s h, ← e, ← f, and-comm p good) (and-assoc good p _)
 
 -- ---- one word more
 
@@ -178,13 +242,16 @@ words-snoc (suc i) s =
 pub taken-more : (i : ℕ) (s ws : List ℕ) (v : ℕ) → i < length ws → v ≡ numberAt 4 (4 + 4 * i) s
     → set (wordsIn i (drop 4 s) ++ drop i ws) i v ≡ wordsIn (i + 1) (drop 4 s) ++ drop (i + 1) ws
 taken-more i s ws v h e =
-    rw (drop-cons ws i 0 h, set-at (wordsIn i (drop 4 s)) (getD ws i 0) (drop (suc i) ws) v i (words-length i (drop 4 s)), add-one i, words-snoc i (drop 4 s), append-assoc, e)
+    let xs : List ℕ = wordsIn i (drop 4 s) in
+    let n : length xs ≡ i = words-length i (drop 4 s) in
+    rw (drop-cons ws i 0 h, set-at xs (getD ws i 0) (drop (suc i) ws) v i n, add-one i, words-snoc i (drop 4 s), append-assoc, e)
     (ap (λ (x : ℕ). wordsIn i (drop 4 s) ++ (x ∷ drop (suc i) ws)) (sym (number-moved 4 4 (4 * i) s)))
 
 -- ---- written one behind the other
 
 -- v over what stands behind xs
-pub onto : (xs ys v : List ℕ) (a b : ℕ) → length xs ≡ a → a + length v ≡ b → (take a (xs ++ ys) ++ v) ++ drop b (xs ++ ys) ≡ (xs ++ v) ++ drop (length v) ys
+pub onto : (xs ys v : List ℕ) (a b : ℕ) → length xs ≡ a → a + length v ≡ b
+    → (take a (xs ++ ys) ++ v) ++ drop b (xs ++ ys) ≡ (xs ++ v) ++ drop (length v) ys
 onto xs ys v a b e f = rw (take-at xs ys a e, ← f, ← e) (ap (λ (l : List ℕ). (xs ++ v) ++ l) (drop-append-add xs ys (length v)))
 
 -- ---- what is written, one part behind the other
@@ -204,14 +271,16 @@ words-none b₀ ws = rw append-nil (take-append-drop 4 b₀)
 -- one word more of a content
 module _ (b₀ ws b : List ℕ) (i : ℕ) (h : i < length ws) (l : 4 + 4 * length ws ≤ length b₀) where
   pub words-more : b ≡ (take 4 b₀ ++ bytesOf (take i ws)) ++ drop (4 + 4 * i) b₀
-      → (take (4 + 4 * i) b ++ little 4 (getD ws i 0)) ++ drop (4 + 4 * i + 4) b ≡ (take 4 b₀ ++ bytesOf (take (i + 1) ws)) ++ drop (4 + 4 * (i + 1)) b₀
+      → (take (4 + 4 * i) b ++ little 4 (getD ws i 0)) ++ drop (4 + 4 * i + 4) b
+      ≡ (take 4 b₀ ++ bytesOf (take (i + 1) ws)) ++ drop (4 + 4 * (i + 1)) b₀
   words-more e =
       let xs : List ℕ = take 4 b₀ ++ bytesOf (take i ws) in
       let w : List ℕ = little 4 (getD ws i 0) in
       let n : length w ≡ 4 = little-length 4 (getD ws i 0) in
       let m : length xs ≡ 4 + 4 * i = rw (length-append, bytes-length, length-take) (omega (arith, length-take i ws)) in
       let f : 4 + 4 * i + 4 ≡ 4 + 4 * (i + 1) = omega arith in
-      let g : bytesOf (take (i + 1) ws) ≡ bytesOf (take i ws) ++ w = rw (add-one i, take-suc ws i 0 h, bytes-append (take i ws) (getD ws i 0 ∷ [])) one-word in
+      let g : bytesOf (take (i + 1) ws) ≡ bytesOf (take i ws) ++ w
+      = rw (add-one i, take-suc ws i 0 h, bytes-append (take i ws) (getD ws i 0 ∷ [])) one-word in
       rw e (onto xs (drop (4 + 4 * i) b₀) w (4 + 4 * i) (4 + 4 * i + 4) m (omega arith) ∙ rw (n, drop-drop, f, g) (simp append-assoc))
     where
       one-word : bytesOf (take i ws) ++ bytesOf (getD ws i 0 ∷ []) ≡ bytesOf (take i ws) ++ little 4 (getD ws i 0)
@@ -235,35 +304,43 @@ filler-put b₀ b from i h l e =
     let f : i + 1 - from ≡ (i - from) + 1 = omega arith in
     rw (e, drop-cons b₀ i 0 l, set-at xs (getD b₀ i 0) (drop (suc i) b₀) 0 i m, f, zeros-one (i - from), add-one i) (simp append-assoc)
 
--- the five parts of a block, each over what stood there
-module _ (k n : ℕ) (ws b₀ b₁ b₂ b₃ b₄ b₅ : List ℕ) (whole : length b₀ ≡ 512) (few : 4 * length ws ≤ 504) where
-  pub block-put : b₁ ≡ (take 0 b₀ ++ little 2 k) ++ drop 2 b₀
+-- a content that was written is the block's content
+pub content-put : (b c : List ℕ) (size : ℕ) → length c ≡ size → 4 + size ≤ length b
+    → contentOf size ((take 4 b ++ c) ++ drop (4 + size) b) ≡ c
+unfolding contentOf
+content-put b c size e h =
+    let l : length (take 4 b) ≡ 4 = length-take-le 4 b (omega arith) in
+    rw (append-assoc, drop-at (take 4 b) (c ++ drop (4 + size) b) 4 l, take-at c (drop (4 + size) b) size e)
+
+-- the parts of a block around its content, each over what stood there
+module _ (k n size : ℕ) (b₀ b₁ b₂ b₃ b₄ : List ℕ) (whole : length b₀ ≡ 512) (few : size ≤ 504) where
+  pub seal-put : b₁ ≡ (take 0 b₀ ++ little 2 k) ++ drop 2 b₀
       → b₂ ≡ (take 2 b₁ ++ little 2 n) ++ drop 4 b₁
-      → b₃ ≡ (take 4 b₂ ++ bytesOf ws) ++ drop (4 + 4 * length ws) b₂
-      → b₄ ≡ (take (4 + 4 * length ws) b₃ ++ replicate (508 - (4 + 4 * length ws)) 0) ++ drop 508 b₃
-      → (sum : ℕ) → sum ≡ check (take 508 b₄) → b₅ ≡ (take 508 b₄ ++ little 4 sum) ++ drop 512 b₄
-      → b₅ ≡ block k n (bytesOf ws)
-  unfolding block checked
-  block-put e₁ e₂ e₃ e₄ sum e e₅ =
+      → b₃ ≡ (take (4 + size) b₂ ++ replicate (508 - (4 + size)) 0) ++ drop 508 b₂
+      → (sum : ℕ) → sum ≡ check (take 508 b₃) → b₄ ≡ (take 508 b₃ ++ little 4 sum) ++ drop 512 b₃
+      → b₄ ≡ block k n (contentOf size b₀)
+  unfolding block checked contentOf
+  seal-put e₁ e₂ e₃ sum e e₄ =
       let x : List ℕ = little 2 k in
       let y : List ℕ = little 2 n in
-      let c : List ℕ = bytesOf ws in
-      let z : List ℕ = replicate (508 - (4 + 4 * length ws)) 0 in
+      let c : List ℕ = take size (drop 4 b₀) in
+      let z : List ℕ = replicate (508 - (4 + size)) 0 in
       let lx : length x ≡ 2 = little-length 2 k in
       let ly : length y ≡ 2 = little-length 2 n in
-      let lc : length c ≡ 4 * length ws = bytes-length ws in
-      let lz : length z ≡ 508 - (4 + 4 * length ws) = length-replicate (508 - (4 + 4 * length ws)) 0 in
-      let r₁ : List ℕ = drop 2 b₀ in
-      let r₂ : List ℕ = drop (length y) r₁ in
-      let r₃ : List ℕ = drop (length c) r₂ in
-      let r₄ : List ℕ = drop (length z) r₃ in
-      let f₂ : b₂ ≡ (x ++ y) ++ r₂ = e₂ ∙ rw e₁ (onto x r₁ y 2 4 lx (omega arith)) in
-      let l₂ : length (x ++ y) ≡ 4 = length-append x y ∙ omega arith in
-      let f₃ : b₃ ≡ ((x ++ y) ++ c) ++ r₃ = e₃ ∙ rw f₂ (onto (x ++ y) r₂ c 4 (4 + 4 * length ws) l₂ (omega arith)) in
-      let l₃ : length ((x ++ y) ++ c) ≡ 4 + 4 * length ws = length-append (x ++ y) c ∙ omega arith in
-      let f₄ : b₄ ≡ (((x ++ y) ++ c) ++ z) ++ r₄ = e₄ ∙ rw f₃ (onto ((x ++ y) ++ c) r₃ z (4 + 4 * length ws) 508 l₃ (omega arith)) in
-      let l₄ : length (((x ++ y) ++ c) ++ z) ≡ 508 = length-append ((x ++ y) ++ c) z ∙ omega arith in
-      let t₄ : take 508 b₄ ≡ (x ++ y) ++ (c ++ z) = ap (take 508) f₄ ∙ take-at (((x ++ y) ++ c) ++ z) r₄ 508 l₄ ∙ append-assoc (x ++ y) c z in
-      let d₄ : drop 512 b₄ ≡ [] = drop-of-length-le b₄ {i = 512} (omega (arith, ap length f₄, length-append (((x ++ y) ++ c) ++ z) r₄, length-drop (length z) r₃, length-drop (length c) r₂, length-drop (length y) r₁, length-drop 2 b₀)) in
-      let g : 508 - (4 + 4 * length ws) ≡ 504 - length c = omega arith in
-      e₅ ∙ rw (e, d₄, t₄, append-nil, g)
+      let lc : length c ≡ size = length-take-le size (drop 4 b₀) (omega (arith, length-drop 4 b₀)) in
+      let lz : length z ≡ 508 - (4 + size) = length-replicate (508 - (4 + size)) 0 in
+      let r₂ : List ℕ = drop size (drop 4 b₀) in
+      let r₃ : List ℕ = drop (length z) r₂ in
+      let l₁ : length (x ++ y) ≡ 4 = length-append x y ∙ omega arith in
+      let l₂ : length ((x ++ y) ++ c) ≡ 4 + size = length-append (x ++ y) c ∙ omega arith in
+      let l₃ : length (((x ++ y) ++ c) ++ z) ≡ 508 = length-append ((x ++ y) ++ c) z ∙ omega arith in
+      let o₂ : b₂ ≡ (x ++ y) ++ drop (length y) (drop 2 b₀) = e₂ ∙ rw e₁ (onto x (drop 2 b₀) y 2 4 lx (omega arith)) in
+      let o₃ : drop (length y) (drop 2 b₀) ≡ c ++ r₂ = rw (ly, drop-drop 2 2 b₀) (sym (take-append-drop size (drop 4 b₀))) in
+      let f₂ : b₂ ≡ ((x ++ y) ++ c) ++ r₂ = o₂ ∙ rw o₃ (sym (append-assoc (x ++ y) c r₂)) in
+      let f₃ : b₃ ≡ (((x ++ y) ++ c) ++ z) ++ r₃ = e₃ ∙ rw f₂ (onto ((x ++ y) ++ c) r₂ z (4 + size) 508 l₂ (omega arith)) in
+      let t₃ : take 508 b₃ ≡ (x ++ y) ++ (c ++ z)
+      = ap (take 508) f₃ ∙ take-at (((x ++ y) ++ c) ++ z) r₃ 508 l₃ ∙ append-assoc (x ++ y) c z in
+      let lr : length r₃ ≡ 4 = rw (length-drop, length-drop, length-drop) (omega arith) in
+      let d₃ : drop 512 b₃ ≡ [] = drop-of-length-le b₃ {i = 512} (omega (arith, ap length f₃, length-append (((x ++ y) ++ c) ++ z) r₃)) in
+      let g : 508 - (4 + size) ≡ 504 - length c = omega arith in
+      e₄ ∙ rw (e, d₃, t₃, append-nil, g)

@@ -1,4 +1,4 @@
--- Laws of the loop over blocks: the blocks and rows in front are judged, and those that are left give the whole answer.
+-- Laws of the loop over blocks, in either form: the blocks and rows in front are judged, and those that are left give the whole answer.
 use mathlib.Core.Path.{_≡_, refl, sym, ap, _∙_}
 use mathlib.Core.Bool.{Bool, true, false, _&&_, and-true, and-assoc}
 use mathlib.Core.List.{List, [], _∷_, _++_}
@@ -10,35 +10,49 @@ use lib.Seq.{drop-drop}
 use borrow.Author.Tests.{lt-ltb, le-ltb}
 use Rattle.rules.specs.Rows.{Row, rowIn, rowsIn}
 use Rattle.file_rules.specs.Blocks.{sound, blocksFor, fileLength, soundFrom, bodyFrom}
-use Rattle.file_rules.specs.Files.{countSaid, rowWordsIn, soundIn}
+use Rattle.file_rules.specs.Files.{countSaid}
+use Rattle.form_rules.specs.declared.Form.{Form}
+use Rattle.form_rules.specs.declared.Form.the-variants.{Full, Short}
+use Rattle.form_rules.specs.Shapes.{rowBytesOf, rowWordsOf, soundOf}
 use Rattle.file_blocks.specs.Standing.{rowsFrom, stand}
 use Rattle.theory_files.proofs.Many.{blocks-none, blocks-more, first-sound, first-not}
 use Rattle.file_load.specs.declared.Blocks.the-variants.{Bad, Sound}
 use Rattle.file_load.specs.Judged.{Framed, lastOf, standUpto, blocksJudged}
-use Rattle.file_load.proofs.Rows.{rows-words, rows-here-more, stand-append}
+use Rattle.file_load.proofs.Rows.{most, some-bytes, few-bytes, rows-words, words-file, rows-here-more, stand-append}
 
 -- the bytes of the rows from block k on, of which there are so many
-pub left-body : List ℕ → ℕ → ℕ → List ℕ
-left-body file left at = bodyFrom 32 (blocksFor 32 left) left (drop at file)
+pub left-body : Form → List ℕ → ℕ → ℕ → List ℕ
+left-body form file left at = bodyFrom (rowBytesOf form) (blocksFor (rowBytesOf form) left) left (drop at file)
 
 -- how many of the blocks from k on are sound before one is not
-pub left-sound : List ℕ → ℕ → ℕ → ℕ → ℕ
-left-sound file left k at = soundFrom 32 (blocksFor 32 left) k left (drop at file)
+pub left-sound : Form → List ℕ → ℕ → ℕ → ℕ → ℕ
+left-sound form file left k at = soundFrom (rowBytesOf form) (blocksFor (rowBytesOf form) left) k left (drop at file)
 
-pub record Judging (file : List ℕ) (count plain : ℕ) (last : Row) (stands : Bool) (left more k at : ℕ) : Type 0 where
+blocks-few : (form : Form) (n : ℕ) → n < 2 ^ 32 → 1 + blocksFor (rowBytesOf form) n < 2 ^ 32 - 1
+unfolding blocksFor
+blocks-few Full n h = omega arith
+blocks-few Short n h = omega arith
+
+pub record Judging (form : Form) (file : List ℕ) (count plain : ℕ) (last : Row) (stands : Bool) (left more k at : ℕ) : Type 0 where
   pub place : at ≡ 512 * k
-  pub blocks : k + blocksFor 32 left ≡ 1 + blocksFor 32 count
+  pub blocks : k + blocksFor (rowBytesOf form) left ≡ 1 + blocksFor (rowBytesOf form) count
   pub fewer : more ≤ left
-  pub sounds : left-sound file left k at + k ≡ soundIn file + 1
-  pub rows : (stands && stand last (rowsFrom more (left-body file left at))) ≡ standUpto plain file
+  pub sounds : left-sound form file left k at + k ≡ soundOf form file + 1
+  pub rows : (stands && stand last (rowsFrom form more (left-body form file left at))) ≡ standUpto form plain file
 
-module _ (file : List ℕ) (count plain : ℕ) (frame : Framed count file) where
-  whole-is : length file ≡ 512 * (1 + blocksFor 32 count)
+module _ (form : Form) (file : List ℕ) (count plain : ℕ) (frame : Framed form count file) where
+  abbrev size : ℕ
+  size = rowBytesOf form
+
+  abbrev full : ℕ
+  full = most form
+
+  whole-is : length file ≡ 512 * (1 + blocksFor size count)
   unfolding fileLength
   whole-is = frame .whole
 
-  pub judging-start : plain ≤ count → Judging file count plain (rowIn []) true count plain 1 512
-  unfolding left-sound left-body soundIn standUpto rowWordsIn
+  pub judging-start : plain ≤ count → Judging form file count plain (rowIn []) true count plain 1 512
+  unfolding left-sound left-body soundOf standUpto
   judging-start h =
       let e = frame .count-is in
       record {
@@ -46,27 +60,29 @@ module _ (file : List ℕ) (count plain : ℕ) (frame : Framed count file) where
         blocks = refl;
         fewer = h;
         sounds = rw (← e);
-        rows = rw (← e, rows-words plain count (bodyFrom 32 (blocksFor 32 count) count (drop 512 file)) h);
+        rows =
+            let s : List ℕ = bodyFrom size (blocksFor size count) count (drop 512 file) in
+            rw (words-file form count file e, rows-words form plain count s h);
       }
 
-  module _ (last : Row) (stands : Bool) (left more k at : ℕ) (g : Judging file count plain last stands left more k at) where
+  module _ (last : Row) (stands : Bool) (left more k at : ℕ) (g : Judging form file count plain last stands left more k at) where
     pub few-blocks : count < 2 ^ 32 → k < 2 ^ 32 - 1
-    unfolding blocksFor
-    few-blocks h = omega (arith, g .blocks)
+    few-blocks h = omega (arith, g .blocks, blocks-few form count h)
 
-    pub judging-end : left ≡ 0 → blocksJudged plain file ≡ Sound stands
+    pub judging-end : left ≡ 0 → blocksJudged form plain file ≡ Sound stands
     unfolding blocksJudged left-sound left-body soundFrom stand rowsFrom
     judging-end z =
-        let b : blocksFor 32 0 ≡ 0 = blocks-none 32 (omega arith) (omega arith) in
+        let b : blocksFor size 0 ≡ 0 = blocks-none size (some-bytes form) (few-bytes form) in
         let m : more ≡ 0 = omega (arith, g .fewer) in
-        let s : 0 + k ≡ soundIn file + 1 = rw (z, b) at (g .sounds) in
-        let c : k + 0 ≡ 1 + blocksFor 32 count = rw (z, b) at (g .blocks) in
-        let r : (stands && true) ≡ standUpto plain file = rw m at (g .rows) in
-        rw (le-ltb (soundIn file) (blocksFor 32 (countSaid file)) (rw (← frame .count-is) (omega arith))) (ap Sound (sym r ∙ and-true stands))
+        let s : 0 + k ≡ soundOf form file + 1 = rw (z, b) at (g .sounds) in
+        let c : k + 0 ≡ 1 + blocksFor size count = rw (z, b) at (g .blocks) in
+        let r : (stands && true) ≡ standUpto form plain file = rw m at (g .rows) in
+        rw (le-ltb (soundOf form file) (blocksFor size (countSaid file)) (rw (← frame .count-is) (omega arith)))
+        (ap Sound (sym r ∙ and-true stands))
 
     module _ (some : 0 < left) where
-      next : blocksFor 32 left ≡ suc (blocksFor 32 (left - 15))
-      next = blocks-more 32 (omega arith) (omega arith) left some
+      next : blocksFor size left ≡ suc (blocksFor size (left - full))
+      next = blocks-more size (some-bytes form) (few-bytes form) left some
 
       pub room-left : at + 512 ≤ length file
       room-left = omega (arith, g .place, g .blocks, next, whole-is)
@@ -81,37 +97,51 @@ module _ (file : List ℕ) (count plain : ℕ) (frame : Framed count file) where
       pub here-length : length here ≡ 512
       here-length = ap length here-is ∙ length-take 512 (drop at file) ∙ omega (arith, room-left, length-drop at file)
 
-      module _ (n : ℕ) (some-rows : n ≡ min 15 left) where
-        pub judging-bad : sound k n (32 * n) here ≡ false → blocksJudged plain file ≡ Bad k
+      module _ (n : ℕ) (some-rows : n ≡ min full left) (bytes : ℕ) (row-size : bytes ≡ size) where
+        pub judging-bad : sound k n (bytes * n) here ≡ false → blocksJudged form plain file ≡ Bad k
         unfolding blocksJudged left-sound
         judging-bad e =
-            let f = first-not 32 (omega arith) (omega arith) (blocksFor 32 (left - 15)) k left (drop at file) (rw (here-is, some-rows) at e) in
-            let s : 0 + k ≡ soundIn file + 1 = rw (next, f) at (g .sounds) in
-            let c : 1 + soundIn file ≡ k = omega arith in
-            rw (lt-ltb (soundIn file) (blocksFor 32 (countSaid file)) (rw (← frame .count-is) (omega (arith, g .blocks, next))), c)
+            let f =
+            first-not size (some-bytes form) (few-bytes form) (blocksFor size (left - full)) k left (drop at file)
+            (rw (here-is, some-rows, row-size) at e)
+            in
+            let s : 0 + k ≡ soundOf form file + 1 = rw (next, f) at (g .sounds) in
+            let c : 1 + soundOf form file ≡ k = omega arith in
+            rw (lt-ltb (soundOf form file) (blocksFor size (countSaid file)) (rw (← frame .count-is) (omega (arith, g .blocks, next))), c)
 
-        behind : left - n ≡ left - 15
+        behind : left - n ≡ left - full
         behind = omega (arith, some-rows)
 
-        sounds-next : sound k n (32 * n) here ≡ true → left-sound file (left - n) (k + 1) (at + 512) + (k + 1) ≡ soundIn file + 1
+        sounds-next : sound k n (bytes * n) here ≡ true
+            → left-sound form file (left - n) (k + 1) (at + 512) + (k + 1) ≡ soundOf form file + 1
         unfolding left-sound
         sounds-next e =
-            let f = first-sound 32 (omega arith) (omega arith) (blocksFor 32 (left - 15)) k left (drop at file) (rw (here-is, some-rows) at e) in
-            let s : suc (soundFrom 32 (blocksFor 32 (left - 15)) (suc k) (left - 15) (drop (at + 512) file)) + k ≡ soundIn file + 1 = rw (next, f, drop-drop) at (g .sounds) in
+            let f =
+            first-sound size (some-bytes form) (few-bytes form) (blocksFor size (left - full)) k left (drop at file)
+            (rw (here-is, some-rows, row-size) at e)
+            in
+            let later : ℕ = soundFrom size (blocksFor size (left - full)) (suc k) (left - full) (drop (at + 512) file) in
+            let s : suc later + k ≡ soundOf form file + 1 = rw (next, f, drop-drop) at (g .sounds) in
             rw (behind, add-one k) (omega arith)
 
         -- the rows of this block, and those behind it
-        rows-split : stand last (rowsFrom more (left-body file left at))
-            ≡ (stand last (rowsFrom (min 15 more) (drop 4 here)) && stand (lastOf last (rowsFrom (min 15 more) (drop 4 here))) (rowsFrom (more - min 15 more) (left-body file (left - 15) (at + 512))))
+        rows-split : stand last (rowsFrom form more (left-body form file left at))
+            ≡ (stand last (rowsFrom form (min full more) (drop 4 here))
+            && stand (lastOf last (rowsFrom form (min full more) (drop 4 here)))
+            (rowsFrom form (more - min full more) (left-body form file (left - full) (at + 512))))
         unfolding left-body
         rows-split =
-            let l : length (drop at file) ≡ 512 * suc (blocksFor 32 (left - 15)) = length-drop at file ∙ omega (arith, g .place, g .blocks, next, whole-is) in
-            rw (next, rows-here-more (blocksFor 32 (left - 15)) left (drop at file) next l more (g .fewer), here-is, drop-drop)
-            (stand-append last (rowsFrom (min 15 more) (drop 4 (take 512 (drop at file)))) (rowsFrom (more - min 15 more) (bodyFrom 32 (blocksFor 32 (left - 15)) (left - 15) (drop (at + 512) file))))
+            let l : length (drop at file) ≡ 512 * suc (blocksFor size (left - full)) =
+            length-drop at file ∙ omega (arith, g .place, g .blocks, next, whole-is)
+            in
+            rw (next, rows-here-more form (blocksFor size (left - full)) left (drop at file) next l more (g .fewer), here-is, drop-drop)
+            (stand-append last (rowsFrom form (min full more) (drop 4 (take 512 (drop at file))))
+            (rowsFrom form (more - min full more) (bodyFrom size (blocksFor size (left - full)) (left - full) (drop (at + 512) file))))
 
-        pub judging-next : sound k n (32 * n) here ≡ true → (m : ℕ) → m ≡ min 15 more → (now : Bool) → now ≡ stand last (rowsFrom m (drop 4 here))
-            → (then : Row) → then ≡ lastOf last (rowsFrom m (drop 4 here))
-            → Judging file count plain then (stands && now) (left - n) (more - m) (k + 1) (at + 512)
+        pub judging-next : sound k n (bytes * n) here ≡ true → (m : ℕ) → m ≡ min full more
+            → (now : Bool) → now ≡ stand last (rowsFrom form m (drop 4 here))
+            → (then : Row) → then ≡ lastOf last (rowsFrom form m (drop 4 here))
+            → Judging form file count plain then (stands && now) (left - n) (more - m) (k + 1) (at + 512)
         judging-next e m more-rows now now-is then then-is = record {
           place = omega (arith, g .place);
           blocks = rw behind (omega (arith, g .blocks, next));

@@ -1,4 +1,5 @@
--- Laws of the loop that takes rows out of blocks: the words of the rows in front are taken, and the bytes of the others are those of the blocks that are left.
+-- Laws of the loop that takes rows out of blocks: the words of the rows in front are taken, and the bytes of the others are those of the
+-- blocks that are left.
 use mathlib.Core.Path.{_≡_, refl, sym, ap, _∙_}
 use mathlib.Core.List.{List, [], _∷_, _++_, append-assoc}
 use Prim.Native.Nat.{ℕ, zero, suc, _+_, _-_, _*_, _≤_, _<_, min}
@@ -12,6 +13,7 @@ use Rattle.file_rules.specs.Blocks.{blocksFor, fileLength, bodyFrom}
 use Rattle.file_rules.specs.Files.{rowWordsIn}
 use Rattle.theory_files.proofs.Numbers.{words-length}
 use Rattle.theory_files.proofs.Many.{blocks-none, blocks-more}
+use Rattle.form_rules.specs.declared.Form.the-variants.{Full}
 use Rattle.file_load.specs.Judged.{Framed}
 use Rattle.file_load.proofs.Rows.{words-split, words-here, body-behind}
 
@@ -23,10 +25,11 @@ pub record Taking (file : List ℕ) (count : ℕ) (rows₀ rows : List ℕ) (don
   pub within : done ≤ count
   pub place : at + 512 * blocksFor 32 (count - done) ≡ length file
   pub same-length : length rows ≡ length rows₀
-  pub rest : drop (32 * done) (bodyFrom 32 (blocksFor 32 count) count (drop 512 file)) ≡ bodyFrom 32 (blocksFor 32 (count - done)) (count - done) (drop at file)
+  pub rest : drop (32 * done) (bodyFrom 32 (blocksFor 32 count) count (drop 512 file))
+      ≡ bodyFrom 32 (blocksFor 32 (count - done)) (count - done) (drop at file)
   pub taken : rows ≡ wordsIn (8 * done) (bodyFrom 32 (blocksFor 32 count) count (drop 512 file)) ++ drop (8 * done) rows₀
 
-module _ (file : List ℕ) (count : ℕ) (rows₀ : List ℕ) (frame : Framed count file) where
+module _ (file : List ℕ) (count : ℕ) (rows₀ : List ℕ) (frame : Framed Full count file) where
   pub taking-start : Taking file count rows₀ rows₀ 0 512
   unfolding fileLength wordsIn
   taking-start =
@@ -67,14 +70,17 @@ module _ (file : List ℕ) (count : ℕ) (rows₀ : List ℕ) (frame : Framed co
             let b : 4 * (8 * done) ≡ 32 * done = omega arith in
             let c : n * 8 ≡ 8 * n = omega arith in
             rw (a, words-split (8 * done) (8 * n) (body file count), b, g .rest, c, here-is, next, some-rows)
-            (ap (λ (l : List ℕ). wordsIn (8 * done) (body file count) ++ l) (words-here (blocksFor 32 (count - done - 15)) (count - done) (drop at file) next left-length))
+            (ap (λ (l : List ℕ). wordsIn (8 * done) (body file count) ++ l)
+            (words-here Full (blocksFor 32 (count - done - 15)) (count - done) (drop at file) next left-length
+            (8 * min 15 (count - done)) (omega arith)))
 
-        rest-next : drop (32 * (done + n)) (body file count) ≡ bodyFrom 32 (blocksFor 32 (count - (done + n))) (count - (done + n)) (drop (at + 512) file)
+        rest-next : drop (32 * (done + n)) (body file count)
+            ≡ bodyFrom 32 (blocksFor 32 (count - (done + n))) (count - (done + n)) (drop (at + 512) file)
         rest-next =
             let a : 32 * (done + n) ≡ 32 * done + 32 * n = omega arith in
             let b : count - (done + n) ≡ count - done - 15 = omega arith in
             rw (a, b, ← drop-drop (32 * n) (32 * done) (body file count), g .rest, next, some-rows)
-            (body-behind (blocksFor 32 (count - done - 15)) (count - done) (drop at file) next left-length ∙ rw drop-drop)
+            (body-behind Full (blocksFor 32 (count - done - 15)) (count - done) (drop at file) next left-length ∙ rw drop-drop)
 
         module _ (fits : 8 * count ≤ length rows₀) where
           pub from-fits : done * 8 ≤ length rows
@@ -94,13 +100,17 @@ module _ (file : List ℕ) (count : ℕ) (rows₀ : List ℕ) (frame : Framed co
           front-length = words-length (8 * done) (body file count) ∙ omega arith
 
           rows-then : (ys : List ℕ) → ys ≡ wordsIn (n * 8) (drop 4 here) ++ drop (n * 8) tail
-              → putMid (done * 8) (length rows - done * 8) rows ys ≡ wordsIn (8 * (done + n)) (body file count) ++ drop (8 * (done + n)) rows₀
+              → putMid (done * 8) (length rows - done * 8) rows ys
+              ≡ wordsIn (8 * (done + n)) (body file count) ++ drop (8 * (done + n)) rows₀
           rows-then ys e =
               let p : List ℕ = wordsIn (8 * done) (body file count) in
-              let a : take (done * 8) rows ≡ p = ap (take (done * 8)) (g .taken) ∙ take-at p (drop (8 * done) rows₀) (done * 8) front-length in
-              let b : drop (done * 8) rows ≡ drop (8 * done) rows₀ = ap (drop (done * 8)) (g .taken) ∙ drop-at p (drop (8 * done) rows₀) (done * 8) front-length in
+              let q : List ℕ = drop (8 * done) rows₀ in
+              let a : take (done * 8) rows ≡ p = ap (take (done * 8)) (g .taken) ∙ take-at p q (done * 8) front-length in
+              let b : drop (done * 8) rows ≡ q = ap (drop (done * 8)) (g .taken) ∙ drop-at p q (done * 8) front-length in
               let d : 8 * done + n * 8 ≡ 8 * (done + n) = omega arith in
-              back-tail rows (done * 8) from-fits ys ∙ rw (a, e, tail-is, b, drop-drop, d, words-next) (sym (append-assoc p (wordsIn (n * 8) (drop 4 here)) (drop (8 * (done + n)) rows₀)))
+              back-tail rows (done * 8) from-fits ys
+              ∙ rw (a, e, tail-is, b, drop-drop, d, words-next)
+              (sym (append-assoc p (wordsIn (n * 8) (drop 4 here)) (drop (8 * (done + n)) rows₀)))
 
           pub taking-next : (ys : List ℕ) → ys ≡ wordsIn (n * 8) (drop 4 here) ++ drop (n * 8) tail
               → Taking file count rows₀ (putMid (done * 8) (length rows - done * 8) rows ys) (done + n) (at + 512)
@@ -109,7 +119,8 @@ module _ (file : List ℕ) (count : ℕ) (rows₀ : List ℕ) (frame : Framed co
               record {
                 within = omega arith;
                 place = rw b (omega (arith, g .place, next));
-                same-length = ap length (rows-then ys e) ∙ length-append (wordsIn (8 * (done + n)) (body file count)) (drop (8 * (done + n)) rows₀)
+                same-length = ap length (rows-then ys e)
+                    ∙ length-append (wordsIn (8 * (done + n)) (body file count)) (drop (8 * (done + n)) rows₀)
                     ∙ omega (arith, words-length (8 * (done + n)) (body file count), length-drop (8 * (done + n)) rows₀);
                 rest = rest-next;
                 taken = rows-then ys e;

@@ -2,9 +2,9 @@
 use mathlib.Core.Path.{_≡_, refl, sym, ap, _∙_}
 use mathlib.Core.Bool.{Bool, true, false, cond, _&&_, and-false}
 use mathlib.Core.List.{List, [], _∷_}
-use Prim.Native.Nat.{ℕ, zero, suc, _+_, _-_, _*_, _/_, _%_, _≤_, _<_}
+use Prim.Native.Nat.{ℕ, zero, suc, _+_, _-_, _*_, _/_, _%_, _≤_, _<_, min}
 use native.Mathlib.Omega.{arith}
-use lib.ListN.{length, take, drop, length-drop}
+use lib.ListN.{length, take, drop, length-take, length-drop}
 use lib.Seq.{drop-drop}
 use lib.Dec.{eqb}
 use borrow.Author.Tests.{eq-eqb, ne-eqb}
@@ -13,7 +13,7 @@ use Rattle.rules.specs.declared.Lexical.{Lexical}
 use Rattle.rules.specs.declared.Ending.{Ending}
 use Rattle.rules.specs.declared.Ending.the-variants.{None, Refused}
 use Rattle.rules.specs.declared.Table.{Table}
-use Rattle.rules.specs.Text.{mostBytes}
+use Rattle.rules.specs.Text.{mostBytes, place}
 use Rattle.rules.specs.Rows.{Row, rowNo, wellFormed}
 use Rattle.rules.specs.Refusals.{lexicalNumber}
 use Rattle.laws.specs.Tests.{allBelow}
@@ -21,13 +21,15 @@ use Rattle.rows.specs.Shape.{stands, closes, breaks}
 use Rattle.rows.proofs.Tables.{well-empty, well-none, well-refused}
 use Rattle.file_rules.specs.declared.EndingRead.{EndingRead}
 use Rattle.file_rules.specs.declared.EndingRead.the-variants.{Ends, Nothing}
-use Rattle.file_rules.specs.Bytes.{wordsIn}
 use Rattle.file_rules.specs.Blocks.{blocksFor, fileLength, bodyFrom}
-use Rattle.file_rules.specs.Files.{reasons, readRefused, readEnding, countSaid, rowWordsIn}
+use Rattle.file_rules.specs.Files.{reasons, readRefused, readEnding, saidAt, countSaid}
+use Rattle.form_rules.specs.declared.Form.{Form}
+use Rattle.form_rules.specs.declared.Form.the-variants.{Full, Short}
+use Rattle.form_rules.specs.Short.{onOneLine, shortEnding}
+use Rattle.form_rules.specs.Shapes.{rowBytesOf, rowWordsOf}
 use Rattle.file_blocks.specs.Standing.{rowFrom}
-use Rattle.theory_files.proofs.Numbers.{words-length}
 use Rattle.file_load.specs.Judged.{Framed, plainBy, standUpto, standing}
-use Rattle.file_load.proofs.Rows.{row-word, body-row, stand-below}
+use Rattle.file_load.proofs.Rows.{most, by-length, words-file, row-word, body-row, stand-below}
 
 -- ---- the ending
 
@@ -66,67 +68,103 @@ module _ (n : ℕ) (p : Cursor) where
     unfolding readEnding
     ending-none x y e = rw (eq-eqb n 0 z, eq-eqb (p .offset .0) 0 x, eq-eqb (p .line .0) 0 y, eq-eqb (p .column .0) 0 e)
 
+-- the ending of form 2, from the two words of which it is read
+module _ (file : List ℕ) (n k : ℕ) (word : n ≡ saidAt 3 file) (offset : k ≡ saidAt 4 file) where
+  pub short-refused : (n ≡ 0 → ⊥) → (column : ℕ) → column ≡ 1 + min k mostBytes
+      → shortEnding onOneLine file ≡ readRefused reasons n (place k 1 column)
+  unfolding shortEnding onOneLine
+  short-refused e column c = rw (← word, ← offset, ne-eqb n 0 e, c)
+
+  pub short-offset : n ≡ 0 → (k ≡ 0 → ⊥) → shortEnding onOneLine file ≡ Nothing
+  unfolding shortEnding
+  short-offset z e = rw (← word, ← offset, eq-eqb n 0 z) (ending-offset 0 (place k 0 0) refl e)
+
+  pub short-none : n ≡ 0 → k ≡ 0 → shortEnding onOneLine file ≡ Ends None
+  unfolding shortEnding
+  short-none z e = rw (← word, ← offset, eq-eqb n 0 z) (ending-none 0 (place k 0 0) refl e refl refl)
+
 -- ---- row i
 
-module _ (count : ℕ) (file : List ℕ) (frame : Framed count file) where
-  pub words-count : length (rowWordsIn file) ≡ 8 * count
-  unfolding rowWordsIn
-  words-count = rw (← frame .count-is) (words-length (8 * count) (bodyFrom 32 (blocksFor 32 count) count (drop 512 file)))
+-- its block is one of the file's
+block-some : (form : Form) (count i : ℕ) → i < count → 1 + i / most form ≤ blocksFor (rowBytesOf form) count
+unfolding blocksFor
+block-some Full count i h = omega arith
+block-some Short count i h = omega arith
 
-  module _ (i : ℕ) (h : i < count) where
-    -- its block
+pub rest-bytes : (form : Form) (i : ℕ) → 4 + rowBytesOf form * (i % most form) + rowBytesOf form ≤ 512
+rest-bytes Full i = omega arith
+rest-bytes Short i = omega arith
+
+module _ (form : Form) (count : ℕ) (file : List ℕ) (frame : Framed form count file) where
+  pub words-count : length (rowWordsOf form file) ≡ 8 * count
+  words-count = rw (words-file form count file (frame .count-is)) (by-length form count _)
+
+  module _ (i : ℕ) (h : i < count) (rows : ℕ) (full : rows ≡ most form) where
+    -- where its block begins
+    abbrev pub row-at : ℕ
+    row-at = 512 * (1 + i / rows)
+
+    pub row-room : row-at + 512 ≤ length file
+    unfolding fileLength
+    row-room = rw full (omega (arith, frame .whole, block-some form count i h))
+
     abbrev pub row-block : List ℕ
-    row-block = take (512 * (1 + i / 15) + 512 - 512 * (1 + i / 15)) (drop (512 * (1 + i / 15)) file)
+    row-block = take (row-at + 512 - row-at) (drop row-at file)
 
-    pub row-room : 512 * (1 + i / 15) + 512 ≤ length file
-    unfolding fileLength blocksFor
-    row-room = omega (arith, frame .whole)
+    pub row-fits : 4 + rowBytesOf form * (i % rows) + rowBytesOf form ≤ length row-block
+    row-fits =
+        let l = length-take (row-at + 512 - row-at) (drop row-at file) in
+        omega (arith, row-room, rw (← full) at (rest-bytes form i), length-drop row-at file)
 
-    pub row-file : rowNo (rowWordsIn file) i ≡ rowFrom (drop (4 + 32 * (i % 15)) row-block)
-    unfolding rowWordsIn fileLength
+    pub row-file : rowNo (rowWordsOf form file) i ≡ rowFrom form (drop (4 + rowBytesOf form * (i % rows)) row-block)
+    unfolding fileLength
     row-file =
+        let size : ℕ = rowBytesOf form in
         let s : List ℕ = drop 512 file in
-        let l : length s ≡ 512 * blocksFor 32 count = length-drop 512 file ∙ omega (arith, frame .whole) in
-        let a : 512 * (1 + i / 15) + 512 - 512 * (1 + i / 15) ≡ 512 = omega arith in
-        let b : 512 + 512 * (i / 15) ≡ 512 * (1 + i / 15) = omega arith in
-        rw (← frame .count-is, row-word i count (bodyFrom 32 (blocksFor 32 count) count s) h, body-row (blocksFor 32 count) count i s refl l h, a, drop-drop, b)
+        let l : length s ≡ 512 * blocksFor (rowBytesOf form) count = length-drop 512 file ∙ omega (arith, frame .whole) in
+        let a : row-at + 512 - row-at ≡ 512 = omega arith in
+        let b : 512 + 512 * (i / rows) ≡ row-at = omega arith in
+        ap (λ (ws : List ℕ). rowNo ws i) (words-file form count file (frame .count-is))
+        ∙ row-word form i count (bodyFrom (rowBytesOf form) (blocksFor (rowBytesOf form) count) count s) h
+        ∙ body-row form (blocksFor (rowBytesOf form) count) count i s refl l h
+        ∙ rw (← full, drop-drop, b, a)
 
 -- ---- a table that fits
 
-module _ (file : List ℕ) (t : Table) (frame : Framed (t .count) file) where
-  lent : t .count * 8 ≤ length (rowWordsIn file)
-  lent = omega (arith, words-count (t .count) file frame)
+module _ (form : Form) (file : List ℕ) (t : Table) (frame : Framed form (t .count) file) where
+  lent : t .count * 8 ≤ length (rowWordsOf form file)
+  lent = omega (arith, words-count form (t .count) file frame)
 
-  all-stand : (e : Ending) → standing e file ≡ allBelow (stands (rowWordsIn file)) (plainBy e (t .count))
+  all-stand : (e : Ending) → standing form e file ≡ allBelow (stands (rowWordsOf form file)) (plainBy e (t .count))
   unfolding standing standUpto
-  all-stand e = rw (← frame .count-is) (stand-below (rowWordsIn file) (plainBy e (t .count)))
+  all-stand e = rw (← frame .count-is) (stand-below (rowWordsOf form file) (plainBy e (t .count)))
 
   module _ (short : t .length ≤ mostBytes) where
-    pub fits-empty : t .ending ≡ None → t .count ≡ 0 → wellFormed (rowWordsIn file) t ≡ false
-    fits-empty e z = well-empty (rowWordsIn file) t lent short e z
+    pub fits-empty : t .ending ≡ None → t .count ≡ 0 → wellFormed (rowWordsOf form file) t ≡ false
+    fits-empty e z = well-empty (rowWordsOf form file) t lent short e z
 
-    unfit-none : t .ending ≡ None → standing None file ≡ false → (n : ℕ) → t .count ≡ n → wellFormed (rowWordsIn file) t ≡ false
+    unfit-none : t .ending ≡ None → standing form None file ≡ false → (n : ℕ) → t .count ≡ n → wellFormed (rowWordsOf form file) t ≡ false
     unfit-none e f zero z = fits-empty e z
     unfit-none e f (suc i) z =
         let q : t .count - 1 ≡ i = omega arith in
         let g = rw q at (sym (all-stand None) ∙ f) in
-        well-none (rowWordsIn file) t lent short e i (sym z) ∙ rw g
+        well-none (rowWordsOf form file) t lent short e i (sym z) ∙ rw g
 
-    unfit-by : (e : Ending) → t .ending ≡ e → standing e file ≡ false → wellFormed (rowWordsIn file) t ≡ false
+    unfit-by : (e : Ending) → t .ending ≡ e → standing form e file ≡ false → wellFormed (rowWordsOf form file) t ≡ false
     unfit-by None e f = unfit-none e f (t .count) refl
-    unfit-by (Refused why p) e f = well-refused (rowWordsIn file) t lent short why p e ∙ rw (sym (all-stand (Refused why p)) ∙ f)
+    unfit-by (Refused why p) e f = well-refused (rowWordsOf form file) t lent short why p e ∙ rw (sym (all-stand (Refused why p)) ∙ f)
 
-    pub unfit : standing (t .ending) file ≡ false → wellFormed (rowWordsIn file) t ≡ false
+    pub unfit : standing form (t .ending) file ≡ false → wellFormed (rowWordsOf form file) t ≡ false
     unfit f = unfit-by (t .ending) refl f
 
-    pub fits-none : t .ending ≡ None → standing (t .ending) file ≡ true → (t .count ≡ 0 → ⊥)
-        → wellFormed (rowWordsIn file) t ≡ closes (rowWordsIn file) (t .length) (t .count - 1)
+    pub fits-none : t .ending ≡ None → standing form (t .ending) file ≡ true → (t .count ≡ 0 → ⊥)
+        → wellFormed (rowWordsOf form file) t ≡ closes (rowWordsOf form file) (t .length) (t .count - 1)
     fits-none e f z =
         let g = sym (all-stand None) ∙ rw e at f in
-        well-none (rowWordsIn file) t lent short e (t .count - 1) (omega arith) ∙ rw g
+        well-none (rowWordsOf form file) t lent short e (t .count - 1) (omega arith) ∙ rw g
 
-    pub fits-refused : (why : Lexical) (p : Cursor) → t .ending ≡ Refused why p → standing (t .ending) file ≡ true
-        → wellFormed (rowWordsIn file) t ≡ breaks (rowWordsIn file) (t .length) (t .count) p
+    pub fits-refused : (why : Lexical) (p : Cursor) → t .ending ≡ Refused why p → standing form (t .ending) file ≡ true
+        → wellFormed (rowWordsOf form file) t ≡ breaks (rowWordsOf form file) (t .length) (t .count) p
     fits-refused why p e f =
         let g = sym (all-stand (Refused why p)) ∙ rw e at f in
-        well-refused (rowWordsIn file) t lent short why p e ∙ rw g
+        well-refused (rowWordsOf form file) t lent short why p e ∙ rw g

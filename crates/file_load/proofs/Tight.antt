@@ -1,5 +1,5 @@
--- The contract of `load` asks nothing, and determines its result and every word of the lent rows. The file is lent as `&`, and shared memory
--- cannot change.
+-- The contract of `load` asks nothing, and determines its result and every word of the lent rows. The file is lent as `&`, and shared
+-- memory cannot change.
 use mathlib.Core.Path.{refl}
 use Rattle.laws.specs.Tight.{Tight}
 use Rattle.laws.proofs.Tight.{alike, _▸_}

@@ -51,4 +51,5 @@ standing form e file = standUpto form (plainBy e (countSaid file)) file
 -- the first block that is not sound, or whether n rows stand
 unfoldable pub blocksJudged : Form → ℕ → List ℕ → Blocks
 blocksJudged form n file =
-    cond (ltb (soundOf form file) (blocksFor (rowBytesOf form) (countSaid file))) (Bad (1 + soundOf form file)) (Sound (standUpto form n file))
+    cond (ltb (soundOf form file) (blocksFor (rowBytesOf form) (countSaid file))) (Bad (1 + soundOf form file))
+    (Sound (standUpto form n file))

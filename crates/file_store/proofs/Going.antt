@@ -43,7 +43,8 @@ module _ (xs ys : List ℕ) (a : ℕ) (h : a + 512 ≤ length xs) (l : length ys
   mid-drop d g =
       let e : d ≡ length (take a xs ++ ys) + (d - (a + 512)) = omega (arith, front-length) in
       let f : (a + 512) + (d - (a + 512)) ≡ d = omega arith in
-      ap (λ (x : ℕ). drop x ((take a xs ++ ys) ++ drop (a + 512) xs)) e ∙ drop-append-add (take a xs ++ ys) (drop (a + 512) xs) (d - (a + 512)) ∙ drop-drop (d - (a + 512)) (a + 512) xs
+      ap (λ (x : ℕ). drop x ((take a xs ++ ys) ++ drop (a + 512) xs)) e
+      ∙ drop-append-add (take a xs ++ ys) (drop (a + 512) xs) (d - (a + 512)) ∙ drop-drop (d - (a + 512)) (a + 512) xs
       ∙ ap (λ (x : ℕ). drop x xs) f
 
 -- ---- the loop
@@ -70,83 +71,88 @@ module _ (rows : List ℕ) (count : ℕ) (file₀ : List ℕ) where
       let e : count - 0 ≡ count = omega arith in
       record { within = omega arith; place = refl; blocks = rw e; same-length = refl; all = rw e }
 
-  module _ (file : List ℕ) (done k at : ℕ) (g : Going rows count file₀ file done k at) where
-    -- there is one block more
-    pub room-left : fileLength 32 count ≤ length file₀ → done < count → at + 512 ≤ length file
-    unfolding fileLength
-    room-left h l = omega (arith, g .place, g .blocks, g .same-length, blocks-more 32 (omega arith) (omega arith) (count - done) (omega arith))
+module _ {rows : List ℕ} {count : ℕ} {file₀ file : List ℕ} {done k at : ℕ} (g : Going rows count file₀ file done k at) where
+  -- there is one block more
+  pub room-left : fileLength 32 count ≤ length file₀ → done < count → at + 512 ≤ length file
+  unfolding fileLength
+  room-left h l =
+      let m = blocks-more 32 (omega arith) (omega arith) (count - done) (omega arith) in
+      omega (arith, g .place, g .blocks, g .same-length)
 
-    pub few-blocks : count ≤ 65535 → k ≤ 65536
-    unfolding blocksFor
-    few-blocks h = omega (arith, g .blocks)
+  pub few-blocks : count ≤ 65535 → k ≤ 65536
+  unfolding blocksFor
+  few-blocks h = omega (arith, g .blocks)
 
-    none-left : count ≤ done → left-blocks rows count done k ≡ []
+  none-left : count ≤ done → left-blocks rows count done k ≡ []
+  unfolding left-blocks blocksFrom
+  none-left h =
+      let z : count - done ≡ 0 = omega arith in
+      rw (z, blocks-none 32 (omega arith) (omega arith))
+
+  at-end : count ≤ done → fileLength 32 count ≡ at
+  unfolding fileLength
+  at-end h =
+      let z : count - done ≡ 0 = omega arith in
+      omega (arith, rw z at (g .blocks), g .place, blocks-none 32 (omega arith) (omega arith))
+
+  pub going-end : count ≤ done → file ≡ done-file rows count file₀
+  going-end h =
+      let q : (take at file ++ left-blocks rows count done k) ++ drop (fileLength 32 count) file ≡ file
+      = rw (none-left h, append-nil, at-end h) (take-append-drop at file) in
+      sym q ∙ g .all
+
+  module _ (h : fileLength 32 count ≤ length file₀) (l : done < count) (n : ℕ) (here : n ≡ min 15 (count - done)) where
+    -- the rows of this block
+    abbrev pub part : List ℕ
+    part = take ((done * 8 + n * 8) - done * 8) (drop (done * 8) rows)
+
+    part-is : part ≡ take (8 * n) (drop (8 * done) rows)
+    part-is =
+        let e : (done * 8 + n * 8) - done * 8 ≡ 8 * n = omega arith in
+        let f : done * 8 ≡ 8 * done = omega arith in
+        rw (e, f)
+
+    pub part-few : 4 * length part ≤ 504
+    part-few = omega (arith, ap length part-is, length-take (8 * n) (drop (8 * done) rows))
+
+    -- the next block, and those behind it
+    split : left-blocks rows count done k ≡ block k n (bytesOf part) ++ left-blocks rows count (done + n) (suc k)
     unfolding left-blocks blocksFrom
-    none-left h =
-        let z : count - done ≡ 0 = omega arith in
-        rw (z, blocks-none 32 (omega arith) (omega arith))
+    split =
+        let left = count - done in
+        let m = blocks-more 32 (omega arith) (omega arith) left (omega arith) in
+        let a : left - 15 ≡ count - (done + n) = omega arith in
+        let b : 32 * n ≡ 4 * (8 * n) = omega arith in
+        let c : 8 * done + 8 * n ≡ 8 * (done + n) = omega arith in
+        rw (m, ← here, part-is, a, b, bytes-take (8 * n) (drop (8 * done) rows), bytes-drop (8 * n) (drop (8 * done) rows), drop-drop, c)
 
-    at-end : count ≤ done → fileLength 32 count ≡ at
+    blocks-then : k + 1 + blocksFor 32 (count - (done + n)) ≡ 1 + blocksFor 32 count
+    blocks-then =
+        let m = blocks-more 32 (omega arith) (omega arith) (count - done) (omega arith) in
+        let a : count - done - 15 ≡ count - (done + n) = omega arith in
+        omega (arith, rw a at m, g .blocks)
+
+    last-block : at + 512 ≤ fileLength 32 count
     unfolding fileLength
-    at-end h =
-        let z : count - done ≡ 0 = omega arith in
-        omega (arith, rw z at (g .blocks), g .place, blocks-none 32 (omega arith) (omega arith))
+    last-block = omega (arith, blocks-then, g .place)
 
-    pub going-end : count ≤ done → file ≡ done-file rows count file₀
-    going-end h =
-        let q : (take at file ++ left-blocks rows count done k) ++ drop (fileLength 32 count) file ≡ file = rw (none-left h, append-nil, at-end h) (take-append-drop at file) in
-        sym q ∙ g .all
-
-    module _ (h : fileLength 32 count ≤ length file₀) (l : done < count) (n : ℕ) (here : n ≡ min 15 (count - done)) where
-      -- the rows of this block
-      abbrev pub part : List ℕ
-      part = take ((done * 8 + n * 8) - done * 8) (drop (done * 8) rows)
-
-      part-is : part ≡ take (8 * n) (drop (8 * done) rows)
-      part-is =
-          let e : (done * 8 + n * 8) - done * 8 ≡ 8 * n = omega arith in
-          let f : done * 8 ≡ 8 * done = omega arith in
-          rw (e, f)
-
-      pub part-few : 4 * length part ≤ 504
-      part-few = omega (arith, ap length part-is, length-take (8 * n) (drop (8 * done) rows))
-
-      -- the next block, and those behind it
-      split : left-blocks rows count done k ≡ block k n (bytesOf part) ++ left-blocks rows count (done + n) (suc k)
-      unfolding left-blocks blocksFrom
-      split =
-          let left = count - done in
-          let m = blocks-more 32 (omega arith) (omega arith) left (omega arith) in
-          let a : left - 15 ≡ count - (done + n) = omega arith in
-          let b : 32 * n ≡ 4 * (8 * n) = omega arith in
-          let c : 8 * done + 8 * n ≡ 8 * (done + n) = omega arith in
-          rw (m, ← here, part-is, a, b, bytes-take (8 * n) (drop (8 * done) rows), bytes-drop (8 * n) (drop (8 * done) rows), drop-drop, c)
-
-      blocks-then : k + 1 + blocksFor 32 (count - (done + n)) ≡ 1 + blocksFor 32 count
-      blocks-then =
-          let m = blocks-more 32 (omega arith) (omega arith) (count - done) (omega arith) in
-          let a : count - done - 15 ≡ count - (done + n) = omega arith in
-          omega (arith, rw a at m, g .blocks)
-
-      last-block : at + 512 ≤ fileLength 32 count
-      unfolding fileLength
-      last-block = omega (arith, blocks-then, g .place)
-
-      pub going-next : (ys : List ℕ) → ys ≡ block k n (bytesOf part) → Going rows count file₀ (putMid at ((at + 512) - at) file ys) (done + n) (k + 1) (at + 512)
-      going-next ys e =
-          let r = room-left h l in
-          let w : length ys ≡ 512 = ap length e ∙ block-length k n (bytesOf part) (omega (arith, part-few, bytes-length part)) in
-          let x : List ℕ = block k n (bytesOf part) in
-          let y : List ℕ = left-blocks rows count (done + n) (suc k) in
-          let d : List ℕ = drop (fileLength 32 count) file in
-          let q : (take at file ++ (x ++ y)) ++ d ≡ done-file rows count file₀ = rw split at (g .all) in
-          record {
-            within = omega (arith, here);
-            place = omega (arith, g .place);
-            blocks = blocks-then;
-            same-length = rw mid (mid-length file ys at r w ∙ g .same-length);
-            all = rw (mid, mid-take file ys at r w, mid-drop file ys at r w (fileLength 32 count) last-block, e, add-one k) (ap (λ (x : List ℕ). x ++ d) (append-assoc (take at file) x y) ∙ q);
-          }
+    pub going-next : (ys : List ℕ) → ys ≡ block k n (bytesOf part)
+        → Going rows count file₀ (putMid at ((at + 512) - at) file ys) (done + n) (k + 1) (at + 512)
+    going-next ys e =
+        let r = room-left h l in
+        let w : length ys ≡ 512 = ap length e ∙ block-length k n (bytesOf part) (omega (arith, part-few, bytes-length part)) in
+        let x : List ℕ = block k n (bytesOf part) in
+        let y : List ℕ = left-blocks rows count (done + n) (suc k) in
+        let d : List ℕ = drop (fileLength 32 count) file in
+        let q : (take at file ++ (x ++ y)) ++ d ≡ done-file rows count file₀ = rw split at (g .all) in
+        record {
+          within = omega (arith, here);
+          place = omega (arith, g .place);
+          blocks = blocks-then;
+          same-length = rw mid (mid-length file ys at r w ∙ g .same-length);
+          all = rw (mid, mid-take file ys at r w, mid-drop file ys at r w (fileLength 32 count) last-block, e, add-one k)
+              (ap (λ (x : List ℕ). x ++ d) (append-assoc (take at file) x y) ∙ q);
+        }
 
 -- ---- the whole file
 

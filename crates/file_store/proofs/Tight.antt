@@ -1,5 +1,5 @@
--- The contract of `store` asks nothing, and determines its result and every byte of the lent file. The rows are lent as `&`, and shared memory
--- cannot change.
+-- The contract of `store` asks nothing, and determines its result and every byte of the lent file.
+-- The rows are lent as `&`, and shared memory cannot change.
 use mathlib.Core.Path.{refl}
 use Rattle.laws.specs.Tight.{Tight}
 use Rattle.laws.proofs.Tight.{alike, _▸_}

@@ -25,11 +25,5 @@ pub const NUMBER: u32 = 2;
 pub fn all() -> [usize; 5]
     ensures { λ r. ⌜ r ≡ numbers ⌝ }
 {
-    [
-        ROW,
-        SAID,
-        ROWS,
-        BLOCK_WORDS,
-        NUMBER as usize,
-    ]
+    [ROW, SAID, ROWS, BLOCK_WORDS, NUMBER as usize]
 }

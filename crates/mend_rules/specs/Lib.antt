@@ -1,2 +1,3 @@
 -- "Mend a damaged file" as definitions.
 pub mod Mend
+pub mod Cases

@@ -1,4 +1,4 @@
--- Mending: what a fresh scan stores, which blocks differ from it, what the call tells, and what it leaves in the lent file and the lent list.
+-- Mending: what a fresh scan stores, which blocks differ from it, what the call tells, and what it leaves in lent memory and the lent list.
 use mathlib.Core.Bool.{Bool, cond, not, _||_}
 use mathlib.Core.List.{List, [], _∷_, _++_}
 use Prim.Native.Nat.{ℕ, zero, suc, _/_}
@@ -49,7 +49,8 @@ listed fresh file = differing (length fresh / blockBytes) 0 fresh file ++ surplu
 
 -- ---- what the call tells
 
--- Lent are memory, of which the first n bytes are the file, and a list. "4 if the lent file or list has too little room", or memory ends before the file does.
+-- Lent are memory, of which the first n bytes are the file, and a list. "4 if the lent file or list has too little room", or memory ends
+-- before the file does.
 unfoldable pub tooSmall : List ℕ → List ℕ → ℕ → List ℕ → Bool
 tooSmall fresh memory n list =
     ltb (length memory) (length fresh) || (ltb (length memory) n || ltb (length list) (length (listed fresh (take n memory))))

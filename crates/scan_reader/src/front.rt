@@ -2,7 +2,7 @@
 use crate::Brief;
 use crate::codes;
 use crate::pieces::dash;
-use crate::pieces::number;
+use crate::pieces::plain_number;
 use crate::pieces::sign;
 use crate::pieces::slash;
 use crate::pieces::string;
@@ -54,7 +54,7 @@ pub fn brief(classes: &[u8; 256], text: &[u8], at: usize, whole: bool) -> Brief
         return sign(text, at, whole);
     }
     if class == classes::DIGIT {
-        return number(text, at, 0, false, whole);
+        return plain_number(text, at, whole);
     }
     rare(text, at, class, whole)
 }

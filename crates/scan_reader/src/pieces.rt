@@ -105,6 +105,14 @@ pub fn sign(text: &[u8], at: usize, whole: bool) -> Brief
     told(scan_words::one_sign(b), 1)
 }
 
+// A number with no sign: a call of its own, so that its answer lies on the stack where those of `slash` and `dash` lie, not beside them.
+pub fn plain_number(text: &[u8], at: usize, whole: bool) -> Brief
+    requires { ⌜ (at < length (now text)) × (lex.isDigit (getD (now text) at 0) ≡ true) ⌝ }
+    ensures { λ r. ⌜ r ≡ settled whole (now (text .entry)) at (lex.number false 0 (drop at (now (text .entry)))) ⌝ }
+{
+    number(text, at, 0, false, whole)
+}
+
 // A comment to the newline, which is taken with it, or to the end.
 fn line_comment(text: &[u8], at: usize, whole: bool) -> Brief
     requires { ⌜ (at ≤ length (now text)) × (getD (now text) (at + 1) 0 ≡ byte "/") ⌝ }

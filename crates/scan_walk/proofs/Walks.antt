@@ -233,7 +233,7 @@ module _ {ws : List ℕ} {o : Olds} {t : List ℕ} {p : Cursor} {whole : Bool} {
       (rw (q, l, g .stops, f), rw (q, g .words) (laid-more (g .done) r lent n (g .counted)))
 
   pub walking-met : (r : Found) → Finds ws (o .count) (o .least) (o .b) row (here .cursor .offset .0) (drop (here .at) t) r →
-      r .met ≡ true → Answers (record { count = n; stop = Met here (r .row) c }) us
+      r .met ≡ true → Answers (record { count = n; stop = Met (here .cursor) (r .row) c }) us
   unfolding stopSeen rowsSeen stopsAt
   walking-met r f e =
       let k = p .offset .0 in
@@ -242,7 +242,7 @@ module _ {ws : List ℕ} {o : Olds} {t : List ℕ} {p : Cursor} {whole : Bool} {
       let m : k + i - k ≡ i = omega arith in
       let d : length olds - length (drop (r .row) olds) ≡ r .row =
       omega (arith, length-drop (r .row) olds, rows-length (o .count) ws, f .high) in
-      over-with (Met here (r .row) c) (rw s) (ap stopOf s ∙ rw (q, d, m, g .spot))
+      over-with (Met (here .cursor) (r .row) c) (rw s) (ap stopOf s ∙ rw (q, d, m, g .spot))
 
   -- ---- nothing meets, no blank stands there, and r was told
 

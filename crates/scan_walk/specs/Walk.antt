@@ -41,7 +41,7 @@ module _ (rows : List Row) (least b : ℕ) (t : List ℕ) (p : Cursor) where
   unfoldable pub stopSeen : Seen → Stop
   stopSeen (sees r s) = stopSeen s
   stopSeen (over′ e) = Over e
-  stopSeen (met m c) = Met (onward t (startOf p) (m - p .offset .0)) (length rows - length (from (m + b - least) rows)) c
+  stopSeen (met m c) = Met (onward t (startOf p) (m - p .offset .0) .cursor) (length rows - length (from (m + b - least) rows)) c
   stopSeen short = Short
 
   -- of the bytes from their first on; whole: they end the text

@@ -1,8 +1,8 @@
 // The walk over bytes that begin at a place of a text: their rows are written as far as there is room, up to the text's end, a refusal,
 // a spot where an old row meets, or where more bytes must be shown. A scan meets no old rows; an edit looks at its window by a walk with no room.
 mod meeting;
-mod puts;
-mod spots;
+pub mod puts;
+pub mod spots;
 
 use meeting::find;
 use puts::put_behind;
@@ -38,10 +38,10 @@ pub struct Found {
     pub met: bool,
 }
 
-// How a walk stops: at a spot where an old row, by its number, meets, with so many comments in the gap before it; the text is over, with
+// How a walk stops: at a place where an old row, by its number, meets, with so many comments in the gap before it; the text is over, with
 // its ending; or more bytes must be shown.
 pub enum Stop {
-    Met(Spot, usize, u32),
+    Met(Cursor, usize, u32),
     Over(Ending),
     Short,
 }
@@ -54,7 +54,7 @@ pub struct Walked {
 
 // The walk stops behind n rows, and so many comments, at what was told there: the text's end, which has a row, a refusal, or that more
 // bytes must be shown.
-fn finish(rows: &mut [u32], n: usize, at: Cursor, comments: u32, told: Brief) -> Walked
+pub fn finish(rows: &mut [u32], n: usize, at: Cursor, comments: u32, told: Brief) -> Walked
     requires { ⌜ Last n at told ⌝ }
     ensures { λ r. ⌜ Finished n at comments told r (now (rows .entry)) (now (rows .exit)) ⌝ }
 {
@@ -96,7 +96,7 @@ pub fn walk(
     requires { ⌜ Walkable (now old) olds (now text) begin ⌝ }
     ensures { λ r. ⌜ (r ≡ walkOf (now (old .entry)) olds (now (text .entry)) begin whole) × (now (rows .exit) ≡ laid (walkRows (now (old .entry)) olds (now (text .entry)) begin whole) (now (rows .entry))) ⌝ }
 {
-    let classes = scan_words::classes::table();
+    let classes = scan_words::classes::CLASSES;
     let mut here = Spot {
         at: 0,
         cursor: begin,
@@ -110,9 +110,10 @@ pub fn walk(
         let found = find(old, olds, row, text, spot);
         row = found.row;
         if found.met {
+            let place = spot.cursor;
             return Walked {
                 count,
-                stop: Stop::Met(spot, row, comments),
+                stop: Stop::Met(place, row, comments),
             };
         }
         let told = brief(&classes, text, spot.at, whole);

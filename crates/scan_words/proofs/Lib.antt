@@ -2,3 +2,4 @@
 pub mod Lookups
 pub mod Packed
 pub mod Marks
+pub mod Tables

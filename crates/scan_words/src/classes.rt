@@ -1,7 +1,7 @@
 // The table of what each byte begins.
 use rules::kind;
 ghost use mathlib.Core.Path.{_≡_};
-ghost use Rattle.scan_words.specs.Class.{classes, Classes};
+ghost use Rattle.scan_words.specs.Class.{classes};
 
 // What a byte begins: a word, a number, nothing, a blank, a comment or a sign, a number or a sign, a string, a sign that may be the first
 // byte of two, or any other sign. The bytes of words come first.
@@ -26,8 +26,8 @@ pub const SIGN: u8 = 8;
 // A sign that is the first byte of no other has its kind in the table, counted from here.
 pub const SIGNS: u8 = 32;
 
-// The class of each byte.
-const CLASSES: [u8; 256] = [
+// The class of each byte. Whoever asks for many bytes takes it once and lends it.
+pub const CLASSES: [u8; 256] = [
     NOTHING,
     NOTHING,
     NOTHING,
@@ -302,11 +302,4 @@ pub fn all() -> [u8; 10]
         SIGN,
         SIGNS,
     ]
-}
-
-// The table of classes, for whoever asks for many bytes to lend.
-pub fn table() -> [u8; 256]
-    ensures { λ r. ⌜ Classes r ⌝ }
-{
-    CLASSES
 }

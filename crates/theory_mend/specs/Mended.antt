@@ -1,16 +1,18 @@
 -- What is claimed of a file that was mended, and of the blocks that are listed.
 use mathlib.Core.Path.{_≡_}
-use mathlib.Core.List.{List, [], _∷_, _++_}
+use mathlib.Core.Bool.{true}
+use mathlib.Core.List.{List, [], _∷_}
 use Prim.Native.Nat.{ℕ, _+_, _*_, _/_, _≤_, _<_}
 use lib.ListN.{length, take, drop}
+use Rattle.rules.specs.declared.Judged.the-variants as verdict
 use Rattle.rules.specs.declared.Told.the-variants as told
-use Rattle.rules.specs.Rows.{wordsPerRow}
+use Rattle.rules.specs.Text.{textJudged}
 use Rattle.rules.specs.Scan.{roomOf, scanTold, scanLeaves}
 use Rattle.file_rules.specs.declared.Loaded.the-variants as loaded
 use Rattle.file_rules.specs.Blocks.{blockBytes}
-use Rattle.file_rules.specs.Files.{formNumber, loadTold, loadLeaves}
+use Rattle.file_rules.specs.Files.{mostRows, formNumber, formSaid, loadTold, loadLeaves}
 use Rattle.form_rules.specs.declared.Beside.the-variants as beside
-use Rattle.form_rules.specs.Forms.{besideTold, besideLeaves}
+use Rattle.form_rules.specs.Forms.{isForm, besideTold, besideLeaves}
 use Rattle.mend_rules.specs.declared.Mended.the-variants as mended
 use Rattle.mend_rules.specs.Mend.{freshTable, freshFile, listed, mendTold, mendLeaves, listLeaves}
 
@@ -22,15 +24,25 @@ pub record IsMended (text : List ℕ) (form : ℕ) (memory : List ℕ) (n : ℕ)
 abbrev pub left : List ℕ → ℕ → List ℕ → ℕ → List ℕ → ℕ → List ℕ
 left text form memory n list size = take size (mendLeaves text form memory n list)
 
--- "the mended file reads back as the fresh scan's table": beside the text in either form, and by the reading of form 1, in any room for all rows
+-- "the mended file reads back as the fresh scan's table": beside the text in either form, and by the reading of form 1, in any room for
+-- all rows; it says "the form asked for"
 pub record ReadsBack (text : List ℕ) (form : ℕ) (file : List ℕ) : Type 0 where
+  pub said : formSaid file ≡ form
   pub scanned : (room : ℕ) → freshTable text .count ≤ room → scanTold text room ≡ told.Rows (freshTable text)
   pub beside : (room : ℕ) → freshTable text .count ≤ room → besideTold text file room ≡ beside.Rows (freshTable text)
   pub rows-beside : (ws : List ℕ) → freshTable text .count ≤ roomOf ws → besideLeaves text file ws ≡ scanLeaves text ws
   pub alone : form ≡ formNumber → (room : ℕ) → freshTable text .count ≤ room → loadTold file room ≡ loaded.Rows (freshTable text)
   pub rows-alone : form ≡ formNumber → (ws : List ℕ) → freshTable text .count ≤ roomOf ws → loadLeaves file ws ≡ scanLeaves text ws
 
--- "mending again lists nothing and changes nothing": whatever list is lent then
+-- "A file equal to the fresh scan's in that form": the first n bytes of memory, of a text that has such a file
+pub record IsRight (text : List ℕ) (form : ℕ) (memory : List ℕ) (n : ℕ) : Type 0 where
+  pub known : isForm form ≡ true
+  pub fine : textJudged text ≡ verdict.Fine
+  pub few : freshTable text .count ≤ mostRows
+  pub held : n ≤ length memory
+  pub file : take n memory ≡ freshFile form text
+
+-- it "comes back unchanged with an empty list", whatever list is lent; and so "mending again lists nothing and changes nothing"
 pub record NothingAgain (text : List ℕ) (form : ℕ) (memory : List ℕ) (size : ℕ) : Type 0 where
   pub told : (list : List ℕ) → mendTold text form memory size list ≡ mended.Blocks size 0
   pub file : (list : List ℕ) → mendLeaves text form memory size list ≡ memory
@@ -62,3 +74,25 @@ pub data Ascending : List ℕ → Type 0 where
   none : Ascending []
   one : {k : ℕ} → Ascending (k ∷ [])
   more : {j k : ℕ} {s : List ℕ} → j < k → Ascending (k ∷ s) → Ascending (j ∷ k ∷ s)
+
+-- what the lent list holds then: its first count words are those blocks, and the file that they are held against is whole blocks
+pub record ListTells (text : List ℕ) (form : ℕ) (memory : List ℕ) (n : ℕ) (list : List ℕ) (count : ℕ) : Type 0 where
+  pub whole : blockBytes * (length (freshFile form text) / blockBytes) ≡ length (freshFile form text)
+  pub entries : take count (listLeaves text form memory n list) ≡ listed (freshFile form text) (take n memory)
+  pub exactly : ListedExactly (freshFile form text) (take n memory)
+  pub cut : (k : ℕ) → k < length (freshFile form text) / blockBytes → n < blockBytes * k + blockBytes
+      → Member k (listed (freshFile form text) (take n memory))
+  pub ascending : Ascending (listed (freshFile form text) (take n memory))
+
+-- "a refused call changes neither"
+pub record Untouched (text : List ℕ) (form : ℕ) (memory : List ℕ) (n : ℕ) (list : List ℕ) : Type 0 where
+  pub file : mendLeaves text form memory n list ≡ memory
+  pub entries : listLeaves text form memory n list ≡ list
+
+-- "with nothing written over a block that was already right", nor behind the file, where a surplus tail's "bytes stay", nor behind what
+-- is listed
+pub record RestStays (text : List ℕ) (form : ℕ) (memory : List ℕ) (n : ℕ) (list : List ℕ) (size count : ℕ) : Type 0 where
+  pub entries-behind : drop count (listLeaves text form memory n list) ≡ drop count list
+  pub behind : drop size (mendLeaves text form memory n list) ≡ drop size memory
+  pub right : (k : ℕ) → (Member k (listed (freshFile form text) (take n memory)) → ⊥)
+      → blockAt k (mendLeaves text form memory n list) ≡ blockAt k memory

@@ -33,8 +33,8 @@ walk-of c = c .before .before .before
 abbrev room-at : tie.After-known-told → tie.Else1
 room-at c = c .before .before .before
 
-abbrev at-tail : tie.After-p → tie.After-known-told
-at-tail c = c .before .before
+abbrev at-tail : tie.After-table → tie.After-known-told
+at-tail c = c .before
 
 -- ---- what the walk did
 
@@ -120,7 +120,7 @@ behind-requires c κs =
     let w = walk-of (room-at k) in
     let s = start w in
     let a = s .args in
-    let p = k .before .stop .given .0 .0 .cursor in
+    let p = k .before .stop .given .0 .0 in
     let row = k .before .stop .given .0 .1 .0 in
     let comments = k .before .stop .given .0 .1 .1 .0 in
     let zs = rowsBehind (a .old .now) (a .job .table) row p comments in
@@ -146,7 +146,7 @@ returns-2 c =
     let s = start w in
     let a = s .args in
     let e = k .before .stop .given .1 in
-    let p = k .before .stop .given .0 .0 .cursor in
+    let p = k .before .stop .given .0 .0 in
     let row = k .before .stop .given .0 .1 .0 in
     let comments = k .before .stop .given .0 .1 .1 .0 in
     let rows = met-rows (s .pre .ready) (a .whole) (w .walk .result) (walked w .0) _ _ _ e in

@@ -5,6 +5,9 @@ use borrow.Author.Needs.{needs}
 use Rattle.file_blocks.proofs.half_at.Statement.{statement}
 use Rattle.file_blocks.proofs.half_at.Tie as tie
 
+abbrev start : tie.After-wide2 → tie.Start
+start c = c .before .before .before .before .before
+
 shared-slice-read-wide : tie.Need-shared-slice-read-wide
 shared-slice-read-wide c = search needs
 
@@ -28,8 +31,8 @@ add-result c = omega (arith, c .wide2 .ensures, c .before .before .wide .ensures
 
 returns : tie.Need-returns
 returns c =
-    let a = c .before .before .before .before .before .args in
-    omega (arith, half-is (a .bytes .now) (a .at) (c .before .before .before .before .before .pre), c .wide2 .ensures .0, c .before .before .wide .ensures .0)
+    let s = start c in
+    omega (arith, half-is (s .args .bytes .now) (s .args .at) (s .pre), c .wide2 .ensures .0, c .before .before .wide .ensures .0)
 
 pub half-at-spec : {M : Type 1} → statement M
 half-at-spec =

@@ -16,6 +16,9 @@ Inv-loop bytes from most₀ i₀ most i = (from ≤ i) × ((i ≤ 508) × (eqb m
 abbrev μ-loop : tie.MeasureT-loop
 μ-loop bytes from most₀ i₀ most i = 508 - i
 
+abbrev start : tie.In-loop Inv-loop μ-loop → tie.Start Inv-loop μ-loop
+start c = c .before .before .before
+
 loop-holds : tie.Need-loop-holds Inv-loop μ-loop
 unfolding zeros
 loop-holds c =
@@ -38,8 +41,10 @@ loop-less c = omega arith
 loop-again : tie.Need-loop-again Inv-loop μ-loop
 loop-again c =
     let l = c .before .before .before .loop in
-    let s = c .before .before .before .before .before in
-    (omega arith, (omega arith, rw (c .larger .ensures) (filler-more (s .args .bytes .now) (s .args .from) (l .i) (l .most) (l .inv .0) (omega (arith, s .pre)) (l .inv .1 .1))))
+    let s = start (c .before .before) in
+    let a = s .args in
+    let more = filler-more (a .bytes .now) (a .from) (l .i) (l .most) (l .inv .0) (omega (arith, s .pre)) (l .inv .1 .1) in
+    (omega arith, (omega arith, rw (c .larger .ensures) more))
 
 returns : tie.Need-returns Inv-loop μ-loop
 returns c = let e : c .before .loop .i ≡ 508 = omega arith in rw e at (c .before .loop .inv .1 .1)

@@ -1,82 +1,50 @@
--- `put_block` meets its contract: the block is written in five parts, one behind the other.
-use Rattle.file_blocks.proofs.Laws.{block-put}
+-- `put_block` meets its contract: the words are written for a content, and the block around them.
+use mathlib.Core.Path.{ap, _∙_}
+use mathlib.Core.List.{List}
+use Prim.Native.Nat.{ℕ, _*_}
+use native.Mathlib.Omega.{arith}
+use lib.ListN.{length}
 use borrow.Author.Needs.{needs}
+use Rattle.file_rules.specs.Bytes.{bytesOf}
+use Rattle.file_rules.specs.Blocks.{block, contentOf}
+use Rattle.theory_files.proofs.Numbers.{bytes-length}
+use Rattle.file_blocks.proofs.Laws.{content-put}
 use Rattle.file_blocks.proofs.put_block.Statement.{statement}
 use Rattle.file_blocks.proofs.put_block.Tie as tie
 
 -- ---- the places on the way, from the last call back to the function's entry
 
-abbrev at-check : tie.After-slice-known6 → tie.After-put-word
-at-check c = c .before .before
+abbrev at-seal : tie.After-slice-known3 → tie.After-seal
+at-seal c = c .before .before
 
-abbrev at-sum : tie.After-put-word → tie.After-check-of
-at-sum c = c .before .before
-
-abbrev at-filler : tie.After-check-of → tie.After-put-filler
-at-filler c = c .before .before .before .before
-
-abbrev at-words : tie.After-put-filler → tie.After-put-words
+abbrev at-words : tie.After-seal → tie.After-put-words
 at-words c = c .before .before .before .before
 
-abbrev at-rows : tie.After-put-words → tie.After-put-half2
-at-rows c = c .before .before .before .before
-
-abbrev at-number : tie.After-put-half2 → tie.After-put-half
-at-number c = c .before .before .before .before
-
-abbrev at-start : tie.After-put-half → tie.Start
+abbrev at-start : tie.After-put-words → tie.Start
 at-start c = c .before .before .before .before
-
-put-half-requires : tie.Need-put-half-requires
-put-half-requires c κs = search needs
-
-put-half-requires-2 : tie.Need-put-half-requires-2
-put-half-requires-2 c κs = search needs
 
 put-words-requires : tie.Need-put-words-requires
 put-words-requires c κs = search needs
 
-mul-put-filler : tie.Need-mul-put-filler
-mul-put-filler c = search needs
+mul-seal : tie.Need-mul-seal
+mul-seal c = search needs
 
-add-put-filler : tie.Need-add-put-filler
-add-put-filler c = search needs
-
-put-filler-requires : tie.Need-put-filler-requires
-put-filler-requires c κs = search needs
-
-check-of-requires : tie.Need-check-of-requires
-check-of-requires c κs = search needs
-
-put-word-requires : tie.Need-put-word-requires
-put-word-requires c κs = search needs
+seal-requires : tie.Need-seal-requires
+seal-requires c κs = search needs
 
 same-length : tie.Need-same-length
 same-length c = search needs
 
 returns : tie.Need-returns
 returns c =
-    let w = at-check c in
-    let k = at-sum w in
-    let f = at-filler k in
-    let t = at-words f in
-    let h = at-rows t in
-    let g = at-number h in
-    let s = at-start g in
-    block-put (s .args .k) (s .args .n) (s .args .words .now) (s .args .bytes .now) (g .put-half .last .0) (h .put-half2 .last .0) (t .put-words .last .0) (f .put-filler .last .0) (w .put-word .last .0)
-    (s .pre .0) (s .pre .1) (g .put-half .ensures) (h .put-half2 .ensures) (t .put-words .ensures) (f .put-filler .ensures) (k .check-of .result) (k .check-of .ensures) (w .put-word .ensures)
+    let e = at-seal c in
+    let w = at-words e in
+    let s = at-start w in
+    let b = s .args .bytes .now in
+    let ws = s .args .words .now in
+    let size : ℕ = 4 * length ws in
+    e .seal .ensures ∙ ap (λ (x : List ℕ). block (s .args .k) (s .args .n) x)
+    (ap (contentOf size) (w .put-words .ensures) ∙ content-put b (bytesOf ws) size (bytes-length ws) (omega (arith, s .pre)))
 
 pub put-block-spec : {M : Type 1} → statement M
-put-block-spec =
-    tie.close
-    (tie.spec
-    put-half-requires
-    put-half-requires-2
-    put-words-requires
-    mul-put-filler
-    add-put-filler
-    put-filler-requires
-    check-of-requires
-    put-word-requires
-    same-length
-    returns)
+put-block-spec = tie.close (tie.spec put-words-requires mul-seal seal-requires same-length returns)

@@ -31,7 +31,9 @@ loop-again : tie.Need-loop-again Inv-loop μ-loop
 loop-again c =
     let l = c .before .loop in
     let s = c .before .before in
-    (omega arith, (omega arith, (length-set (l .bytes) (l .i) 0 ∙ l .inv .1 .1 .0, filler-put (s .args .bytes .now) (l .bytes) (s .args .from) (l .i) (l .inv .0) (omega (arith, s .pre)) (l .inv .1 .1 .1))))
+    let a = s .args in
+    let more = filler-put (a .bytes .now) (l .bytes) (a .from) (l .i) (l .inv .0) (omega (arith, s .pre)) (l .inv .1 .1 .1) in
+    (omega arith, (omega arith, (length-set (l .bytes) (l .i) 0 ∙ l .inv .1 .1 .0, more)))
 
 same-length : tie.Need-same-length Inv-loop μ-loop
 same-length c = c .before .loop .inv .1 .1 .0

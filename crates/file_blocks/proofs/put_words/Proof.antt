@@ -1,6 +1,6 @@
 -- `put_words` meets its contract: at the loop's head the words that were passed are written.
 use mathlib.Core.Path.{_≡_, refl, sym, ap, _∙_}
-use Prim.Native.Nat.{_+_, _*_, _-_, _≤_}
+use Prim.Native.Nat.{ℕ, _+_, _*_, _-_, _≤_}
 use native.Mathlib.Omega.{arith}
 use mathlib.Core.List.{_++_}
 use lib.ListN.{length, take, drop, getD, take-append-drop}
@@ -18,23 +18,31 @@ Inv-loop bytes₀ words i₀ bytes i =
 abbrev μ-loop : tie.MeasureT-loop
 μ-loop bytes₀ words i₀ bytes i = length words - i
 
+-- ---- the places on the way, from behind a word that was written
+
+abbrev start : tie.In-loop Inv-loop μ-loop → tie.Start Inv-loop μ-loop
+start c = c .before .before .before .before
+
+abbrev in-turn : tie.After-put-word Inv-loop μ-loop → tie.In-loop Inv-loop μ-loop
+in-turn c = c .before .before .before
+
 loop-holds : tie.Need-loop-holds Inv-loop μ-loop
 loop-holds c = (omega arith, (refl, sym (words-none (c .before .before .args .bytes .now) (c .before .before .args .words .now))))
 
 mul-put-word : tie.Need-mul-put-word Inv-loop μ-loop
-mul-put-word c = omega (arith, c .before .before .before .before .before .pre)
+mul-put-word c = omega (arith, start (c .before) .pre)
 
 add-put-word : tie.Need-add-put-word Inv-loop μ-loop
-add-put-word c = omega (arith, c .before .before .before .before .before .pre)
+add-put-word c = omega (arith, start (c .before) .pre)
 
 mul-put-word-2 : tie.Need-mul-put-word-2 Inv-loop μ-loop
-mul-put-word-2 c = omega (arith, c .before .before .before .before .before .pre)
+mul-put-word-2 c = omega (arith, start (c .before) .pre)
 
 shared-slice-read-put-word : tie.Need-shared-slice-read-put-word Inv-loop μ-loop
 shared-slice-read-put-word c = omega arith
 
 put-word-requires : tie.Need-put-word-requires Inv-loop μ-loop
-put-word-requires c κs = let l = c .before .before .before .loop in omega (arith, l .inv .1 .0, c .before .before .before .before .before .before .pre)
+put-word-requires c κs = let t = c .before .before in omega (arith, t .before .loop .inv .1 .0, start t .pre)
 
 add-i : tie.Need-add-i Inv-loop μ-loop
 add-i c = omega arith
@@ -44,12 +52,16 @@ loop-less c = omega arith
 
 loop-again : tie.Need-loop-again Inv-loop μ-loop
 loop-again c =
-    let l = c .before .before .before .before .before .before .loop in
-    let s = c .before .before .before .before .before .before .before .before .before in
-    let e = c .before .before .put-word .ensures in
+    let p = c .before .before in
+    let l = in-turn p .before .loop in
+    let s = start (in-turn p) in
+    let e = p .put-word .ensures in
     let w = s .args .words .now in
-    let n = put-length (l .bytes) (little 4 (getD w (l .i) 0)) (4 + 4 * l .i) (4 + 4 * l .i + 4) (omega (arith, little-length 4 (getD w (l .i) 0))) (omega (arith, l .inv .1 .0, s .pre)) in
-    (omega arith, (rw e (n ∙ l .inv .1 .0), rw e (words-more (s .args .bytes .now) w (l .bytes) (l .i) (omega arith) (s .pre) (l .inv .1 .1))))
+    let x = getD w (l .i) 0 in
+    let at : ℕ = 4 + 4 * l .i in
+    let n = put-length (l .bytes) (little 4 x) at (at + 4) (omega (arith, little-length 4 x)) (omega (arith, l .inv .1 .0, s .pre)) in
+    let more = words-more (s .args .bytes .now) w (l .bytes) (l .i) (omega arith) (s .pre) (l .inv .1 .1) in
+    (omega arith, (rw e (n ∙ l .inv .1 .0), rw e more))
 
 same-length : tie.Need-same-length Inv-loop μ-loop
 same-length c = c .before .loop .inv .1 .0

@@ -81,7 +81,16 @@ returns c =
     let a = b .before in
     let k = a .before in
     let s = k .before .before in
-    rw (c .word-at8 .ensures, g .word-at7 .ensures, f .word-at6 .ensures, e .word-at5 .ensures, d .word-at4 .ensures, b .word-at3 .ensures, a .word-at2 .ensures, k .word-at .ensures)
+    rw (
+      c .word-at8 .ensures,
+      g .word-at7 .ensures,
+      f .word-at6 .ensures,
+      e .word-at5 .ensures,
+      d .word-at4 .ensures,
+      b .word-at3 .ensures,
+      a .word-at2 .ensures,
+      k .word-at .ensures,
+    )
     (sym (row-words (s .args .bytes .now) (s .args .at)))
 
 pub row-at-spec : {M : Type 1} → statement M

@@ -9,49 +9,66 @@ use borrow.Author.Needs.{needs}
 use borrow.Author.Tests.{leb-false, not-false}
 use Rattle.rows.specs.Shape.{asRow, sane}
 use Rattle.laws.proofs.Tests.{neither}
+use Rattle.form_rules.specs.Shapes.{rowBytesOf}
 use Rattle.file_blocks.specs.Standing.{rowsFrom, stand}
-use Rattle.file_blocks.proofs.Laws.{stands-on-plain, stands-on-out, stand-not, stand-more}
+use Rattle.file_blocks.proofs.Laws.{row-inside, rows-none, stands-on-plain, stands-on-out, stand-not, stand-more}
 use Rattle.file_blocks.proofs.rows_stand.Statement.{statement}
 use Rattle.file_blocks.proofs.rows_stand.Tie as tie
 
 abbrev Inv-loop : tie.InvT-loop
-Inv-loop least most bytes n last₀ good₀ i₀ last good i =
-    (i ≤ n) × ((good && stand (asRow last) (rowsFrom (n - i) (drop (4 + 32 * i) bytes))) ≡ stand (asRow last₀) (rowsFrom n (drop 4 bytes)))
+Inv-loop least most form bytes n last₀ good₀ i₀ last good i =
+    (i ≤ n) ×
+    ((good && stand (asRow last) (rowsFrom form (n - i) (drop (4 + rowBytesOf form * i) bytes)))
+    ≡ stand (asRow last₀) (rowsFrom form n (drop 4 bytes)))
 
 abbrev μ-loop : tie.MeasureT-loop
-μ-loop least most bytes n last₀ good₀ i₀ last good i = n - i
+μ-loop least most form bytes n last₀ good₀ i₀ last good i = n - i
+
+-- ---- the places on the way, from behind a row that was read
+
+abbrev start : tie.After-row-in Inv-loop μ-loop → tie.Start Inv-loop μ-loop
+start c = c .before .before .before .before
+
+abbrev at-row : tie.After-row-sane Inv-loop μ-loop → tie.After-row-in Inv-loop μ-loop
+at-row c = c .before .before
 
 loop-holds : tie.Need-loop-holds Inv-loop μ-loop
-loop-holds c = let e : c .before .args .n - 0 ≡ c .before .args .n = omega arith in (omega arith, rw e)
+loop-holds c =
+    let a = c .before .args in
+    let e : a .n - 0 ≡ a .n = omega arith in
+    (omega arith, rw (e, rows-none (a .form) (a .bytes .now)))
 
 row-in-requires : tie.Need-row-in-requires Inv-loop μ-loop
-row-in-requires c κs = omega (arith, c .before .before .before .pre .0)
+row-in-requires c κs =
+    let s = c .before .before .before in
+    row-inside (s .args .form) (c .before .loop .i) (s .args .n) (length (s .args .bytes .now)) (omega arith) (s .pre .0)
 
 row-sane-requires : tie.Need-row-sane-requires Inv-loop μ-loop
 row-sane-requires c κs = search needs
 
 returns : tie.Need-returns Inv-loop μ-loop
 returns c =
-    let r = c .before .before .before in
+    let r = at-row (c .before) in
     let l = r .before .before .loop in
-    let a = r .before .before .before .before .args in
+    let a = start r .args in
     let q = asRow (r .row-in .result) in
     let known = rw (c .before .row-sane .ensures) at (c .if1 .taken) in
     let out = stands-on-out (asRow (l .last)) q known in
-    sym (sym (l .inv .1) ∙ stand-not (a .n) (l .i) (a .bytes .now) (asRow (l .last)) q (l .good) (omega arith) (r .row-in .ensures) out)
+    let no = stand-not (a .form) (a .n) (l .i) (a .bytes .now) (asRow (l .last)) q (l .good) (omega arith) (r .row-in .ensures) out in
+    sym (sym (l .inv .1) ∙ no)
 
 -- the row is sane, and not Eof
-known : (c : tie.Else1 Inv-loop μ-loop) → let q = c .before .before .before .row-in .result in (q .kind < 52) × (sane (asRow q) ≡ true)
+known : (c : tie.Else1 Inv-loop μ-loop) → let q = at-row (c .before) .row-in .result in (q .kind < 52) × (sane (asRow q) ≡ true)
 known c =
     let s = c .before .row-sane in
-    let q = c .before .before .before .row-in .result in
+    let q = at-row (c .before) .row-in .result in
     let n = neither (leb 52 (q .kind)) (not (s .result)) (c .if1 .left) in
     (leb-false 52 (q .kind) (n .0), sym (s .ensures) ∙ not-false (s .result) (n .1))
 
 row-stands-requires : tie.Need-row-stands-requires Inv-loop μ-loop
 row-stands-requires c κs =
     let k = known c in
-    ((omega (arith, k .0), k .1), c .before .before .before .before .before .before .before .pre .1)
+    ((omega (arith, k .0), k .1), start (at-row (c .before)) .pre .1)
 
 add-i : tie.Need-add-i Inv-loop μ-loop
 add-i c = omega arith
@@ -61,12 +78,12 @@ loop-less c = omega arith
 
 loop-again : tie.Need-loop-again Inv-loop μ-loop
 loop-again c =
-    let r = c .before .before .before .before in
+    let r = at-row (c .before .before) in
     let l = r .before .before .loop in
-    let a = r .before .before .before .before .args in
+    let a = start r .args in
     let q = asRow (r .row-in .result) in
     let row = c .row-stands .ensures ∙ stands-on-plain (asRow (l .last)) q (known (c .before) .0) in
-    let more = stand-more (a .n) (l .i) (a .bytes .now) (asRow (l .last)) q (l .good) (omega arith) (r .row-in .ensures) in
+    let more = stand-more (a .form) (a .n) (l .i) (a .bytes .now) (asRow (l .last)) q (l .good) (omega arith) (r .row-in .ensures) in
     (omega arith, more (c .row-stands .result) row ∙ l .inv .1)
 
 returns-2 : tie.Need-returns-2 Inv-loop μ-loop

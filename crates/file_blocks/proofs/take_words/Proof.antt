@@ -15,6 +15,9 @@ Inv-loop bytes n words₀ i₀ words i = (i ≤ n) × ((length words ≡ length 
 abbrev μ-loop : tie.MeasureT-loop
 μ-loop bytes n words₀ i₀ words i = n - i
 
+abbrev start : tie.In-loop Inv-loop μ-loop → tie.Start Inv-loop μ-loop
+start c = c .before .before .before .before
+
 loop-holds : tie.Need-loop-holds Inv-loop μ-loop
 unfolding wordsIn
 loop-holds c = (omega arith, (refl, refl))
@@ -29,10 +32,10 @@ word-at-requires : tie.Need-word-at-requires Inv-loop μ-loop
 word-at-requires c κs = omega (arith, c .before .before .before .before .pre)
 
 mul-words : tie.Need-mul-words Inv-loop μ-loop
-mul-words c = omega (arith, c .before .before .before .before .before .pre)
+mul-words c = omega (arith, start (c .before) .pre)
 
 slice-write-words : tie.Need-slice-write-words Inv-loop μ-loop
-slice-write-words c = omega (arith, c .before .before .loop .inv .1 .0, c .before .before .before .before .before .pre)
+slice-write-words c = omega (arith, c .before .before .loop .inv .1 .0, start (c .before) .pre)
 
 add-i : tie.Need-add-i Inv-loop μ-loop
 add-i c = omega arith
@@ -43,9 +46,11 @@ loop-less c = omega arith
 loop-again : tie.Need-loop-again Inv-loop μ-loop
 loop-again c =
     let l = c .before .before .loop in
-    let s = c .before .before .before .before .before in
+    let s = start (c .before) in
+    let w = c .word-at in
     let e = l .inv .1 .1 in
-    (omega arith, (length-set (l .words) (l .i) (c .word-at .result) ∙ l .inv .1 .0, rw e (taken-more (l .i) (s .args .bytes .now) (s .args .words .now) (c .word-at .result) (omega (arith, s .pre)) (c .word-at .ensures))))
+    let more = taken-more (l .i) (s .args .bytes .now) (s .args .words .now) (w .result) (omega (arith, s .pre)) (w .ensures) in
+    (omega arith, (length-set (l .words) (l .i) (w .result) ∙ l .inv .1 .0, rw e more))
 
 same-length : tie.Need-same-length Inv-loop μ-loop
 same-length c = c .before .loop .inv .1 .0

@@ -1,37 +1,27 @@
--- `ending_in` meets its contract: the words of block 0 are read.
-use Rattle.file_rules.specs.Files.{endingIn}
+-- `ending_in` meets its contract, by cases of the form.
 use borrow.Author.Needs.{needs}
 use Rattle.file_load.proofs.ending_in.Statement.{statement}
 use Rattle.file_load.proofs.ending_in.Tie as tie
 
-word-at-requires : tie.Need-word-at-requires
-word-at-requires c κs = search needs
+enum-told : tie.Need-enum-told
+enum-told c = search needs
 
-word-at-requires-2 : tie.Need-word-at-requires-2
-word-at-requires-2 c κs = search needs
+full-ending-requires : tie.Need-full-ending-requires
+full-ending-requires c κs = search needs
 
-word-at-requires-3 : tie.Need-word-at-requires-3
-word-at-requires-3 c κs = search needs
+enum-told-2 : tie.Need-enum-told-2
+enum-told-2 c = search needs
 
-word-at-requires-4 : tie.Need-word-at-requires-4
-word-at-requires-4 c κs = search needs
-
-read-ending-requires : tie.Need-read-ending-requires
-read-ending-requires c κs = search needs
+short-ending-requires : tie.Need-short-ending-requires
+short-ending-requires c κs = search needs
 
 returns : tie.Need-returns
-unfolding endingIn
-returns c =
-    let d = c .before in
-    rw (c .read-ending .ensures, d .word-at4 .ensures, d .before .word-at3 .ensures, d .before .before .word-at2 .ensures, d .before .before .before .word-at .ensures)
+returns c = rw (c .before .enum-told .given .1) (c .full-ending .ensures)
+
+returns-2 : tie.Need-returns-2
+returns-2 c = rw (c .before .enum-told2 .given .1) (c .short-ending .ensures)
 
 pub ending-in-spec : {M : Type 1} → statement M
 ending-in-spec =
     tie.close
-    (tie.spec
-    word-at-requires
-    word-at-requires-2
-    word-at-requires-3
-    word-at-requires-4
-    read-ending-requires
-    returns)
+    (tie.spec enum-told full-ending-requires enum-told-2 short-ending-requires returns returns-2)

@@ -6,7 +6,7 @@ use Rattle.rules.specs.Rows.{Row, rowFits}
 use Rattle.rows.specs.Shape.{asRow, fitsAfter}
 use Rattle.rows.proofs.Lengths.{length-table}
 use Rattle.rows.proofs.Tables.{closes-plain, closes-apart, closes-fit, closes-not}
-use Rattle.file_rules.specs.Files.{rowWordsIn}
+use Rattle.form_rules.specs.Shapes.{rowWordsOf}
 use borrow.Author.Needs.{needs}
 use Rattle.file_load.proofs.last_closes.Statement.{statement}
 use Rattle.file_load.proofs.last_closes.Tie as tie
@@ -26,14 +26,16 @@ returns : tie.Need-returns
 returns c =
     let r = c .before .before in
     let a = r .before .before .args in
-    sym (closes-plain (rowWordsIn (a .file .now)) (a .i) (asRow (r .row-of .result)) (r .row-of .ensures) (a .size) (c .if1 .taken))
+    sym (closes-plain (rowWordsOf (a .form) (a .file .now)) (a .i) (asRow (r .row-of .result)) (r .row-of .ensures) (a .size)
+    (c .if1 .taken))
 
 returns-2 : tie.Need-returns-2
 returns-2 c =
     let k = c .before .before in
     let r = k .before .before in
     let a = r .before .before .args in
-    sym (closes-apart (rowWordsIn (a .file .now)) (a .i) (asRow (r .row-of .result)) (r .row-of .ensures) (a .size) (k .if1 .left) (c .if2 .taken))
+    sym (closes-apart (rowWordsOf (a .form) (a .file .now)) (a .i) (asRow (r .row-of .result)) (r .row-of .ensures) (a .size)
+    (k .if1 .left) (c .if2 .taken))
 
 row-sane-requires : tie.Need-row-sane-requires
 row-sane-requires c κs = search needs
@@ -55,7 +57,7 @@ returns-3 c =
     let a = r .before .before .args in
     let q = asRow (r .row-of .result) in
     c .row-stands .ensures ∙ ap (λ (z : Row). rowFits q && fitsAfter z q) (b .row-before .ensures)
-    ∙ closes-fit (rowWordsIn (a .file .now)) (a .i) q (r .row-of .ensures) (a .size) (k .if1 .left) (t .before .before .if2 .left)
+    ∙ closes-fit (rowWordsOf (a .form) (a .file .now)) (a .i) q (r .row-of .ensures) (a .size) (k .if1 .left) (t .before .before .if2 .left)
 
 returns-4 : tie.Need-returns-4
 returns-4 c =
@@ -63,7 +65,7 @@ returns-4 c =
     let k = f .before .before .before in
     let r = k .before .before in
     let a = r .before .before .args in
-    sym (closes-not (rowWordsIn (a .file .now)) (a .i) (asRow (r .row-of .result)) (r .row-of .ensures) (a .size) (k .if1 .left)
+    sym (closes-not (rowWordsOf (a .form) (a .file .now)) (a .i) (asRow (r .row-of .result)) (r .row-of .ensures) (a .size) (k .if1 .left)
     (f .before .if2 .left) (sym (f .row-sane .ensures) ∙ c .if3 .left))
 
 pub last-closes-spec : {M : Type 1} → statement M

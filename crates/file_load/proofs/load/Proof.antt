@@ -18,21 +18,28 @@ enum-known-answer c = search needs
 enum-known-answer-2 : tie.Need-enum-known-answer-2
 enum-known-answer-2 c = search needs
 
-is-read : (r : tie.After-answer2) → let s = r .before .before .before .before .before in loadTold (s .args .file .now) (roomOf (s .args .rows .now)) ≡ loaded.Rows (r .answer2 .given .0 .0)
+-- ---- the function's entry, as it is seen from behind the answer
+
+abbrev start : tie.After-told → tie.Start
+start c = c .before .before .before
+
+is-read : (r : tie.After-answer2) →
+    let a = start (r .before .before) .args in
+    loadTold (a .file .now) (roomOf (a .rows .now)) ≡ loaded.Rows (r .answer2 .given .0 .0)
 unfolding roomOf
 is-read r = sym (r .before .before .told .ensures) ∙ r .answer2 .given .1
 
 take-rows-requires : tie.Need-take-rows-requires
 take-rows-requires c κs =
     let r = c .before .before in
-    let s = r .before .before .before .before .before in
+    let s = start (r .before .before) in
     (read-framed (s .args .file .now) (s .args .rows .now) _ (is-read r), read-room (s .args .file .now) (s .args .rows .now) _ (is-read r))
 
 returns : tie.Need-returns
 unfolding roomOf
 returns c =
     let r = c .before in
-    let s = r .before .before .before .before .before in
+    let s = start (r .before .before) in
     let e = sym (r .before .before .told .ensures) ∙ r .answer .given .1 in
     (sym e, sym (load-untouched (s .args .file .now) (s .args .rows .now) _ e))
 
@@ -43,7 +50,7 @@ returns-2 : tie.Need-returns-2
 returns-2 c =
     let w = c .before .before in
     let r = w .before .before .before in
-    let s = r .before .before .before .before .before in
+    let s = start (r .before .before) in
     (sym (is-read r), w .take-rows .ensures ∙ sym (load-written (s .args .file .now) (s .args .rows .now) _ (is-read r)))
 
 pub load-spec : {M : Type 1} → statement M

@@ -2,7 +2,7 @@
 use mathlib.Core.Path.{sym, _∙_}
 use borrow.Author.Tests.{not-true, not-false}
 use Rattle.rows.proofs.Tables.{breaks-over, breaks-not, breaks-none, breaks-last}
-use Rattle.file_rules.specs.Files.{rowWordsIn}
+use Rattle.form_rules.specs.Shapes.{rowWordsOf}
 use borrow.Author.Needs.{needs}
 use Rattle.file_load.proofs.place_breaks.Statement.{statement}
 use Rattle.file_load.proofs.place_breaks.Tie as tie
@@ -10,7 +10,7 @@ use Rattle.file_load.proofs.place_breaks.Tie as tie
 returns : tie.Need-returns
 returns c =
     let a = c .before .before .args in
-    sym (breaks-over (rowWordsIn (a .file .now)) (a .size) (a .count) (a .p) (c .if1 .taken))
+    sym (breaks-over (rowWordsOf (a .form) (a .file .now)) (a .size) (a .count) (a .p) (c .if1 .taken))
 
 place-fits-requires : tie.Need-place-fits-requires
 place-fits-requires c κs = search needs
@@ -19,13 +19,15 @@ returns-2 : tie.Need-returns-2
 returns-2 c =
     let f = c .before in
     let a = f .before .before .before .args in
-    sym (breaks-not (rowWordsIn (a .file .now)) (a .size) (a .count) (a .p) (f .before .if1 .left) (sym (f .place-fits .ensures) ∙ not-true (f .place-fits .result) (c .if2 .taken)))
+    let e = sym (f .place-fits .ensures) ∙ not-true (f .place-fits .result) (c .if2 .taken) in
+    sym (breaks-not (rowWordsOf (a .form) (a .file .now)) (a .size) (a .count) (a .p) (f .before .if1 .left) e)
 
 returns-3 : tie.Need-returns-3
 returns-3 c =
     let f = c .before .before in
     let a = f .before .before .before .args in
-    sym (breaks-none (rowWordsIn (a .file .now)) (a .size) (a .count) (a .p) (f .before .if1 .left) (sym (f .place-fits .ensures) ∙ not-false (f .place-fits .result) (c .before .if2 .left)) (c .if3 .taken))
+    let e = sym (f .place-fits .ensures) ∙ not-false (f .place-fits .result) (c .before .if2 .left) in
+    sym (breaks-none (rowWordsOf (a .form) (a .file .now)) (a .size) (a .count) (a .p) (f .before .if1 .left) e (c .if3 .taken))
 
 sub-row-of : tie.Need-sub-row-of
 sub-row-of c = search needs
@@ -41,8 +43,9 @@ returns-4 c =
     let z = c .before .before in
     let f = z .before .before in
     let a = f .before .before .before .args in
+    let e = sym (f .place-fits .ensures) ∙ not-false (f .place-fits .result) (z .before .if2 .left) in
     rw (c .place-behind .ensures, c .before .row-of .ensures)
-    (sym (breaks-last (rowWordsIn (a .file .now)) (a .size) (a .count) (a .p) (f .before .if1 .left) (sym (f .place-fits .ensures) ∙ not-false (f .place-fits .result) (z .before .if2 .left)) (z .if3 .left)))
+    (sym (breaks-last (rowWordsOf (a .form) (a .file .now)) (a .size) (a .count) (a .p) (f .before .if1 .left) e (z .if3 .left)))
 
 pub place-breaks-spec : {M : Type 1} → statement M
 place-breaks-spec =

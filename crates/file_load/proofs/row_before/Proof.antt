@@ -2,7 +2,7 @@
 use mathlib.Core.Path.{sym, _∙_}
 use native.Mathlib.Omega.{arith}
 use Rattle.rows.proofs.Tables.{before-first, before-next}
-use Rattle.file_rules.specs.Files.{rowWordsIn}
+use Rattle.form_rules.specs.Shapes.{rowWordsOf}
 use borrow.Author.Needs.{needs}
 use Rattle.file_load.proofs.row_before.Statement.{statement}
 use Rattle.file_load.proofs.row_before.Tie as tie
@@ -13,7 +13,7 @@ no-row-requires c κs = search needs
 returns : tie.Need-returns
 returns c =
     let a = c .before .before .before .args in
-    c .no-row .ensures ∙ sym (before-first (rowWordsIn (a .file .now)) (a .i) (c .before .if1 .taken))
+    c .no-row .ensures ∙ sym (before-first (rowWordsOf (a .form) (a .file .now)) (a .i) (c .before .if1 .taken))
 
 sub-row-of : tie.Need-sub-row-of
 sub-row-of c = search needs
@@ -24,7 +24,7 @@ row-of-requires c κs = search needs
 returns-2 : tie.Need-returns-2
 returns-2 c =
     let a = c .before .before .before .args in
-    c .row-of .ensures ∙ sym (before-next (rowWordsIn (a .file .now)) (a .i) (c .before .if1 .left))
+    c .row-of .ensures ∙ sym (before-next (rowWordsOf (a .form) (a .file .now)) (a .i) (c .before .if1 .left))
 
 pub row-before-spec : {M : Type 1} → statement M
 row-before-spec = tie.close (tie.spec no-row-requires returns sub-row-of row-of-requires returns-2)

@@ -1,7 +1,7 @@
 -- `table_fits` meets its contract, a law for each way out.
 use mathlib.Core.Path.{sym, _∙_}
 use borrow.Author.Tests.{not-true, not-false}
-use Rattle.file_rules.specs.Files.{rowWordsIn}
+use Rattle.form_rules.specs.Shapes.{rowWordsOf}
 use Rattle.rows.proofs.Tables.{well-long}
 use Rattle.file_load.proofs.Tests.{unfit, fits-empty, fits-none, fits-refused}
 use borrow.Author.Needs.{needs}
@@ -11,13 +11,14 @@ use Rattle.file_load.proofs.table_fits.Tie as tie
 returns : tie.Need-returns
 returns c =
     let a = c .before .before .args in
-    sym (well-long (rowWordsIn (a .file .now)) (a .table) (c .if1 .taken))
+    sym (well-long (rowWordsOf (a .form) (a .file .now)) (a .table) (c .if1 .taken))
 
 returns-2 : tie.Need-returns-2
 returns-2 c =
     let s = c .before .before .before in
     let a = s .args in
-    sym (unfit (a .file .now) (a .table) (s .pre .0) (c .before .if1 .left) (sym (s .pre .1) ∙ not-true (a .stand) (c .if2 .taken)))
+    let e = sym (s .pre .1) ∙ not-true (a .stand) (c .if2 .taken) in
+    sym (unfit (a .form) (a .file .now) (a .table) (s .pre .0) (c .before .if1 .left) e)
 
 enum-told : tie.Need-enum-told
 enum-told c = search needs
@@ -28,7 +29,7 @@ returns-3 c =
     let e = m .before .before .before in
     let s = e .before .before in
     let a = s .args in
-    sym (fits-empty (a .file .now) (a .table) (s .pre .0) (e .if1 .left) (m .enum-told .given .1) (c .if3 .taken))
+    sym (fits-empty (a .form) (a .file .now) (a .table) (s .pre .0) (e .if1 .left) (m .enum-told .given .1) (c .if3 .taken))
 
 cast-last-closes : tie.Need-cast-last-closes
 cast-last-closes c = search needs
@@ -53,7 +54,9 @@ returns-4 c =
     let e = f .before in
     let s = e .before .before in
     let a = s .args in
-    c .last-closes .ensures ∙ sym (fits-none (a .file .now) (a .table) (s .pre .0) (e .if1 .left) (m .enum-told .given .1) (sym (s .pre .1) ∙ not-false (a .stand) (f .if2 .left)) (z .if3 .left))
+    let h = sym (s .pre .1) ∙ not-false (a .stand) (f .if2 .left) in
+    c .last-closes .ensures
+    ∙ sym (fits-none (a .form) (a .file .now) (a .table) (s .pre .0) (e .if1 .left) (m .enum-told .given .1) h (z .if3 .left))
 
 returns-5 : tie.Need-returns-5
 returns-5 c =
@@ -62,7 +65,9 @@ returns-5 c =
     let e = f .before in
     let s = e .before .before in
     let a = s .args in
-    c .place-breaks .ensures ∙ sym (fits-refused (a .file .now) (a .table) (s .pre .0) (e .if1 .left) _ _ (m .ending .given .1) (sym (s .pre .1) ∙ not-false (a .stand) (f .if2 .left)))
+    let h = sym (s .pre .1) ∙ not-false (a .stand) (f .if2 .left) in
+    c .place-breaks .ensures
+    ∙ sym (fits-refused (a .form) (a .file .now) (a .table) (s .pre .0) (e .if1 .left) _ _ (m .ending .given .1) h)
 
 pub table-fits-spec : {M : Type 1} → statement M
 table-fits-spec =

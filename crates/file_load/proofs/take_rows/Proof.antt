@@ -13,14 +13,25 @@ Inv-loop file count rows₀ all done₀ at₀ rows done at = Taking file count r
 abbrev μ-loop : tie.MeasureT-loop
 μ-loop file count rows₀ all done₀ at₀ rows done at = count - done
 
+-- ---- the places on the way: the function's entry, the turn of the loop, and how many rows its block has
+
+abbrev start : tie.In-loop Inv-loop μ-loop → tie.Start Inv-loop μ-loop
+start c = c .before .before .before .before
+
+abbrev counted : tie.After-take-words Inv-loop μ-loop → tie.After-rows-here Inv-loop μ-loop
+counted c = c .before .before .before
+
+abbrev taken : tie.After-slice-known2 Inv-loop μ-loop → tie.After-take-words Inv-loop μ-loop
+taken c = c .before .before
+
 loop-holds : tie.Need-loop-holds Inv-loop μ-loop
 loop-holds c = let s = c .before .before in taking-start (s .args .file .now) (s .args .count) (s .args .rows .now) (s .pre .0)
 
 -- there is one block more
-room : (c : tie.In-loop Inv-loop μ-loop) → c .before .loop .at + 512 ≤ length (c .before .before .before .before .args .file .now)
+room : (c : tie.In-loop Inv-loop μ-loop) → c .before .loop .at + 512 ≤ length (start c .args .file .now)
 room c =
     let l = c .before .loop in
-    let s = c .before .before .before .before in
+    let s = start c in
     room-left (s .args .file .now) (s .args .count) (s .args .rows .now) (s .pre .0) (l .rows) (l .done) (l .at) (l .inv) (omega arith)
 
 add-end : tie.Need-add-end Inv-loop μ-loop
@@ -50,17 +61,21 @@ mul-take-words c = omega (arith, c .before .rows-here .ensures)
 mul-take-words-2 : tie.Need-mul-take-words-2 Inv-loop μ-loop
 mul-take-words-2 c = omega arith
 
+-- the rows that are lent begin behind those that are taken
+front : (r : tie.After-rows-here Inv-loop μ-loop) →
+    let l = r .before .before .loop in
+    l .done * 8 ≤ length (l .rows)
+front r =
+    let l = r .before .before .loop in
+    let s = start (r .before) in
+    from-fits (s .args .file .now) (s .args .count) (s .args .rows .now) (s .pre .0) (l .rows) (l .done) (l .at) (l .inv) (omega arith)
+    (r .rows-here .result) (r .rows-here .ensures) (s .pre .1)
+
 sub-take-words-2 : tie.Need-sub-take-words-2 Inv-loop μ-loop
-sub-take-words-2 c =
-    let l = c .before .before .before .loop in
-    let s = c .before .before .before .before .before .before in
-    from-fits (s .args .file .now) (s .args .count) (s .args .rows .now) (s .pre .0) (l .rows) (l .done) (l .at) (l .inv) (omega arith) (c .before .rows-here .result) (c .before .rows-here .ensures) (s .pre .1)
+sub-take-words-2 c = front (c .before)
 
 part-take-words-start-2 : tie.Need-part-take-words-start-2 Inv-loop μ-loop
-part-take-words-start-2 c =
-    let l = c .before .before .before .loop in
-    let s = c .before .before .before .before .before .before in
-    from-fits (s .args .file .now) (s .args .count) (s .args .rows .now) (s .pre .0) (l .rows) (l .done) (l .at) (l .inv) (omega arith) (c .before .rows-here .result) (c .before .rows-here .ensures) (s .pre .1)
+part-take-words-start-2 c = front (c .before)
 
 part-take-words-end-2 : tie.Need-part-take-words-end-2 Inv-loop μ-loop
 part-take-words-end-2 c = omega arith
@@ -69,22 +84,30 @@ take-words-requires : tie.Need-take-words-requires Inv-loop μ-loop
 take-words-requires c κs =
     let r = c .before .before in
     let l = r .before .before .loop in
-    let s = r .before .before .before .before .before in
-    (omega (arith, r .rows-here .ensures, here-length (s .args .file .now) (s .args .count) (s .args .rows .now) (s .pre .0) (l .rows) (l .done) (l .at) (l .inv) (omega arith)), tail-fits (s .args .file .now) (s .args .count) (s .args .rows .now) (s .pre .0) (l .rows) (l .done) (l .at) (l .inv) (omega arith) (r .rows-here .result) (r .rows-here .ensures) (s .pre .1))
+    let s = start (r .before) in
+    let h =
+    here-length (s .args .file .now) (s .args .count) (s .args .rows .now) (s .pre .0) (l .rows) (l .done) (l .at) (l .inv)
+    (omega arith)
+    in (
+      omega (arith, r .rows-here .ensures),
+      tail-fits (s .args .file .now) (s .args .count) (s .args .rows .now) (s .pre .0) (l .rows) (l .done) (l .at) (l .inv) (omega arith)
+          (r .rows-here .result) (r .rows-here .ensures) (s .pre .1),
+    )
 
 add-done : tie.Need-add-done Inv-loop μ-loop
-add-done c = omega (arith, c .before .before .before .before .before .rows-here .ensures)
+add-done c = omega (arith, counted (taken c) .rows-here .ensures)
 
 loop-less : tie.Need-loop-less Inv-loop μ-loop
-loop-less c = omega (arith, c .before .before .before .before .before .rows-here .ensures)
+loop-less c = omega (arith, counted (taken c) .rows-here .ensures)
 
 loop-again : tie.Need-loop-again Inv-loop μ-loop
 loop-again c =
-    let t = c .before .before in
-    let r = t .before .before .before in
+    let t = taken c in
+    let r = counted t in
     let l = r .before .before .loop in
-    let s = r .before .before .before .before .before in
-    taking-next (s .args .file .now) (s .args .count) (s .args .rows .now) (s .pre .0) (l .rows) (l .done) (l .at) (l .inv) (omega arith) (r .rows-here .result) (r .rows-here .ensures) (s .pre .1) (t .take-words .last .1 .1 .0) (t .take-words .ensures)
+    let s = start (r .before) in
+    taking-next (s .args .file .now) (s .args .count) (s .args .rows .now) (s .pre .0) (l .rows) (l .done) (l .at) (l .inv) (omega arith)
+    (r .rows-here .result) (r .rows-here .ensures) (s .pre .1) (t .take-words .last .1 .1 .0) (t .take-words .ensures)
 
 same-length : tie.Need-same-length Inv-loop μ-loop
 same-length c = c .before .loop .inv .same-length

@@ -1,29 +1,42 @@
 -- `told_blocks` meets its contract, a law for each way out.
 use mathlib.Core.Path.{_≡_, sym, ap, _∙_}
 use native.Mathlib.Omega.{arith}
+use mathlib.Core.List.{List}
 use Prim.Native.Nat.{ℕ}
-use Rattle.file_rules.specs.Files.{rowWordsIn, rowsTold}
-use Rattle.rules.specs.declared.Table.{Table}
-use Rattle.file_load.specs.Judged.{standUpto, plainRows, blocksJudged}
-use Rattle.file_load.specs.declared.Blocks.the-variants.{Bad, Sound}
-use Rattle.file_rules.specs.declared.EndingRead.the-variants.{Ends, Nothing}
+use Rattle.file_rules.specs.Files.{rowsTold}
+use Rattle.form_rules.specs.Shapes.{rowWordsOf}
+use Rattle.file_load.specs.Judged.{standUpto, plainRows}
+use Rattle.file_rules.specs.declared.EndingRead.{EndingRead}
+use Rattle.file_rules.specs.declared.Loaded.{Loaded}
 use Rattle.file_load.proofs.Answers.{some-file, standing-is, judged-bad, AllSound, judged-sound, sound-nothing, sound-rows}
 use borrow.Author.Needs.{needs}
 use Rattle.file_load.proofs.told_blocks.Statement.{statement}
 use Rattle.file_load.proofs.told_blocks.Tie as tie
 
+-- ---- the places on the way: the function's entry, as it is seen from behind the rows that must stand, and these, from sound blocks
+
+abbrev start : tie.After-plain-rows → tie.Start
+start p = p .before .before .before
+
+abbrev counted : tie.After-stand → tie.After-plain-rows
+counted t = t .before .before .before
+
+abbrev all-sound : tie.After-read → tie.After-stand
+all-sound r = r .before .before .before
+
 -- all blocks are sound
 sounds : (t : tie.After-stand) →
-    let p = t .before .before .before in
-    let s = p .before .before .before in
-    AllSound (p .plain-rows .result) (s .args .file .now) (s .args .room) (t .stand .given .0 .0)
+    let p = counted t in
+    let a = start p .args in
+    AllSound (a .form) (p .plain-rows .result) (a .file .now) (a .room) (t .stand .given .0 .0)
 sounds t =
-    let p = t .before .before .before in
-    let s = p .before .before .before in
-    judged-sound (p .plain-rows .result) (s .args .file .now) (s .args .room) (t .stand .given .0 .0) (sym (t .before .before .judge-blocks .ensures) ∙ t .stand .given .1)
+    let p = counted t in
+    let a = start p .args in
+    let e = sym (t .before .before .judge-blocks .ensures) ∙ t .stand .given .1 in
+    judged-sound (a .form) (p .plain-rows .result) (a .file .now) (a .room) (t .stand .given .0 .0) e
 
 ending-in-requires : tie.Need-ending-in-requires
-ending-in-requires c κs = let s = c .before in some-file (s .args .count) (s .args .file .now) (s .pre)
+ending-in-requires c κs = let s = c .before in some-file (s .args .form) (s .args .count) (s .args .file .now) (s .pre)
 
 plain-rows-requires : tie.Need-plain-rows-requires
 plain-rows-requires c κs = search needs
@@ -44,41 +57,58 @@ enum-known-read : tie.Need-enum-known-read
 enum-known-read c = search needs
 
 word-at-requires : tie.Need-word-at-requires
-word-at-requires c κs = let s = c .before .before .before .before .before .before .before .before .before .before in omega (arith, some-file (s .args .count) (s .args .file .now) (s .pre))
+word-at-requires c κs =
+    let s = start (counted (all-sound (c .before))) in
+    omega (arith, some-file (s .args .form) (s .args .count) (s .args .file .now) (s .pre))
 
 told-rows-requires : tie.Need-told-rows-requires
 told-rows-requires c κs =
     let r = c .before .before in
-    let t = r .before .before .before in
-    let p = t .before .before .before in
-    let s = p .before .before .before in
-    let e : p .before .ending-in .result ≡ Ends (r .read .given .0 .0) = r .read .given .1 in
-    (s .pre, sounds t .stands ∙ ap (λ (x : ℕ). standUpto x (s .args .file .now)) (p .plain-rows .ensures .0 ∙ rw e) ∙ sym (standing-is (s .args .count) (s .args .file .now) (s .pre) (r .read .given .0 .0)))
+    let t = all-sound r in
+    let p = counted t in
+    let s = start p in
+    let a = s .args in
+    let how = r .read .given .0 .0 in
+    let e = p .plain-rows .ensures .0 ∙ ap (λ (x : EndingRead). plainRows x (a .count)) (r .read .given .1) in (
+      s .pre,
+      sounds t .stands ∙ ap (λ (x : ℕ). standUpto (a .form) x (a .file .now)) e
+          ∙ sym (standing-is (a .form) (a .count) (a .file .now) (s .pre) how),
+    )
 
 returns : tie.Need-returns
 returns c =
     let k = c .before in
     let j = k .before .before in
-    let s = j .before .before .before .before in
-    sym (judged-bad (j .before .plain-rows .result) (s .args .file .now) (s .args .room) (k .k .given .0 .0) (sym (j .judge-blocks .ensures) ∙ k .k .given .1))
+    let p = j .before in
+    let a = start p .args in
+    let e = sym (j .judge-blocks .ensures) ∙ k .k .given .1 in
+    sym (judged-bad (a .form) (p .plain-rows .result) (a .file .now) (a .room) (k .k .given .0 .0) e)
 
 returns-2 : tie.Need-returns-2
 returns-2 c =
     let t = c .before .before .before in
-    let p = t .before .before .before in
-    let s = p .before .before .before in
-    sym (sound-nothing (p .plain-rows .result) (s .args .file .now) (s .args .room) (t .stand .given .0 .0) (sounds t) (sym (p .before .ending-in .ensures) ∙ c .enum-told .given .1))
+    let p = counted t in
+    let a = start p .args in
+    let e = sym (p .before .ending-in .ensures) ∙ c .enum-told .given .1 in
+    sym (sound-nothing (a .form) (p .plain-rows .result) (a .file .now) (a .room) (t .stand .given .0 .0) (sounds t) e)
 
 returns-3 : tie.Need-returns-3
 returns-3 c =
     let w = c .before in
     let r = w .before .before in
-    let t = r .before .before .before in
-    let p = t .before .before .before in
-    let s = p .before .before .before in
-    let e = r .read .given .0 .0 in
-    let f = sound-rows (p .plain-rows .result) (s .args .file .now) (s .args .room) (t .stand .given .0 .0) (sounds t) e (sym (p .before .ending-in .ensures) ∙ r .read .given .1) (s .args .count) (s .pre .count-is) in
-    c .told-rows .ensures ∙ ap (λ (x : ℕ). rowsTold (rowWordsIn (s .args .file .now)) (s .args .room) (record { count = s .args .count; length = x; ending = e })) (w .word-at .ensures) ∙ sym f
+    let t = all-sound r in
+    let p = counted t in
+    let s = start p in
+    let a = s .args in
+    let how = r .read .given .0 .0 in
+    let e = sym (p .before .ending-in .ensures) ∙ r .read .given .1 in
+    let f =
+    sound-rows (a .form) (p .plain-rows .result) (a .file .now) (a .room) (t .stand .given .0 .0) (sounds t) how e (a .count)
+    (s .pre .count-is)
+    in
+    let words : List ℕ = rowWordsOf (a .form) (a .file .now) in
+    let told : ℕ → Loaded = λ x. rowsTold words (a .room) (record { count = a .count; length = x; ending = how }) in
+    c .told-rows .ensures ∙ ap told (w .word-at .ensures) ∙ sym f
 
 pub told-blocks-spec : {M : Type 1} → statement M
 told-blocks-spec =

@@ -1,33 +1,36 @@
 -- `put_file` meets its contract: block 0, and then the blocks of the rows.
-use mathlib.Core.Path.{_≡_, ap, _∙_}
+use mathlib.Core.Path.{_∙_}
 use native.Mathlib.Omega.{arith}
-use mathlib.Core.List.{List}
-use Prim.Native.Nat.{ℕ}
-use Rattle.file_rules.specs.Bytes.{bytesOf}
-use Rattle.file_rules.specs.Blocks.{block, fileLength}
-use lib.ListN.{length}
-use Rattle.file_store.proofs.Going.{file-put, some-length}
 use borrow.Author.Needs.{needs}
+use Rattle.file_store.proofs.Going.{file-put, some-length}
 use Rattle.file_store.proofs.put_file.Statement.{statement}
 use Rattle.file_store.proofs.put_file.Tie as tie
 
-words-of-requires : tie.Need-words-of-requires
-words-of-requires c κs = search needs
+-- ---- the places on the way, from the last call back to the function's entry
 
-sub-put-block : tie.Need-sub-put-block
-sub-put-block c = search needs
+abbrev at-rows : tie.After-slice-known3 → tie.After-put-rows
+at-rows c = c .before .before
 
-part-put-block-start : tie.Need-part-put-block-start
-part-put-block-start c = search needs
+abbrev at-count : tie.After-put-rows → tie.After-struct-known
+at-count c = c .before .before
 
-part-put-block-end : tie.Need-part-put-block-end
-part-put-block-end c = let s = c .before .before .before in omega (arith, s .pre .1, some-length (s .args .table .count))
+abbrev at-said : tie.After-struct-known → tie.After-put-said
+at-said c = c .before .before .before
 
-slice-aggregate-put-block : tie.Need-slice-aggregate-put-block
-slice-aggregate-put-block c = search needs
+abbrev at-start : tie.After-put-said → tie.Start
+at-start c = c .before .before .before .before
 
-put-block-requires : tie.Need-put-block-requires
-put-block-requires c κs = search needs
+sub-put-said : tie.Need-sub-put-said
+sub-put-said c = search needs
+
+part-put-said-start : tie.Need-part-put-said-start
+part-put-said-start c = search needs
+
+part-put-said-end : tie.Need-part-put-said-end
+part-put-said-end c = let s = c .before .before in omega (arith, s .pre .1, some-length (s .args .table .count))
+
+put-said-requires : tie.Need-put-said-requires
+put-said-requires c κs = search needs
 
 cast-put-rows : tie.Need-cast-put-rows
 cast-put-rows c = search needs
@@ -40,23 +43,20 @@ same-length c = search needs
 
 returns : tie.Need-returns
 returns c =
-    let r = c .before .before in
-    let b = r .before .before .before .before .before in
-    let w = b .before .before .before in
-    let s = w .before .before .before in
-    let e = b .put-block .ensures ∙ ap (λ (x : List ℕ). block 0 0 (bytesOf x)) (w .words-of .ensures) in
-    r .put-rows .ensures ∙ file-put (s .args .rows .now) (s .args .file .now) (b .put-block .last .0) (s .args .table) (s .pre .1) e
+    let r = at-rows c in
+    let b = at-said (at-count r) in
+    let s = at-start b in
+    let a = s .args in
+    r .put-rows .ensures ∙ file-put (a .rows .now) (a .file .now) (b .put-said .last .1 .0) (a .table) (s .pre .1) (b .put-said .ensures)
 
 pub put-file-spec : {M : Type 1} → statement M
 put-file-spec =
     tie.close
     (tie.spec
-    words-of-requires
-    sub-put-block
-    part-put-block-start
-    part-put-block-end
-    slice-aggregate-put-block
-    put-block-requires
+    sub-put-said
+    part-put-said-start
+    part-put-said-end
+    put-said-requires
     cast-put-rows
     put-rows-requires
     same-length

@@ -1,5 +1,5 @@
 -- `scan_walk::walk` meets its contract: the loop's invariant is `Walking`, and each way through a turn is one of its laws.
-use mathlib.Core.Path.{_≡_, sym, subst, _∙_}
+use mathlib.Core.Path.{_≡_, refl, sym, subst, _∙_}
 use mathlib.Core.Bool.{Bool, true, false}
 use mathlib.Core.List.{List}
 use mathlib.Core.Logic.{⊎-elim}
@@ -8,10 +8,14 @@ use native.Mathlib.Omega.{arith}
 use lib.ListN.{length, drop}
 use borrow.Author.Needs.{needs}
 use Rattle.rules.specs.declared.Cursor.{Cursor}
+use Rattle.rules.specs.Text.{isBlank}
+use Rattle.rules.specs.Kinds.{signs, kindIn, sameBytes}
 use Rattle.rules.specs.Rows.{rowsIn}
-use Rattle.rules.specs.Lex.{item}
+use Rattle.rules.specs.Lex.{isLetter, isDigit, maybeTwo, item}
 use Rattle.laws.proofs.Rows.{laid-length}
 use Rattle.laws.proofs.Places.{roomy-less}
+use Rattle.scan_words.specs.Class.{classOf, markOf}
+use Rattle.scan_words.proofs.Tables.{right, all-right}
 use Rattle.scan_reader.specs.declared.Spot.{Spot}
 use Rattle.scan_reader.specs.declared.Brief.{Brief}
 use Rattle.scan_reader.specs.Brief.{End, told}
@@ -39,7 +43,7 @@ abbrev Loop : Type 0
 Loop = tie.At-loop Inv-loop μ-loop
 
 abbrev start-of : Loop → tie.Start Inv-loop μ-loop
-start-of l = l .before .before .before .before .before
+start-of l = l .before .before .before .before
 
 abbrev old-of : Loop → List ℕ
 old-of l = start-of l .args .old .now
@@ -100,7 +104,7 @@ found : (f : Looked) → let l = head f in
 found f = walking-found (stands (f .before)) (f .find .result) (f .find .ensures)
 
 met : (f : Looked) → f .find .result .met ≡ true → let l = head f in
-    Answers l (record { count = l .loop .count; stop = Met (spot f) (f .find .result .row) (l .loop .comments) }) (l .loop .rows)
+    Answers l (record { count = l .loop .count; stop = Met (spot f .cursor) (f .find .result .row) (l .loop .comments) }) (l .loop .rows)
 met f e = walking-met (stands (f .before)) (f .find .result) (f .find .ensures) e
 
 -- ---- nothing meets, and what stands there was told
@@ -193,12 +197,9 @@ stands-behind c =
     (goes-on (j .before))))
     (j .if3 .came)
 
-table-requires : tie.Need-table-requires Inv-loop μ-loop
-table-requires c κs = search needs
-
 loop-holds : tie.Need-loop-holds Inv-loop μ-loop
 loop-holds c =
-    let s = c .before .before .before .before in
+    let s = c .before .before .before in
     walking-start (s .args .old .now) (s .args .olds) (s .args .text .now) (s .args .begin) (s .args .whole) (s .args .rows .now) (s .pre)
 
 past-blanks-requires : tie.Need-past-blanks-requires Inv-loop μ-loop
@@ -215,16 +216,15 @@ find-requires c κs =
     ((p .lent, stands c .few), (p .rising, subst (Passed (old-of l) (olds-of l .least) (olds-of l .b) (l .loop .row)) (sym o) (stands c .passed)))
 
 same-length : tie.Need-same-length Inv-loop μ-loop
-same-length c = answer-length (head (c .before)) _ _ (met (c .before) (c .if1 .taken))
+same-length c = let t = c .before in answer-length (head (t .before)) _ _ (met (t .before) (t .if1 .taken))
 
 returns : tie.Need-returns Inv-loop μ-loop
-returns c = met (c .before) (c .if1 .taken)
+returns c = let t = c .before in met (t .before) (t .if1 .taken)
 
 brief-requires : tie.Need-brief-requires Inv-loop μ-loop
+unfolding right markOf classOf isBlank isLetter isDigit maybeTwo signs kindIn sameBytes
 brief-requires c κs =
-    let f = c .before .before in
-    let l = head f in
-    (l .before .table .ensures, found f .inside)
+    (all-right _ refl, found (c .before .before) .inside)
 
 finish-requires : tie.Need-finish-requires Inv-loop μ-loop
 finish-requires c κs =
@@ -288,7 +288,6 @@ walk-spec =
     (tie.spec
     Inv-loop
     μ-loop
-    table-requires
     loop-holds
     past-blanks-requires
     find-requires

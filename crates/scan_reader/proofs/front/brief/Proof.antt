@@ -1,7 +1,6 @@
 -- `reader::front::brief` meets its contract: by the class of the byte, the reader of its piece.
 use mathlib.Core.Path.{_≡_, refl, sym, _∙_}
 use Prim.Native.Nat.{ℕ, _<_}
-use native.Mathlib.Nat.{add-zero}
 use native.Mathlib.Omega.{arith}
 use lib.ListN.{getD}
 use Rattle.scan_words.specs.Class as class
@@ -92,17 +91,17 @@ returns-5 c =
     let s = d .before .before .before .before in
     c .sign .ensures ∙ told-class (s .args .whole) (s .args .text .now) (s .args .at) (d .before .before .if1 .left) class.Double (class-is d class.Double (c .before .if5 .taken) (omega arith))
 
-number-requires : tie.Need-number-requires
-number-requires c κs =
+plain-number-requires : tie.Need-plain-number-requires
+plain-number-requires c κs =
     let d = c .before .before .before .before in
-    rw add-zero (d .before .before .if1 .left, class-digit (byteAt d) (byte (d .before)) (class-is d class.Digit (c .if6 .taken) (omega arith)))
+    (d .before .before .if1 .left, class-digit (byteAt d) (byte (d .before)) (class-is d class.Digit (c .if6 .taken) (omega arith)))
 
 returns-6 : tie.Need-returns-6
 unfolding chosen
 returns-6 c =
     let d = c .before .before .before .before .before in
     let s = d .before .before .before .before in
-    c .number .ensures ∙ told-class (s .args .whole) (s .args .text .now) (s .args .at) (d .before .before .if1 .left) class.Digit (class-is d class.Digit (c .before .if6 .taken) (omega arith))
+    c .plain-number .ensures ∙ told-class (s .args .whole) (s .args .text .now) (s .args .at) (d .before .before .if1 .left) class.Digit (class-is d class.Digit (c .before .if6 .taken) (omega arith))
 
 rare-requires : tie.Need-rare-requires
 rare-requires c κs =
@@ -135,7 +134,7 @@ brief-spec =
     returns-4
     sign-requires
     returns-5
-    number-requires
+    plain-number-requires
     returns-6
     rare-requires
     returns-7)

@@ -1,11 +1,7 @@
 -- `words_of` meets its contract, by cases of the ending.
-use mathlib.Core.Path.{sym, ap}
-use Rattle.rules.specs.declared.Ending.{Ending}
-use mathlib.Core.List.{_∷_}
-use Rattle.file_rules.specs.Files.{endingSaid}
 use borrow.Author.Needs.{needs}
-use Rattle.file_store.proofs.words_of.Statement.{statement}
-use Rattle.file_store.proofs.words_of.Tie as tie
+use Rattle.file_parts.proofs.words_of.Statement.{statement}
+use Rattle.file_parts.proofs.words_of.Tie as tie
 
 enum-told : tie.Need-enum-told
 enum-told c = search needs
@@ -17,14 +13,10 @@ lexical-number-requires : tie.Need-lexical-number-requires
 lexical-number-requires c κs = search needs
 
 returns : tie.Need-returns
-returns c =
-    let t = c .before .before .args .table in
-    rw (c .enum-told .given .1)
+returns c = rw (c .enum-told .given .1)
 
 returns-2 : tie.Need-returns-2
-returns-2 c =
-    let t = c .before .before .before .before .args .table in
-    rw (c .before .before .ending .given .1, c .lexical-number .ensures)
+returns-2 c = rw (c .before .before .ending .given .1, c .lexical-number .ensures)
 
 pub words-of-spec : {M : Type 1} → statement M
 words-of-spec =
