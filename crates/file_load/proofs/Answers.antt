@@ -1,12 +1,12 @@
 -- Laws of the reader's answer: from what the blocks tell, block 0 of either form, and what is known of a file that is read.
-use mathlib.Core.Path.{_≡_, refl, sym, ap, _∙_}
+use mathlib.Core.Path.{_≡_, refl, sym, _∙_}
 use mathlib.Core.Bool.{Bool, true, false, cond}
 use mathlib.Core.List.{List}
-use Prim.Native.Nat.{ℕ, _+_, _*_, _/_, _≤_, _<_}
+use Prim.Native.Nat.{ℕ, _+_, _*_, _≤_, _<_}
 use native.Mathlib.Omega.{arith}
 use lib.ListN.{length, take}
 use lib.Dec.{eqb, ltb}
-use borrow.Author.Tests.{ltb-true, ltb-false, lt-ltb, le-ltb, eq-eqb, ne-eqb}
+use borrow.Author.Tests.{ltb-false, lt-ltb, le-ltb, eq-eqb, ne-eqb}
 use Rattle.rules.specs.declared.Ending.{Ending}
 use Rattle.rules.specs.declared.Table.{Table}
 use Rattle.rules.specs.Scan.{roomOf}
@@ -21,7 +21,6 @@ use Rattle.form_rules.specs.Short.{shortNumber, shortBytes, shortSaidBytes, sho
 use Rattle.form_rules.specs.Forms.{judged}
 use Rattle.form_rules.specs.Shapes.{rowBytesOf, formOf, rowWordsOf, endingOf, soundOf, blocksIn}
 use Rattle.theory_files.proofs.Said.{reads-of, told-short, told-nothing, told-rows}
-use Rattle.file_load.specs.declared.Blocks.{Blocks}
 use Rattle.file_load.specs.declared.Blocks.the-variants.{Bad, Sound}
 use Rattle.file_load.specs.Judged.{Framed, plainBy, standUpto, standing, blocksJudged}
 

@@ -1,19 +1,19 @@
 -- Laws of the loop over blocks, in either form: the blocks and rows in front are judged, and those that are left give the whole answer.
 use mathlib.Core.Path.{_≡_, refl, sym, ap, _∙_}
 use mathlib.Core.Bool.{Bool, true, false, _&&_, and-true, and-assoc}
-use mathlib.Core.List.{List, [], _∷_, _++_}
-use Prim.Native.Nat.{ℕ, zero, suc, _+_, _-_, _*_, _^_, _≤_, _<_, min}
+use mathlib.Core.List.{List, []}
+use Prim.Native.Nat.{ℕ, suc, _+_, _-_, _*_, _^_, _≤_, _<_, min}
 use native.Mathlib.Numerals.{add-one}
 use native.Mathlib.Omega.{arith}
 use lib.ListN.{length, take, drop, length-take, length-drop}
 use lib.Seq.{drop-drop}
 use borrow.Author.Tests.{lt-ltb, le-ltb}
-use Rattle.rules.specs.Rows.{Row, rowIn, rowsIn}
+use Rattle.rules.specs.Rows.{Row, rowIn}
 use Rattle.file_rules.specs.Blocks.{sound, blocksFor, fileLength, soundFrom, bodyFrom}
 use Rattle.file_rules.specs.Files.{countSaid}
 use Rattle.form_rules.specs.declared.Form.{Form}
 use Rattle.form_rules.specs.declared.Form.the-variants.{Full, Short}
-use Rattle.form_rules.specs.Shapes.{rowBytesOf, rowWordsOf, soundOf}
+use Rattle.form_rules.specs.Shapes.{rowBytesOf, soundOf}
 use Rattle.file_blocks.specs.Standing.{rowsFrom, stand}
 use Rattle.theory_files.proofs.Many.{blocks-none, blocks-more, first-sound, first-not}
 use Rattle.file_load.specs.declared.Blocks.the-variants.{Bad, Sound}

@@ -1,8 +1,8 @@
 -- Laws of the loop that takes rows out of blocks: the words of the rows in front are taken, and the bytes of the others are those of the
 -- blocks that are left.
 use mathlib.Core.Path.{_≡_, refl, sym, ap, _∙_}
-use mathlib.Core.List.{List, [], _∷_, _++_, append-assoc}
-use Prim.Native.Nat.{ℕ, zero, suc, _+_, _-_, _*_, _≤_, _<_, min}
+use mathlib.Core.List.{List, _++_, append-assoc}
+use Prim.Native.Nat.{ℕ, suc, _+_, _-_, _*_, _≤_, _<_, min}
 use native.Mathlib.Omega.{arith}
 use lib.ListN.{length, take, drop, length-append, length-take, length-drop}
 use lib.Seq.{take-at, drop-at, drop-drop}
@@ -12,7 +12,7 @@ use Rattle.file_rules.specs.Bytes.{wordsIn}
 use Rattle.file_rules.specs.Blocks.{blocksFor, fileLength, bodyFrom}
 use Rattle.file_rules.specs.Files.{rowWordsIn}
 use Rattle.theory_files.proofs.Numbers.{words-length}
-use Rattle.theory_files.proofs.Many.{blocks-none, blocks-more}
+use Rattle.theory_files.proofs.Many.{blocks-more}
 use Rattle.form_rules.specs.declared.Form.the-variants.{Full}
 use Rattle.file_load.specs.Judged.{Framed}
 use Rattle.file_load.proofs.Rows.{words-split, words-here, body-behind}

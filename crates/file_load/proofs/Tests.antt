@@ -1,12 +1,11 @@
 -- Laws of the reader's tests: the ending that is read, row i of the file, and a table that fits or does not.
 use mathlib.Core.Path.{_≡_, refl, sym, ap, _∙_}
-use mathlib.Core.Bool.{Bool, true, false, cond, _&&_, and-false}
+use mathlib.Core.Bool.{true, false}
 use mathlib.Core.List.{List, [], _∷_}
 use Prim.Native.Nat.{ℕ, zero, suc, _+_, _-_, _*_, _/_, _%_, _≤_, _<_, min}
 use native.Mathlib.Omega.{arith}
 use lib.ListN.{length, take, drop, length-take, length-drop}
 use lib.Seq.{drop-drop}
-use lib.Dec.{eqb}
 use borrow.Author.Tests.{eq-eqb, ne-eqb}
 use Rattle.rules.specs.declared.Cursor.{Cursor}
 use Rattle.rules.specs.declared.Lexical.{Lexical}
@@ -14,15 +13,14 @@ use Rattle.rules.specs.declared.Ending.{Ending}
 use Rattle.rules.specs.declared.Ending.the-variants.{None, Refused}
 use Rattle.rules.specs.declared.Table.{Table}
 use Rattle.rules.specs.Text.{mostBytes, place}
-use Rattle.rules.specs.Rows.{Row, rowNo, wellFormed}
+use Rattle.rules.specs.Rows.{rowNo, wellFormed}
 use Rattle.rules.specs.Refusals.{lexicalNumber}
 use Rattle.laws.specs.Tests.{allBelow}
 use Rattle.rows.specs.Shape.{stands, closes, breaks}
 use Rattle.rows.proofs.Tables.{well-empty, well-none, well-refused}
-use Rattle.file_rules.specs.declared.EndingRead.{EndingRead}
 use Rattle.file_rules.specs.declared.EndingRead.the-variants.{Ends, Nothing}
 use Rattle.file_rules.specs.Blocks.{blocksFor, fileLength, bodyFrom}
-use Rattle.file_rules.specs.Files.{reasons, readRefused, readEnding, saidAt, countSaid}
+use Rattle.file_rules.specs.Files.{reasons, readRefused, readEnding, saidAt}
 use Rattle.form_rules.specs.declared.Form.{Form}
 use Rattle.form_rules.specs.declared.Form.the-variants.{Full, Short}
 use Rattle.form_rules.specs.Short.{onOneLine, shortEnding}
@@ -119,7 +117,6 @@ module _ (form : Form) (count : ℕ) (file : List ℕ) (frame : Framed form coun
     pub row-file : rowNo (rowWordsOf form file) i ≡ rowFrom form (drop (4 + rowBytesOf form * (i % rows)) row-block)
     unfolding fileLength
     row-file =
-        let size : ℕ = rowBytesOf form in
         let s : List ℕ = drop 512 file in
         let l : length s ≡ 512 * blocksFor (rowBytesOf form) count = length-drop 512 file ∙ omega (arith, frame .whole) in
         let a : row-at + 512 - row-at ≡ 512 = omega arith in

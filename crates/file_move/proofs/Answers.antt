@@ -1,10 +1,10 @@
 -- The form that a file has, and what is told of a move and left by it.
 use mathlib.Core.Path.{_≡_, refl, sym, ap, _∙_}
 use mathlib.Core.Bool.{Bool, true, false, cond}
-use mathlib.Core.List.{List, _++_}
+use mathlib.Core.List.{List}
 use Prim.Native.Nat.{ℕ, _≤_, _<_}
 use native.Mathlib.Omega.{arith}
-use lib.ListN.{length, drop}
+use lib.ListN.{length}
 use borrow.Author.Tests.{lt-ltb, le-ltb, ne-eqb, eqb-true}
 use Rattle.rules.specs.declared.Outer.the-variants.{NoRowRoom}
 use Rattle.rules.specs.declared.Table.{Table}
@@ -12,14 +12,15 @@ use Rattle.file_rules.specs.declared.Fault.{Fault}
 use Rattle.file_rules.specs.declared.Fault.the-variants.{Outer, OtherForm}
 use Rattle.file_rules.specs.declared.Loaded.{Loaded}
 use Rattle.file_rules.specs.declared.Loaded.the-variants as loaded
-use Rattle.file_rules.specs.Files.{mostRows, formSaid, countSaid, loadTold}
+use Rattle.file_rules.specs.Files.{formNumber, mostRows, formSaid, countSaid, loadTold}
 use Rattle.form_rules.specs.declared.Apart.the-variants.{File, OtherText}
 use Rattle.form_rules.specs.declared.Moved.{Moved}
 use Rattle.form_rules.specs.declared.Moved.the-variants as moved
 use Rattle.form_rules.specs.declared.Form.{Form}
 use Rattle.form_rules.specs.declared.Form.the-variants.{Full, Short}
-use Rattle.form_rules.specs.Short.{shortJudged}
-use Rattle.form_rules.specs.Forms.{isShort, judged, rowsBeside, tableBeside, agreesBeside, encodeIn, rowBytesIn, moveJudged, moveTold, movedFrom, moveLeaves}
+use Rattle.form_rules.specs.Short.{shortNumber, shortJudged}
+use Rattle.form_rules.specs.Forms.{isShort, judged, rowsBeside, tableBeside, agreesBeside, encodeIn, rowBytesIn}
+use Rattle.form_rules.specs.Forms.{moveJudged, moveTold, movedFrom, moveLeaves}
 use Rattle.form_rules.specs.Shapes.{numberOf, rowBytesOf, formOf}
 use Rattle.theory_files.specs.Bounds.{Bytes}
 use Rattle.theory_files.proofs.Said.{reads-of}
@@ -53,7 +54,7 @@ module _ (file : List ℕ) (t : Table) (held : judged file ≡ loaded.Rows t) wh
   says-number = go (isShort file) refl
     where
       go : (b : Bool) → isShort file ≡ b → numberOf (cond b Short Full) ≡ formSaid file
-      go true e = sym (eqb-true (formSaid file) 2 e)
+      go true e = sym (eqb-true (formSaid file) shortNumber e)
       go false e = sym (long-form file t e held)
 
   module _ (form : Form) (same : numberOf form ≡ numberOf (formOf file)) where
@@ -93,8 +94,8 @@ module _ (form : Form) (text file : List ℕ) (t : Table) (room : ℕ) where
 pub told-by : (form : Form) (text file : List ℕ) (room : ℕ) (l : Loaded) → l ≡ judged file
     → moveTold text file (numberOf form) room ≡ moveJudged text file (numberOf form) room l
 unfolding moveTold
-told-by Full text file room l e = ap (moveJudged text file 1 room) (sym e)
-told-by Short text file room l e = ap (moveJudged text file 2 room) (sym e)
+told-by Full text file room l e = ap (moveJudged text file formNumber room) (sym e)
+told-by Short text file room l e = ap (moveJudged text file shortNumber room) (sym e)
 
 pub told-refused : (form : ℕ) (text file : List ℕ) (room : ℕ) (why : Fault)
     → moveJudged text file form room (loaded.Refused why) ≡ moved.Refused (File why)
@@ -102,10 +103,10 @@ unfolding moveJudged
 told-refused form text file room why = refl
 
 -- no such form
-pub told-form : (form : ℕ) (text file : List ℕ) (room : ℕ) → (form ≡ 1 → ⊥) → (form ≡ 2 → ⊥)
+pub told-form : (form : ℕ) (text file : List ℕ) (room : ℕ) → (form ≡ formNumber → ⊥) → (form ≡ shortNumber → ⊥)
     → moveTold text file form room ≡ moved.Refused (File OtherForm)
 unfolding moveTold
-told-form form text file room one two = rw (ne-eqb form 1 one, ne-eqb form 2 two)
+told-form form text file room one two = rw (ne-eqb form formNumber one, ne-eqb form shortNumber two)
 
 -- what stands in lent memory follows the answer
 pub leaves-by : (form : ℕ) (text file lent : List ℕ) (t : Table) → judged file ≡ loaded.Rows t

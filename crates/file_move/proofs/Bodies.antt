@@ -1,6 +1,7 @@
--- Laws of a form's blocks of rows, said once over the form: the words of so many rows, and the blocks of rows that are left, one block further.
+-- Laws of a form's blocks of rows, said once over the form: the words of so many rows, and the blocks of rows that are left, one block
+-- further.
 use mathlib.Core.Path.{_≡_, refl, sym, ap, _∙_}
-use mathlib.Core.List.{List, [], _∷_, _++_, append-assoc}
+use mathlib.Core.List.{List, [], _++_, append-assoc}
 use Prim.Native.Nat.{ℕ, zero, suc, _+_, _-_, _*_, _≤_, _<_, min}
 use native.Mathlib.Omega.{arith}
 use lib.ListN.{length, take, drop, getD}
@@ -8,7 +9,7 @@ use lib.Seq.{take-at, drop-at, take-add, take-all, drop-drop, getD-take, length-
 use Rattle.rules.specs.declared.Table.{Table}
 use Rattle.rules.specs.Rows.{wordsPerRow, rowIn}
 use Rattle.file_rules.specs.Bytes.{bytesOf}
-use Rattle.file_rules.specs.Blocks.{block, perBlock, blocksFor, blocksFrom, fileOf}
+use Rattle.file_rules.specs.Blocks.{contentRoom, block, perBlock, blocksFor, blocksFrom, fileOf}
 use Rattle.file_rules.specs.Files.{encode}
 use Rattle.form_rules.specs.declared.Form.{Form}
 use Rattle.form_rules.specs.declared.Form.the-variants.{Full, Short}
@@ -27,46 +28,61 @@ unfolding shortened
 short-split zero m ws h = let e : m - 0 ≡ m = omega arith in rw e
 short-split (suc n) zero ws h = absurd (omega arith)
 short-split (suc n) (suc m) ws h =
-    let e : 8 * suc n ≡ 8 + 8 * n = omega arith in
+    let e : wordsPerRow * suc n ≡ wordsPerRow + wordsPerRow * n = omega arith in
     let f : suc m - suc n ≡ m - n = omega arith in
-    rw (e, f, ← drop-drop (8 * n) 8 ws, append-assoc)
-    (ap (λ (l : List ℕ). shortRow (rowIn ws) ++ l) (short-split n m (drop 8 ws) (omega arith)))
+    rw (e, f, ← drop-drop (wordsPerRow * n) wordsPerRow ws, append-assoc)
+    (ap (λ (l : List ℕ). shortRow (rowIn ws) ++ l) (short-split n m (drop wordsPerRow ws) (omega arith)))
 
 front-row : (m : ℕ) (ws : List ℕ) → wordsPerRow ≤ m → rowIn (take m ws) ≡ rowIn ws
 unfolding rowIn
 front-row m ws h =
-    let g : (i : ℕ) → i < 8 → getD (take m ws) i 0 ≡ getD ws i 0 = λ i l. getD-take m ws i 0 (omega arith) in
-    rw (g 0 (omega arith), g 1 (omega arith), g 2 (omega arith), g 3 (omega arith), g 4 (omega arith), g 5 (omega arith), g 6 (omega arith),
-    g 7 (omega arith))
+    let g : (i : ℕ) → i < wordsPerRow → getD (take m ws) i 0 ≡ getD ws i 0 = λ i l. getD-take m ws i 0 (omega arith) in
+    rw (
+      g 0 (omega arith),
+      g 1 (omega arith),
+      g 2 (omega arith),
+      g 3 (omega arith),
+      g 4 (omega arith),
+      g 5 (omega arith),
+      g 6 (omega arith),
+      g 7 (omega arith),
+    )
 
 -- only the words of the rows count
 short-front : (n : ℕ) (ws : List ℕ) → shortened n (take (wordsPerRow * n) ws) ≡ shortened n ws
 unfolding shortened
 short-front zero ws = refl
 short-front (suc n) ws =
-    let e : 8 * suc n ≡ 8 + 8 * n = omega arith in
-    rw (e, front-row (8 + 8 * n) ws (omega arith), drop-take 8 (8 * n) ws, short-front n (drop 8 ws))
+    let e : wordsPerRow * suc n ≡ wordsPerRow + wordsPerRow * n = omega arith in
+    rw (
+      e,
+      front-row (wordsPerRow + wordsPerRow * n) ws (omega arith),
+      drop-take wordsPerRow (wordsPerRow * n) ws,
+      short-front n (drop wordsPerRow ws),
+    )
 
 -- ---- the words of so many rows
 
 pub body-split : (form : Form) (n m : ℕ) (ws : List ℕ) → n ≤ m
     → bodyOf form m ws ≡ bodyOf form n ws ++ bodyOf form (m - n) (drop (wordsPerRow * n) ws)
 body-split Full n m ws h =
-    let e : 8 * m ≡ 8 * n + 8 * (m - n) = omega arith in
-    rw e (take-add (8 * n) (8 * (m - n)) ws)
+    let e : wordsPerRow * m ≡ wordsPerRow * n + wordsPerRow * (m - n) = omega arith in
+    rw e (take-add (wordsPerRow * n) (wordsPerRow * (m - n)) ws)
 body-split Short n m ws h = short-split n m ws h
 
-pub body-size : (form : Form) (n : ℕ) (ws : List ℕ) → wordsPerRow * n ≤ length ws → length (bytesOf (bodyOf form n ws)) ≡ rowBytesOf form * n
-body-size Full n ws h = bytes-length (take (8 * n) ws) ∙ omega (arith, length-take-le (8 * n) ws h)
+pub body-size : (form : Form) (n : ℕ) (ws : List ℕ) → wordsPerRow * n ≤ length ws
+    → length (bytesOf (bodyOf form n ws)) ≡ rowBytesOf form * n
+body-size Full n ws h = bytes-length (take (wordsPerRow * n) ws) ∙ omega (arith, length-take-le (wordsPerRow * n) ws h)
 body-size Short n ws h = bytes-length (shortened n ws) ∙ omega (arith, shortened-length n ws)
 
 -- only the words of the rows count
 pub body-front : (form : Form) (n : ℕ) (ws tail : List ℕ) → wordsPerRow * n ≤ length ws
     → bodyOf form n (take (wordsPerRow * n) ws ++ tail) ≡ bodyOf form n ws
-body-front Full n ws tail h = take-at (take (8 * n) ws) tail (8 * n) (length-take-le (8 * n) ws h)
+body-front Full n ws tail h = take-at (take (wordsPerRow * n) ws) tail (wordsPerRow * n) (length-take-le (wordsPerRow * n) ws h)
 body-front Short n ws tail h =
-    let t : take (8 * n) (take (8 * n) ws ++ tail) ≡ take (8 * n) ws = take-at (take (8 * n) ws) tail (8 * n) (length-take-le (8 * n) ws h) in
-    sym (short-front n (take (8 * n) ws ++ tail)) ∙ ap (shortened n) t ∙ short-front n ws
+    let m : ℕ = wordsPerRow * n in
+    let t : take m (take m ws ++ tail) ≡ take m ws = take-at (take m ws) tail m (length-take-le m ws h) in
+    sym (short-front n (take (wordsPerRow * n) ws ++ tail)) ∙ ap (shortened n) t ∙ short-front n ws
 
 -- ---- blocks
 
@@ -74,7 +90,7 @@ small : (form : Form) → 0 < rowBytesOf form
 small Full = omega arith
 small Short = omega arith
 
-large : (form : Form) → rowBytesOf form ≤ 504
+large : (form : Form) → rowBytesOf form ≤ contentRoom
 large Full = omega arith
 large Short = omega arith
 
@@ -98,17 +114,18 @@ blocks-further form left k n ws l here h =
     let e : left - perBlock (rowBytesOf form) ≡ left - n = omega arith in
     let m = blocks-less form left n l here in
     let x : List ℕ = bytesOf (bodyOf form n ws) in
-    let y : List ℕ = bytesOf (bodyOf form (left - n) (drop (8 * n) ws)) in
+    let y : List ℕ = bytesOf (bodyOf form (left - n) (drop (wordsPerRow * n) ws)) in
     let s : bytesOf (bodyOf form left ws) ≡ x ++ y
-      = ap bytesOf (body-split form n left ws (omega arith)) ∙ bytes-append (bodyOf form n ws) (bodyOf form (left - n) (drop (8 * n) ws)) in
+    = ap bytesOf (body-split form n left ws (omega arith))
+    ∙ bytes-append (bodyOf form n ws) (bodyOf form (left - n) (drop (wordsPerRow * n) ws)) in
     let w : length x ≡ rowBytesOf form * n = body-size form n ws (omega arith) in
     rw (m, ← here, e, s, take-at x y (rowBytesOf form * n) w, drop-at x y (rowBytesOf form * n) w)
 
 -- the rows of a block have room in it
 pub body-few : (form : Form) (left n : ℕ) (ws : List ℕ) → n ≡ min (perBlock (rowBytesOf form)) left → wordsPerRow * left ≤ length ws
-    → length (bytesOf (bodyOf form n ws)) ≤ 504
+    → length (bytesOf (bodyOf form n ws)) ≤ contentRoom
 body-few form left n ws here h =
-    let b : rowBytesOf form * n ≤ 504 = rw here (here-few (rowBytesOf form) (small form) (large form) left) in
+    let b : rowBytesOf form * n ≤ contentRoom = rw here (here-few (rowBytesOf form) (small form) (large form) left) in
     omega (arith, body-size form n ws (omega arith), b)
 
 -- no row is left
@@ -125,5 +142,5 @@ blocks-end form k ws = rw (blocks-zero form)
 pub encoded : (form : Form) (ws : List ℕ) (t : Table) → length ws ≡ wordsPerRow * t .count
     → encodeIn (numberOf form) ws t ≡ block 0 0 (bytesOf (saidIn form t)) ++ blocksOf form 1 (t .count) ws
 unfolding encodeIn encode shortEncode fileOf blocksOf
-encoded Full ws t l = rw (take-all (8 * t .count) ws (omega arith))
+encoded Full ws t l = rw (take-all (wordsPerRow * t .count) ws (omega arith))
 encoded Short ws t l = refl

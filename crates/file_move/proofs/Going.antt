@@ -1,7 +1,7 @@
 -- Laws of the loop that writes a form's blocks: what is written so far, and the blocks of the rows that are left.
 use mathlib.Core.Path.{_≡_, refl, sym, ap, _∙_}
-use mathlib.Core.List.{List, [], _∷_, _++_, append-assoc, append-nil}
-use Prim.Native.Nat.{ℕ, zero, suc, _+_, _-_, _*_, _≤_, _<_, min}
+use mathlib.Core.List.{List, [], _++_, append-assoc, append-nil}
+use Prim.Native.Nat.{ℕ, suc, _+_, _-_, _*_, _≤_, _<_, min}
 use native.Mathlib.Numerals.{add-one}
 use native.Mathlib.Omega.{arith}
 use lib.ListN.{length, take, drop, length-append, length-take, length-drop, take-append-drop}
@@ -11,8 +11,9 @@ use Rattle.rules.specs.declared.Cursor.{Cursor}
 use Rattle.rules.specs.declared.Table.{Table}
 use Rattle.rules.specs.Rows.{wordsPerRow}
 use Rattle.file_rules.specs.Bytes.{bytesOf}
-use Rattle.file_rules.specs.Blocks.{block, perBlock, blocksFor, fileLength}
+use Rattle.file_rules.specs.Blocks.{blockBytes, block, perBlock, blocksFor, fileLength}
 use Rattle.form_rules.specs.declared.Form.{Form}
+use Rattle.form_rules.specs.Short.{shortBytes}
 use Rattle.form_rules.specs.Forms.{rowsBeside, encodeIn}
 use Rattle.form_rules.specs.Shapes.{numberOf, rowBytesOf, saidIn, bodyOf}
 use Rattle.theory_files.proofs.One.{block-length}
@@ -24,25 +25,26 @@ use Rattle.file_beside.proofs.Agreeing.{agrees-long}
 
 -- ---- a part of a file, written over
 
-pub mid : (xs ys : List ℕ) (a : ℕ) → putMid a ((a + 512) - a) xs ys ≡ (take a xs ++ ys) ++ drop (a + 512) xs
-mid xs ys a = let e : (a + 512) - a ≡ 512 = omega arith in rw (e, drop-drop, append-assoc)
+pub mid : (xs ys : List ℕ) (a : ℕ) → putMid a ((a + blockBytes) - a) xs ys ≡ (take a xs ++ ys) ++ drop (a + blockBytes) xs
+mid xs ys a = let e : (a + blockBytes) - a ≡ blockBytes = omega arith in rw (e, drop-drop, append-assoc)
 
-module _ (xs ys : List ℕ) (a : ℕ) (h : a + 512 ≤ length xs) (l : length ys ≡ 512) where
-  front-length : length (take a xs ++ ys) ≡ a + 512
+module _ (xs ys : List ℕ) (a : ℕ) (h : a + blockBytes ≤ length xs) (l : length ys ≡ blockBytes) where
+  front-length : length (take a xs ++ ys) ≡ a + blockBytes
   front-length = rw (length-append, length-take) (omega arith)
 
-  mid-length : length ((take a xs ++ ys) ++ drop (a + 512) xs) ≡ length xs
+  mid-length : length ((take a xs ++ ys) ++ drop (a + blockBytes) xs) ≡ length xs
   mid-length = rw (length-append, length-append, length-take, length-drop) (omega arith)
 
-  mid-take : take (a + 512) ((take a xs ++ ys) ++ drop (a + 512) xs) ≡ take a xs ++ ys
-  mid-take = take-at (take a xs ++ ys) (drop (a + 512) xs) (a + 512) front-length
+  mid-take : take (a + blockBytes) ((take a xs ++ ys) ++ drop (a + blockBytes) xs) ≡ take a xs ++ ys
+  mid-take = take-at (take a xs ++ ys) (drop (a + blockBytes) xs) (a + blockBytes) front-length
 
-  mid-drop : (d : ℕ) → a + 512 ≤ d → drop d ((take a xs ++ ys) ++ drop (a + 512) xs) ≡ drop d xs
+  mid-drop : (d : ℕ) → a + blockBytes ≤ d → drop d ((take a xs ++ ys) ++ drop (a + blockBytes) xs) ≡ drop d xs
   mid-drop d g =
-      let e : d ≡ length (take a xs ++ ys) + (d - (a + 512)) = omega (arith, front-length) in
-      let f : (a + 512) + (d - (a + 512)) ≡ d = omega arith in
-      ap (λ (x : ℕ). drop x ((take a xs ++ ys) ++ drop (a + 512) xs)) e
-      ∙ drop-append-add (take a xs ++ ys) (drop (a + 512) xs) (d - (a + 512)) ∙ drop-drop (d - (a + 512)) (a + 512) xs
+      let e : d ≡ length (take a xs ++ ys) + (d - (a + blockBytes)) = omega (arith, front-length) in
+      let f : (a + blockBytes) + (d - (a + blockBytes)) ≡ d = omega arith in
+      ap (λ (x : ℕ). drop x ((take a xs ++ ys) ++ drop (a + blockBytes) xs)) e
+      ∙ drop-append-add (take a xs ++ ys) (drop (a + blockBytes) xs) (d - (a + blockBytes))
+      ∙ drop-drop (d - (a + blockBytes)) (a + blockBytes) xs
       ∙ ap (λ (x : ℕ). drop x xs) f
 
 -- ---- the loop
@@ -53,7 +55,7 @@ size form count = fileLength (rowBytesOf form) count
 
 -- what stands at the end: block 0 as it was, the blocks of all rows, and then what was there
 abbrev pub done-file : Form → List ℕ → ℕ → List ℕ → List ℕ
-done-file form ws count moved = (take 512 moved ++ blocksOf form 1 count ws) ++ drop (size form count) moved
+done-file form ws count moved = (take blockBytes moved ++ blocksOf form 1 count ws) ++ drop (size form count) moved
 
 -- the blocks of the rows that are left
 abbrev pub left-blocks : Form → List ℕ → ℕ → ℕ → ℕ → List ℕ
@@ -61,17 +63,18 @@ left-blocks form ws count done k = blocksOf form k (count - done) (drop (wordsPe
 
 pub record Going (form : Form) (ws : List ℕ) (count : ℕ) (moved₀ moved : List ℕ) (done k at : ℕ) : Type 0 where
   pub within : done ≤ count
-  pub place : at ≡ 512 * k
+  pub place : at ≡ blockBytes * k
   pub blocks : k + blocksFor (rowBytesOf form) (count - done) ≡ 1 + blocksFor (rowBytesOf form) count
   pub same-length : length moved ≡ length moved₀
   pub all : (take at moved ++ left-blocks form ws count done k) ++ drop (size form count) moved ≡ done-file form ws count moved₀
 
-pub going-start : (form : Form) (ws : List ℕ) (count : ℕ) (moved₀ : List ℕ) → Going form ws count moved₀ moved₀ 0 1 512
+pub going-start : (form : Form) (ws : List ℕ) (count : ℕ) (moved₀ : List ℕ) → Going form ws count moved₀ moved₀ 0 1 blockBytes
 going-start form ws count moved₀ =
     let e : count - 0 ≡ count = omega arith in
     record { within = omega arith; place = refl; blocks = rw e; same-length = refl; all = rw e }
 
-module _ {form : Form} {ws : List ℕ} {count : ℕ} {moved₀ moved : List ℕ} {done k at : ℕ} (g : Going form ws count moved₀ moved done k at) where
+module _ {form : Form} {ws : List ℕ} {count : ℕ} {moved₀ moved : List ℕ} {done k at : ℕ}
+    (g : Going form ws count moved₀ moved done k at) where
   none-left : count ≤ done → left-blocks form ws count done k ≡ []
   none-left h =
       let z : count - done ≡ 0 = omega arith in
@@ -86,7 +89,7 @@ module _ {form : Form} {ws : List ℕ} {count : ℕ} {moved₀ moved : List ℕ}
   pub going-end : count ≤ done → moved ≡ done-file form ws count moved₀
   going-end h =
       let q : (take at moved ++ left-blocks form ws count done k) ++ drop (size form count) moved ≡ moved
-        = rw (none-left h, append-nil, at-end h) (take-append-drop at moved) in
+      = rw (none-left h, append-nil, at-end h) (take-append-drop at moved) in
       sym q ∙ g .all
 
   module _ (h : size form count ≤ length moved₀) (l : done < count) where
@@ -97,12 +100,12 @@ module _ {form : Form} {ws : List ℕ} {count : ℕ} {moved₀ moved : List ℕ}
           let a : count - done - n ≡ count - (done + n) = omega arith in
           omega (arith, rw a at m, g .blocks)
 
-      last-block : at + 512 ≤ size form count
+      last-block : at + blockBytes ≤ size form count
       unfolding fileLength
       last-block = omega (arith, blocks-then, g .place)
 
     -- there is one block more
-    pub room-left : at + 512 ≤ length moved
+    pub room-left : at + blockBytes ≤ length moved
     room-left = omega (arith, last-block (min (perBlock (rowBytesOf form)) (count - done)) refl, g .same-length)
 
     pub few-left : k ≤ count
@@ -123,12 +126,12 @@ module _ {form : Form} {ws : List ℕ} {count : ℕ} {moved₀ moved : List ℕ}
           ∙ rw (a, drop-drop (wordsPerRow * n) (wordsPerRow * done) ws, c)
 
       pub going-next : (ys : List ℕ) → ys ≡ block k n (bytesOf (bodyOf form n (drop (wordsPerRow * done) ws)))
-          → Going form ws count moved₀ (putMid at ((at + 512) - at) moved ys) (done + n) (k + 1) (at + 512)
+          → Going form ws count moved₀ (putMid at ((at + blockBytes) - at) moved ys) (done + n) (k + 1) (at + blockBytes)
       going-next ys e =
           let r = room-left in
           let few = body-few form (count - done) n (drop (wordsPerRow * done) ws) here rows-left in
           let x : List ℕ = block k n (bytesOf (bodyOf form n (drop (wordsPerRow * done) ws))) in
-          let w : length ys ≡ 512 = ap length e ∙ block-length k n (bytesOf (bodyOf form n (drop (wordsPerRow * done) ws))) few in
+          let w : length ys ≡ blockBytes = ap length e ∙ block-length k n (bytesOf (bodyOf form n (drop (wordsPerRow * done) ws))) few in
           let y : List ℕ = left-blocks form ws count (done + n) (suc k) in
           let d : List ℕ = drop (size form count) moved in
           let q : (take at moved ++ (x ++ y)) ++ d ≡ done-file form ws count moved₀ = rw split at (g .all) in
@@ -138,7 +141,7 @@ module _ {form : Form} {ws : List ℕ} {count : ℕ} {moved₀ moved : List ℕ}
             blocks = blocks-then n here;
             same-length = rw mid (mid-length moved ys at r w ∙ g .same-length);
             all = rw (mid, mid-take moved ys at r w, mid-drop moved ys at r w (size form count) (last-block n here), e, add-one k)
-            (ap (λ (x : List ℕ). x ++ d) (append-assoc (take at moved) x y) ∙ q);
+                (ap (λ (x : List ℕ). x ++ d) (append-assoc (take at moved) x y) ∙ q);
           }
 
 -- the words of all rows of a file that agrees with its text
@@ -146,10 +149,15 @@ pub all-words : {text file : List ℕ} {t : Table} → Agrees text file t → le
 all-words {text} {file} {t} g =
     beside-length text file ∙ ap (λ (k : ℕ). wordsPerRow * k) (sym (count-is text file t (g .holds) (agrees-long g)))
 
+-- the most words that the rows of one block have
+abbrev pub partWords : ℕ
+partWords = perBlock shortBytes * wordsPerRow
+
 -- the loop's invariant: the part's words have their room, and the place of the last row is known
-pub record Moving (form : Form) (text file : List ℕ) (count : ℕ) (moved₀ moved words : List ℕ) (here : Cursor) (done k at : ℕ) : Type 0 where
+pub record Moving (form : Form) (text file : List ℕ) (count : ℕ) (moved₀ moved words : List ℕ) (here : Cursor) (done k at : ℕ)
+    : Type 0 where
   pub going : Going form (rowsBeside text file) count moved₀ moved done k at
-  pub room : length words ≡ 168
+  pub room : length words ≡ partWords
   pub last : here ≡ lastPlace text file done
 
 module _ {form : Form} {text file : List ℕ} {count : ℕ} {moved₀ moved words : List ℕ} {here : Cursor} {done k at : ℕ}
@@ -161,7 +169,8 @@ module _ {form : Form} {text file : List ℕ} {count : ℕ} {moved₀ moved word
       (going-end (g .going) l, rw (← e) (g .last))
 
   module _ (h : size form count ≤ length moved₀) (l : done < count) (n : ℕ) (few : n ≡ min (perBlock (rowBytesOf form)) (count - done))
-      (part : List ℕ) (rows : part ≡ take (wordsPerRow * n) (drop (wordsPerRow * done) (rowsBeside text file)) ++ drop (wordsPerRow * n) words) where
+      (part : List ℕ)
+      (rows : part ≡ take (wordsPerRow * n) (drop (wordsPerRow * done) (rowsBeside text file)) ++ drop (wordsPerRow * n) words) where
     left : List ℕ
     left = drop (wordsPerRow * done) (rowsBeside text file)
 
@@ -169,14 +178,15 @@ module _ {form : Form} {text file : List ℕ} {count : ℕ} {moved₀ moved word
     unfolding left
     some-left = omega (arith, length-drop (wordsPerRow * done) (rowsBeside text file), lent, g .going .within, few)
 
-    pub part-room : length part ≡ 168
+    pub part-room : length part ≡ partWords
     unfolding left
     part-room =
         ap length rows ∙ length-append (take (wordsPerRow * n) left) (drop (wordsPerRow * n) words)
         ∙ omega (arith, length-take-le (wordsPerRow * n) left some-left, length-drop (wordsPerRow * n) words, g .room, few, few-rows form)
 
-    pub moving-next : (there : Cursor) → there ≡ lastPlace text file (done + n) → (ys : List ℕ) → ys ≡ block k n (bytesOf (bodyOf form n part))
-        → Moving form text file count moved₀ (putMid at ((at + 512) - at) moved ys) part there (done + n) (k + 1) (at + 512)
+    pub moving-next : (there : Cursor) → there ≡ lastPlace text file (done + n)
+        → (ys : List ℕ) → ys ≡ block k n (bytesOf (bodyOf form n part))
+        → Moving form text file count moved₀ (putMid at ((at + blockBytes) - at) moved ys) part there (done + n) (k + 1) (at + blockBytes)
     unfolding left
     moving-next there last ys e =
         let b : bodyOf form n part ≡ bodyOf form n left = rw rows (body-front form n left (drop (wordsPerRow * n) words) some-left) in
@@ -186,13 +196,14 @@ module _ {form : Form} {text file : List ℕ} {count : ℕ} {moved₀ moved word
 -- ---- the whole file
 
 -- block 0 over the front of the blocks of all rows
-pub file-put : (form : Form) (ws moved front : List ℕ) (t : Table) → length ws ≡ wordsPerRow * t .count → size form (t .count) ≤ length moved
-    → front ≡ block 0 0 (bytesOf (saidIn form t))
-    → putMid 0 512 (done-file form ws (t .count) moved) front ≡ encodeIn (numberOf form) ws t ++ drop (size form (t .count)) moved
+pub file-put : (form : Form) (ws moved front : List ℕ) (t : Table) → length ws ≡ wordsPerRow * t .count
+    → size form (t .count) ≤ length moved → front ≡ block 0 0 (bytesOf (saidIn form t))
+    → putMid 0 blockBytes (done-file form ws (t .count) moved) front ≡ encodeIn (numberOf form) ws t ++ drop (size form (t .count)) moved
 file-put form ws moved front t l h e =
+    let x : List ℕ = block 0 0 (bytesOf (saidIn form t)) in
     let b : List ℕ = blocksOf form 1 (t .count) ws in
     let d : List ℕ = drop (size form (t .count)) moved in
-    let w : length (take 512 moved) ≡ 512 = length-take-le 512 moved (omega (arith, some-length form (t .count))) in
-    let q : drop 512 ((take 512 moved ++ b) ++ d) ≡ b ++ d
-      = ap (drop 512) (append-assoc (take 512 moved) b d) ∙ drop-at (take 512 moved) (b ++ d) 512 w in
-    mid (done-file form ws (t .count) moved) front 0 ∙ rw (q, e, encoded form ws t l) (sym (append-assoc (block 0 0 (bytesOf (saidIn form t))) b d))
+    let w : length (take blockBytes moved) ≡ blockBytes = length-take-le blockBytes moved (omega (arith, some-length form (t .count))) in
+    let q : drop blockBytes ((take blockBytes moved ++ b) ++ d) ≡ b ++ d
+    = ap (drop blockBytes) (append-assoc (take blockBytes moved) b d) ∙ drop-at (take blockBytes moved) (b ++ d) blockBytes w in
+    mid (done-file form ws (t .count) moved) front 0 ∙ rw (q, e, encoded form ws t l) (sym (append-assoc x b d))

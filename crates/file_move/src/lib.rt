@@ -97,7 +97,8 @@ fn move_table(form: Form, text: &[u8], file: &[u8], table: Table, moved: &mut [u
         return Moved::Refused(Apart::OtherText);
     }
     put_moved(form, text, file, table, moved);
-    Moved::Bytes(length as u32)
+    let bytes = length as u32;
+    Moved::Bytes(bytes)
 }
 
 // A file moved to one of both forms.

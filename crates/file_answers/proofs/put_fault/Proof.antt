@@ -17,7 +17,9 @@ put-requires : tie.Need-put-requires
 put-requires c κs = search needs
 
 returns : tie.Need-returns
-returns c = c .put .ensures ∙ rw (c .before .block-told .ensures, c .before .before .start .ensures, c .before .before .before .fault-number .ensures)
+returns c =
+    let b = c .before in
+    c .put .ensures ∙ rw (b .block-told .ensures, b .before .start .ensures, b .before .before .fault-number .ensures)
 
 pub put-fault-spec : {M : Type 1} → statement M
 put-fault-spec =

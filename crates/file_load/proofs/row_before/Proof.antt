@@ -1,6 +1,5 @@
 -- `row_before` meets its contract: the first row has a row of zeros before it.
 use mathlib.Core.Path.{sym, _∙_}
-use native.Mathlib.Omega.{arith}
 use Rattle.rows.proofs.Tables.{before-first, before-next}
 use Rattle.form_rules.specs.Shapes.{rowWordsOf}
 use borrow.Author.Needs.{needs}

@@ -1,8 +1,7 @@
 -- `take_rows` meets its contract: at the loop's head the words of the rows in front are taken.
-use mathlib.Core.Path.{_≡_}
 use Prim.Native.Nat.{_+_, _*_, _-_, _≤_}
 use native.Mathlib.Omega.{arith}
-use lib.ListN.{length, take, drop}
+use lib.ListN.{length}
 use Rattle.file_load.proofs.Taking.{Taking, taking-start, taking-end, taking-next, room-left, here-length, from-fits, tail-fits}
 use Rattle.file_load.proofs.take_rows.Statement.{statement}
 use Rattle.file_load.proofs.take_rows.Tie as tie

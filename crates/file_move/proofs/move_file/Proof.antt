@@ -1,11 +1,15 @@
 -- `move_file` meets its contract: a move to each form, and 44 of any other.
-use mathlib.Core.Path.{_≡_, sym, _∙_}
+use mathlib.Core.Path.{sym}
 use lib.ListN.{length}
 use borrow.Author.Needs.{needs}
 use Rattle.theory_forms.proofs.Moves.{move-untouched}
 use Rattle.file_move.proofs.Answers.{told-form}
 use Rattle.file_move.proofs.move_file.Statement.{statement}
 use Rattle.file_move.proofs.move_file.Tie as tie
+
+-- the function's entry, as it is seen from behind the first test
+abbrev start : tie.Else1 → tie.Start
+start c = c .before .before .before .before
 
 move-to-requires : tie.Need-move-to-requires
 move-to-requires c κs = search needs
@@ -31,8 +35,7 @@ returns-2 c =
 
 returns-3 : tie.Need-returns-3
 returns-3 c =
-    let s = c .before .before .before .before .before in
-    let a = s .args in
+    let a = start (c .before) .args in
     let t = told-form (a .number) (a .text .now) (a .file .now) (length (a .moved .now)) (c .before .if1 .left) (c .if2 .left) in
     (sym t, sym (move-untouched (a .text .now) (a .file .now) (a .number) (a .moved .now) _ t))
 

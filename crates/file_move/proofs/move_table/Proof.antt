@@ -1,15 +1,13 @@
 -- `move_table` meets its contract, a law for each way out.
 use mathlib.Core.Path.{_≡_, refl, sym, ap, _∙_}
 use mathlib.Core.Bool.{true}
-use mathlib.Core.List.{List, _++_}
-use Prim.Native.Nat.{ℕ, _≤_}
+use Prim.Native.Nat.{_≤_}
 use native.Mathlib.Omega.{arith}
-use lib.ListN.{length, drop}
+use lib.ListN.{length}
 use borrow.Author.Needs.{needs}
 use borrow.Author.Tests.{not-true, not-false}
 use Rattle.form_rules.specs.declared.Moved.the-variants as moved
-use Rattle.form_rules.specs.Forms.{rowsBeside, tableBeside, agreesBeside, encodeIn}
-use Rattle.form_rules.specs.Shapes.{numberOf}
+use Rattle.form_rules.specs.Forms.{agreesBeside}
 use Rattle.file_sizes.proofs.Sizes.{short-file}
 use Rattle.file_move.proofs.Going.{size}
 use Rattle.file_move.proofs.Answers.{few-held, told-full, told-other, told-bytes}
@@ -59,8 +57,8 @@ put-moved-requires c κs =
     let g = at-put c in
     (record { holds = start (at-agrees g) .pre; agrees = agree (c .before) }, room (g .before))
 
-cast-t17 : tie.Need-cast-t17
-cast-t17 c =
+cast-bytes : tie.Need-cast-bytes
+cast-bytes c =
     let l = at-agrees (at-put (c .before .before .before)) in
     let s = start l in
     let a = s .args in
@@ -75,7 +73,8 @@ returns-3 c =
     let g = at-put (p .before) in
     let l = at-agrees g in
     let a = start l .args in
-    let t = told-bytes (a .form) (a .text .now) (a .file .now) (a .table) (length (a .moved .now)) (room (g .before)) (agree (p .before .before)) in
+    let h = room (g .before) in
+    let t = told-bytes (a .form) (a .text .now) (a .file .now) (a .table) (length (a .moved .now)) h (agree (p .before .before)) in
     (ap moved.Bytes (l .length-for .ensures) ∙ sym t, rw (l .length-for .ensures) (p .put-moved .ensures))
 
 pub move-table-spec : {M : Type 1} → statement M
@@ -87,6 +86,6 @@ move-table-spec =
     agrees-requires
     returns-2
     put-moved-requires
-    cast-t17
+    cast-bytes
     same-length
     returns-3)

@@ -46,7 +46,7 @@ returns c =
     let e = sym (r .why .given .1) ∙ at-refused r .judge .ensures in
     let room : ℕ = length (a .moved .now) in
     let t = told-by (a .form) (a .text .now) (a .file .now) room (loaded.Refused why) e
-      ∙ told-refused (numberOf (a .form)) (a .text .now) (a .file .now) room why in
+    ∙ told-refused (numberOf (a .form)) (a .text .now) (a .file .now) room why in
     (sym t, sym (move-untouched (a .text .now) (a .file .now) (numberOf (a .form)) (a .moved .now) _ t))
 
 same-length : tie.Need-same-length

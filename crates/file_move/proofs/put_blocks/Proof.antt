@@ -1,17 +1,19 @@
--- `put_blocks` meets its contract: at the loop's head the blocks in front of k are written, and those of the rows that are left give the whole.
-use mathlib.Core.Path.{_≡_, refl, sym, ap, _∙_}
-use mathlib.Core.List.{List}
-use Prim.Native.Nat.{ℕ, _+_, _*_, _-_, _≤_}
+-- `put_blocks` meets its contract: at the loop's head the blocks in front of k are written, and those of the rows that are left give the
+-- whole.
+use mathlib.Core.Path.{_≡_, refl, sym, _∙_}
+use Prim.Native.Nat.{_+_, _*_, _-_, _≤_}
 use native.Mathlib.Omega.{arith}
-use lib.ListN.{length, take, drop, length-take, length-drop}
+use lib.ListN.{length, drop, length-take, length-drop}
 use borrow.Author.Needs.{needs}
 use Rattle.rules.specs.Rows.{wordsPerRow}
+use Rattle.file_rules.specs.Blocks.{blockBytes}
 use Rattle.form_rules.specs.Forms.{rowsBeside}
 use Rattle.file_sizes.proofs.Sizes.{some-rows, few-rows}
 use Rattle.file_beside.proofs.Rows.{few-count, last-first}
 use Rattle.file_beside.proofs.Agreeing.{agrees-long}
 use Rattle.file_move.proofs.Bodies.{blocksOf}
-use Rattle.file_move.proofs.Going.{Moving, going-start, room-left, few-left, part-room, all-words, moving-end, moving-next}
+use Rattle.file_move.proofs.Going.{Moving, partWords, going-start, room-left, few-left, part-room, all-words}
+use Rattle.file_move.proofs.Going.{moving-end, moving-next}
 use Rattle.file_move.proofs.put_blocks.Statement.{statement}
 use Rattle.file_move.proofs.put_blocks.Tie as tie
 
@@ -63,7 +65,7 @@ loop-holds c =
     }
 
 -- there is one block more
-room : (c : tie.In-loop Inv-loop μ-loop) → c .before .loop .at + 512 ≤ length (c .before .loop .moved)
+room : (c : tie.In-loop Inv-loop μ-loop) → c .before .loop .at + blockBytes ≤ length (c .before .loop .moved)
 room c = room-left (c .before .loop .inv .going) (start c .pre .1) (omega arith)
 
 add-end : tie.Need-add-end Inv-loop μ-loop
@@ -82,9 +84,10 @@ put-rows-requires : tie.Need-put-rows-requires Inv-loop μ-loop
 put-rows-requires c κs =
     let r = c .before in
     let l = r .before .before .loop in
-    let s = start (r .before) in
-    (((s .pre .0, omega (arith, r .rows-here .ensures)), omega (arith, r .rows-here .ensures, few-rows (s .args .form), l .inv .room)),
-    l .inv .last)
+    let s = start (r .before) in (
+      ((s .pre .0, omega (arith, r .rows-here .ensures)), omega (arith, r .rows-here .ensures, few-rows (s .args .form), l .inv .room)),
+      l .inv .last,
+    )
 
 sub-put-part : tie.Need-sub-put-part Inv-loop μ-loop
 sub-put-part c = omega arith
@@ -96,12 +99,13 @@ part-put-part-end : tie.Need-part-put-part-end Inv-loop μ-loop
 part-put-part-end c = omega (arith, room (put (c .before) .before))
 
 -- the part's words
-part-words : (c : tie.After-put-rows Inv-loop μ-loop) → length (c .put-rows .last .1 .1 .1 .1 .1 .1 .0) ≡ 168
+part-words : (c : tie.After-put-rows Inv-loop μ-loop) → length (c .put-rows .last .1 .1 .1 .1 .1 .1 .0) ≡ partWords
 part-words c =
     let r = put c in
     let t = r .before in
     let s = start t in
-    part-room (t .before .loop .inv) (lent s) (s .pre .1) (omega arith) (r .rows-here .result) (r .rows-here .ensures) _ (c .put-rows .ensures .0)
+    part-room (t .before .loop .inv) (lent s) (s .pre .1) (omega arith) (r .rows-here .result) (r .rows-here .ensures) _
+    (c .put-rows .ensures .0)
 
 slice-aggregate-put-part : tie.Need-slice-aggregate-put-part Inv-loop μ-loop
 slice-aggregate-put-part c = sym (part-words (at-part c))
@@ -111,10 +115,11 @@ put-part-requires c κs =
     let w = at-part c in
     let r = put w in
     let l = r .before .before .loop in
-    let size = length-take (l .at + 512 - l .at) (drop (l .at) (l .moved)) in
-    let few = few-rows (start (r .before) .args .form) in
-    ((size ∙ omega (arith, room (r .before), length-drop (l .at) (l .moved)), omega (arith, r .rows-here .ensures)),
-    omega (arith, r .rows-here .ensures, few, part-words w))
+    let size = length-take (l .at + blockBytes - l .at) (drop (l .at) (l .moved)) in
+    let few = few-rows (start (r .before) .args .form) in (
+      (size ∙ omega (arith, room (r .before), length-drop (l .at) (l .moved)), omega (arith, r .rows-here .ensures)),
+      omega (arith, r .rows-here .ensures, few, part-words w),
+    )
 
 add-done : tie.Need-add-done Inv-loop μ-loop
 add-done c = omega (arith, in-turn c .rows-here .ensures)

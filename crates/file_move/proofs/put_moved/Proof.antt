@@ -1,14 +1,13 @@
--- `put_moved` meets its contract: a file that has the form is copied, and of any other block 0 is written in front of the blocks of its rows.
+-- `put_moved` meets its contract: a file that has the form is copied, and of any other the blocks of its rows are written, and block 0.
 use mathlib.Core.Path.{_≡_, sym, ap, _∙_}
-use mathlib.Core.List.{List, _++_}
-use Prim.Native.Nat.{ℕ, _≤_}
+use mathlib.Core.List.{List}
+use Prim.Native.Nat.{ℕ}
 use native.Mathlib.Omega.{arith}
-use lib.ListN.{length, drop}
 use borrow.Author.Needs.{needs}
 use borrow.Rule.Slice.PartMut.{putMid}
 use Rattle.rules.specs.declared.Table.{Table}
 use Rattle.file_rules.specs.Bytes.{bytesOf}
-use Rattle.file_rules.specs.Blocks.{block}
+use Rattle.file_rules.specs.Blocks.{blockBytes, block}
 use Rattle.form_rules.specs.Forms.{rowsBeside, tableBeside}
 use Rattle.form_rules.specs.Shapes.{numberOf, formOf, saidIn}
 use Rattle.theory_files.specs.Bounds.{Bytes}
@@ -112,9 +111,10 @@ returns-2 c =
     let a = s .args in
     let front : List ℕ = p .put-said .last .1 .0 in
     let e = p .put-said .ensures ∙ ap (λ (u : Table). block 0 0 (bytesOf (saidIn (a .form) u))) (t .table-beside .ensures) in
+    let u : Table = tableBeside (a .text .now) (a .file .now) (a .table) in
     let ws : List ℕ = rowsBeside (a .text .now) (a .file .now) in
-    ap (λ (m : List ℕ). putMid 0 512 m front) (b .put-blocks .ensures .0)
-    ∙ file-put (a .form) ws (a .moved .now) front (tableBeside (a .text .now) (a .file .now) (a .table)) (all-words (s .pre .0)) (s .pre .1) e
+    ap (λ (m : List ℕ). putMid 0 blockBytes m front) (b .put-blocks .ensures .0)
+    ∙ file-put (a .form) ws (a .moved .now) front u (all-words (s .pre .0)) (s .pre .1) e
 
 pub put-moved-spec : {M : Type 1} → statement M
 put-moved-spec =
