@@ -144,7 +144,13 @@ impl Case {
 
     fn mend(&mut self, form: u32, room: usize, list: usize) {
         let memory = self.memory(room);
-        let mended = mend(&self.text, form, &memory, self.file.len(), &vec![WORD; list]);
+        let mended = mend(
+            &self.text,
+            form,
+            &memory,
+            self.file.len(),
+            &vec![WORD; list],
+        );
         self.calls.push(Call {
             kind: Kind::Mend,
             form,

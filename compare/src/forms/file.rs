@@ -33,12 +33,7 @@ fn write_case(sample: &mut Vec<u8>, case: &Case) {
 }
 
 fn write_call(sample: &mut String, call: &Call) {
-    let lent = [
-        call.kind as usize,
-        call.form as usize,
-        call.room,
-        call.list,
-    ];
+    let lent = [call.kind as usize, call.form as usize, call.room, call.list];
     let numbers = lent.iter().map(usize::to_string);
     let expected = call.told.iter().chain(&call.left).map(u32::to_string);
     let words: Vec<String> = numbers.chain(expected).collect();

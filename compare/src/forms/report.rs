@@ -16,7 +16,10 @@ const MOST_NUMBER: u32 = 45;
 pub fn report(cases: &[Case]) -> String {
     let calls: Vec<&Call> = cases.iter().flat_map(|case| &case.calls).collect();
     let count = |which: &dyn Fn(&Call) -> bool| calls.iter().filter(|call| which(call)).count();
-    let mut report = format!("cases {0} of {0}\nbytes behind the last case 0\n", cases.len());
+    let mut report = format!(
+        "cases {0} of {0}\nbytes behind the last case 0\n",
+        cases.len()
+    );
     for (kind, name) in KINDS {
         let agreed = count(&|call| call.kind == kind);
         report += &format!("{name}: agreed {agreed}\n");

@@ -13,12 +13,17 @@ fn onward(digest: u32, x: u32) -> u32 {
     ((digest as u64 * FACTOR + x as u64) % MODULUS) as u32
 }
 
+// A digest with one byte more.
+fn byte_onward(digest: u32, byte: u8) -> u32 {
+    onward(digest, byte as u32)
+}
+
 // The digest of bytes.
 pub fn bytes_digest(bytes: &[u8]) -> u32 {
     let mut digest: u32 = 0;
     let mut i = 0;
     while i < bytes.len() {
-        digest = onward(digest, bytes[i] as u32);
+        digest = byte_onward(digest, bytes[i]);
         i += 1;
     }
     digest

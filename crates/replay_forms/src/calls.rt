@@ -11,6 +11,7 @@ use crate::stored::KIND;
 use crate::stored::LIST;
 use crate::stored::ROOM;
 use crate::stored::call_read;
+use crate::stored::wide;
 use crate::tally::Tally;
 use crate::tally::difference;
 use file_answers::put_beside;
@@ -81,8 +82,8 @@ fn mend_in(
     size: usize,
     list: &mut [u32],
 ) -> [u32; WORDS] {
-    let room = call[ROOM] as usize;
-    let words = call[LIST] as usize;
+    let room = wide(call[ROOM]);
+    let words = wide(call[LIST]);
     if memory.len() < room {
         return mended(text, call[FORM], memory, size, list);
     }
@@ -90,6 +91,17 @@ fn mend_in(
         return mended(text, call[FORM], memory, size, list);
     }
     mended(text, call[FORM], &mut memory[..room], size, &mut list[..words])
+}
+
+// The same of memory that has all bytes.
+fn mend_memory(
+    text: &[u8],
+    call: &[u32; CALL],
+    memory: &mut [u8; BYTES],
+    size: usize,
+    list: &mut [u32],
+) -> [u32; WORDS] {
+    mend_in(text, call, memory, size, list)
 }
 
 // A file's bytes at the front of memory.
@@ -110,13 +122,13 @@ fn told_by(text: &[u8], file: &[u8], call: &[u32; CALL]) -> [u32; WORDS] {
     let mut list = [WORD; LIST_WORDS];
     let mut memory = [BYTE; BYTES];
     if call[KIND] == LOAD {
-        return load_in(text, file, &mut rows, call[ROOM] as usize);
+        return load_in(text, file, &mut rows, wide(call[ROOM]));
     }
     if call[KIND] == MOVE {
-        return move_in(text, file, call[FORM], &mut memory, call[ROOM] as usize);
+        return move_in(text, file, call[FORM], &mut memory, wide(call[ROOM]));
     }
     copied(file, &mut memory);
-    mend_in(text, call, &mut memory, file.len(), &mut list)
+    mend_memory(text, call, &mut memory, file.len(), &mut list)
 }
 
 // The first word that a call told and left that is not as expected; the number of words where there is none.

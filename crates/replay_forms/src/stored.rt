@@ -20,6 +20,11 @@ pub const LIST: usize = 3;
 
 pub const EXPECTED: usize = 4;
 
+// A word of a call as a size.
+pub fn wide(word: u32) -> usize {
+    word as usize
+}
+
 // The next number, which must be at most so much.
 fn bounded(sample: &[u8], at: usize, most: usize) -> Small {
     let n = number(sample, at);
