@@ -1,5 +1,6 @@
--- What the calls over files tell, in the eight words of every answer: 41 tells its block, a writing and a move tell blocks and bytes, a mending tells how many
--- blocks it listed, and bytes, and a reading tells the table as a scan does, so that its words can be lent on as the table.
+-- What the calls over files tell, in the eight words of every answer: 41 tells its block, a writing and a move tell blocks and bytes,
+-- a mending tells how many blocks it listed, and bytes, and a reading tells the table as a scan does, so that its words can be lent on as
+-- the table.
 use mathlib.Core.List.{List}
 use Prim.Native.Nat.{ℕ, _/_}
 use Rattle.rules.specs.Text.{startPlace}

@@ -63,14 +63,14 @@ short-front (suc n) ws =
 
 -- ---- the words of so many rows
 
-pub body-split : (form : Form) (n m : ℕ) (ws : List ℕ) → n ≤ m
+body-split : (form : Form) (n m : ℕ) (ws : List ℕ) → n ≤ m
     → bodyOf form m ws ≡ bodyOf form n ws ++ bodyOf form (m - n) (drop (wordsPerRow * n) ws)
 body-split Full n m ws h =
     let e : wordsPerRow * m ≡ wordsPerRow * n + wordsPerRow * (m - n) = omega arith in
     rw e (take-add (wordsPerRow * n) (wordsPerRow * (m - n)) ws)
 body-split Short n m ws h = short-split n m ws h
 
-pub body-size : (form : Form) (n : ℕ) (ws : List ℕ) → wordsPerRow * n ≤ length ws
+body-size : (form : Form) (n : ℕ) (ws : List ℕ) → wordsPerRow * n ≤ length ws
     → length (bytesOf (bodyOf form n ws)) ≡ rowBytesOf form * n
 body-size Full n ws h = bytes-length (take (wordsPerRow * n) ws) ∙ omega (arith, length-take-le (wordsPerRow * n) ws h)
 body-size Short n ws h = bytes-length (shortened n ws) ∙ omega (arith, shortened-length n ws)

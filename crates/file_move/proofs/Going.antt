@@ -25,7 +25,7 @@ use Rattle.file_beside.proofs.Agreeing.{agrees-long}
 
 -- ---- a part of a file, written over
 
-pub mid : (xs ys : List ℕ) (a : ℕ) → putMid a ((a + blockBytes) - a) xs ys ≡ (take a xs ++ ys) ++ drop (a + blockBytes) xs
+mid : (xs ys : List ℕ) (a : ℕ) → putMid a ((a + blockBytes) - a) xs ys ≡ (take a xs ++ ys) ++ drop (a + blockBytes) xs
 mid xs ys a = let e : (a + blockBytes) - a ≡ blockBytes = omega arith in rw (e, drop-drop, append-assoc)
 
 module _ (xs ys : List ℕ) (a : ℕ) (h : a + blockBytes ≤ length xs) (l : length ys ≡ blockBytes) where
@@ -86,7 +86,7 @@ module _ {form : Form} {ws : List ℕ} {count : ℕ} {moved₀ moved : List ℕ}
       let z : count - done ≡ 0 = omega arith in
       omega (arith, rw z at (g .blocks), g .place, blocks-zero form)
 
-  pub going-end : count ≤ done → moved ≡ done-file form ws count moved₀
+  going-end : count ≤ done → moved ≡ done-file form ws count moved₀
   going-end h =
       let q : (take at moved ++ left-blocks form ws count done k) ++ drop (size form count) moved ≡ moved
       = rw (none-left h, append-nil, at-end h) (take-append-drop at moved) in
@@ -125,7 +125,7 @@ module _ {form : Form} {ws : List ℕ} {count : ℕ} {moved₀ moved : List ℕ}
           blocks-further form (count - done) k n (drop (wordsPerRow * done) ws) (omega arith) here rows-left
           ∙ rw (a, drop-drop (wordsPerRow * n) (wordsPerRow * done) ws, c)
 
-      pub going-next : (ys : List ℕ) → ys ≡ block k n (bytesOf (bodyOf form n (drop (wordsPerRow * done) ws)))
+      going-next : (ys : List ℕ) → ys ≡ block k n (bytesOf (bodyOf form n (drop (wordsPerRow * done) ws)))
           → Going form ws count moved₀ (putMid at ((at + blockBytes) - at) moved ys) (done + n) (k + 1) (at + blockBytes)
       going-next ys e =
           let r = room-left in
