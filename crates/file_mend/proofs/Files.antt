@@ -75,7 +75,6 @@ fresh-length Full text = encoded-length (numberOf Full) (freshWords text) (fresh
 fresh-length Short text = encoded-length (numberOf Short) (freshWords text) (freshTable text)
 
 module _ (form : Form) (text : List ℕ) where
-
   -- in blocks
   pub fresh-blocks : length (freshFile (numberOf form) text) ≡ 512 + 512 * blocksFor (rowBytesOf form) (length (rowsOf text))
   unfolding fileLength freshTable

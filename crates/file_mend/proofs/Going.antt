@@ -223,10 +223,10 @@ module _ {form : Form} {text : List ℕ} {n : ℕ} {memory₀ list₀ : List ℕ
             let b = blocksOf form k (rowsAt form text (spot .at)) in
             let c = blocksOf form (suc k) (rowsFrom text (s .at)) in
             let t : take (512 * suc k) after ≡ take (512 * k) memory ++ b
-                  = rw (← next-end, after-is) (over-take memory b (512 * k) (going-fits .room)) in
+            = rw (← next-end, after-is) (over-take memory b (512 * k) (going-fits .room)) in
             let q : blocksOf form k (rowsFrom text (spot .at)) ≡ b ++ c
-                  = ap (blocksOf form k) (on-rows form (p .part-is) e)
-                  ∙ blocks-part form k (rowsAt form text (spot .at)) (rowsFrom text (s .at)) full in
+            = ap (blocksOf form k) (on-rows form (p .part-is) e)
+            ∙ blocks-part form k (rowsAt form text (spot .at)) (rowsFrom text (s .at)) full in
             rw t (append-assoc (take (512 * k) memory) b c ∙ (rw q at (g .written)))
 
         behind-on : drop (512 * suc k) after ≡ drop (512 * suc k) memory₀

@@ -122,7 +122,7 @@ module _ {form : Form} {text file : List ℕ} {spot : Spot} {count listed k : �
       let w = on-rows form (p .part-is) e in
       let d = rows-part form k file xs ys (on-full form (p .part-is) e) in
       let f : length (rowsDiffering form k (rowsFrom text (spot .at)) file)
-            ≡ length (rowsDiffering form k xs file) + length (rowsDiffering form (suc k) ys file) =
+      ≡ length (rowsDiffering form k xs file) + length (rowsDiffering form (suc k) ys file) =
       ap (λ (l : List Row). length (rowsDiffering form k l file)) w ∙ ap length d
       ∙ length-append (rowsDiffering form k xs file) (rowsDiffering form (suc k) ys file) in
       record {

@@ -100,7 +100,14 @@ fn write_block(file: &mut [u8], n: usize, k: u32, fresh: &[u8])
 }
 
 // Block k, behind so many entries of the list: if it differs it is written and listed. How many entries there are then is told.
-fn mend_block(file: &mut [u8], n: usize, k: u32, fresh: &[u8], list: &mut [u32], listed: usize) -> usize
+fn mend_block(
+    file: &mut [u8],
+    n: usize,
+    k: u32,
+    fresh: &[u8],
+    list: &mut [u32],
+    listed: usize,
+) -> usize
     requires { ⌜ ((length (now fresh) ≡ 512) × (512 * k + 512 ≤ length (now file))) × ((n ≤ length (now file)) × (listed + length (entryHere n k (now fresh) (now file)) ≤ length (now list))) ⌝ }
     ensures { λ r. ⌜ (r ≡ listed + length (entryHere n k (now (fresh .entry)) (now (file .entry)))) × ((now (file .exit) ≡ take (512 * k) (now (file .entry)) ++ (now (fresh .entry) ++ drop (512 * k + 512) (now (file .entry)))) × (now (list .exit) ≡ take listed (now (list .entry)) ++ (entryHere n k (now (fresh .entry)) (now (file .entry)) ++ drop r (now (list .entry))))) ⌝ }
 {
@@ -143,7 +150,16 @@ fn hold_part(form: Form, text: &[u8], spot: Spot, k: u32, file: &[u8]) -> Step
 }
 
 // The next rows of a text mended as block k, behind so many entries of the list.
-fn mend_part(form: Form, text: &[u8], spot: Spot, k: u32, file: &mut [u8], n: usize, list: &mut [u32], listed: usize) -> Step
+fn mend_part(
+    form: Form,
+    text: &[u8],
+    spot: Spot,
+    k: u32,
+    file: &mut [u8],
+    n: usize,
+    list: &mut [u32],
+    listed: usize,
+) -> Step
     requires { ⌜ Begun (now text) spot × PartFits form (now text) (spot .at) k n (now file) listed (now list) ⌝ }
     ensures { λ r. ⌜ PartMended form (now (text .entry)) (spot .at) k n listed r (now (file .entry)) (now (file .exit)) (now (list .entry)) (now (list .exit)) ⌝ }
 {
@@ -216,7 +232,14 @@ fn survey(form: Form, text: &[u8], file: &[u8]) -> Seen
 // ---- the second reading
 
 // The blocks of a text's rows, behind so many entries of the list: each that differs is written and listed. How many entries there are then is told.
-fn mend_rows(form: Form, text: &[u8], file: &mut [u8], n: usize, list: &mut [u32], first: usize) -> usize
+fn mend_rows(
+    form: Form,
+    text: &[u8],
+    file: &mut [u8],
+    n: usize,
+    list: &mut [u32],
+    first: usize,
+) -> usize
     requires { ⌜ Fresh form (now text) n (now file) first (now list) ⌝ }
     ensures { λ r. ⌜ RowsMended form (now (text .entry)) n first r (now (file .entry)) (now (file .exit)) (now (list .entry)) (now (list .exit)) ⌝ }
 {

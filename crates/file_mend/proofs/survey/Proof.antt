@@ -74,11 +74,10 @@ returns c =
     let r = rows p in
     let a = start r .args in
     let h = r .survey-rows .ensures in
-    let z = size l in
-    (
+    let z = size l in (
       h .table-is,
       survey-long (a .form) (a .text .now) (a .file .now) (r .survey-rows .result .table) _ _ _ (h .table-is) (p .put-said .ensures)
-      (h .listed-is) (k .count-block .ensures) (omega arith),
+          (h .listed-is) (k .count-block .ensures) (omega arith),
     )
 
 returns-2 : tie.Need-returns-2
@@ -89,11 +88,10 @@ returns-2 c =
     let r = rows p in
     let a = start r .args in
     let h = r .survey-rows .ensures in
-    let z = size l in
-    (
+    let z = size l in (
       h .table-is,
       survey-all (a .form) (a .text .now) (a .file .now) (r .survey-rows .result .table) _ _ _ (h .table-is) (p .put-said .ensures)
-      (h .listed-is) (k .count-block .ensures) (omega arith),
+          (h .listed-is) (k .count-block .ensures) (omega arith),
     )
 
 pub survey-spec : {M : Type 1} → statement M
