@@ -10,11 +10,13 @@ use Rattle.rules.specs.Kinds.{sameBytes}
 use Rattle.rules.specs.Rows.{Row, wordsOf}
 use Rattle.rules.specs.Scan.{readRows, scan}
 use Rattle.file_rules.specs.Bytes.{bytesOf}
-use Rattle.file_rules.specs.Blocks.{blockBytes, blocksFor, blocksFrom}
+use Rattle.file_rules.specs.Blocks.{blockBytes, perBlock, blocksFor, block, blocksFrom}
 use Rattle.form_rules.specs.declared.Form.{Form}
 use Rattle.form_rules.specs.Shapes.{numberOf, rowBytesOf, bodyOf}
+use Rattle.scan_part.specs.Part.{partRows, PartOf}
 use Rattle.mend_rules.specs.Mend.{freshTable, freshFile, differing, listed}
-use Rattle.file_mend.specs.declared.Survey.{Survey}
+use Rattle.file_mend.specs.declared.Seen.{Seen}
+use Rattle.file_mend.specs.declared.Step.{Step}
 
 -- block k of a file, as far as it is there
 abbrev pub blockOf : ℕ → List ℕ → List ℕ
@@ -40,8 +42,38 @@ rowsDiffering form k rs file = differing (blocksFor (rowBytesOf form) (length rs
 abbrev pub rowsOf : List ℕ → List Row
 rowsOf text = readRows (scan text)
 
+-- ---- one part
+
+-- the rows of a text from an offset on that stand in one block, and block k of so many rows
+abbrev pub rowsAt : Form → List ℕ → ℕ → List Row
+rowsAt form text at = partRows text at (perBlock (rowBytesOf form))
+
+abbrev pub rowsBlock : Form → ℕ → List Row → List ℕ
+rowsBlock form k rs = block k (length rs) (bytesOf (bodyOf form (length rs) (wordsOf rs)))
+
+-- a part was held against a file
+pub record PartHeld (form : Form) (text : List ℕ) (at k : ℕ) (file : List ℕ) (r : Step) : Type 0 where
+  pub part-is : PartOf text at (perBlock (rowBytesOf form)) (r .part)
+  pub listed-is : r .listed ≡ length (rowsDiffering form k (rowsAt form text at) file)
+
+-- a part can be mended: n bytes are the file, and there is room for its block and its entry
+pub record PartFits (form : Form) (text : List ℕ) (at k n : ℕ) (memory : List ℕ) (listed : ℕ) (list : List ℕ) : Type 0 where
+  pub inside : n ≤ length memory
+  pub room : blockBytes * k + length (blocksOf form k (rowsAt form text at)) ≤ length memory
+  pub list-room : listed + length (rowsDiffering form k (rowsAt form text at) (take n memory)) ≤ length list
+
+-- and was mended: all but its block and its entry is as before
+pub record PartMended (form : Form) (text : List ℕ) (at k n listed : ℕ) (r : Step) (memory after list list-after : List ℕ) : Type 0 where
+  pub part-is : PartOf text at (perBlock (rowBytesOf form)) (r .part)
+  pub listed-is : r .listed ≡ listed + length (rowsDiffering form k (rowsAt form text at) (take n memory))
+  pub file-is : after ≡ take (blockBytes * k) memory
+      ++ (blocksOf form k (rowsAt form text at) ++ drop (blockBytes * k + length (blocksOf form k (rowsAt form text at))) memory)
+  pub list-is : list-after ≡ take listed list ++ (rowsDiffering form k (rowsAt form text at) (take n memory) ++ drop (r .listed) list)
+
+-- ---- all rows
+
 -- the rows of a text were held against a file
-pub record RowsHeld (form : Form) (text file : List ℕ) (r : Survey) : Type 0 where
+pub record RowsHeld (form : Form) (text file : List ℕ) (r : Seen) : Type 0 where
   pub table-is : r .table ≡ freshTable text
   pub listed-is : r .listed ≡ length (rowsDiffering form 1 (rowsOf text) file)
 

@@ -16,6 +16,7 @@ use rules::Outer;
 use rules::Table;
 use rules::row;
 use scan_part::Next;
+use scan_part::Part;
 use scan_part::read_part;
 use scan_place::judge_text;
 use scan_reader::Spot;
@@ -25,23 +26,33 @@ ghost use mathlib.Core.List.{_++_};
 ghost use Prim.Native.Nat.{_+_, _*_, _≤_};
 ghost use lib.ListN.{length, take, drop};
 ghost use Rattle.rules.specs.declared.Judged.the-variants.{Fine};
-ghost use Rattle.rules.specs.Text.{textJudged};
+ghost use Rattle.rules.specs.Text.{startPlace, textJudged};
 ghost use Rattle.rules.specs.Kinds.{sameBytes};
-ghost use Rattle.form_rules.specs.Shapes.{numberOf};
-ghost use Rattle.mend_rules.specs.Mend.{freshTable, freshFile, listed, freshTold, mendTold, mendLeaves, listLeaves};
-ghost use Rattle.file_mend.specs.Mending.{blockOf, entry, entryHere, Fresh, RowsHeld, RowsMended, fileLeft, listLeft};
+ghost use Rattle.file_rules.specs.Blocks.{perBlock};
+ghost use Rattle.form_rules.specs.Shapes.{numberOf, rowBytesOf};
+ghost use Rattle.scan_part.specs.Part.{Begun, PartOf};
+ghost use Rattle.mend_rules.specs.Mend.{freshTable, freshFile, listed, mendTold, mendLeaves, listLeaves};
+ghost use Rattle.file_mend.specs.Mending.{blockOf, entry, entryHere, rowsBlock, rowsAt, PartHeld, PartFits, PartMended};
+ghost use Rattle.file_mend.specs.Mending.{Fresh, RowsHeld, RowsMended, fileLeft, listLeft};
 
 // The most words that the rows of one block have.
 const PART_WORDS: usize = short::ROWS * row::WORDS;
 
 // What a first reading tells: the table of the text, and how many blocks are to be listed.
-pub struct Survey {
+pub struct Seen {
     pub table: Table,
+    pub listed: usize,
+}
+
+// What is told of a part of the rows: what was read, and how many entries there are.
+pub struct Step {
+    pub part: Part,
     pub listed: usize,
 }
 
 // The text's start.
 fn begin() -> Spot
+    ensures { λ r. ⌜ (r .at ≡ 0) × (r .cursor ≡ startPlace) ⌝ }
 {
     Spot {
         at: 0,
@@ -89,7 +100,14 @@ fn write_block(file: &mut [u8], n: usize, k: u32, fresh: &[u8])
 }
 
 // Block k, behind so many entries of the list: if it differs it is written and listed. How many entries there are then is told.
-fn mend_block(file: &mut [u8], n: usize, k: u32, fresh: &[u8], list: &mut [u32], listed: usize) -> usize
+fn mend_block(
+    file: &mut [u8],
+    n: usize,
+    k: u32,
+    fresh: &[u8],
+    list: &mut [u32],
+    listed: usize,
+) -> usize
     requires { ⌜ ((length (now fresh) ≡ 512) × (512 * k + 512 ≤ length (now file))) × ((n ≤ length (now file)) × (listed + length (entryHere n k (now fresh) (now file)) ≤ length (now list))) ⌝ }
     ensures { λ r. ⌜ (r ≡ listed + length (entryHere n k (now (fresh .entry)) (now (file .entry)))) × ((now (file .exit) ≡ take (512 * k) (now (file .entry)) ++ (now (fresh .entry) ++ drop (512 * k + 512) (now (file .entry)))) × (now (list .exit) ≡ take listed (now (list .entry)) ++ (entryHere n k (now (fresh .entry)) (now (file .entry)) ++ drop r (now (list .entry))))) ⌝ }
 {
@@ -101,53 +119,99 @@ fn mend_block(file: &mut [u8], n: usize, k: u32, fresh: &[u8], list: &mut [u32],
     listed + 1
 }
 
+// ---- one part
+
+// The next rows of a text as block k.
+fn fresh_part(form: Form, text: &[u8], spot: Spot, k: u32, fresh: &mut [u8]) -> Part
+    requires { ⌜ Begun (now text) spot × (length (now fresh) ≡ 512) ⌝ }
+    ensures { λ r. ⌜ PartOf (now (text .entry)) (spot .at) (perBlock (rowBytesOf form)) r × (now (fresh .exit) ≡ rowsBlock form k (rowsAt form (now (text .entry)) (spot .at))) ⌝ }
+{
+    let mut words = [0u32; PART_WORDS];
+    let part = read_part(text, spot, block_rows(form), &mut words);
+    let n = part.count;
+    put_part(form, fresh, k, n, &words);
+    part
+}
+
+// The next rows of a text held against block k of a file. A part that has no rows has no block.
+fn hold_part(form: Form, text: &[u8], spot: Spot, k: u32, file: &[u8]) -> Step
+    requires { ⌜ Begun (now text) spot ⌝ }
+    ensures { λ r. ⌜ PartHeld form (now (text .entry)) (spot .at) k (now (file .entry)) r ⌝ }
+{
+    let mut fresh = [0u8; form::BLOCK];
+    let part = fresh_part(form, text, spot, k, &mut fresh);
+    if part.count == 0 {
+        return Step { part, listed: 0 };
+    }
+    Step {
+        part,
+        listed: count_block(file, k, &fresh),
+    }
+}
+
+// The next rows of a text mended as block k, behind so many entries of the list.
+fn mend_part(
+    form: Form,
+    text: &[u8],
+    spot: Spot,
+    k: u32,
+    file: &mut [u8],
+    n: usize,
+    list: &mut [u32],
+    listed: usize,
+) -> Step
+    requires { ⌜ Begun (now text) spot × PartFits form (now text) (spot .at) k n (now file) listed (now list) ⌝ }
+    ensures { λ r. ⌜ PartMended form (now (text .entry)) (spot .at) k n listed r (now (file .entry)) (now (file .exit)) (now (list .entry)) (now (list .exit)) ⌝ }
+{
+    let mut fresh = [0u8; form::BLOCK];
+    let part = fresh_part(form, text, spot, k, &mut fresh);
+    if part.count == 0 {
+        return Step { part, listed };
+    }
+    Step {
+        part,
+        listed: mend_block(file, n, k, &fresh, list, listed),
+    }
+}
+
 // ---- the first reading
 
 // The rows of a text, block by block, held against those of a file. Its table is told, and how many blocks behind block 0 differ.
-fn survey_rows(form: Form, text: &[u8], file: &[u8]) -> Survey
+fn survey_rows(form: Form, text: &[u8], file: &[u8]) -> Seen
     requires { ⌜ textJudged (now text) ≡ Fine ⌝ }
     ensures { λ r. ⌜ RowsHeld form (now (text .entry)) (now (file .entry)) r ⌝ }
 {
-    let most = block_rows(form);
-    let mut words = [0u32; PART_WORDS];
-    let mut fresh = [0u8; form::BLOCK];
     let mut spot = begin();
-    let mut ending = Ending::None;
     let mut count = 0;
     let mut listed = 0;
     let mut k: u32 = 1;
-    let mut more = true;
-    while more {
-        let part = read_part(text, spot, most, &mut words);
-        let n = part.count;
-        if 0 < n {
-            put_part(form, &mut fresh, k, n, &words);
-            listed += count_block(file, k, &fresh);
-        }
-        count += n;
-        k += 1;
-        match part.next {
+    loop {
+        let step = hold_part(form, text, spot, k, file);
+        let part = step.part;
+        let next = part.next;
+        count += part.count;
+        listed += step.listed;
+        match next {
             Next::On(at) => {
                 spot = at;
             }
-            Next::Over(e) => {
-                ending = e;
-                more = false;
+            Next::Over(ending) => {
+                return Seen {
+                    table: Table {
+                        count: count as u32,
+                        length: text.len() as u32,
+                        ending,
+                    },
+                    listed,
+                };
             }
         }
-    }
-    Survey {
-        table: Table {
-            count: count as u32,
-            length: text.len() as u32,
-            ending,
-        },
-        listed,
+        k += 1;
     }
 }
 
 // The table of a text, and how many blocks of a file are to be listed: those that differ, and the first of a surplus tail.
-fn survey(form: Form, text: &[u8], file: &[u8]) -> Survey
+fn survey(form: Form, text: &[u8], file: &[u8]) -> Seen
     requires { ⌜ textJudged (now text) ≡ Fine ⌝ }
     ensures { λ r. ⌜ (r .table ≡ freshTable (now (text .entry))) × (r .listed ≡ length (listed (freshFile (numberOf form) (now (text .entry))) (now (file .entry)))) ⌝ }
 {
@@ -155,47 +219,48 @@ fn survey(form: Form, text: &[u8], file: &[u8]) -> Survey
     let table = held.table;
     let mut fresh = [0u8; form::BLOCK];
     put_said(form, &mut fresh, table);
-    let mut listed = held.listed + count_block(file, 0, &fresh);
+    let listed = held.listed + count_block(file, 0, &fresh);
     if length_for(form, table.count) < file.len() {
-        listed += 1;
+        return Seen {
+            table,
+            listed: listed + 1,
+        };
     }
-    Survey {
-        table,
-        listed,
-    }
+    Seen { table, listed }
 }
 
 // ---- the second reading
 
 // The blocks of a text's rows, behind so many entries of the list: each that differs is written and listed. How many entries there are then is told.
-fn mend_rows(form: Form, text: &[u8], file: &mut [u8], n: usize, list: &mut [u32], first: usize) -> usize
+fn mend_rows(
+    form: Form,
+    text: &[u8],
+    file: &mut [u8],
+    n: usize,
+    list: &mut [u32],
+    first: usize,
+) -> usize
     requires { ⌜ Fresh form (now text) n (now file) first (now list) ⌝ }
     ensures { λ r. ⌜ RowsMended form (now (text .entry)) n first r (now (file .entry)) (now (file .exit)) (now (list .entry)) (now (list .exit)) ⌝ }
 {
-    let most = block_rows(form);
-    let mut words = [0u32; PART_WORDS];
-    let mut fresh = [0u8; form::BLOCK];
     let mut spot = begin();
     let mut listed = first;
     let mut k: u32 = 1;
-    let mut more = true;
-    while more {
-        let part = read_part(text, spot, most, &mut words);
-        if 0 < part.count {
-            put_part(form, &mut fresh, k, part.count, &words);
-            listed = mend_block(file, n, k, &fresh, list, listed);
-        }
-        k += 1;
-        match part.next {
+    loop {
+        let step = mend_part(form, text, spot, k, file, n, list, listed);
+        let part = step.part;
+        let next = part.next;
+        listed = step.listed;
+        match next {
             Next::On(at) => {
                 spot = at;
             }
             Next::Over(_) => {
-                more = false;
+                return listed;
             }
         }
+        k += 1;
     }
-    listed
 }
 
 // The fresh file over n bytes of lent memory, and the list of what differed, where there is room for both.
@@ -221,6 +286,7 @@ fn mend_text(form: Form, text: &[u8], file: &mut [u8], n: usize, list: &mut [u32
     ensures { λ r. ⌜ (r ≡ mendTold (now (text .entry)) (numberOf form) (now (file .entry)) n (now (list .entry))) × ((now (file .exit) ≡ mendLeaves (now (text .entry)) (numberOf form) (now (file .entry)) n (now (list .entry))) × (now (list .exit) ≡ listLeaves (now (text .entry)) (numberOf form) (now (file .entry)) n (now (list .entry)))) ⌝ }
 {
     let room = file.len();
+    let slots = list.len();
     let there = if room < n { room } else { n };
     let seen = survey(form, text, &file[..there]);
     let table = seen.table;
@@ -228,12 +294,13 @@ fn mend_text(form: Form, text: &[u8], file: &mut [u8], n: usize, list: &mut [u32
         return Mended::Refused(Fault::TooManyRows, Cursor::start());
     }
     let length = length_for(form, table.count);
-    if (room < length) | (room < n) | (list.len() < seen.listed) {
+    if (room < length) | (room < n) | (slots < seen.listed) {
         return Mended::Refused(Fault::Outer(Outer::NoRowRoom), Cursor::start());
     }
-    if 0 < seen.listed {
-        mend_blocks(form, text, table, file, n, list);
+    if seen.listed == 0 {
+        return Mended::Blocks(length as u32, 0);
     }
+    mend_blocks(form, text, table, file, n, list);
     Mended::Blocks(length as u32, seen.listed as u32)
 }
 

@@ -1,0 +1,80 @@
+-- One block: what is known of it where it is held against a file, and what memory and list are where it is written and listed.
+use mathlib.Core.Path.{_≡_, sym, ap, _∙_}
+use mathlib.Core.Bool.{true, false}
+use mathlib.Core.List.{List, [], _∷_, _++_, append-assoc}
+use Prim.Native.Nat.{ℕ, zero, suc, _+_, _-_, _*_, _≤_, _<_}
+use native.Mathlib.Numerals.{add-one}
+use native.Mathlib.Omega.{arith}
+use lib.ListN.{length, take, drop, set, length-take, length-drop, take-append-drop}
+use lib.Seq.{take-all, take-nil, take-take, drop-drop, set-split, paste}
+use Rattle.laws.proofs.Spelled.{same-eq, differs}
+use Rattle.rules.specs.Kinds.{sameBytes}
+use Rattle.file_mend.specs.Mending.{blockOf, entry}
+
+-- ---- parts of parts
+
+-- what stands behind so many of the first n
+pub drop-front : (a n : ℕ) (s : List ℕ) → drop a (take n s) ≡ take (n - a) (drop a s)
+drop-front zero n s = let e : n - 0 ≡ n = omega arith in rw e
+drop-front (suc a) zero s = let e : 0 - suc a ≡ 0 = omega arith in rw e
+drop-front (suc a) (suc n) [] = sym (take-nil (suc n - suc a))
+drop-front (suc a) (suc n) (x ∷ s) = let e : suc n - suc a ≡ n - a = omega arith in rw e (drop-front a n s)
+
+-- a part of what stands in front
+part-within : (a b n : ℕ) (s : List ℕ) → b + a ≤ n → take a (drop b (take n s)) ≡ take a (drop b s)
+part-within a b n s h = rw (drop-front b n s) (take-take a (n - b) (drop b s) (omega arith))
+
+-- ---- a block held
+
+module _ (fresh file : List ℕ) (k : ℕ) where
+  -- a block that is cut or missing differs
+  pub cut-differs : length fresh ≡ 512 → length file < 512 * k + 512 → sameBytes fresh (blockOf k file) ≡ false
+  cut-differs l h =
+      differs fresh (blockOf k file)
+      (λ e. omega (arith, ap length e, length-take 512 (drop (512 * k) file), length-drop (512 * k) file))
+
+  -- A block that is right has no entry.
+  pub entry-right : sameBytes fresh (blockOf k file) ≡ true → entry k fresh file ≡ []
+  entry-right e = rw e
+
+  -- A block that differs has its number.
+  pub entry-wrong : sameBytes fresh (blockOf k file) ≡ false → entry k fresh file ≡ k ∷ []
+  entry-wrong e = rw e
+
+-- ---- a block written
+
+-- all 512 bytes were copied
+pub copied : (memory fresh : List ℕ) (at : ℕ) → length fresh ≡ 512
+    → paste memory at fresh 512 ≡ take at memory ++ (fresh ++ drop (at + 512) memory)
+copied memory fresh at l = rw (take-all 512 fresh (omega arith)) (append-assoc (take at memory) fresh (drop (at + 512) memory))
+
+-- a part over itself
+over-itself : (a b : ℕ) (s : List ℕ) → s ≡ take b s ++ (take a (drop b s) ++ drop (b + a) s)
+over-itself a b s =
+    sym (take-append-drop b s) ∙ ap (λ (l : List ℕ). take b s ++ l) (sym (take-append-drop a (drop b s)) ∙ rw drop-drop)
+
+module _ (fresh memory : List ℕ) (n k : ℕ) (l : length fresh ≡ 512) (e : sameBytes fresh (blockOf k (take n memory)) ≡ true) where
+  is-block : fresh ≡ take 512 (drop (512 * k) memory)
+  is-block =
+      let b = 512 * k in
+      let f = same-eq fresh (blockOf k (take n memory)) e in
+      let h : b + 512 ≤ n =
+      omega (arith, ap length f, length-take 512 (drop b (take n memory)), length-drop b (take n memory), length-take n memory) in
+      f ∙ part-within 512 b n memory h
+
+  -- memory is as if a block that is right were written
+  pub right-stays : memory ≡ take (512 * k) memory ++ (fresh ++ drop (512 * k + 512) memory)
+  right-stays =
+      over-itself 512 (512 * k) memory
+      ∙ ap (λ (x : List ℕ). take (512 * k) memory ++ (x ++ drop (512 * k + 512) memory)) (sym is-block)
+
+-- ---- a list written
+
+-- nothing more is listed
+pub list-stays : (list : List ℕ) (listed : ℕ) (found : List ℕ) → found ≡ [] → list ≡ take listed list ++ (found ++ drop listed list)
+list-stays list listed found e = rw e (sym (take-append-drop listed list))
+
+-- one entry more
+pub list-more : (list : List ℕ) (listed k : ℕ) (found : List ℕ) → found ≡ k ∷ [] → listed < length list
+    → set list listed k ≡ take listed list ++ (found ++ drop (listed + 1) list)
+list-more list listed k found e h = rw (e, add-one listed) (set-split list listed k h)
