@@ -1,5 +1,5 @@
-//! Writes the stored sample of texts and files of both forms, crates/replay_forms/stdin, in the form that README.md describes, always the same, and
-//! beside it the counts that the program must write of it. Prints these counts.
+//! Writes the stored sample of texts and files of both forms, crates/replay_forms/stdin, in the form that README.md describes, always
+//! the same, and beside it the counts that the program must write of it. Prints these counts.
 
 use compare::forms::cases::stored;
 use compare::forms::file::forms_file;
