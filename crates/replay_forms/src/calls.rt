@@ -68,7 +68,13 @@ fn move_in(text: &[u8], file: &[u8], form: u32, memory: &mut [u8], room: usize) 
 }
 
 // What a mending of so many bytes tells and leaves.
-fn mended(text: &[u8], form: u32, memory: &mut [u8], size: usize, list: &mut [u32]) -> [u32; WORDS] {
+fn mended(
+    text: &[u8],
+    form: u32,
+    memory: &mut [u8],
+    size: usize,
+    list: &mut [u32],
+) -> [u32; WORDS] {
     let mut told = [0u32; 8];
     put_mended(&mut told, mend(text, form, memory, size, list));
     joined(&told, bytes_digest(memory), words_digest(list))
@@ -90,7 +96,13 @@ fn mend_in(
     if list.len() < words {
         return mended(text, call[FORM], memory, size, list);
     }
-    mended(text, call[FORM], &mut memory[..room], size, &mut list[..words])
+    mended(
+        text,
+        call[FORM],
+        &mut memory[..room],
+        size,
+        &mut list[..words],
+    )
 }
 
 // The same of memory that has all bytes.

@@ -7,7 +7,8 @@ use replay_input::part::number;
 // The most bytes that are lent for a file.
 pub const BYTES: usize = 3072;
 
-// A call's words: its kind, the form that is asked for, and how much is lent, bytes or words and words of a list; then ten that are expected.
+// A call's words: its kind, the form that is asked for, how many bytes or words are lent, and how many words for a list; then ten
+// that are expected.
 pub const CALL: usize = 14;
 
 pub const KIND: usize = 0;
