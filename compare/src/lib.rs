@@ -22,6 +22,7 @@ pub mod differences;
 pub mod edge_cases;
 pub mod edits;
 pub mod files;
+pub mod forms;
 pub mod generate;
 pub mod kinds;
 pub mod method_sets;

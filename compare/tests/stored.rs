@@ -4,6 +4,7 @@ use compare::answer::{answer, Answer};
 use compare::deep::on_deep_stack;
 use compare::edits::{file::edits_file, report::report as edits_report, stored, FILE, REPORT};
 use compare::files;
+use compare::forms;
 use compare::generate::sample_texts;
 use compare::sample::{report, sample_file};
 
@@ -37,6 +38,28 @@ fn tables_are_as_written() {
     for load in cases.iter().flat_map(|case| &case.loads) {
         assert!(load.file.len() <= files::MOST_BYTES);
     }
+}
+
+#[test]
+fn files_beside_texts_are_as_written() {
+    let cases = forms::cases::stored();
+    let written = forms::file::forms_file(&cases);
+    assert!(written == read(forms::FILE), "write it again with `forms`");
+    let counts = forms::report::report(&cases);
+    assert!(
+        counts.as_bytes() == read(forms::REPORT),
+        "write it again with `forms`"
+    );
+    for call in cases.iter().flat_map(|case| &case.calls) {
+        let most = match call.kind {
+            forms::Kind::Load => forms::MOST_WORDS,
+            forms::Kind::Move | forms::Kind::Mend => forms::MOST_BYTES,
+        };
+        assert!(call.room <= most && call.list <= forms::MOST_LISTED);
+    }
+    assert!(cases
+        .iter()
+        .all(|case| case.file.len() <= forms::MOST_BYTES));
 }
 
 #[test]

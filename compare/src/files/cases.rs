@@ -11,7 +11,7 @@ use crate::model::scan::scan;
 use crate::model::table::Lent;
 
 /// Texts whose files are small and of every shape: no row, one, two; 15 and 16, 30 and 31, 44 and 45 rows; every ending.
-const WORKED: [&str; 10] = [
+pub const WORKED: [&str; 10] = [
     "@",
     "",
     "a",

@@ -46,7 +46,7 @@ fn write_numbers(sample: &mut String, before: &str, numbers: &[u32]) {
 }
 
 /// How many bytes of a file are other than those before it, where behind these are zeros, and each of them with its place.
-fn write_changes(sample: &mut String, before: &[u8], file: &[u8]) {
+pub fn write_changes(sample: &mut String, before: &[u8], file: &[u8]) {
     let old = before.iter().copied().chain(std::iter::repeat(0));
     let changes: Vec<String> = (0..)
         .zip(file.iter().zip(old))
