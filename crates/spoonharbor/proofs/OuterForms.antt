@@ -61,7 +61,7 @@ module _ (text file : List ℕ) (form : ℕ) (lent answer m : List ℕ) (g : Out
   outer-there-and-back back room =
       let t = there-and-back text file form lent (getD answer 7 0) bytes is-moved in
       record {
-        size = ap (λ (x : Moved). getD (movedWords x) 7 0) (rw (g .left) (t .told back room));
+        size = rw (g .left, t .told back room);
         left = rw (g .left) (t .bytes back room);
       }
 
@@ -71,7 +71,7 @@ module _ (text file : List ℕ) (form : ℕ) (lent answer m : List ℕ) (g : Out
   outer-read-alike new =
       let a = read-alike text file form lent (getD answer 7 0) bytes is-moved in
       record {
-        told = ap (λ (x : Beside). besideWords x) (rw (g .left) (a .told (roomOf new)));
+        told = rw (g .left, a .told (roomOf new));
         left = rw (g .left) (a .rows new);
       }
 

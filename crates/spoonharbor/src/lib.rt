@@ -212,14 +212,11 @@ pub extern "C" fn spoonharbor_mend(
     text: &[u8],
     form: u32,
     file: &mut [u8],
-    file_length: usize,
+    size: usize,
     blocks: &mut [u32],
     answer: &mut [u32; 8],
 )
-    ensures { λ _. ⌜ (now (answer .exit) ≡ mendedWords (mendTold (now (text .entry)) form (now (file .entry)) file_length (now (blocks .entry)))) × ((now (file .exit) ≡ mendLeaves (now (text .entry)) form (now (file .entry)) file_length (now (blocks .entry))) × (now (blocks .exit) ≡ listLeaves (now (text .entry)) form (now (file .entry)) file_length (now (blocks .entry)))) ⌝ }
+    ensures { λ _. ⌜ (now (answer .exit) ≡ mendedWords (mendTold (now (text .entry)) form (now (file .entry)) size (now (blocks .entry)))) × ((now (file .exit) ≡ mendLeaves (now (text .entry)) form (now (file .entry)) size (now (blocks .entry))) × (now (blocks .exit) ≡ listLeaves (now (text .entry)) form (now (file .entry)) size (now (blocks .entry)))) ⌝ }
 {
-    put_mended(
-        answer,
-        file_mend::mend(text, form, file, file_length, blocks),
-    );
+    put_mended(answer, file_mend::mend(text, form, file, size, blocks));
 }

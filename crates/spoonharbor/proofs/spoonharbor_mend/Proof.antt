@@ -14,10 +14,14 @@ put-mended-requires c κs = search needs
 same-length : tie.Need-same-length
 same-length c = search needs
 
+same-length-2 : tie.Need-same-length-2
+same-length-2 c = search needs
+
 returns : tie.Need-returns
 returns c =
-    let m = c .before .before .before .mend .ensures in
+    let lent = c .before .before .before in
+    let m = lent .before .before .mend .ensures in
     (c .put-mended .ensures ∙ ap mendedWords (m .0), m .1)
 
 pub spoonharbor-mend-spec : {M : Type 1} → statement M
-spoonharbor-mend-spec = tie.close (tie.spec mend-requires put-mended-requires same-length returns)
+spoonharbor-mend-spec = tie.close (tie.spec mend-requires put-mended-requires same-length same-length-2 returns)
