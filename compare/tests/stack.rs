@@ -14,8 +14,8 @@ const MOST: [(&str, usize); 11] = [
     ("store", 1_024),
     ("load", 1_024),
     ("move", 2 * 1_024),
-    ("read beside", 1_024),
-    ("mend", 4 * 1_024),
+    ("read beside", 1_280),
+    ("mend", 3 * 1_024),
 ];
 
 /// How many texts are measured.
