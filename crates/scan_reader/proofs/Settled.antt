@@ -12,9 +12,9 @@ use Rattle.rules.specs.Text.{front, notNewline}
 use Rattle.rules.specs.Kinds.{Identifier, reserved, kindIn}
 use Rattle.rules.specs.Lex.{Piece, comment, row, refused, known, decidedAt, isWord, word, lineComment, blockComment, beforeClose}
 use Rattle.rules.specs.declared.Lexical.the-variants.{OpenComment}
-use Rattle.scan_words.specs.Slots.{packedOf}
+use Rattle.scan_words.specs.Slots.{packedOf, packable}
 use Rattle.scan_runs.specs.declared.Word.{Word}
-use Rattle.scan_runs.specs.Leaf.{packedFront, wordOf}
+use Rattle.scan_runs.specs.Leaf.{wordFront, packedFront, wordOf}
 use Rattle.scan_runs.proofs.Bodies.{body-line}
 use Rattle.laws.proofs.Fronts.{front-le}
 use Rattle.scan_reader.specs.declared.Brief.{Brief}
@@ -49,13 +49,13 @@ module _ (whole : Bool) (t : List ℕ) (a : ℕ) (p : Piece) where
 module _ (t : List ℕ) (a : ℕ) (w : Word) (r : w ≡ wordOf a (drop a t)) where
   -- the word's bytes
   abbrev pub wordAt : List ℕ
-  wordAt = take (front isWord (drop a t)) (drop a t)
+  wordAt = wordFront (drop a t)
 
   pub word-end : w .end ≡ a + front isWord (drop a t)
   unfolding wordOf
   word-end = rw r
 
-  pub word-packed : w .packed ≡ packedOf 0 wordAt
+  pub word-packed : w .packed ≡ packedOf 0 (take packable wordAt)
   unfolding wordOf packedFront
   word-packed = rw r
 

@@ -2,12 +2,12 @@
 use mathlib.Core.Path.{_≡_, refl, sym, _∙_}
 use mathlib.Core.Bool.{Bool, true, false, cond, _&&_, true≢false}
 use mathlib.Core.List.{List, [], _∷_}
-use Prim.Native.Nat.{ℕ, suc, _+_, _*_, _%_, _^_, _≤_, _<_}
+use Prim.Native.Nat.{ℕ, suc, _+_, _-_, _*_, _%_, _^_, _≤_, _<_}
 use native.Mathlib.Decide.{decLt}
 use native.Mathlib.Numerals.{add-one}
 use native.Mathlib.Omega.{arith}
-use lib.ListN.{length, take, drop, getD, drop-of-length-le}
-use lib.Seq.{drop-cons}
+use lib.ListN.{length, take, drop, getD}
+use lib.Seq.{drop-cons, take-all}
 use lib.Dec.{ltb}
 use borrow.Author.Tests.{ne-eqb, le-leb, lt-leb}
 use Rattle.rules.specs.Text.{front}
@@ -16,9 +16,10 @@ use Rattle.laws.specs.Tests.{allBelow}
 use Rattle.laws.proofs.Tests.{below, true-both}
 use Rattle.laws.proofs.Fronts.{front-on, front-off, front-end}
 use Rattle.scan_words.specs.Class.{Digit, Classes}
-use Rattle.scan_words.specs.Slots.{packedOf, plain}
+use Rattle.scan_words.specs.Slots.{packedOf, packable, plain}
+use Rattle.scan_words.proofs.Packed.{plain-take}
 use Rattle.scan_words.proofs.Marks.{mark-word, mark-other}
-use Rattle.scan_runs.specs.Leaf.{packedFront, wordOf}
+use Rattle.scan_runs.specs.Leaf.{wordFront, packedFront, wordOf}
 use Rattle.scan_runs.specs.declared.Word.{Word}
 
 -- ---- a word's bytes are plain
@@ -43,14 +44,19 @@ word-plain b e = pick (decLt b 256)
     pick (yes h) = rw e at (below wordTest 256 word-tests b h)
     pick (no h) = absurd (true≢false (sym e ∙ no-word b (omega arith)))
 
-pub words-plain : (s : List ℕ) → plain (take (front isWord s) s) ≡ true
+word-front-plain : (s : List ℕ) → plain (wordFront s) ≡ true
 unfolding plain front
-words-plain [] = refl
-words-plain (b ∷ s) = pick (isWord b) refl (words-plain s)
+word-front-plain [] = refl
+word-front-plain (b ∷ s) = pick (isWord b) refl (word-front-plain s)
   where
-    pick : (q : Bool) → isWord b ≡ q → plain (take (front isWord s) s) ≡ true → plain (take (elim q as (λ _. ℕ) [ true ↦ suc (front isWord s) | false ↦ 0 ]) (b ∷ s)) ≡ true
-    pick true e r = true-both {p = ltb 0 b && ltb b 256} {q = plain (take (front isWord s) s)} (word-plain b e) r
+    pick : (q : Bool) → isWord b ≡ q → plain (wordFront s) ≡ true →
+        plain (take (elim q as (λ _. ℕ) [ true ↦ suc (front isWord s) | false ↦ 0 ]) (b ∷ s)) ≡ true
+    pick true e r = true-both {p = ltb 0 b && ltb b 256} {q = plain (wordFront s)} (word-plain b e) r
     pick false e r = refl
+
+-- so are those of them that are packed
+pub words-plain : (s : List ℕ) → plain (take packable (wordFront s)) ≡ true
+words-plain s = plain-take packable (wordFront s) (word-front-plain s)
 
 -- ---- packed from an index on
 
@@ -58,47 +64,72 @@ words-plain (b ∷ s) = pick (isWord b) refl (words-plain s)
 abbrev pub packedWith : ℕ → ℕ → ℕ
 packedWith v b = v % 2 ^ 56 * 256 + b
 
-module _ (v : ℕ) (t : List ℕ) (i : ℕ) where
-  packed-on : i < length t → isWord (getD t i 0) ≡ true → packedFront v (drop i t) ≡ packedFront (packedWith v (getD t i 0)) (drop (i + 1) t)
+take-none : (n : ℕ) → take {A = ℕ} n [] ≡ []
+take-none n = take-all {A = ℕ} n [] (omega arith)
+
+module _ (v n : ℕ) (t : List ℕ) (i : ℕ) where
+  packed-on : i < length t → isWord (getD t i 0) ≡ true →
+      packedFront v (suc n) (drop i t) ≡ packedFront (packedWith v (getD t i 0)) n (drop (i + 1) t)
   unfolding packedFront front packedOf
   packed-on h e = rw (drop-cons t i 0 h, add-one i) (rw (front, e))
 
-  packed-off : i < length t → isWord (getD t i 0) ≡ false → packedFront v (drop i t) ≡ v
-  unfolding packedFront front packedOf
-  packed-off h e = rw (drop-cons t i 0 h) (rw (front, e))
+  packed-off : i < length t → isWord (getD t i 0) ≡ false → packedFront v n (drop i t) ≡ v
+  unfolding packedFront packedOf
+  packed-off h e = rw (front-off isWord t i h e) (rw (take-none n))
 
-  packed-end : length t ≤ i → packedFront v (drop i t) ≡ v
-  unfolding packedFront front packedOf
-  packed-end h = rw (drop-of-length-le t h)
+  packed-end : length t ≤ i → packedFront v n (drop i t) ≡ v
+  unfolding packedFront packedOf
+  packed-end h = rw (front-end isWord t i h) (rw (take-none n))
 
--- ---- a loop over a word from index i₀ on, which has come to i with the number v
+-- ---- a loop over a word from index i₀ on, which has come to i with the number v of fewer bytes than are packed
 
 pub record Packing (t : List ℕ) (i₀ v i : ℕ) : Type 0 where
   pub inside : i ≤ length t
+  pub behind : i₀ ≤ i
+  pub few : i < i₀ + packable
   pub ends : i + front isWord (drop i t) ≡ i₀ + front isWord (drop i₀ t)
-  pub packs : packedFront v (drop i t) ≡ packedFront 0 (drop i₀ t)
+  pub packs : packedFront v (i₀ + packable - i) (drop i t) ≡ packedFront 0 packable (drop i₀ t)
 
 pub packing-start : (t : List ℕ) (i : ℕ) → i ≤ length t → Packing t i 0 i
-packing-start t i h = record { inside = h; ends = refl; packs = refl }
+packing-start t i h =
+    let n : i + packable - i ≡ packable = omega arith in
+    record { inside = h; behind = omega arith; few = omega arith; ends = refl; packs = rw n }
+
+abbrev found : ℕ → ℕ → Word
+found e v = record { end = e; packed = v }
 
 module _ {cl : List ℕ} (c : Classes cl) (t : List ℕ) (i₀ v i : ℕ) (r : Packing t i₀ v i) where
-  abbrev found : Word
-  found = record { end = i; packed = v }
-
-  answer : i ≡ i₀ + front isWord (drop i₀ t) → packedFront 0 (drop i₀ t) ≡ v → found ≡ wordOf i₀ (drop i₀ t)
+  answer : {e w : ℕ} → e ≡ i₀ + front isWord (drop i₀ t) → w ≡ packedFront 0 packable (drop i₀ t) → found e w ≡ wordOf i₀ (drop i₀ t)
   unfolding wordOf
-  answer e w = rw (w, ← e)
+  answer p q = rw (p, q)
 
   module _ (h : i < length t) (b : getD t i 0 < 256) where
-    pub packing-on : getD cl (getD t i 0) 0 ≤ Digit → Packing t i₀ (packedWith v (getD t i 0)) (i + 1)
-    packing-on m =
-        let y = mark-word c (getD t i 0) b m in
-        record { inside = omega arith; ends = omega (arith, front-on isWord t i h y, r .ends); packs = sym (packed-on v t i h y) ∙ r .packs }
+    module _ (m : getD cl (getD t i 0) 0 ≤ Digit) where
+      on-ends : i + 1 + front isWord (drop (i + 1) t) ≡ i₀ + front isWord (drop i₀ t)
+      on-ends = omega (arith, front-on isWord t i h (mark-word c (getD t i 0) b m), r .ends)
 
-    pub packing-stop : Digit < getD cl (getD t i 0) 0 → found ≡ wordOf i₀ (drop i₀ t)
+      on-packs : (n : ℕ) → i₀ + packable - i ≡ suc n →
+          packedFront (packedWith v (getD t i 0)) n (drop (i + 1) t) ≡ packedFront 0 packable (drop i₀ t)
+      on-packs n e = sym (packed-on v n t i h (mark-word c (getD t i 0) b m)) ∙ (rw e at (r .packs))
+
+      pub packing-on : (i + 1 - i₀ ≡ packable → ⊥) → Packing t i₀ (packedWith v (getD t i 0)) (i + 1)
+      packing-on l = record {
+        inside = omega arith;
+        behind = omega arith;
+        few = omega arith;
+        ends = on-ends;
+        packs = on-packs (i₀ + packable - (i + 1)) (omega arith);
+      }
+
+      pub packing-full : i + 1 - i₀ ≡ packable → {e : ℕ} → e ≡ i + 1 + front isWord (drop (i + 1) t)
+          → found e (packedWith v (getD t i 0)) ≡ wordOf i₀ (drop i₀ t)
+      unfolding packedFront packedOf
+      packing-full l d = answer (d ∙ on-ends) (on-packs 0 (omega arith))
+
+    pub packing-stop : Digit < getD cl (getD t i 0) 0 → found i v ≡ wordOf i₀ (drop i₀ t)
     packing-stop m =
         let n = mark-other c (getD t i 0) b m in
-        answer (omega (arith, front-off isWord t i h n, r .ends)) (sym (r .packs) ∙ packed-off v t i h n)
+        answer (omega (arith, front-off isWord t i h n, r .ends)) (sym (packed-off v _ t i h n) ∙ r .packs)
 
-  pub packing-end : length t ≤ i → found ≡ wordOf i₀ (drop i₀ t)
-  packing-end h = answer (omega (arith, front-end isWord t i h, r .ends)) (sym (r .packs) ∙ packed-end v t i h)
+  pub packing-end : length t ≤ i → found i v ≡ wordOf i₀ (drop i₀ t)
+  packing-end h = answer (omega (arith, front-end isWord t i h, r .ends)) (sym (packed-end v _ t i h) ∙ r .packs)

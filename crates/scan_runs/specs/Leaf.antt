@@ -6,7 +6,7 @@ use lib.ListN.{take}
 use lib.Dec.{eqb}
 use Rattle.rules.specs.Text.{front, byte}
 use Rattle.rules.specs.Lex.{isWord, isDigit, isHexDigit, digitValue, spelt, largest, isEscape}
-use Rattle.scan_words.specs.Slots.{packedOf}
+use Rattle.scan_words.specs.Slots.{packedOf, packable}
 use Rattle.scan_runs.specs.declared.Word.{Word}
 use Rattle.scan_runs.specs.declared.Digits.{Digits}
 use Rattle.scan_runs.specs.declared.Quoted.{Quoted}
@@ -14,12 +14,17 @@ use Rattle.scan_runs.specs.declared.Quoted.the-variants.{Closed, Open, E
 
 -- ---- a word
 
--- the letters, digits and underscores at the front, packed behind bytes that are packed into v
-unfoldable pub packedFront : ℕ → List ℕ → ℕ
-packedFront v s = packedOf v (take (front isWord s) s)
+-- the letters, digits and underscores at the front
+abbrev pub wordFront : List ℕ → List ℕ
+wordFront s = take (front isWord s) s
 
+-- the first n of them at most, packed behind bytes that are packed into v
+unfoldable pub packedFront : ℕ → ℕ → List ℕ → ℕ
+packedFront v n s = packedOf v (take n (wordFront s))
+
+-- of a word's bytes those that fit a number are packed, which tell whether it is reserved
 unfoldable pub wordOf : ℕ → List ℕ → Word
-wordOf at s = record { end = at + front isWord s; packed = packedFront 0 s }
+wordOf at s = record { end = at + front isWord s; packed = packedFront 0 packable s }
 
 -- ---- digits, decimal or hex
 

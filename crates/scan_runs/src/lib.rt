@@ -1,5 +1,6 @@
 // Leaves over the lent bytes and an index into them: where runs end, what digits are worth, and how a string closes.
 use rules::limit;
+use scan_eights::word_end;
 use scan_words::classes;
 ghost use mathlib.Core.Path.{_≡_};
 ghost use mathlib.Core.Bool.{_||_};
@@ -32,7 +33,7 @@ pub fn shown(text: &[u8], at: usize, whole: bool) -> bool
     at < text.len()
 }
 
-// A word: where it ends, and its bytes packed into one number.
+// A word: where it ends, and its first eight bytes at most, packed into one number.
 pub struct Word {
     pub end: usize,
     pub packed: u64,
@@ -42,6 +43,9 @@ pub struct Word {
 const BEFORE_LAST: u64 = 72057594037927936;
 
 const ABOVE_BYTE: u64 = 256;
+
+// So many bytes of a word are read one by one and packed; where it goes on, no reserved word is as long.
+const EIGHT: usize = 8;
 
 // The letters, digits and underscores from an index on.
 pub fn read_word(classes: &[u8; 256], text: &[u8], at: usize) -> Word
@@ -58,6 +62,12 @@ pub fn read_word(classes: &[u8; 256], text: &[u8], at: usize) -> Word
         }
         packed = packed % BEFORE_LAST * ABOVE_BYTE + b as u64;
         i += 1;
+        if i - at == EIGHT {
+            return Word {
+                end: word_end(classes, text, i),
+                packed,
+            };
+        }
     }
     Word { end: i, packed }
 }

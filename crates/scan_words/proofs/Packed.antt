@@ -1,15 +1,17 @@
 -- Words packed into numbers: two words of bytes other than 0, one of them shorter than eight, are one where their numbers agree. So the
--- slot that a number says tells the kind of the word.
+-- slot that a number says tells the kind of the word, and the first eight bytes of a longer one do.
 use mathlib.Core.Path.{_≡_, refl, sym, ap, _∙_}
 use mathlib.Core.Bool.{Bool, true, false, not, cond, _&&_, _||_, true≢false}
 use mathlib.Core.List.{List, [], _∷_, _++_, append-nil}
-use Prim.Native.Nat.{ℕ, zero, suc, _+_, _*_, _/_, _%_, _^_, _<_}
+use Prim.Native.Nat.{ℕ, zero, suc, _+_, _*_, _/_, _%_, _^_, _≤_, _<_}
+use native.Mathlib.Decide.{decLe}
 use native.Mathlib.Omega.{arith}
-use lib.ListN.{length}
+use lib.ListN.{length, take}
+use lib.Seq.{take-all, length-take-le}
 use lib.Dec.{eqb, ltb}
 use borrow.Author.Tests.{eqb-true, eqb-false, ltb-true, eq-eqb, ne-eqb, not-true}
 use Rattle.rules.specs.Kinds.{Spelt, Identifier, reserved, sameBytes, kindIn}
-use Rattle.scan_words.specs.Slots.{packedOf, plain, slotOf, slotIn}
+use Rattle.scan_words.specs.Slots.{packedOf, packable, plain, slotOf, slotIn}
 use Rattle.laws.proofs.Tests.{both-true, true-both, neither}
 use Rattle.laws.proofs.Spelled.{same-eq, differs, same-says}
 
@@ -26,6 +28,14 @@ plain-cons b s e =
     let x = both-true _ _ e in
     let y = both-true _ _ (x .0) in
     record { some = ltb-true _ _ (y .0); small = ltb-true _ _ (y .1); rest = x .1 }
+
+pub plain-take : (n : ℕ) (w : List ℕ) → plain w ≡ true → plain (take n w) ≡ true
+unfolding plain
+plain-take zero w h = refl
+plain-take (suc n) [] h = refl
+plain-take (suc n) (b ∷ w) h =
+    let x = both-true (ltb 0 b && ltb b 256) (plain w) h in
+    true-both {p = ltb 0 b && ltb b 256} {q = plain (take n w)} (x .0) (plain-take n w (x .1))
 
 -- ---- the last byte first
 
@@ -193,6 +203,29 @@ module _ (w : List ℕ) (h : plain w ≡ true) where
 pub slot-tells : (w : List ℕ) → plain w ≡ true →
     answered (slotIn reserved (slotOf (packedOf 0 w))) (packedOf 0 w) ≡ kindIn reserved Identifier w
 slot-tells w h = looked w h reserved reserved-spaced
+
+-- ---- a word of which only the bytes that fit a number are packed
+
+-- no word of the table has as many bytes as fit a number
+too-long : (w : List ℕ) → packable ≤ length w → (es : List Spelt) → spaced es ≡ true → kindIn es Identifier w ≡ Identifier
+unfolding spaced fits kindIn
+too-long w l [] s = refl
+too-long w l (e ∷ es) s =
+    let x = both-true (fits e) _ s in
+    let n = ltb-true (length (e .spelling)) packable (both-true (ltb (length (e .spelling)) packable) _ (x .0) .0) in
+    let y = both-true (not (taken es (slotOf (packedOf 0 (e .spelling))))) (spaced es) (x .1) in
+    let d : sameBytes (e .spelling) w ≡ false = differs (e .spelling) w (λ (z : w ≡ e .spelling). omega (arith, ap length z)) in
+    rw (kindIn, d) (too-long w l es (y .1))
+
+-- what is packed of a word tells whether it is reserved
+pub packed-tells : (w : List ℕ) → kindIn reserved Identifier (take packable w) ≡ kindIn reserved Identifier w
+packed-tells w = pick (decLe packable (length w))
+  where
+    pick : Dec (packable ≤ length w) → kindIn reserved Identifier (take packable w) ≡ kindIn reserved Identifier w
+    pick (yes l) =
+        let n : packable ≤ length (take packable w) = omega (arith, length-take-le packable w l) in
+        too-long (take packable w) n reserved reserved-spaced ∙ sym (too-long w l reserved reserved-spaced)
+    pick (no l) = rw (take-all packable w (omega arith))
 
 -- ---- a slot, asked for a number
 

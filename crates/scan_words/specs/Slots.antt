@@ -10,6 +10,10 @@ unfoldable pub packedOf : ℕ → List ℕ → ℕ
 packedOf v [] = v
 packedOf v (b ∷ s) = packedOf (v % 2 ^ 56 * 256 + b) s
 
+-- so many bytes fit such a number
+abbrev pub packable : ℕ
+packable = 8
+
 -- bytes of which none is 0
 unfoldable pub plain : List ℕ → Bool
 plain [] = true

@@ -2,8 +2,10 @@
 use mathlib.Core.Path.{sym, ap, _∙_}
 use Prim.Native.Nat.{ℕ, _-_}
 use native.Mathlib.Omega.{arith}
-use lib.ListN.{drop}
+use lib.ListN.{take, drop}
 use borrow.Author.Tests.{not-true, not-false}
+use Rattle.scan_words.specs.Slots.{packable}
+use Rattle.scan_words.proofs.Packed.{packed-tells}
 use Rattle.scan_runs.proofs.Words.{words-plain}
 use Rattle.scan_reader.proofs.Settled.{wordAt, word-end, word-packed, word-unknown, word-told}
 use borrow.Author.Needs.{needs}
@@ -50,7 +52,8 @@ returns-2 c =
     let e = k .read-word .ensures in
     c .told2 .ensures
     ∙ ap (λ (x : ℕ). record { size = w .end - a; kind = x; bits = 0 })
-    (c .before .kind-in .ensures (wordAt t a w e) (words-plain (drop a t)) (word-packed t a w e))
+    (c .before .kind-in .ensures (take packable (wordAt t a w e)) (words-plain (drop a t)) (word-packed t a w e)
+    ∙ packed-tells (wordAt t a w e))
     ∙ sym (word-told t a w e (s .args .whole) (sym (d .before .shown .ensures) ∙ not-false _ (d .if1 .left)))
 
 pub word-spec : {M : Type 1} → statement M
