@@ -3,3 +3,4 @@ pub mod Runs
 pub mod Quotes
 pub mod Words
 pub mod Bodies
+pub mod Lines

@@ -72,12 +72,44 @@ pub fn read_word(classes: &[u8; 256], text: &[u8], at: usize) -> Word
     Word { end: i, packed }
 }
 
+// So many bytes are looked at together.
+const BLOCK: usize = 16;
+
+// Whether one of a block of bytes from an index on is a newline.
+fn block_ends_line(text: &[u8], at: usize) -> bool
+    requires { ⌜ at + 16 ≤ length (now text) ⌝ }
+    ensures { λ r. ⌜ r ≡ ltb (front notNewline (drop at (now (text .entry)))) 16 ⌝ }
+{
+    let mut found = false;
+    let mut k = 0;
+    while k < BLOCK {
+        found = found | (text[at + k] == b'\n');
+        k += 1;
+    }
+    found
+}
+
+// An index behind blocks of bytes that are no newline, from an index on.
+fn past_blocks(text: &[u8], at: usize) -> usize
+    requires { ⌜ at ≤ length (now text) ⌝ }
+    ensures { λ r. ⌜ (at ≤ r) × (r ≤ at + front notNewline (drop at (now (text .entry)))) ⌝ }
+{
+    let mut i = at;
+    while BLOCK <= text.len() - i {
+        if block_ends_line(text, i) {
+            return i;
+        }
+        i += BLOCK;
+    }
+    i
+}
+
 // Where the line ends: at its newline, or with the bytes.
 pub fn line_end(text: &[u8], at: usize) -> usize
     requires { ⌜ at ≤ length (now text) ⌝ }
     ensures { λ r. ⌜ r ≡ at + front notNewline (drop at (now (text .entry))) ⌝ }
 {
-    let mut i = at;
+    let mut i = past_blocks(text, at);
     while i < text.len() {
         if text[i] == b'\n' {
             return i;
@@ -178,7 +210,7 @@ pub struct Digits {
 }
 
 // The digits from an index on. Those that spell too large a number are read to their end.
-pub fn read_digits(text: &[u8], at: usize, hex: bool) -> Digits
+fn digits_in(text: &[u8], at: usize, hex: bool) -> Digits
     requires { ⌜ at ≤ length (now text) ⌝ }
     ensures { λ r. ⌜ r ≡ digitsOf hex at (drop at (now (text .entry))) ⌝ }
 {
@@ -194,6 +226,17 @@ pub fn read_digits(text: &[u8], at: usize, hex: bool) -> Digits
         i += 1;
     }
     Digits { end: i, value }
+}
+
+// The digits from an index on: by one branch for each base, so that the compiler makes a loop for each.
+pub fn read_digits(text: &[u8], at: usize, hex: bool) -> Digits
+    requires { ⌜ at ≤ length (now text) ⌝ }
+    ensures { λ r. ⌜ r ≡ digitsOf hex at (drop at (now (text .entry))) ⌝ }
+{
+    if hex {
+        return digits_in(text, at, true);
+    }
+    digits_in(text, at, false)
 }
 
 // Whether a byte may follow a backslash.
