@@ -1,20 +1,40 @@
--- `scan_walk::spots::past_blanks` meets its contract: each turn passes one blank, and where the loop stops no blank is left.
+-- `scan_walk::spots::past_blanks` meets its contract: each turn passes at least one blank, and where the loop stops no blank is left.
 use mathlib.Core.Path.{sym, _∙_}
-use Prim.Native.Nat.{_-_}
+use Prim.Native.Nat.{_+_, _-_}
 use native.Mathlib.Omega.{arith}
 use lib.ListN.{length}
 use borrow.Author.Needs.{needs}
 use borrow.Author.Tests.{not-true, not-false}
 use Rattle.laws.proofs.Places.{roomy-less}
-use Rattle.scan_walk.proofs.Blanks.{Blanked, blanked-start, blanked-end, blanked-off, blanked-on}
+use Rattle.scan_walk.specs.Walk.{Blanked}
+use Rattle.scan_walk.proofs.Blanks.{blanked-start, blanked-then, blanked-end, blanked-off, blanked-on}
 use Rattle.scan_walk.proofs.spots.past_blanks.Statement.{statement}
 use Rattle.scan_walk.proofs.spots.past_blanks.Tie as tie
 
 abbrev Inv-loop : tie.InvT-loop
-Inv-loop text cursor₀ i₀ cursor i = Blanked text (record { at = i₀; cursor = cursor₀ }) cursor i
+Inv-loop text cursor₀ i₀ cursor i = Blanked text (record { at = i₀; cursor = cursor₀ }) (record { at = i; cursor = cursor })
 
 abbrev μ-loop : tie.MeasureT-loop
 μ-loop text cursor₀ i₀ cursor i = length text - i
+
+-- ---- the places on the way, from behind one blank
+
+abbrev blank : tie.After-advance Inv-loop μ-loop → tie.After-is-blank Inv-loop μ-loop
+blank c = c .before .before
+
+abbrev turn : tie.After-advance Inv-loop μ-loop → tie.In-loop Inv-loop μ-loop
+turn c = blank c .before .before
+
+abbrev start : tie.After-advance Inv-loop μ-loop → tie.Start Inv-loop μ-loop
+start c = turn c .before .before .before .before
+
+-- the blank is passed
+passed : (c : tie.After-advance Inv-loop μ-loop)
+    → Blanked (start c .args .text .now) (start c .args .from) (record { at = turn c .before .loop .i + 1; cursor = c .advance .result })
+passed c =
+    let b = blank c .is-blank in
+    let is-blank = sym (b .ensures) ∙ not-false (b .result) (c .before .if1 .left) in
+    blanked-on (turn c .before .loop .inv) (turn c .loop-test .taken) is-blank (c .advance .ensures)
 
 loop-holds : tie.Need-loop-holds Inv-loop μ-loop
 loop-holds c = let s = c .before .before in blanked-start (s .args .text .now) (s .args .from) (s .pre)
@@ -28,7 +48,8 @@ is-blank-requires c κs = search needs
 returns : tie.Need-returns Inv-loop μ-loop
 returns c =
     let n = c .before .before .before in
-    blanked-off (n .before .loop .inv) (n .loop-test .taken) (sym (c .before .is-blank .ensures) ∙ not-true (c .before .is-blank .result) (c .if1 .taken))
+    let b = c .before .is-blank in
+    blanked-off (n .before .loop .inv) (n .loop-test .taken) (sym (b .ensures) ∙ not-true (b .result) (c .if1 .taken))
 
 advance-requires : tie.Need-advance-requires Inv-loop μ-loop
 advance-requires c κs =
@@ -39,14 +60,20 @@ advance-requires c κs =
 add-i : tie.Need-add-i Inv-loop μ-loop
 add-i c = omega arith
 
+past-indent-requires : tie.Need-past-indent-requires Inv-loop μ-loop
+past-indent-requires c κs = passed (c .before) .ahead
+
 loop-less : tie.Need-loop-less Inv-loop μ-loop
-loop-less c = omega arith
+loop-less c = let r = c .before .past-indent .ensures in omega (arith, r .behind, r .ahead .inside)
 
 loop-again : tie.Need-loop-again Inv-loop μ-loop
-loop-again c =
-    let n = c .before .before .before .before in
-    rw (c .advance .ensures)
-    (blanked-on (n .before .loop .inv) (n .loop-test .taken) (sym (c .before .before .is-blank .ensures) ∙ not-false (c .before .before .is-blank .result) (c .before .if1 .left)))
+loop-again c = blanked-then (passed (c .before .before .before)) (c .before .past-indent .ensures)
+
+loop-less-2 : tie.Need-loop-less-2 Inv-loop μ-loop
+loop-less-2 c = omega arith
+
+loop-again-2 : tie.Need-loop-again-2 Inv-loop μ-loop
+loop-again-2 c = passed (c .before)
 
 returns-2 : tie.Need-returns-2 Inv-loop μ-loop
 returns-2 c = blanked-end (c .before .loop .inv) (c .loop-test .left)
@@ -63,6 +90,9 @@ past-blanks-spec =
     returns
     advance-requires
     add-i
+    past-indent-requires
     loop-less
     loop-again
+    loop-less-2
+    loop-again-2
     returns-2)
