@@ -16,7 +16,7 @@ use lib.Count.{under, trailingZeros, trailing-of-zero}
 use Rattle.rules.specs.Text.{front}
 use Rattle.rules.specs.Lex.{isWord}
 use Rattle.laws.proofs.Fronts.{front-drop}
-use Rattle.scan_eights.specs.Eights.{numberOf, markOf}
+use Rattle.scan_eights.specs.Eights.{numberOf, endMark}
 
 -- a front with the byte before it, by the test of that byte
 abbrev one-more : Bool → ℕ → ℕ
@@ -37,36 +37,36 @@ unfolding trailingZeros
 trailing-odd k n = rw (add-one k, digits-mod n {m = 2} {r = 1} (lit< tt))
 
 -- eight zeros for each byte of the word, and seven below the mark behind it
-mark-ends : (s : List ℕ) → trailingZeros (8 * length s) (numberOf (map markOf s)) / 8 ≡ front isWord s
-unfolding numberOf markOf front trailingZeros
+mark-ends : (s : List ℕ) → trailingZeros (8 * length s) (numberOf (map endMark s)) / 8 ≡ front isWord s
+unfolding numberOf endMark front trailingZeros
 mark-ends [] = refl
 mark-ends (b ∷ s) = rw (mul-suc 8 (length s)) (pick (isWord b) (mark-ends s))
   where
-    pick : (q : Bool) → trailingZeros (8 * length s) (numberOf (map markOf s)) / 8 ≡ front isWord s
-        → trailingZeros (8 * length s + 8) (numberOf (map markOf s) * 256 + cond q 0 128) / 8 ≡ one-more q (front isWord s)
-    pick true r = rw (add-zero, trailing-shift 8 (8 * length s) (numberOf (map markOf s))) (omega arith)
+    pick : (q : Bool) → trailingZeros (8 * length s) (numberOf (map endMark s)) / 8 ≡ front isWord s
+        → trailingZeros (8 * length s + 8) (numberOf (map endMark s) * 256 + cond q 0 128) / 8 ≡ one-more q (front isWord s)
+    pick true r = rw (add-zero, trailing-shift 8 (8 * length s) (numberOf (map endMark s))) (omega arith)
     pick false r =
-        let n : ℕ = numberOf (map markOf s) in
+        let n : ℕ = numberOf (map endMark s) in
         let e : n * 256 + 128 ≡ (n * 2 + 1) * 128 = omega arith in
         let w : 8 * length s + 8 ≡ 8 * length s + 1 + 7 = omega arith in
         rw (w, e, trailing-shift 7 (8 * length s + 1) (n * 2 + 1), trailing-odd (8 * length s) n)
 
 -- ---- a number with no mark, and one with a mark
 
-no-mark : (s : List ℕ) → numberOf (map markOf s) ≡ 0 → front isWord s ≡ length s
+no-mark : (s : List ℕ) → numberOf (map endMark s) ≡ 0 → front isWord s ≡ length s
 no-mark s e = sym (mark-ends s) ∙ rw (e, trailing-of-zero (8 * length s)) (omega arith)
 
-all-words : (s : List ℕ) → length s ≤ front isWord s → numberOf (map markOf s) ≡ 0
-unfolding numberOf markOf front
+all-words : (s : List ℕ) → length s ≤ front isWord s → numberOf (map endMark s) ≡ 0
+unfolding numberOf endMark front
 all-words [] h = refl
 all-words (b ∷ s) h = pick (isWord b) h (all-words s)
   where
     pick : (q : Bool) → suc (length s) ≤ one-more q (front isWord s)
-        → (length s ≤ front isWord s → numberOf (map markOf s) ≡ 0) → numberOf (map markOf s) * 256 + cond q 0 128 ≡ 0
+        → (length s ≤ front isWord s → numberOf (map endMark s) ≡ 0) → numberOf (map endMark s) * 256 + cond q 0 128 ≡ 0
     pick true h r = rw (r (omega arith))
     pick false h r = absurd (let y : ⊥ = omega arith in y)
 
-some-mark : (s : List ℕ) → (numberOf (map markOf s) ≡ 0 → ⊥) → front isWord s < length s
+some-mark : (s : List ℕ) → (numberOf (map endMark s) ≡ 0 → ⊥) → front isWord s < length s
 some-mark s h = pick (decLt (front isWord s) (length s))
   where
     pick : Dec (front isWord s < length s) → front isWord s < length s
@@ -104,7 +104,7 @@ module _ (t : List ℕ) (i : ℕ) (h : i + 8 ≤ length t) where
   pub eight-long : length (take 8 (drop i t)) ≡ 8
   eight-long = length-take-le 8 (drop i t) (omega (arith, length-drop i t))
 
-  module _ (m : ℕ) (e : m ≡ numberOf (map markOf (take 8 (drop i t)))) where
+  module _ (m : ℕ) (e : m ≡ numberOf (map endMark (take 8 (drop i t)))) where
     pub eight-on : m ≡ 0 → front isWord (drop i t) ≡ 8 + front isWord (drop (i + 8) t)
     eight-on z =
         let l : front isWord (take 8 (drop i t)) ≡ 8 = no-mark (take 8 (drop i t)) (sym e ∙ z) ∙ eight-long in

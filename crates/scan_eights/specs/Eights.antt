@@ -10,8 +10,8 @@ numberOf [] = 0
 numberOf (b ∷ s) = numberOf s * 256 + b
 
 -- the highest bit of a byte that is no letter, no digit and no underscore
-unfoldable pub markOf : ℕ → ℕ
-markOf b = cond (isWord b) 0 128
+unfoldable pub endMark : ℕ → ℕ
+endMark b = cond (isWord b) 0 128
 
 -- numbers that are bytes
 pub data Bytes : List ℕ → Type 0 where

@@ -8,7 +8,7 @@ ghost use lib.ListN.{length, getD, take, drop};
 ghost use Rattle.rules.specs.Text.{front};
 ghost use Rattle.rules.specs.Lex.{isWord};
 ghost use Rattle.scan_words.specs.Class.{Classes};
-ghost use Rattle.scan_eights.specs.Eights.{numberOf, markOf, Bytes};
+ghost use Rattle.scan_eights.specs.Eights.{numberOf, endMark, Bytes};
 
 // A byte as a number that eight of them fit.
 fn wide(text: &[u8], at: usize) -> u64
@@ -50,7 +50,7 @@ const EACH: u64 = 0x0101010101010101;
 
 // The highest bit of each of eight bytes that is no letter, no digit and no underscore, and no other bit.
 fn marks(x: u64) -> u64
-    ensures { λ r. ⌜ ((s : List ℕ) → length s ≡ 8 → Bytes s → x ≡ numberOf s → r ≡ numberOf (map markOf s)) ⌝ }
+    ensures { λ r. ⌜ ((s : List ℕ) → length s ≡ 8 → Bytes s → x ≡ numberOf s → r ≡ numberOf (map endMark s)) ⌝ }
 {
     let low = x & (EACH * 0x7f);
     let small = low | (EACH * 0x20);

@@ -6,7 +6,7 @@ use lib.Dec.{lit<}
 use lib.Bits.{bitAnd, bitOr, bitXor, and-le-r, or-lt, xor-lt}
 use borrow.Author.Needs.{needs}
 use Rattle.rules.specs.Lex.{isLetter, isDigit, isWord}
-use Rattle.scan_eights.specs.Eights.{markOf}
+use Rattle.scan_eights.specs.Eights.{endMark}
 use Rattle.scan_eights.proofs.Numbers.{one-each, each-self, each-of, each-and, each-or, each-xor, each-add, each-is}
 use Rattle.scan_eights.proofs.marks.Statement.{statement}
 use Rattle.scan_eights.proofs.marks.Tie as tie
@@ -69,7 +69,7 @@ mul-result : tie.Need-mul-result
 mul-result c = search needs
 
 returns : tie.Need-returns
-unfolding markOf isWord isLetter isDigit
+unfolding endMark isWord isLetter isDigit
 returns c = λ s l u e.
     let x = each-self e in
     let low = each-and u x (each-of 127 (lit< tt) l) in
@@ -79,7 +79,7 @@ returns c = λ s l u e.
     let other = each-add (each-xor u low (each-of 95 (lit< tt) l)) (each-of 127 (lit< tt) l) refl in
     let all = each-of 255 (lit< tt) l in
     let word = each-or u (each-or u letter digit) (each-xor u other all) in
-    each-is u (each-and u (each-or u (each-xor u word all) x) (each-of 128 (lit< tt) l)) markOf refl
+    each-is u (each-and u (each-or u (each-xor u word all) x) (each-of 128 (lit< tt) l)) endMark refl
 
 pub marks-spec : {M : Type 1} → statement M
 marks-spec =

@@ -7,7 +7,7 @@ use lib.ListN.{length, take, drop}
 use lib.Count.{trailing-le}
 use Rattle.rules.specs.Text.{front}
 use Rattle.rules.specs.Lex.{isWord}
-use Rattle.scan_eights.specs.Eights.{numberOf, markOf}
+use Rattle.scan_eights.specs.Eights.{numberOf, endMark}
 use Rattle.scan_eights.proofs.Numbers.{bytes-of, bytes-take, bytes-drop}
 use Rattle.scan_eights.proofs.Ends.{eight-long, eight-on, eight-stop}
 use Rattle.scan_eights.proofs.word_end.Statement.{statement}
@@ -30,7 +30,7 @@ text c = at-loop c .before .before .args .text .now
 inside : (c : tie.After-marks Inv-loop μ-loop) → at-loop c .loop .i + 8 ≤ length (text c)
 inside c = omega arith
 
-marks-are : (c : tie.After-marks Inv-loop μ-loop) → c .marks .result ≡ numberOf (map markOf (take 8 (drop (at-loop c .loop .i) (text c))))
+marks-are : (c : tie.After-marks Inv-loop μ-loop) → c .marks .result ≡ numberOf (map endMark (take 8 (drop (at-loop c .loop .i) (text c))))
 marks-are c =
     let l = at-loop c in
     let i = l .loop .i in

@@ -1,4 +1,4 @@
--- `leaves::body_end` meets its contract: the end of the comment's body is the same from every index on the way.
+-- `body_end` meets its contract: the end of the comment's body is the same from every index on the way.
 use mathlib.Core.Path.{_≡_, refl, sym, _∙_}
 use mathlib.Core.Bool.{false, _&&_}
 use mathlib.Core.Logic.{⊎-elim}

@@ -1,4 +1,4 @@
--- `leaves::digit_of` meets its contract: each branch is a case of what a hex digit is worth.
+-- `digit_of` meets its contract: each branch is a case of what a hex digit is worth.
 use native.Mathlib.Omega.{arith}
 use borrow.Author.Tests.{le-leb, lt-leb}
 use borrow.Author.Needs.{needs}

@@ -1,4 +1,4 @@
--- `leaves::escapes` meets its contract: the three tests are those of the rules.
+-- `escapes` meets its contract: the three tests are those of the rules.
 use mathlib.Core.Path.{refl}
 use Rattle.rules.specs.Lex.{isEscape}
 use Rattle.scan_runs.proofs.escapes.Statement.{statement}

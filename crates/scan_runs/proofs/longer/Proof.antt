@@ -1,4 +1,4 @@
--- `leaves::longer` meets its contract: a value of too many digits is clipped, any other is exact.
+-- `longer` meets its contract: a value of too many digits is clipped, any other is exact.
 use mathlib.Core.Path.{sym}
 use Prim.Native.Nat.{_<_}
 use native.Mathlib.Omega.{arith}

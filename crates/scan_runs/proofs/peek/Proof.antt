@@ -1,4 +1,4 @@
--- `leaves::peek` meets its contract: what is read behind the end is 0.
+-- `peek` meets its contract: what is read behind the end is 0.
 use mathlib.Core.Path.{sym}
 use lib.ListN.{List·getD-eq-default}
 use borrow.Author.Needs.{needs}

@@ -1,4 +1,4 @@
--- `leaves::read_quoted` meets its contract: the string's answer is the same from every index on the way.
+-- `read_quoted` meets its contract: the string's answer is the same from every index on the way.
 use mathlib.Core.Path.{_≡_, refl, sym, _∙_}
 use mathlib.Core.Bool.{false}
 use Prim.Native.Nat.{_-_, _≤_}

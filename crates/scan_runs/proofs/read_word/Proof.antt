@@ -1,4 +1,4 @@
--- `leaves::read_word` meets its contract: the end of the word, and its number, are the same from every index on the way.
+-- `read_word` meets its contract: the end of the word, and its number, are the same from every index on the way.
 use Prim.Native.Nat.{_-_, _<_}
 use native.Mathlib.Omega.{arith}
 use lib.ListN.{length, getD}

@@ -1,4 +1,4 @@
--- `leaves::shown` meets its contract: the two cases of the test.
+-- `shown` meets its contract: the two cases of the test.
 use borrow.Author.Needs.{needs}
 use Rattle.scan_runs.proofs.shown.Statement.{statement}
 use Rattle.scan_runs.proofs.shown.Tie as tie
