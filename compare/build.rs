@@ -20,6 +20,16 @@ const CALLS: [&str; 9] = [
     "store",
     "load",
 ];
+/// What no side asks of the older archive: its own names for these stay its own.
+const UNASKED: [&str; 7] = [
+    "allows",
+    "set_size",
+    "section_kind",
+    "version",
+    "load_beside",
+    "move",
+    "mend",
+];
 
 fn main() {
     println!("cargo:rustc-check-cfg=cfg(re2c)");
@@ -68,7 +78,7 @@ fn renamed(archive: &Path, copy: &Path) -> bool {
     for call in CALLS {
         command.arg(format!("--redefine-sym=spoonharbor_{call}=before_{call}"));
     }
-    for call in ["allows", "set_size", "section_kind", "version"] {
+    for call in UNASKED {
         command.arg(format!("--localize-symbol=spoonharbor_{call}"));
     }
     ran(command.arg(archive).arg(copy))
