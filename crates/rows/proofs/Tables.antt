@@ -81,10 +81,6 @@ of-stands : (ws : List ℕ) (i : ℕ) → Stands ws i → stands ws i ≡ true
 unfolding stands
 of-stands ws i s = rw (s .plain, s .fit, s .join)
 
--- one row more
-pub below-on : (f : ℕ → Bool) (n : ℕ) (p g : Bool) → p ≡ f n → g ≡ allBelow f n → (p && g) ≡ allBelow f (n + 1)
-below-on f n p g e h = rw (e, h, add-one)
-
 -- row i, read as q
 module _ (ws : List ℕ) (i : ℕ) (q : Row) (e : q ≡ rowNo ws i) where
   fits-joined : (rowFits q && fitsAfter (rowBefore ws i) q) ≡ (rowFits q && joined ws i)

@@ -35,18 +35,19 @@ fn rows_stand(least: &[u32; kind::KINDS], most: &[u32; kind::KINDS], rows: &[u32
     ensures { λ r. ⌜ r ≡ allBelow (stands (now (rows .entry))) n ⌝ }
 {
     let mut last = shape::no_row();
-    let mut good = true;
     let mut i = 0;
     while i < n {
         let r = shape::row_at(rows, i);
         if (kind::EOF <= r.kind) | !shape::row_sane(r) {
             return false;
         }
-        good = shape::row_stands(least, most, last, r) & good;
+        if !shape::row_stands(least, most, last, r) {
+            return false;
+        }
         last = r;
         i += 1;
     }
-    good
+    true
 }
 
 // Whether row i fits where it stands, and is Eof at the text's size.
