@@ -197,15 +197,15 @@ fn each_crate_is_told() {
     let ran = says(said, 0);
     let lines: Vec<&str> = ran.complaints.lines().collect();
     assert!(
-        lines[0].starts_with("check: proving 10 crates, "),
+        lines[0].starts_with("check: proving 11 crates, "),
         "{}",
         lines[0]
     );
     assert_eq!(
         lines[1..],
         [
-            "check: 2 of 10: laws proved (1 s)",
-            "check: 3 of 10: scan proved (28 s)"
+            "check: 2 of 11: laws proved (1 s)",
+            "check: 3 of 11: scan proved (28 s)"
         ]
     );
     assert_eq!((ran.out.as_str(), ran.status), ("", 0));
