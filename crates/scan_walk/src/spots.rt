@@ -36,6 +36,23 @@ fn four(text: &[u8], at: usize) -> u32
         + (wide(text[at + 2]) * 65536 + wide(text[at + 3]) * 16777216)
 }
 
+// The spot behind newlines at a spot.
+fn past_newlines(text: &[u8], from: Spot) -> Spot
+    requires { ⌜ Ahead (now text) from ⌝ }
+    ensures { λ r. ⌜ Blanked (now (text .entry)) from r ⌝ }
+{
+    let mut cursor = from.cursor;
+    let mut i = from.at;
+    while i < text.len() {
+        if text[i] != b'\n' {
+            return Spot { at: i, cursor };
+        }
+        cursor = cursor.advance(b'\n');
+        i += 1;
+    }
+    Spot { at: i, cursor }
+}
+
 // The spot behind spaces at a spot, four at a time.
 fn past_indent(text: &[u8], from: Spot) -> Spot
     requires { ⌜ Ahead (now text) from ⌝ }
@@ -53,6 +70,14 @@ fn past_indent(text: &[u8], from: Spot) -> Spot
     Spot { at: i, cursor }
 }
 
+// The spot behind newlines at a spot, and behind the indentation of the line there.
+fn past_margin(text: &[u8], from: Spot) -> Spot
+    requires { ⌜ Ahead (now text) from ⌝ }
+    ensures { λ r. ⌜ Blanked (now (text .entry)) from r ⌝ }
+{
+    past_indent(text, past_newlines(text, from))
+}
+
 // The spot behind the blanks at a spot.
 pub fn past_blanks(text: &[u8], from: Spot) -> Spot
     requires { ⌜ Ahead (now text) from ⌝ }
@@ -68,7 +93,7 @@ pub fn past_blanks(text: &[u8], from: Spot) -> Spot
         cursor = cursor.advance(b);
         i += 1;
         if b == b'\n' {
-            let here = past_indent(text, Spot { at: i, cursor });
+            let here = past_margin(text, Spot { at: i, cursor });
             cursor = here.cursor;
             i = here.at;
         }

@@ -60,14 +60,14 @@ advance-requires c κs =
 add-i : tie.Need-add-i Inv-loop μ-loop
 add-i c = omega arith
 
-past-indent-requires : tie.Need-past-indent-requires Inv-loop μ-loop
-past-indent-requires c κs = passed (c .before) .ahead
+past-margin-requires : tie.Need-past-margin-requires Inv-loop μ-loop
+past-margin-requires c κs = passed (c .before) .ahead
 
 loop-less : tie.Need-loop-less Inv-loop μ-loop
-loop-less c = let r = c .before .past-indent .ensures in omega (arith, r .behind, r .ahead .inside)
+loop-less c = let r = c .before .past-margin .ensures in omega (arith, r .behind, r .ahead .inside)
 
 loop-again : tie.Need-loop-again Inv-loop μ-loop
-loop-again c = blanked-then (passed (c .before .before .before)) (c .before .past-indent .ensures)
+loop-again c = blanked-then (passed (c .before .before .before)) (c .before .past-margin .ensures)
 
 loop-less-2 : tie.Need-loop-less-2 Inv-loop μ-loop
 loop-less-2 c = omega arith
@@ -90,7 +90,7 @@ past-blanks-spec =
     returns
     advance-requires
     add-i
-    past-indent-requires
+    past-margin-requires
     loop-less
     loop-again
     loop-less-2
