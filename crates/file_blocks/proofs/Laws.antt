@@ -1,6 +1,6 @@
 -- Laws of numbers where they stand in bytes, of one more byte, word or row, and of bytes written one behind the other.
 use mathlib.Core.Path.{_≡_, refl, sym, ap, _∙_}
-use mathlib.Core.Bool.{Bool, true, false, not, _&&_, _||_, true≢false, and-false, and-comm, and-assoc}
+use mathlib.Core.Bool.{Bool, true, false, _&&_}
 use mathlib.Core.List.{List, [], _∷_, _++_, append-assoc, append-nil}
 use Prim.Native.Nat.{ℕ, zero, suc, _+_, _-_, _*_, _/_, _%_, _≤_, _<_, min, max}
 use native.Mathlib.Nat.{not-suc-le-zero, le-of-suc-le-suc}
@@ -9,22 +9,19 @@ use native.Mathlib.Omega.{arith}
 use lib.ListN.{length, take, drop, getD, set, replicate, length-append, length-take, length-drop, length-replicate}
 use lib.ListN.{replicate-append-replicate, take-append-drop, drop-of-length-le}
 use lib.Seq.{take-suc, drop-cons, drop-drop, getD-drop, sets-eq, set-at, take-at, drop-at, length-take-le, drop-append-add}
-use lib.Dec.{eqb, leb}
-use borrow.Author.Tests.{eqb-true, eq-eqb, ne-eqb, lt-leb, not-true}
-use Rattle.laws.proofs.Tests.{false-by, same-bool, both-true, true-both}
+use lib.Dec.{eqb}
+use borrow.Author.Tests.{eqb-true, eq-eqb}
+use Rattle.laws.proofs.Tests.{same-bool, both-true, true-both}
 use Rattle.rules.specs.Text.{mostBytes}
-use Rattle.rules.specs.Kinds.{Eof}
-use Rattle.rules.specs.Rows.{Row, rowIn, isEof, rowFits}
-use Rattle.rows.specs.Shape.{sane, fitsAfter}
-use Rattle.rows.proofs.Inside.{sound as inside, plain-kind}
-use Rattle.rows.proofs.Shapes.{made-le, fits-sane}
+use Rattle.rules.specs.Rows.{Row, rowIn}
+use Rattle.rows.specs.Shape.{standsOn}
 use Rattle.file_rules.specs.Bytes.{little, number, numberAt, bytesOf, wordsIn}
 use Rattle.file_rules.specs.Blocks.{sumFrom, check, checked, block, contentOf, zeros, sound}
 use Rattle.form_rules.specs.declared.Form.{Form}
 use Rattle.form_rules.specs.declared.Form.the-variants.{Full, Short}
 use Rattle.form_rules.specs.Short.{placedRow, onOneLine}
 use Rattle.form_rules.specs.Shapes.{rowBytesOf}
-use Rattle.file_blocks.specs.Standing.{rowFrom, rowsFrom, standsOn, stand}
+use Rattle.file_blocks.specs.Standing.{rowFrom, rowsFrom, stand}
 use Rattle.theory_files.proofs.Said.{words-at}
 use Rattle.theory_files.proofs.Numbers.{words-length, little-length, bytes-length, bytes-append}
 
@@ -200,35 +197,17 @@ rows-more form n i s h =
 
 -- ---- a row behind another
 
-module _ (r q : Row) where
-  pub stands-on-plain : q .kind < Eof → (rowFits q && fitsAfter r q) ≡ standsOn r q
-  unfolding standsOn isEof
-  stands-on-plain h = rw (ne-eqb (q .kind) Eof (λ e. omega arith))
-
-  pub stands-on-out : (leb Eof (q .kind) || not (sane q)) ≡ true → standsOn r q ≡ false
-  unfolding standsOn
-  stands-on-out h = false-by (standsOn r q) out
-    where
-      out : standsOn r q ≡ true → ⊥
-      out s =
-          let a = both-true (not (isEof q)) (rowFits q && fitsAfter r q) s in
-          let f = both-true (rowFits q) (fitsAfter r q) (a .1) .0 in
-          let k = made-le (q .kind) (inside q f .made) in
-          let l : q .kind < Eof = omega (arith, plain-kind q (not-true (isEof q) (a .0))) in
-          true≢false (sym h ∙ rw (lt-leb Eof (q .kind) l, fits-sane q f))
-
--- row i, read as q, behind the last, where the rows in front are judged
-module _ (form : Form) (n i : ℕ) (s : List ℕ) (last q : Row) (good : Bool) (h : i < n)
-    (e : q ≡ rowFrom form (drop (4 + rowBytesOf form * i) s)) where
-  pub stand-not : standsOn last q ≡ false → (good && stand last (rowsFrom form (n - i) (drop (4 + rowBytesOf form * i) s))) ≡ false
+-- row i, read as q, behind the last: the rows from there on stand just where it does, and those behind it
+module _ (form : Form) (n i : ℕ) (s : List ℕ) (last q : Row) (h : i < n) (e : q ≡ rowFrom form (drop (4 + rowBytesOf form * i) s)) where
+  pub stand-not : standsOn last q ≡ false → stand last (rowsFrom form (n - i) (drop (4 + rowBytesOf form * i) s)) ≡ false
   unfolding stand
-  stand-not f = rw (rows-more form n i s h, ← e, f) (and-false good)
+  stand-not f = rw (rows-more form n i s h, ← e, f)
 
-  pub stand-more : (p : Bool) → p ≡ standsOn last q
-      → ((p && good) && stand q (rowsFrom form (n - (i + 1)) (drop (4 + rowBytesOf form * (i + 1)) s)))
-      ≡ (good && stand last (rowsFrom form (n - i) (drop (4 + rowBytesOf form * i) s)))
+  pub stand-more : standsOn last q ≡ true
+      → stand q (rowsFrom form (n - (i + 1)) (drop (4 + rowBytesOf form * (i + 1)) s))
+      ≡ stand last (rowsFrom form (n - i) (drop (4 + rowBytesOf form * i) s))
   unfolding stand
-  stand-more p f = rw (rows-more form n i s h, ← e, ← f, and-comm p good) (and-assoc good p _)
+  stand-more f = rw (rows-more form n i s h, ← e, f)
 
 -- ---- one word more
 

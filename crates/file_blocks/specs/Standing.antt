@@ -1,10 +1,10 @@
 -- Rows in bytes, and whether rows fit one behind the other.
-use mathlib.Core.Bool.{Bool, true, not, _&&_}
+use mathlib.Core.Bool.{Bool, true, _&&_}
 use mathlib.Core.List.{List, [], _∷_}
 use Prim.Native.Nat.{ℕ, zero, suc}
 use lib.ListN.{drop}
-use Rattle.rules.specs.Rows.{Row, rowIn, wordsPerRow, isEof, rowFits}
-use Rattle.rows.specs.Shape.{fitsAfter}
+use Rattle.rules.specs.Rows.{Row, rowIn, wordsPerRow}
+use Rattle.rows.specs.Shape.{standsOn}
 use Rattle.file_rules.specs.Bytes.{wordsIn}
 use Rattle.form_rules.specs.declared.Form.{Form}
 use Rattle.form_rules.specs.declared.Form.the-variants.{Full, Short}
@@ -20,11 +20,7 @@ unfoldable pub rowsFrom : Form → ℕ → List ℕ → List Row
 rowsFrom form zero s = []
 rowsFrom form (suc n) s = rowFrom form s ∷ rowsFrom form n (drop (rowBytesOf form) s)
 
--- a row fits after another, and is not Eof
-unfoldable pub standsOn : Row → Row → Bool
-standsOn r q = not (isEof q) && (rowFits q && fitsAfter r q)
-
--- and so do rows, each behind the one before it
+-- rows stand, each on the one before it
 unfoldable pub stand : Row → List Row → Bool
 stand r [] = true
 stand r (q ∷ qs) = standsOn r q && stand q qs

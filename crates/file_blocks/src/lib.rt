@@ -259,28 +259,26 @@ pub fn row_in(form: Form, bytes: &[u8], i: usize) -> Row
 // Whether the first n rows of a block fit behind a row and one behind the other, none of them Eof.
 pub fn rows_stand(
     least: &[u32; kind::KINDS],
-    most: &[u32; kind::KINDS],
+    span: &[u32; kind::KINDS],
     form: Form,
     bytes: &[u8],
     n: usize,
     before: Row,
 ) -> bool
-    requires { ⌜ (4 + rowBytesOf form * n ≤ length (now bytes)) × LengthTable (now least) (now most) ⌝ }
+    requires { ⌜ (4 + rowBytesOf form * n ≤ length (now bytes)) × LengthTable (now least) (now span) ⌝ }
     ensures { λ r. ⌜ r ≡ stand (asRow before) (rowsFrom form n (drop 4 (now (bytes .entry)))) ⌝ }
 {
     let mut last = before;
-    let mut good = true;
     let mut i = 0;
     while i < n {
         let r = row_in(form, bytes, i);
-        if (kind::EOF <= r.kind) | !shape::row_sane(r) {
+        if !shape::stands_on(least, span, last, r) {
             return false;
         }
-        good = shape::row_stands(least, most, last, r) & good;
         last = r;
         i += 1;
     }
-    good
+    true
 }
 
 // The first n words of a block's content into the first lent words.

@@ -1,6 +1,6 @@
 -- Laws of rows in the bytes of a file, in either form: where each stands, those of a block in front of the others, and whether they stand.
 use mathlib.Core.Path.{_≡_, refl, sym, ap, _∙_}
-use mathlib.Core.Bool.{Bool, true, false, not, _&&_, _||_, and-true, and-comm, and-assoc}
+use mathlib.Core.Bool.{Bool, true, false, _&&_, and-true, and-comm, and-assoc}
 use mathlib.Core.List.{List, [], _∷_, _++_}
 use Prim.Native.Nat.{ℕ, zero, suc, _+_, _-_, _*_, _/_, _%_, _≤_, _<_, min}
 use native.Mathlib.Nat.{not-suc-le-zero, le-of-suc-le-suc, mul-suc, mul-add, mul-le-mul-left}
@@ -8,16 +8,14 @@ use native.Mathlib.Numerals.{add-one}
 use native.Mathlib.Omega.{arith}
 use lib.ListN.{length, take, drop, getD, length-take, length-drop, take-append-drop, List·getD-append}
 use lib.Seq.{drop-at, drop-drop, drop-append-le, drop-append-add}
-use lib.Dec.{ltb, leb}
-use borrow.Author.Tests.{ltb-true, ltb-false, leb-false}
+use lib.Dec.{ltb}
+use borrow.Author.Tests.{ltb-true, ltb-false}
 use Rattle.rules.specs.declared.Cursor.{Cursor}
-use Rattle.rules.specs.Kinds.{Eof}
 use Rattle.rules.specs.Rows.{Row, rowIn, rowNo, rowsIn}
 use Rattle.laws.specs.Tests.{allBelow}
-use Rattle.laws.proofs.Tests.{neither}
 use Rattle.laws.proofs.Rows.{rows-snoc}
-use Rattle.rows.specs.Shape.{sane, rowBefore, stands}
-use Rattle.rows.proofs.Tables.{before-first, before-on, stands-plain, stands-out}
+use Rattle.rows.specs.Shape.{rowBefore, standsOn, stands}
+use Rattle.rows.proofs.Tables.{before-first, before-on, stands-next}
 use Rattle.file_rules.specs.Bytes.{number, wordsIn}
 use Rattle.file_rules.specs.Blocks.{contentOf, perBlock, blocksFor, bodyFrom}
 use Rattle.file_rules.specs.Files.{countSaid, rowWordsIn}
@@ -25,8 +23,7 @@ use Rattle.form_rules.specs.declared.Form.{Form}
 use Rattle.form_rules.specs.declared.Form.the-variants.{Full, Short}
 use Rattle.form_rules.specs.Short.{placedRow, placed, onOneLine, shortWordsIn}
 use Rattle.form_rules.specs.Shapes.{rowBytesOf, rowWordsOf}
-use Rattle.file_blocks.specs.Standing.{rowFrom, rowsFrom, standsOn, stand}
-use Rattle.file_blocks.proofs.Laws.{stands-on-plain, stands-on-out}
+use Rattle.file_blocks.specs.Standing.{rowFrom, rowsFrom, stand}
 use Rattle.theory_files.proofs.Numbers.{words-length, words-front, words-drop}
 use Rattle.theory_files.proofs.Said.{part-front}
 use Rattle.theory_files.proofs.Many.{here-few, blocks-next, blocks-zero}
@@ -242,16 +239,9 @@ last-before ws zero = sym (before-first ws 0 refl)
 last-before ws (suc n) =
     rw (rows-snoc n ws, last-snoc (rowIn []) (rowNo ws n) (rowsIn n ws)) (sym (rw add-one at (before-on ws n)))
 
--- a row on the row before it stands where it is
-stands-by : (ws : List ℕ) (n : ℕ) (out : Bool) → (leb Eof (rowNo ws n .kind) || not (sane (rowNo ws n))) ≡ out
-    → standsOn (rowBefore ws n) (rowNo ws n) ≡ stands ws n
-stands-by ws n true e = stands-on-out (rowBefore ws n) (rowNo ws n) e ∙ sym (stands-out ws n (rowNo ws n) refl e)
-stands-by ws n false e =
-    let h = leb-false Eof (rowNo ws n .kind) (neither (leb Eof (rowNo ws n .kind)) (not (sane (rowNo ws n))) e .0) in
-    sym (stands-on-plain (rowBefore ws n) (rowNo ws n) h) ∙ stands-plain ws n (rowNo ws n) refl h
-
+-- a row on the rows before it stands where it is
 stands-last : (ws : List ℕ) (n : ℕ) → standsOn (lastOf (rowIn []) (rowsIn n ws)) (rowNo ws n) ≡ stands ws n
-stands-last ws n = rw (last-before ws n) (stands-by ws n _ refl)
+stands-last ws n = stands-next ws n (rowNo ws n) refl (lastOf (rowIn []) (rowsIn n ws)) (last-before ws n)
 
 pub stand-below : (ws : List ℕ) (n : ℕ) → stand (rowIn []) (rowsIn n ws) ≡ allBelow (stands ws) n
 unfolding stand rowsIn

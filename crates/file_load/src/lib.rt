@@ -206,7 +206,7 @@ fn judge_blocks(form: Form, file: &[u8], count: u32, plain: u32) -> Blocks
     ensures { λ r. ⌜ r ≡ blocksJudged form plain (now (file .entry)) ⌝ }
 {
     let least = shape::LEAST;
-    let most = shape::MOST;
+    let span = shape::SPAN;
     let mut last = shape::no_row();
     let mut stand = true;
     let mut left = count as usize;
@@ -221,7 +221,7 @@ fn judge_blocks(form: Form, file: &[u8], count: u32, plain: u32) -> Blocks
             return Blocks::Bad(k);
         }
         let m = rows_here(form, more);
-        stand = stand & rows_stand(&least, &most, form, block, m, last);
+        stand = stand & rows_stand(&least, &span, form, block, m, last);
         last = last_of(form, block, m, last);
         left -= n;
         more -= m;
@@ -261,7 +261,7 @@ fn last_closes(form: Form, file: &[u8], count: u32, size: u32, i: usize) -> bool
     ensures { λ r. ⌜ r ≡ closes (rowWordsOf form (now (file .entry))) size i ⌝ }
 {
     let least = shape::LEAST;
-    let most = shape::MOST;
+    let span = shape::SPAN;
     let r = row_of(form, file, count, i);
     if r.kind != kind::EOF {
         return false;
@@ -269,10 +269,7 @@ fn last_closes(form: Form, file: &[u8], count: u32, size: u32, i: usize) -> bool
     if r.start != size {
         return false;
     }
-    if shape::row_sane(r) {
-        return shape::row_stands(&least, &most, row_before(form, file, count, i), r);
-    }
-    false
+    shape::row_stands(&least, &span, row_before(form, file, count, i), r)
 }
 
 // Whether a refused ending's place fits behind the last row, within the text's length.

@@ -1,6 +1,6 @@
 -- Laws of a table's tests: each case of what stands at a row, and the test of a table from the tests of its rows and its ending.
 use mathlib.Core.Path.{_≡_, refl, sym, _∙_}
-use mathlib.Core.Bool.{Bool, true, false, cond, not, _&&_, _||_, true≢false}
+use mathlib.Core.Bool.{Bool, true, false, cond, not, _&&_, and-assoc}
 use mathlib.Core.List.{List, []}
 use Prim.Native.Nat.{ℕ, zero, suc, _+_, _-_, _*_, _≤_, _<_}
 use native.Mathlib.Numerals.{add-one}
@@ -17,10 +17,9 @@ use Rattle.rules.specs.Text.{mostBytes}
 use Rattle.rules.specs.Kinds.{Eof}
 use Rattle.rules.specs.Rows.{Row, rowIn, rowPlace, rowFits, follows, gapFits, linesFit, placeFits, isEof, wellFormed}
 use Rattle.laws.specs.Tests.{allBelow}
-use Rattle.rows.specs.Shape.{rowNo, sane, behind, rowBefore, fitsAfter, joined, stands, closes, breaks}
-use Rattle.laws.proofs.Tests.{both-true, true-both, false-by, same-bool, below, below-by}
-use Rattle.rows.proofs.Shapes.{made-le, fits-sane}
-use Rattle.rows.proofs.Inside.{sound, plain-kind, clean, broken, Fine, fine, well, not-well, clean-of, broken-of}
+use Rattle.rows.specs.Shape.{rowNo, behind, rowBefore, fitsAfter, standsOn, joined, stands, closes, breaks}
+use Rattle.laws.proofs.Tests.{both-true, true-both, same-bool, below, below-by}
+use Rattle.rows.proofs.Inside.{sound, clean, broken, Fine, fine, well, not-well, clean-of, broken-of}
 
 -- ---- a row and the row before it
 
@@ -87,19 +86,10 @@ module _ (ws : List ℕ) (i : ℕ) (q : Row) (e : q ≡ rowNo ws i) where
   fits-joined =
       rw e (both-same (rowFits (rowNo ws i)) (fitsAfter (rowBefore ws i) (rowNo ws i)) (joined ws i) (fits-before ws i))
 
-  pub stands-plain : q .kind < Eof → (rowFits q && fitsAfter (rowBefore ws i) q) ≡ stands ws i
-  unfolding stands isEof
-  stands-plain h = fits-joined ∙ rw (← e, ne-eqb (q .kind) Eof (λ z. omega arith))
-
-  pub stands-out : (leb Eof (q .kind) || not (sane q)) ≡ true → stands ws i ≡ false
-  stands-out h = false-by (stands ws i) (λ s. out (stands-of ws i s))
-    where
-      out : Stands ws i → ⊥
-      out s =
-          let f : rowFits q ≡ true = rw e (s .fit) in
-          let k = made-le (q .kind) (sound q f .made) in
-          let l : q .kind < Eof = omega (arith, plain-kind q (rw e (s .plain))) in
-          true≢false (sym h ∙ rw (lt-leb Eof (q .kind) l, fits-sane q f))
+  -- it stands just where it stands on the row before it
+  pub stands-next : (last : Row) → last ≡ rowBefore ws i → standsOn last q ≡ stands ws i
+  unfolding stands standsOn
+  stands-next last f = rw (f, fits-joined) (rw e (sym (and-assoc (not (isEof (rowNo ws i))) (rowFits (rowNo ws i)) (joined ws i))))
 
   module _ (n : ℕ) where
     pub closes-plain : (q .kind ≡ Eof → ⊥) → closes ws n i ≡ false
@@ -113,12 +103,6 @@ module _ (ws : List ℕ) (i : ℕ) (q : Row) (e : q ≡ rowNo ws i) where
     pub closes-fit : q .kind ≡ Eof → q .start ≡ n → (rowFits q && fitsAfter (rowBefore ws i) q) ≡ closes ws n i
     unfolding closes isEof
     closes-fit k s = fits-joined ∙ rw (← e, eq-eqb (q .kind) Eof k, eq-eqb (q .start) n s)
-
-    pub closes-not : q .kind ≡ Eof → q .start ≡ n → sane q ≡ false → closes ws n i ≡ false
-    unfolding closes isEof
-    closes-not k s f =
-        let z : rowFits q ≡ false = false-by (rowFits q) (λ t. true≢false (sym (fits-sane q t) ∙ f)) in
-        rw (← e, eq-eqb (q .kind) Eof k, eq-eqb (q .start) n s, z)
 
 -- ---- a place behind the rows
 

@@ -4,7 +4,7 @@ use mathlib.Core.Path.{_≡_}
 use mathlib.Core.List.{List, []}
 use Prim.Native.Nat.{ℕ, _-_, _^_, _≤_, _<_}
 use lib.ListN.{getD}
-use lib.Dec.{eqb, leb}
+use lib.Dec.{eqb, leb, ltb}
 use Rattle.rules.specs.declared.Cursor.{Cursor}
 use Rattle.rules.specs.Kinds.{Eof, isMade}
 use Rattle.rules.specs.Rows
@@ -24,13 +24,9 @@ asRow r = record {
   comments = r .comments;
 }
 
--- the entries of a kind say how long its spelling is, at least and at most, and fit no length where the kind is not made
-pub record LengthTable (least most : List ℕ) : Type 0 where
-  pub fits : (k n : ℕ) → k ≤ Eof → n < 2 ^ 32 → (leb (getD least k 0) n && leb n (getD most k 0)) ≡ (isMade k && lengthFits k n)
-
--- what is asked of a row's words one by one: its line and its column are not 0
-unfoldable pub sane : Rows.Row → Bool
-sane r = leb 1 (r .line) && leb 1 (r .column)
+-- the entries of a kind say how long its spelling is at least and how many lengths it may have from there on, none where it is not made
+pub record LengthTable (least span : List ℕ) : Type 0 where
+  pub fits : (k n : ℕ) → k ≤ Eof → n < 2 ^ 32 → (leb (getD least k 0) n && ltb (n - getD least k 0) (getD span k 0)) ≡ (isMade k && lengthFits k n)
 
 -- a place stands behind a row
 unfoldable pub behind : Rows.Row → Cursor → Bool
@@ -43,6 +39,10 @@ rowBefore ws i = cond (eqb i 0) (rowIn []) (rowNo ws (i - 1))
 -- row q follows row r, and its comments fit the gap between them
 unfoldable pub fitsAfter : Rows.Row → Rows.Row → Bool
 fitsAfter r q = follows r q && gapFits (r .end) q
+
+-- row q is no Eof, fits by itself and after row r
+unfoldable pub standsOn : Rows.Row → Rows.Row → Bool
+standsOn r q = not (isEof q) && (rowFits q && fitsAfter r q)
 
 -- row i fits after the row before it; the first row's gap starts at 0
 unfoldable pub joined : List ℕ → ℕ → Bool

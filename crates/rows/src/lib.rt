@@ -29,23 +29,27 @@ fn row_before(rows: &[u32], i: usize) -> Row
     shape::row_at(rows, i - 1)
 }
 
-// Whether the first n rows fit where they stand, none of them Eof.
-fn rows_stand(least: &[u32; kind::KINDS], most: &[u32; kind::KINDS], rows: &[u32], n: usize) -> bool
-    requires { ⌜ (n * 8 ≤ length (now rows)) × LengthTable (now least) (now most) ⌝ }
+// Whether the first n rows fit where they stand, none of them Eof: two rows a turn, so that the second finds the first at hand.
+fn rows_stand(least: &[u32; kind::KINDS], span: &[u32; kind::KINDS], rows: &[u32], n: usize) -> bool
+    requires { ⌜ (n * 8 ≤ length (now rows)) × LengthTable (now least) (now span) ⌝ }
     ensures { λ r. ⌜ r ≡ allBelow (stands (now (rows .entry))) n ⌝ }
 {
     let mut last = shape::no_row();
     let mut i = 0;
-    while i < n {
+    while i + 1 < n {
         let r = shape::row_at(rows, i);
-        if (kind::EOF <= r.kind) | !shape::row_sane(r) {
+        if !shape::stands_on(least, span, last, r) {
             return false;
         }
-        if !shape::row_stands(least, most, last, r) {
+        let q = shape::row_at(rows, i + 1);
+        if !shape::stands_on(least, span, r, q) {
             return false;
         }
-        last = r;
-        i += 1;
+        last = q;
+        i += 2;
+    }
+    if i < n {
+        return shape::stands_on(least, span, last, shape::row_at(rows, i));
     }
     true
 }
@@ -53,12 +57,12 @@ fn rows_stand(least: &[u32; kind::KINDS], most: &[u32; kind::KINDS], rows: &[u32
 // Whether row i fits where it stands, and is Eof at the text's size.
 fn row_closes(
     least: &[u32; kind::KINDS],
-    most: &[u32; kind::KINDS],
+    span: &[u32; kind::KINDS],
     rows: &[u32],
     size: u32,
     i: usize,
 ) -> bool
-    requires { ⌜ (i * 8 + 8 ≤ length (now rows)) × LengthTable (now least) (now most) ⌝ }
+    requires { ⌜ (i * 8 + 8 ≤ length (now rows)) × LengthTable (now least) (now span) ⌝ }
     ensures { λ r. ⌜ r ≡ closes (now (rows .entry)) size i ⌝ }
 {
     let r = shape::row_at(rows, i);
@@ -68,10 +72,7 @@ fn row_closes(
     if r.start != size {
         return false;
     }
-    if shape::row_sane(r) {
-        return shape::row_stands(least, most, row_before(rows, i), r);
-    }
-    false
+    shape::row_stands(least, span, row_before(rows, i), r)
 }
 
 // Whether a refused ending's place fits behind so many rows, within the text's size.
@@ -98,7 +99,7 @@ pub fn well_formed(rows: &[u32], table: Table) -> bool
     ensures { λ r. ⌜ r ≡ wellFormed (now (rows .entry)) table ⌝ }
 {
     let least = shape::LEAST;
-    let most = shape::MOST;
+    let span = shape::SPAN;
     let count = table.count as usize;
     let size = table.length;
     if rows.len() < count * row::WORDS {
@@ -113,13 +114,13 @@ pub fn well_formed(rows: &[u32], table: Table) -> bool
             if count == 0 {
                 return false;
             }
-            if !rows_stand(&least, &most, rows, count - 1) {
+            if !rows_stand(&least, &span, rows, count - 1) {
                 return false;
             }
-            row_closes(&least, &most, rows, size, count - 1)
+            row_closes(&least, &span, rows, size, count - 1)
         }
         Ending::Refused(_, p) => {
-            if !rows_stand(&least, &most, rows, count) {
+            if !rows_stand(&least, &span, rows, count) {
                 return false;
             }
             place_breaks(rows, size, count, p)

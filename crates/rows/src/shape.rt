@@ -6,13 +6,14 @@ use rules::Offset;
 use rules::kind;
 use rules::limit;
 use rules::row;
+use std::num::wrapping_sub_u64;
 ghost use mathlib.Core.Path.{_≡_};
 ghost use mathlib.Core.Bool.{true, _&&_};
 ghost use mathlib.Core.List.{[]};
 ghost use Prim.Native.Nat.{_+_, _*_, _≤_};
 ghost use lib.ListN.{length, getD, drop};
 ghost use Rattle.rules.specs.Rows.{rowIn, rowPlace, valueFits, placeFits, linesFit, rowFits};
-ghost use Rattle.rows.specs.Shape.{LengthTable, asRow, sane, behind, fitsAfter};
+ghost use Rattle.rows.specs.Shape.{LengthTable, asRow, behind, fitsAfter, standsOn};
 
 // A row is eight words.
 pub struct Row {
@@ -83,33 +84,29 @@ pub const LEAST: [u32; kind::KINDS] = [
     0,
 ];
 
-// How long the spelling of each kind is at most; of a kind that is not made less than at least, so that no length fits.
-pub const MOST: [u32; kind::KINDS] = [
-    4,
-    7,
-    7,
-    6,
-    3,
-    3,
-    3,
-    4,
-    3,
-    5,
-    3,
-    2,
-    4,
-    5,
-    4,
-    5,
+// How many lengths, from the least on, the spelling of each kind may have: one where it is fixed, none where the kind is not made.
+pub const SPAN: [u32; kind::KINDS] = [
+    1,
+    1,
+    1,
+    1,
+    1,
+    1,
+    1,
+    1,
+    1,
+    1,
+    1,
+    1,
+    1,
+    1,
+    1,
+    1,
     0,
     0,
     0,
     0,
     0,
-    3,
-    3,
-    3,
-    3,
     1,
     1,
     1,
@@ -121,23 +118,27 @@ pub const MOST: [u32; kind::KINDS] = [
     1,
     1,
     1,
-    2,
-    2,
-    2,
-    2,
-    2,
     1,
     1,
     1,
     1,
     1,
-    2,
-    2,
+    1,
+    1,
+    1,
+    1,
+    1,
+    1,
+    1,
+    1,
+    1,
+    1,
+    1,
     u32::MAX,
     u32::MAX,
     u32::MAX,
-    5,
-    0,
+    1,
+    1,
 ];
 
 // How long a comment is at least: `//`, and nothing behind it.
@@ -208,7 +209,7 @@ fn value_fits(r: Row) -> bool
     ensures { λ b. ⌜ b ≡ valueFits (asRow r) ⌝ }
 {
     let bits = wide(r.high) * limit::ABOVE_WORD + wide(r.low);
-    ((r.kind == kind::NUMBER) & (bits != limit::SIGN_BIT)) | (bits == 0)
+    (bits != limit::SIGN_BIT) & ((r.kind == kind::NUMBER) | (bits == 0))
 }
 
 // Whether a place has a line and a column of 1 or more, and neither over its offset + 1.
@@ -221,41 +222,48 @@ pub fn place_fits(p: Cursor) -> bool
     ((1 <= line) & (1 <= column)) & ((wide(line) <= most) & (wide(column) <= most))
 }
 
-// Whether lines don't fall from a place to the next, and the columns of one line go with the offsets.
+// Whether lines don't fall from a place to the next, and the columns of one line go with the offsets: from the one to the other the
+// difference of column and offset, taken around 2^64, stays.
 fn lines_fit(p: Cursor, q: Cursor) -> bool
     ensures { λ b. ⌜ b ≡ linesFit p q ⌝ }
 {
     let from = p.line.0;
     let to = q.line.0;
-    let left = wide(q.column.0) + wide(p.offset.0);
-    let right = wide(p.column.0) + wide(q.offset.0);
+    let left = wrapping_sub_u64(wide(q.column.0), wide(q.offset.0));
+    let right = wrapping_sub_u64(wide(p.column.0), wide(p.offset.0));
     (from <= to) & ((to != from) | (left == right))
 }
 
-// Whether a row's line and its column are not 0.
-pub fn row_sane(r: Row) -> bool
-    ensures { λ b. ⌜ b ≡ sane (asRow r) ⌝ }
-{
-    (1 <= r.line) & (1 <= r.column)
-}
-
-// Whether a row q that is sane fits by itself and may stand behind row r, its comments in the gap between them: one conjunction from left
-// to right, so that the compiler makes one chain of comparisons of it.
-pub fn row_stands(least: &[u32; kind::KINDS], most: &[u32; kind::KINDS], r: Row, q: Row) -> bool
-    requires { ⌜ ((q .kind ≤ 52) × (sane (asRow q) ≡ true)) × LengthTable (now least) (now most) ⌝ }
+// Whether a row q fits by itself and may stand behind row r, its comments in the gap between them: one conjunction from left to right, so
+// that the compiler makes one chain of comparisons of it. A difference that would fall below 0 is larger than every word, taken around
+// 2^64, so that one comparison tells that a line or a column is 1 or more and not over the offset + 1, and one that a length is not too
+// short or too long.
+pub fn row_stands(least: &[u32; kind::KINDS], span: &[u32; kind::KINDS], r: Row, q: Row) -> bool
+    requires { ⌜ (q .kind ≤ 52) × LengthTable (now least) (now span) ⌝ }
     ensures { λ b. ⌜ b ≡ (rowFits (asRow q) && fitsAfter (asRow r) (asRow q)) ⌝ }
 {
     let start = wide(q.start);
-    let end = wide(q.end);
-    let next = start + 1;
-    let low = start + wide(own_length(least, q.kind));
-    let high = start + wide(own_length(most, q.kind));
-    let spans = (value_fits(q) & (low <= end)) & (end <= high);
-    let place = (spans & (wide(q.line) <= next)) & (wide(q.column) <= next);
+    let shortest = start + wide(own_length(least, q.kind));
+    let over = wrapping_sub_u64(wide(q.end), shortest);
+    let spans = value_fits(q) & (over < wide(own_length(span, q.kind)));
+    let line = wrapping_sub_u64(wide(q.line), 1);
+    let column = wrapping_sub_u64(wide(q.column), 1);
+    let place = (spans & (line <= start)) & (column <= start);
     let gap = wide(r.end) + wide(q.comments) * SHORTEST_COMMENT;
     let from = row_place(r);
     let to = row_place(q);
     (place & (gap <= start)) & lines_fit(from, to)
+}
+
+// Whether row q is no Eof, and fits where it stands behind row r.
+pub fn stands_on(least: &[u32; kind::KINDS], span: &[u32; kind::KINDS], r: Row, q: Row) -> bool
+    requires { ⌜ LengthTable (now least) (now span) ⌝ }
+    ensures { λ b. ⌜ b ≡ standsOn (asRow r) (asRow q) ⌝ }
+{
+    if kind::EOF <= q.kind {
+        return false;
+    }
+    row_stands(least, span, r, q)
 }
 
 // Whether a place may stand behind row r.

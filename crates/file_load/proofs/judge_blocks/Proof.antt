@@ -15,11 +15,11 @@ use Rattle.file_load.proofs.judge_blocks.Statement.{statement}
 use Rattle.file_load.proofs.judge_blocks.Tie as tie
 
 abbrev Inv-loop : tie.InvT-loop
-Inv-loop form file count plain least most last₀ stand₀ left₀ more₀ k₀ at₀ last stand left more k at =
+Inv-loop form file count plain least span last₀ stand₀ left₀ more₀ k₀ at₀ last stand left more k at =
     Judging form file count plain (asRow last) stand left more k at
 
 abbrev μ-loop : tie.MeasureT-loop
-μ-loop form file count plain least most last₀ stand₀ left₀ more₀ k₀ at₀ last stand left more k at = left
+μ-loop form file count plain least span last₀ stand₀ left₀ more₀ k₀ at₀ last stand left more k at = left
 
 -- ---- the places on the way: the function's entry, the turn of the loop, and how many rows its block has and are to be judged
 

@@ -5,19 +5,15 @@ use native.Mathlib.Omega.{arith}
 use Rattle.rules.specs.Rows.{Row, rowFits}
 use Rattle.rows.specs.Shape.{asRow, fitsAfter}
 use Rattle.rows.proofs.Lengths.{length-table}
-use Rattle.rows.proofs.Tables.{closes-plain, closes-apart, closes-fit, closes-not}
+use Rattle.rows.proofs.Tables.{closes-plain, closes-apart, closes-fit}
 use Rattle.form_rules.specs.Shapes.{rowWordsOf}
 use borrow.Author.Needs.{needs}
 use Rattle.file_load.proofs.last_closes.Statement.{statement}
 use Rattle.file_load.proofs.last_closes.Tie as tie
 
--- ---- the places on the way: the row is sane, and it is Eof
-
-abbrev sane : tie.After-row-before → tie.Then3
-sane c = c .before .before .before
-
-abbrev is-eof : tie.Then3 → tie.Else1
-is-eof c = c .before .before .before .before
+-- the place behind the first two tests: the row is Eof, at the size
+abbrev at-size : tie.After-row-before → tie.Else2
+at-size c = c .before .before .before
 
 row-of-requires : tie.Need-row-of-requires
 row-of-requires c κs = search needs
@@ -37,46 +33,24 @@ returns-2 c =
     sym (closes-apart (rowWordsOf (a .form) (a .file .now)) (a .i) (asRow (r .row-of .result)) (r .row-of .ensures) (a .size)
     (k .if1 .left) (c .if2 .taken))
 
-row-sane-requires : tie.Need-row-sane-requires
-row-sane-requires c κs = search needs
-
 row-before-requires : tie.Need-row-before-requires
 row-before-requires c κs = search needs
 
 row-stands-requires : tie.Need-row-stands-requires
-row-stands-requires c κs =
-    let t = sane c in
-    ((omega (arith, is-eof t .if1 .left), sym (t .before .row-sane .ensures) ∙ t .if3 .taken), length-table)
+row-stands-requires c κs = (omega (arith, at-size c .before .before .if1 .left), length-table)
 
 returns-3 : tie.Need-returns-3
 returns-3 c =
     let b = c .before in
-    let t = sane b in
-    let k = is-eof t in
+    let f = at-size b in
+    let k = f .before .before in
     let r = k .before .before in
     let a = r .before .before .args in
     let q = asRow (r .row-of .result) in
     c .row-stands .ensures ∙ ap (λ (z : Row). rowFits q && fitsAfter z q) (b .row-before .ensures)
-    ∙ closes-fit (rowWordsOf (a .form) (a .file .now)) (a .i) q (r .row-of .ensures) (a .size) (k .if1 .left) (t .before .before .if2 .left)
-
-returns-4 : tie.Need-returns-4
-returns-4 c =
-    let f = c .before in
-    let k = f .before .before .before in
-    let r = k .before .before in
-    let a = r .before .before .args in
-    sym (closes-not (rowWordsOf (a .form) (a .file .now)) (a .i) (asRow (r .row-of .result)) (r .row-of .ensures) (a .size) (k .if1 .left)
-    (f .before .if2 .left) (sym (f .row-sane .ensures) ∙ c .if3 .left))
+    ∙ closes-fit (rowWordsOf (a .form) (a .file .now)) (a .i) q (r .row-of .ensures) (a .size) (k .if1 .left) (f .if2 .left)
 
 pub last-closes-spec : {M : Type 1} → statement M
 last-closes-spec =
     tie.close
-    (tie.spec
-    row-of-requires
-    returns
-    returns-2
-    row-sane-requires
-    row-before-requires
-    row-stands-requires
-    returns-3
-    returns-4)
+    (tie.spec row-of-requires returns returns-2 row-before-requires row-stands-requires returns-3)

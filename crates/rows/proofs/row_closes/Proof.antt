@@ -4,7 +4,7 @@ use mathlib.Core.Bool.{_&&_}
 use native.Mathlib.Omega.{arith}
 use Rattle.rules.specs.Rows.{Row, rowFits}
 use Rattle.rows.specs.Shape.{asRow, fitsAfter}
-use Rattle.rows.proofs.Tables.{closes-plain, closes-apart, closes-fit, closes-not}
+use Rattle.rows.proofs.Tables.{closes-plain, closes-apart, closes-fit}
 use borrow.Author.Needs.{needs}
 use Rattle.rows.proofs.row_closes.Statement.{statement}
 use Rattle.rows.proofs.row_closes.Tie as tie
@@ -25,47 +25,25 @@ returns-2 c =
     let a = r .before .before .args in
     sym (closes-apart (a .rows .now) (a .i) (asRow (r .row-at .result)) (r .row-at .ensures) (a .size) (k .if1 .left) (c .if2 .taken))
 
-row-sane-requires : tie.Need-row-sane-requires
-row-sane-requires c κs = search needs
-
 row-before-requires : tie.Need-row-before-requires
 row-before-requires c κs = search needs
 
 row-stands-requires : tie.Need-row-stands-requires
 row-stands-requires c κs =
-    let f = c .before .before in
-    let k = f .before .before .before in
-    let s = k .before .before .before .before in
-    ((omega (arith, k .if1 .left), sym (f .row-sane .ensures) ∙ c .before .if3 .taken), s .pre .1)
+    let k = c .before .before .before in
+    (omega (arith, k .if1 .left), k .before .before .before .before .pre .1)
 
 returns-3 : tie.Need-returns-3
 returns-3 c =
     let b = c .before in
-    let k = b .before .before .before .before .before in
+    let k = b .before .before .before in
     let r = k .before .before in
     let a = r .before .before .args in
     let q = asRow (r .row-at .result) in
     c .row-stands .ensures ∙ ap (λ (z : Row). rowFits q && fitsAfter z q) (b .row-before .ensures)
-    ∙ closes-fit (a .rows .now) (a .i) q (r .row-at .ensures) (a .size) (k .if1 .left) (b .before .before .before .if2 .left)
-
-returns-4 : tie.Need-returns-4
-returns-4 c =
-    let f = c .before in
-    let k = f .before .before .before in
-    let r = k .before .before in
-    let a = r .before .before .args in
-    sym (closes-not (a .rows .now) (a .i) (asRow (r .row-at .result)) (r .row-at .ensures) (a .size) (k .if1 .left)
-    (f .before .if2 .left) (sym (f .row-sane .ensures) ∙ c .if3 .left))
+    ∙ closes-fit (a .rows .now) (a .i) q (r .row-at .ensures) (a .size) (k .if1 .left) (b .before .if2 .left)
 
 pub row-closes-spec : {M : Type 1} → statement M
 row-closes-spec =
     tie.close
-    (tie.spec
-    row-at-requires
-    returns
-    returns-2
-    row-sane-requires
-    row-before-requires
-    row-stands-requires
-    returns-3
-    returns-4)
+    (tie.spec row-at-requires returns returns-2 row-before-requires row-stands-requires returns-3)

@@ -1,24 +1,54 @@
 -- `rows_stand` meets its contract. At the loop's head every row below i stands, and `last` is the row before row i.
-use mathlib.Core.Path.{_≡_, refl, sym, ap, _∙_}
-use mathlib.Core.Bool.{true, not, _&&_}
-use Prim.Native.Nat.{_-_, _≤_, _<_}
+use mathlib.Core.Path.{_≡_, refl, sym, _∙_}
+use mathlib.Core.Bool.{Bool, true, and-true}
+use Prim.Native.Nat.{ℕ, _+_, _-_, _≤_}
+use native.Mathlib.Numerals.{add-one}
 use native.Mathlib.Omega.{arith}
-use lib.Dec.{leb}
 use borrow.Author.Needs.{needs}
-use borrow.Author.Tests.{leb-false, not-true, not-false}
-use Rattle.rules.specs.Rows.{Row, rowFits}
+use borrow.Author.Tests.{not-true, not-false}
 use Rattle.laws.specs.Tests.{allBelow}
-use Rattle.rows.specs.Shape.{asRow, rowBefore, fitsAfter, sane, stands}
-use Rattle.laws.proofs.Tests.{neither, below-one, below-not}
-use Rattle.rows.proofs.Tables.{before-first, before-on, stands-plain, stands-out}
+use Rattle.rows.specs.Shape.{asRow, rowBefore, stands}
+use Rattle.laws.proofs.Tests.{below-one, below-not}
+use Rattle.rows.proofs.Tables.{before-first, before-on, stands-next}
 use Rattle.rows.proofs.rows_stand.Statement.{statement}
 use Rattle.rows.proofs.rows_stand.Tie as tie
 
 abbrev Inv-loop : tie.InvT-loop
-Inv-loop least most rows n last₀ i₀ last i = (i ≤ n) × ((allBelow (stands rows) i ≡ true) × (asRow last ≡ rowBefore rows i))
+Inv-loop least span rows n last₀ i₀ last i = (i ≤ n) × ((allBelow (stands rows) i ≡ true) × (asRow last ≡ rowBefore rows i))
 
 abbrev μ-loop : tie.MeasureT-loop
-μ-loop least most rows n last₀ i₀ last i = n - i
+μ-loop least span rows n last₀ i₀ last i = n - i
+
+-- where all numbers below i pass, the last below i + 1 tells of them all
+below-last : (f : ℕ → Bool) (i n : ℕ) → n ≡ i + 1 → allBelow f i ≡ true → f i ≡ allBelow f n
+below-last f i n e h = rw (e, add-one, h) (sym (and-true (f i)))
+
+-- ---- the places on the way, and what is known of both rows of a turn
+
+abbrev start : tie.At-loop Inv-loop μ-loop → tie.Start Inv-loop μ-loop
+start c = c .before .before .before
+
+abbrev head : tie.After-stands-on Inv-loop μ-loop → tie.At-loop Inv-loop μ-loop
+head c = c .before .before .before
+
+-- row i stands just where `stands_on` says so
+first : (c : tie.After-stands-on Inv-loop μ-loop) → c .stands-on .result ≡ stands (start (head c) .args .rows .now) (head c .loop .i)
+first c =
+    let r = c .before .row-at in
+    let l = head c .loop in
+    c .stands-on .ensures
+    ∙ stands-next (start (head c) .args .rows .now) (l .i) (asRow (r .result)) (r .ensures) (asRow (l .last)) (l .inv .1 .1)
+
+-- and so does row i + 1
+second : (c : tie.After-stands-on2 Inv-loop μ-loop) → let h = head (c .before .before .before) in
+    c .stands-on2 .result ≡ stands (start h .args .rows .now) (h .loop .i + 1)
+second c =
+    let q = c .before .row-at2 in
+    let r = c .before .before .before .before .row-at in
+    let h = head (c .before .before .before) in
+    let ws = start h .args .rows .now in
+    c .stands-on2 .ensures
+    ∙ stands-next ws (h .loop .i + 1) (asRow (q .result)) (q .ensures) (asRow (r .result)) (r .ensures ∙ sym (before-on ws (h .loop .i)))
 
 no-row-requires : tie.Need-no-row-requires Inv-loop μ-loop
 no-row-requires c κs = search needs
@@ -26,54 +56,41 @@ no-row-requires c κs = search needs
 loop-holds : tie.Need-loop-holds Inv-loop μ-loop
 loop-holds c = (omega arith, (refl, c .no-row .ensures ∙ sym (before-first (c .before .before .args .rows .now) 0 refl)))
 
-row-at-requires : tie.Need-row-at-requires Inv-loop μ-loop
-row-at-requires c κs = omega arith
+add-loop : tie.Need-add-loop Inv-loop μ-loop
+add-loop c = search needs
 
-row-sane-requires : tie.Need-row-sane-requires Inv-loop μ-loop
-row-sane-requires c κs = search needs
+row-at-requires : tie.Need-row-at-requires Inv-loop μ-loop
+row-at-requires c κs = search needs
+
+stands-on-requires : tie.Need-stands-on-requires Inv-loop μ-loop
+stands-on-requires c κs = start (c .before .before) .pre .1
 
 returns : tie.Need-returns Inv-loop μ-loop
 returns c =
-    let r = c .before .before .before in
-    let l = r .before .before in
-    let a = l .before .before .before .args in
-    let known = rw (c .before .row-sane .ensures) at (c .if1 .taken) in
-    let out = stands-out (a .rows .now) (l .loop .i) (asRow (r .row-at .result)) (r .row-at .ensures) known in
-    sym (below-not (stands (a .rows .now)) (a .n) (l .loop .i) (omega arith) out)
+    let s = c .before in
+    let a = start (head s) .args in
+    let out = sym (first s) ∙ not-true (s .stands-on .result) (c .if1 .taken) in
+    sym (below-not (stands (a .rows .now)) (a .n) (head s .loop .i) (omega arith) out)
 
--- the row is sane, and not Eof
-known : (c : tie.Else1 Inv-loop μ-loop) → let q = c .before .before .before .row-at .result in (q .kind < 52) × (sane (asRow q) ≡ true)
-known c =
-    let s = c .before .row-sane in
-    let q = c .before .before .before .row-at .result in
-    let n = neither (leb 52 (q .kind)) (not (s .result)) (c .if1 .left) in
-    (leb-false 52 (q .kind) (n .0), sym (s .ensures) ∙ not-false (s .result) (n .1))
+add-row-at : tie.Need-add-row-at Inv-loop μ-loop
+add-row-at c = search needs
 
-row-stands-requires : tie.Need-row-stands-requires Inv-loop μ-loop
-row-stands-requires c κs =
-    let k = known c in
-    ((omega (arith, k .0), k .1), c .before .before .before .before .before .before .before .before .pre .1)
+row-at-requires-2 : tie.Need-row-at-requires-2 Inv-loop μ-loop
+row-at-requires-2 c κs = search needs
 
--- the row stands just where `row_stands` says so
-verdict : (c : tie.After-row-stands Inv-loop μ-loop) → let l = c .before .before .before .before .before .before in
-    c .row-stands .result ≡ stands (l .before .before .before .args .rows .now) (l .loop .i)
-verdict c =
-    let r = c .before .before .before .before in
-    let l = r .before .before in
-    let q = asRow (r .row-at .result) in
-    c .row-stands .ensures ∙ ap (λ (z : Row). rowFits q && fitsAfter z q) (l .loop .inv .1 .1)
-    ∙ stands-plain (l .before .before .before .args .rows .now) (l .loop .i) q (r .row-at .ensures) (known (c .before) .0)
+stands-on-requires-2 : tie.Need-stands-on-requires-2 Inv-loop μ-loop
+stands-on-requires-2 c κs = start (c .before .before .before .before .before) .pre .1
 
 returns-2 : tie.Need-returns-2 Inv-loop μ-loop
 returns-2 c =
     let s = c .before in
-    let l = s .before .before .before .before .before .before in
-    let a = l .before .before .before .args in
-    let out = sym (verdict s) ∙ not-true (s .row-stands .result) (c .if2 .taken) in
-    sym (below-not (stands (a .rows .now)) (a .n) (l .loop .i) (omega arith) out)
+    let h = head (s .before .before .before) in
+    let a = start h .args in
+    let out = sym (second s) ∙ not-true (s .stands-on2 .result) (c .if2 .taken) in
+    sym (below-not (stands (a .rows .now)) (a .n) (h .loop .i + 1) (omega arith) out)
 
 add-i : tie.Need-add-i Inv-loop μ-loop
-add-i c = omega arith
+add-i c = search needs
 
 loop-less : tie.Need-loop-less Inv-loop μ-loop
 loop-less c = omega arith
@@ -81,16 +98,38 @@ loop-less c = omega arith
 loop-again : tie.Need-loop-again Inv-loop μ-loop
 loop-again c =
     let s = c .before in
-    let r = s .before .before .before .before in
-    let l = r .before .before in
-    let ws = l .before .before .before .args .rows .now in
-    let good = sym (verdict s) ∙ not-false (s .row-stands .result) (c .if2 .left) in
-    (omega arith, (below-one (stands ws) (l .loop .i) (l .loop .inv .1 .0) good, r .row-at .ensures ∙ sym (before-on ws (l .loop .i))))
+    let e = s .before .before in
+    let h = head (e .before) in
+    let ws = start h .args .rows .now in
+    let i = h .loop .i in
+    let good = sym (first (e .before)) ∙ not-false (e .before .stands-on .result) (e .if1 .left) in
+    let more = sym (second s) ∙ not-false (s .stands-on2 .result) (c .if2 .left) in
+    let two : i + 1 + 1 ≡ i + 2 = omega arith in
+    (omega arith, (
+      rw two at (below-one (stands ws) (i + 1) (below-one (stands ws) i (h .loop .inv .1 .0) good) more),
+      s .before .row-at2 .ensures ∙ sym (rw two at (before-on ws (i + 1))),
+    ))
+
+row-at-requires-3 : tie.Need-row-at-requires-3 Inv-loop μ-loop
+row-at-requires-3 c κs = search needs
+
+stands-on-requires-3 : tie.Need-stands-on-requires-3 Inv-loop μ-loop
+stands-on-requires-3 c κs = start (c .before .before .before) .pre .1
 
 returns-3 : tie.Need-returns-3 Inv-loop μ-loop
 returns-3 c =
-    let l = c .before .loop in
-    let a = c .before .before .before .before .args in
+    let r = c .before .row-at3 in
+    let h = c .before .before .before .before in
+    let l = h .loop in
+    let a = start h .args in
+    c .stands-on3 .ensures
+    ∙ stands-next (a .rows .now) (l .i) (asRow (r .result)) (r .ensures) (asRow (l .last)) (l .inv .1 .1)
+    ∙ below-last (stands (a .rows .now)) (l .i) (a .n) (omega arith) (l .inv .1 .0)
+
+returns-4 : tie.Need-returns-4 Inv-loop μ-loop
+returns-4 c =
+    let l = c .before .before .loop in
+    let a = start (c .before .before) .args in
     let e : l .i ≡ a .n = omega arith in
     sym (rw e at (l .inv .1 .0))
 
@@ -102,12 +141,18 @@ rows-stand-spec =
     μ-loop
     no-row-requires
     loop-holds
+    add-loop
     row-at-requires
-    row-sane-requires
+    stands-on-requires
     returns
-    row-stands-requires
+    add-row-at
+    row-at-requires-2
+    stands-on-requires-2
     returns-2
     add-i
     loop-less
     loop-again
-    returns-3)
+    row-at-requires-3
+    stands-on-requires-3
+    returns-3
+    returns-4)
