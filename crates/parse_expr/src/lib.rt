@@ -57,19 +57,18 @@ fn is_mul(k: u32) -> bool
     ((k == STAR) | (k == SLASH)) | (k == PERCENT)
 }
 
-// The node kind of an operator's row kind.
+// The node kind of an operator's row kind. From `+` to `%` the row kinds and their node kinds stand in the same order, and of the two
+// shifts the order is the other way round, so that the compiler makes no branch of it.
 fn binary_node(k: u32) -> u32
     ensures { λ r. ⌜ r ≡ binaryNode k ⌝ }
 {
-    match k {
-        PLUS => node_kind::ADD,
-        MINUS => node_kind::SUB,
-        STAR => node_kind::MUL,
-        SLASH => node_kind::DIV,
-        PERCENT => node_kind::MOD,
-        SHL => node_kind::SHL,
-        _ => node_kind::SHR,
+    if k == SHL {
+        return node_kind::SHL;
     }
+    if (k < PLUS) | (SHR <= k) {
+        return node_kind::SHR;
+    }
+    k - PLUS + node_kind::ADD
 }
 
 // The end of a call: s stands behind the receiver, at the dot; m is the next node, and next the row behind the call.

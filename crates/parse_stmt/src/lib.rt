@@ -34,17 +34,14 @@ ghost use Rattle.parse_stmt.specs.Bodies.{byLead, assignedTo, NamedEnd, 
 fn is_declaring(k: u32) -> bool
     ensures { λ r. ⌜ r ≡ isDeclaring k ⌝ }
 {
-    if k == REG {
-        return true;
-    }
-    if k == IMM { true } else { k == HEAP }
+    ((k == REG) | (k == IMM)) | (k == HEAP)
 }
 
 // Whether a row's kind is `=` or `+=`.
 fn is_assign(k: u32) -> bool
     ensures { λ r. ⌜ r ≡ isAssign k ⌝ }
 {
-    if k == EQUALS { true } else { k == PLUS_EQUALS }
+    (k == EQUALS) | (k == PLUS_EQUALS)
 }
 
 // The node kind of a declaration's first row.
