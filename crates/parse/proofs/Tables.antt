@@ -36,8 +36,10 @@ module _ {ws : List ℕ} {tbl : Table} (f : Fine ws tbl) where
     -- what the parser asks, where there is room
     pub asks-whole : tbl .ending ≡ None → (m : List ℕ) → tbl .count ≤ nodeRoom m → AsksWhole t ws (tbl .count) m
     asks-whole e m r = record {
-      table = record { lent = f .lent; short = omega (arith, few-rows f, f .short); spans = spans };
-      some = clean-of f e .some;
-      closed = λ i h. sym (kind-word ws i) ∙ last-eof f e i h;
+      ended = record {
+        table = record { lent = f .lent; short = omega (arith, few-rows f, f .short); spans = spans };
+        some = clean-of f e .some;
+        closed = λ i h. sym (kind-word ws i) ∙ last-eof f e i h;
+      };
       room = r;
     }

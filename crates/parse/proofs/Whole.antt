@@ -63,17 +63,23 @@ flat-top (i-unit l) = refl
 flat-top (i-map l k) = refl
 flat-top (i-event l) = refl
 
-top-ends : (ts : List Tok) (i : ℕ) → All (TopEnds ts i) (Parse.top ts i)
+pub top-ends : (ts : List Tok) (i : ℕ) → All (TopEnds ts i) (Parse.top ts i)
 top-ends ts i =
     all-both (Ends ts i) (λ t j. Flat t) (Parse.top ts i) (ends-top ts i)
     (map-all (Reads ts Decl 64 i) (λ t j. Flat t) (Parse.top ts i) (top-sound ts i) (λ t j r. flat-top (r .is)))
+
+-- a declaration has a row or more
+pub top-on : (ts : List Tok) (i : ℕ) (t : Tree) (j : ℕ) → Parse.top ts i ≡ ok t j → i < j
+top-on ts i t j e =
+    let w = all-ok (λ u k. 1 ≤ width u) (Parse.top ts i) t j (wide-top ts i) e in
+    omega (arith, w, all-ok (Ends ts i) (Parse.top ts i) t j (ends-top ts i) e)
 
 module _ (ts : List Tok) (i n : ℕ) (m : List ℕ) (s : At) (m′ : List ℕ) where
   pub top-came : (r : Got) → Met (Parse.top ts i) i n m m′ r → r ≡ Done s → Came (TopEnds ts i) ts (Parse.top ts i) i n m s m′
   top-came r h e = came (TopEnds ts i) ts (Parse.top ts i) i n m m′ r s (top-ends ts i) (λ t j f. f .0) h e
 
   pub top-up : Came (TopEnds ts i) ts (Parse.top ts i) i n m s m′ → i < s .row
-  top-up v = omega (arith, all-ok (λ t j. 1 ≤ width t) (Parse.top ts i) (v .tree) (s .row) (wide-top ts i) (v .is), v .stands .rows)
+  top-up v = top-on ts i (v .tree) (s .row) (v .is)
 
 pub stands-program : (m m₁ m₂ : List ℕ) (s s′ : At) (t : Tree) → Stands 0 0 t m s m₁
     → s′ ≡ stateAt (s .row + 1) (s .node + 1) (s .row) → m₂ ≡ sets m₁ (8 * s .node) (nodeWords (node 29 (s .row) missing (s .things)))
@@ -133,12 +139,12 @@ module _ (t ws : List ℕ) (n : ℕ) (m : List ℕ) (asks : AsksWhole t ws n m) 
   own = tokens t (rowsIn n ws)
 
   last-in : n - 1 < length own
-  last-in = omega (arith, asks .some, names-told t ws n .tells .long)
+  last-in = omega (arith, asks .ended .some, names-told t ws n .tells .long)
 
   last-kind : kindAt own (n - 1) ≡ Eof
   last-kind =
-      let e : suc (n - 1) ≡ n = omega (arith, asks .some) in
-      names-told t ws n .tells .kinds (n - 1) (omega arith) ∙ asks .closed (n - 1) e
+      let e : suc (n - 1) ≡ n = omega (arith, asks .ended .some) in
+      names-told t ws n .tells .kinds (n - 1) (omega arith) ∙ asks .ended .closed (n - 1) e
 
   -- no more nodes than rows
   nodes-fit : (p : Tree) (j : ℕ) → readingOf t ws n ≡ ok p j → size p ≤ n
@@ -152,7 +158,7 @@ module _ (t ws : List ℕ) (n : ℕ) (m : List ℕ) (asks : AsksWhole t ws n m) 
 
   -- a refusal's row is in the table
   pub refused-in : (why : Syntax) (p : ℕ) → readingOf t ws n ≡ no why p → p * 8 + 8 ≤ length ws
-  refused-in why p e = omega (arith, refused-inside own (n - 1) last-kind last-in why p e, asks .some, asks .table .lent)
+  refused-in why p e = omega (arith, refused-inside own (n - 1) last-kind last-in why p e, asks .ended .some, asks .ended .table .lent)
 
 -- ---- the call
 

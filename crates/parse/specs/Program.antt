@@ -6,13 +6,16 @@ use lib.ListN.{length, getD}
 use Rattle.rules.specs.declared.Parsed.{Parsed}
 use Rattle.rules.specs.Kinds.{Eof}
 use Rattle.rules.specs.Rows.{rowsIn, wordsPerRow}
-use Rattle.rules.specs.Tree.{Tok}
+use Rattle.rules.specs.Tree.{Tok, Tree}
 use Rattle.rules.specs.Parse
-use Rattle.rules.specs.Parse.{Out}
+use Rattle.rules.specs.Parse.{Out, ok, no}
 use Rattle.rules.specs.Calls.{tokens, nodeRoom, outTold, outLeaves}
 use Rattle.parse_nodes.specs.Post.{Met}
 use Rattle.parse_nodes.specs.Names.{Names, Spans}
 use Rattle.parse_nodes.specs.declared.Got.{Got}
+use Rattle.theory_grammar.specs.Tokens.{Proper}
+use Rattle.parse.specs.declared.Passed.{Passed}
+use Rattle.parse.specs.declared.Passed.the-variants.{To, Refused}
 
 -- the map, the unit or the event at row i
 abbrev pub TopMet : List ℕ → List ℕ → ℕ → ℕ → ℕ → List ℕ → List ℕ → Got → Type 0
@@ -28,12 +31,29 @@ pub record AsksTable (t ws : List ℕ) (n : ℕ) : Type 0 where
   pub short : n ≤ 65537
   pub spans : Spans t ws n
 
--- the same, with Eof its last row, and with room for a node for each row
-pub record AsksWhole (t ws : List ℕ) (n : ℕ) (m : List ℕ) : Type 0 where
+-- the same, with Eof its last row
+pub record AsksEnded (t ws : List ℕ) (n : ℕ) : Type 0 where
   pub table : AsksTable t ws n
   pub some : 0 < n
   pub closed : (i : ℕ) → suc i ≡ n → getD ws (i * wordsPerRow) 0 ≡ Eof
+
+-- the same, with room for a node for each row
+pub record AsksWhole (t ws : List ℕ) (n : ℕ) (m : List ℕ) : Type 0 where
+  pub ended : AsksEnded t ws n
   pub room : n ≤ nodeRoom m
+
+-- what a first pass answers where the parser answers o
+abbrev pub PassedAs : Out → Passed → Type 0
+PassedAs (ok t j) r = r ≡ To j
+PassedAs (no why p) r = r ≡ Refused why p
+
+-- over the map, the unit or the event at row i
+abbrev pub TopPassed : List ℕ → List ℕ → ℕ → ℕ → Passed → Type 0
+TopPassed t ws n i r = (ts : List Tok) → Names ts t ws n → Proper ts → PassedAs (Parse.top ts i) r
+
+-- over all of the rows
+abbrev pub ProgramPassed : List ℕ → List ℕ → ℕ → Passed → Type 0
+ProgramPassed t ws n r = (ts : List Tok) → Names ts t ws n → Proper ts → PassedAs (Parse.parse ts) r
 
 -- what the reading of n rows that stand in ws tells and leaves
 abbrev pub readingOf : List ℕ → List ℕ → ℕ → Out
@@ -41,3 +61,9 @@ readingOf t ws n = Parse.parse (tokens t (rowsIn n ws))
 
 abbrev pub Final : List ℕ → Out → List ℕ → List ℕ → Parsed → Type 0
 Final ws o m m′ r = (r ≡ outTold ws o) × (m′ ≡ outLeaves o m)
+
+-- what is read is a program
+pub record Accepted (o : Out) : Type 0 where
+  pub tree : Tree
+  pub behind : ℕ
+  pub is : o ≡ ok tree behind

@@ -1,5 +1,5 @@
-// The parse call: a text, its table and lent room for nodes. It is read twice, first into no memory at all, so that a refused parse
-// leaves node memory as it was.
+// The parse call: a text, its table and lent room for nodes. The rows are passed twice, first without a node written, so that a refused
+// parse leaves node memory as it was.
 use parse_nodes::At;
 use parse_nodes::Got;
 use rows::shape;
@@ -19,7 +19,7 @@ use rules::kind::UNIT;
 use rules::node;
 use rules::node_kind;
 ghost use mathlib.Core.Path.{_≡_};
-ghost use Prim.Native.Nat.{_+_, _*_, _≤_};
+ghost use Prim.Native.Nat.{_+_, _*_, _≤_, _<_};
 ghost use lib.ListN.{length};
 ghost use Rattle.rules.specs.Text.{startPlace};
 ghost use Rattle.rules.specs.Calls.{parseTold, parseLeaves, nodeRoom};
@@ -27,7 +27,7 @@ ghost use Rattle.rules.specs.declared.Parsed.the-variants as parsed;
 ghost use Rattle.rules.specs.declared.Reason.the-variants as reason;
 ghost use Rattle.parse_nodes.specs.Post.{AsksOpen};
 ghost use Rattle.parse_nodes.specs.Names.{Spans};
-ghost use Rattle.parse.specs.Program.{TopMet, ProgramMet, AsksTable, AsksWhole, readingOf, Final};
+ghost use Rattle.parse.specs.Program.{TopMet, ProgramMet, AsksTable, AsksEnded, AsksWhole, TopPassed, ProgramPassed, readingOf, Accepted, Final};
 
 // A map, an event or a unit at the row.
 fn top(text: &[u8], rows: &[u32], count: u32, nodes: &mut [u32], row: u32, node: u32) -> Got
@@ -77,6 +77,51 @@ fn program(text: &[u8], rows: &[u32], count: u32, nodes: &mut [u32]) -> Got
     }
 }
 
+// How far the first pass comes: behind what it reads, or why not and the row where.
+pub enum Passed {
+    To(u32),
+    Refused(Syntax, usize),
+}
+
+// The first pass over a map, an event or a unit at the row, into no memory. A unit is passed by its kinds alone where they tell that it
+// is one.
+fn top_passed(text: &[u8], rows: &[u32], count: u32, none: &mut [u32], row: u32) -> Passed
+    requires { ⌜ AsksEnded (now text) (now rows) count × ((row < count) × (length (now none) ≡ 0)) ⌝ }
+    ensures { λ r. ⌜ TopPassed (now (text .entry)) (now (rows .entry)) count row r ⌝ }
+{
+    if parse_nodes::kind_at(rows, count, row) == UNIT {
+        let end = pass_units::unit(rows, count, row);
+        if end != 0 {
+            return Passed::To(end);
+        }
+    }
+    match top(text, rows, count, none, row, 0) {
+        Got::Done(t) => Passed::To(t.row),
+        Got::Refused(why, r) => Passed::Refused(why, r),
+    }
+}
+
+// The first pass over the program of the rows, into no memory.
+fn program_passed(text: &[u8], rows: &[u32], count: u32, none: &mut [u32]) -> Passed
+    requires { ⌜ AsksEnded (now text) (now rows) count × (length (now none) ≡ 0) ⌝ }
+    ensures { λ r. ⌜ ProgramPassed (now (text .entry)) (now (rows .entry)) count r ⌝ }
+{
+    let mut at = 0;
+    loop {
+        if parse_nodes::kind_at(rows, count, at) == EOF {
+            return Passed::To(at + 1);
+        }
+        match top_passed(text, rows, count, none, at) {
+            Passed::To(end) => {
+                at = end;
+            }
+            Passed::Refused(why, r) => {
+                return Passed::Refused(parse_nodes::instead(why, r, at, fits::TOPS), r);
+            }
+        }
+    }
+}
+
 // A refusal of the call itself.
 fn outer(why: Outer) -> Parsed
     ensures { λ r. ⌜ r ≡ parsed.Refused (reason.Outer why) startPlace 0 ⌝ }
@@ -84,17 +129,25 @@ fn outer(why: Outer) -> Parsed
     Parsed::Refused(Reason::Outer(why), Cursor::start(), 0)
 }
 
+// The nodes of a program that the first pass has come to the end of, into enough room. It is not refused.
+fn written(text: &[u8], rows: &[u32], count: u32, nodes: &mut [u32]) -> Parsed
+    requires { ⌜ AsksWhole (now text) (now rows) count (now nodes) × Accepted (readingOf (now text) (now rows) count) ⌝ }
+    ensures { λ r. ⌜ Final (now (rows .entry)) (readingOf (now (text .entry)) (now (rows .entry)) count) (now (nodes .entry)) (now (nodes .exit)) r ⌝ }
+{
+    match program(text, rows, count, nodes) {
+        Got::Done(t) => Parsed::Nodes(t.node),
+        Got::Refused(_, _) => Parsed::Nodes(0),
+    }
+}
+
 // The program of a sound table with no refused ending, into enough room.
 fn twice(text: &[u8], rows: &[u32], count: u32, nodes: &mut [u32]) -> Parsed
     requires { ⌜ AsksWhole (now text) (now rows) count (now nodes) ⌝ }
     ensures { λ r. ⌜ Final (now (rows .entry)) (readingOf (now (text .entry)) (now (rows .entry)) count) (now (nodes .entry)) (now (nodes .exit)) r ⌝ }
 {
-    match program(text, rows, count, &mut nodes[..0]) {
-        Got::Done(t) => {
-            program(text, rows, count, nodes);
-            Parsed::Nodes(t.node)
-        }
-        Got::Refused(why, r) => {
+    match program_passed(text, rows, count, &mut nodes[..0]) {
+        Passed::To(_) => written(text, rows, count, nodes),
+        Passed::Refused(why, r) => {
             let row = shape::row_at(rows, r);
             Parsed::Refused(
                 Reason::Syntax(why),

@@ -1,0 +1,6 @@
+-- What the proofs of the first pass share.
+pub mod Built
+pub mod Operators
+pub mod Parts
+pub mod Passes
+pub mod Ladder

@@ -1,0 +1,10 @@
+-- `pass_expr::is_add` meets its contract.
+use Rattle.pass_expr.proofs.Operators.{add-between}
+use Rattle.pass_expr.proofs.is_add.Statement.{statement}
+use Rattle.pass_expr.proofs.is_add.Tie as tie
+
+returns : tie.Need-returns
+returns c = add-between (c .args .k)
+
+pub is-add-spec : {M : Type 1} → statement M
+is-add-spec = tie.close (tie.spec returns)

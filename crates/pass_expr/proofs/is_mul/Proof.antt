@@ -1,0 +1,10 @@
+-- `pass_expr::is_mul` meets its contract.
+use Rattle.pass_expr.proofs.Operators.{mul-between}
+use Rattle.pass_expr.proofs.is_mul.Statement.{statement}
+use Rattle.pass_expr.proofs.is_mul.Tie as tie
+
+returns : tie.Need-returns
+returns c = mul-between (c .args .k)
+
+pub is-mul-spec : {M : Type 1} → statement M
+is-mul-spec = tie.close (tie.spec returns)

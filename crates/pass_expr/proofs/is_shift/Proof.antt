@@ -1,0 +1,10 @@
+-- `pass_expr::is_shift` meets its contract.
+use Rattle.pass_expr.proofs.Operators.{shift-between}
+use Rattle.pass_expr.proofs.is_shift.Statement.{statement}
+use Rattle.pass_expr.proofs.is_shift.Tie as tie
+
+returns : tie.Need-returns
+returns c = shift-between (c .args .k)
+
+pub is-shift-spec : {M : Type 1} → statement M
+is-shift-spec = tie.close (tie.spec returns)
