@@ -98,6 +98,6 @@ module _ (ts : List Tok) where
       unfolding Parse.listStep Parse.elseBehind Parse.or then retoldAt
       passing-refused why x p f q =
           let s : tops + cond (hangs (c .tree)) (only KeywordElse) 0 ≡ tops =
-              ap (λ (b : Bool). tops + cond b (only KeywordElse) 0) (c .flat) ∙ omega arith in
+          ap (λ (b : Bool). tops + cond b (only KeywordElse) 0) (c .flat) ∙ omega arith in
           passed-no (Parse.parse ts) (retoldAt tops j why p) x p
           (parse-is ts ∙ then-no _ _ _ p (c .rest _ (refuses goes-on (rw (f, s))))) q

@@ -124,8 +124,7 @@ loop-again : tie.Need-loop-again Inv-loop μ-loop
 loop-again c =
     let t = c .before in
     let f = behind-top t in
-    let l = turn f .loop in
-    (
+    let l = turn f .loop in (
       λ ts h p. passing-again ts (l .at) (l .inv .0 ts h p) (goes-on (at-top f) ts h) (t .end .given .0 .0) (got t ts h p),
       f .top-passed .kept .1 .1 .1 .0 ∙ l .inv .1,
     )

@@ -47,8 +47,7 @@ unit-requires c κs =
     let k = c .before in
     let a = looked k .args in
     let p = looked k .pre in
-    let b = p .0 in
-    (
+    let b = p .0 in (
       record { lent = b .table .lent; inside = p .1 .0; short = b .table .short; closed = b .closed; nest = omega arith },
       sym (word-at (a .rows .now) (a .count) (a .row) (p .1 .0)) ∙ sym (k .kind-at .ensures) ∙ c .if1 .taken,
     )

@@ -74,8 +74,7 @@ written-requires : tie.Need-written-requires
 written-requires c κs =
     let e = c .before in
     let f = behind-first e in
-    let a = start f .args in
-    (
+    let a = start f .args in (
       subst (λ (x : List ℕ). AsksWhole (a .text .now) (a .rows .now) (a .count) x) (sym (untouched f)) (start f .pre),
       accepted e,
     )

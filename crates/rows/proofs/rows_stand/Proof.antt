@@ -104,11 +104,13 @@ loop-again c =
     let i = h .loop .i in
     let good = sym (first (e .before)) ∙ not-false (e .before .stands-on .result) (e .if1 .left) in
     let more = sym (second s) ∙ not-false (s .stands-on2 .result) (c .if2 .left) in
-    let two : i + 1 + 1 ≡ i + 2 = omega arith in
-    (omega arith, (
-      rw two at (below-one (stands ws) (i + 1) (below-one (stands ws) i (h .loop .inv .1 .0) good) more),
-      s .before .row-at2 .ensures ∙ sym (rw two at (before-on ws (i + 1))),
-    ))
+    let two : i + 1 + 1 ≡ i + 2 = omega arith in (
+      omega arith,
+      (
+        rw two at (below-one (stands ws) (i + 1) (below-one (stands ws) i (h .loop .inv .1 .0) good) more),
+        s .before .row-at2 .ensures ∙ sym (rw two at (before-on ws (i + 1))),
+      ),
+    )
 
 row-at-requires-3 : tie.Need-row-at-requires-3 Inv-loop μ-loop
 row-at-requires-3 c κs = search needs

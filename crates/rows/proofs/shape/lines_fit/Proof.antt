@@ -38,10 +38,10 @@ returns c =
     let a = left .wrapping-sub-u64 in
     let b = c .wrapping-sub-u642 in
     let same = over-same (q .column .0) (q .offset .0) (a .result) (p .column .0) (p .offset .0) (b .result)
-        (omega (arith, s .good)) (omega (arith, s .good)) (omega (arith, s .good)) (omega (arith, s .good))
-        (omega (arith, a .ok)) (omega (arith, b .ok))
-        (rw (x .wide .ensures, y .wide2 .ensures) at (a .ensures))
-        (rw (u .wide3 .ensures, v .wide4 .ensures) at (b .ensures)) in
+    (omega (arith, s .good)) (omega (arith, s .good)) (omega (arith, s .good)) (omega (arith, s .good))
+    (omega (arith, a .ok)) (omega (arith, b .ok))
+    (rw (x .wide .ensures, y .wide2 .ensures) at (a .ensures))
+    (rw (u .wide3 .ensures, v .wide4 .ensures) at (b .ensures)) in
     rw (same, eqb-swap (q .line .0) (p .line .0))
 
 pub lines-fit-spec : {M : Type 1} → statement M
