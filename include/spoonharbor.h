@@ -21,7 +21,7 @@
  * Room. A text of n bytes has at most n + 1 rows, since every row but the text's end has a byte: SH_ROW_ROOM(n) words hold them. A tree has
  * at most as many nodes as the text has rows: SH_NODE_ROOM(rows) words suffice, and a parse asks for them.
  *
- * Stack. No call allocates. As measured on x86-64, a parse takes up to 32 KB of stack where 64 constructs are open, a mending under 3 KB and
+ * Stack. No call allocates. As measured on x86-64, a parse takes up to 20 KB of stack where 64 constructs are open, a mending under 3 KB and
  * every other call under 2 KB; 64 KiB are enough for any (docs/SPEED.md has the figures).
  */
 #ifndef SPOONHARBOR_H

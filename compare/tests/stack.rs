@@ -6,7 +6,7 @@ use std::process::Command;
 /// The calls that are measured, in the order of the report, and how much stack each may take.
 const MOST: [(&str, usize); 11] = [
     ("scan", 1_024),
-    ("parse", 32 * 1_024),
+    ("parse", 20 * 1_024),
     ("edit", 1_024),
     ("change", 1_024),
     ("table test", 640),
