@@ -323,6 +323,13 @@ fn replaced(what: &str, text: &[u8], rounds: Rounds) {
         (table, &rows[..]),
         "the edit is a fresh scan"
     );
+    let mut by_change = row_memory(text);
+    let answer = lent::change(&rows, &table, change, text, &mut by_change);
+    assert_eq!(
+        (answer, &by_change[..rows.len()]),
+        (table, &rows[..]),
+        "and so is the change"
+    );
     #[cfg(before)]
     let mut own = row_memory(text);
     #[allow(unused_mut)]
@@ -337,6 +344,15 @@ fn replaced(what: &str, text: &[u8], rounds: Rounds) {
                 0,
                 black_box(text),
                 &mut memory,
+            ));
+        }),
+        Side::new("library, change", || {
+            black_box(lent::change(
+                black_box(&rows),
+                &table,
+                change,
+                black_box(text),
+                &mut by_change,
             ));
         }),
     ];
