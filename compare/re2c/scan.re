@@ -42,9 +42,13 @@ static size_t character(const uint8_t *p, size_t left) {
     return size;
 }
 
-/* How long the longest beginning is that consists of characters. */
+/* How long the longest beginning is that consists of characters. A text of ASCII alone is told by one pass over all of it, which the
+ * compiler makes one over many bytes at a time. */
 static size_t valid_bytes(const uint8_t *text, size_t length) {
     size_t valid = 0;
+    uint8_t all = 0;
+    for (size_t i = 0; i < length; i++) all |= text[i];
+    if (all < 128) return length;
     for (;;) {
         while (valid < length && text[valid] < 128) valid++;
         size_t size = valid < length ? character(text + valid, length - valid) : 0;
