@@ -78,13 +78,17 @@ pub fn valid_bytes(text: &[u8]) -> usize
     if highest(text) < chars::FIRST_HIGH {
         return text.len();
     }
-    let mut i = low_end(text, 0);
+    let mut i = 0;
     while i < text.len() {
-        let n = char_at(text, i);
-        if n == 0 {
-            return i;
+        if text[i] < chars::FIRST_HIGH {
+            i = low_end(text, i + 1);
+        } else {
+            let n = char_at(text, i);
+            if n == 0 {
+                return i;
+            }
+            i += n;
         }
-        i = low_end(text, i + n);
     }
     i
 }
