@@ -20,6 +20,8 @@ static uint8_t file[SH_FILE_ROOM(ROWS)];
 
 static void nothing(void) {}
 
+/* The calls. Each leaves 0 in its answer's first word if it went well; a scan's answer is the table. */
+
 static void scan(void) { spoonharbor_scan(text, length, rows, ROWS * SH_ROW_WORDS, table); }
 
 static void parse(void) { spoonharbor_parse(text, length, rows, ROWS * SH_ROW_WORDS, table, nodes, ROWS * SH_NODE_WORDS, answer); }
@@ -32,11 +34,19 @@ static void change(void) {
     spoonharbor_change(rows, ROWS * SH_ROW_WORDS, table, 0, 0, 0, text, length, new_rows, ROWS * SH_ROW_WORDS, answer);
 }
 
-static void well_formed(void) { answer[0] = spoonharbor_well_formed(rows, ROWS * SH_ROW_WORDS, table); }
+static void restart(void) { spoonharbor_restart(rows, ROWS * SH_ROW_WORDS, table, 0, answer); }
+
+static void well_formed(void) { answer[SH_NUMBER] = !spoonharbor_well_formed(rows, ROWS * SH_ROW_WORDS, table); }
+
+static void spelling(void) { spoonharbor_spelling(text, length, rows, ROWS * SH_ROW_WORDS, table, 0, answer); }
+
+static void allows(void) { spoonharbor_allows(SH_PROGRAM_KIND_RAW_TRACEPOINT, 0, answer); }
+
+static void set_size(void) { spoonharbor_set_size(SH_PROGRAM_KIND_RAW_TRACEPOINT, answer); }
 
 static const uint8_t named[] = "raw_tracepoint/sys_enter";
 
-static void section(void) { answer[0] = spoonharbor_section_kind(named, sizeof named - 1); }
+static void section(void) { answer[SH_NUMBER] = spoonharbor_section_kind(named, sizeof named - 1) != SH_PROGRAM_KIND_RAW_TRACEPOINT; }
 
 static void store(void) { spoonharbor_store(rows, ROWS * SH_ROW_WORDS, table, file, sizeof file, answer); }
 
@@ -57,6 +67,27 @@ static void read_beside(void) {
 static void mend(void) {
     spoonharbor_mend(text, length, SH_FORM_SHORT, moved, sizeof moved, 0, blocks, sizeof blocks / sizeof *blocks, answer);
 }
+
+static const struct {
+    const char *name;
+    void (*call)(void);
+} calls[] = {
+    {"scan", scan},
+    {"parse", parse},
+    {"edit", edit},
+    {"change", change},
+    {"restart", restart},
+    {"table test", well_formed},
+    {"spelling", spelling},
+    {"section", section},
+    {"method", allows},
+    {"methods", set_size},
+    {"store", store},
+    {"load", load},
+    {"move", move},
+    {"read beside", read_beside},
+    {"mend", mend},
+};
 
 /* How many bytes of the stack a call takes. */
 static size_t used_by(void (*call)(void)) {
@@ -92,31 +123,16 @@ static void nest(const char *body, int bodies, const char *opening, const char *
     put("}");
 }
 
+/* A line with the bytes that each call takes, in the order of `calls`: a file is stored before it is loaded, and moved before it is mended. */
 static void report(const char *what) {
     size_t empty = used_by(nothing);
-    size_t by_scan = used_by(scan) - empty;
-    if (table[SH_NUMBER] != 0) exit(1);
-    size_t by_parse = used_by(parse) - empty;
-    if (answer[SH_NUMBER] != 0) exit(1);
-    size_t by_edit = used_by(edit) - empty;
-    if (answer[SH_NUMBER] != 0) exit(1);
-    size_t by_change = used_by(change) - empty;
-    if (answer[SH_NUMBER] != 0) exit(1);
-    size_t by_test = used_by(well_formed) - empty;
-    size_t by_section = used_by(section) - empty;
-    if (answer[0] != SH_PROGRAM_KIND_RAW_TRACEPOINT) exit(1);
-    size_t by_store = used_by(store) - empty;
-    if (answer[SH_NUMBER] != 0) exit(1);
-    size_t by_load = used_by(load) - empty;
-    if (answer[SH_NUMBER] != 0) exit(1);
-    size_t by_move = used_by(move) - empty;
-    if (answer[SH_NUMBER] != 0) exit(1);
-    size_t by_read = used_by(read_beside) - empty;
-    if (answer[SH_NUMBER] != 0) exit(1);
-    size_t by_mend = used_by(mend) - empty;
-    if (answer[SH_NUMBER] != 0) exit(1);
-    printf("%s: scan %zu, parse %zu, edit %zu, change %zu, table test %zu, section %zu, store %zu, load %zu, move %zu, read beside %zu, mend %zu bytes of stack\n", what,
-           by_scan, by_parse, by_edit, by_change, by_test, by_section, by_store, by_load, by_move, by_read, by_mend);
+    printf("%s:", what);
+    for (size_t i = 0; i < sizeof calls / sizeof *calls; i++) {
+        size_t used = used_by(calls[i].call) - empty;
+        if (table[SH_NUMBER] != 0 || answer[SH_NUMBER] != 0) exit(1);
+        printf("%s %s %zu", i == 0 ? "" : ",", calls[i].name, used);
+    }
+    printf(" bytes of stack\n");
 }
 
 int main(void) {
