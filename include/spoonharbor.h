@@ -21,8 +21,8 @@
  * Room. A text of n bytes has at most n + 1 rows, since every row but the text's end has a byte: SH_ROW_ROOM(n) words hold them. A tree has
  * at most as many nodes as the text has rows: SH_NODE_ROOM(rows) words suffice, and a parse asks for them.
  *
- * Stack. No call allocates. As measured on x86-64, a parse takes up to 20 KB of stack where 64 constructs are open, a mending under 3 KB and
- * every other call under 2 KB; 64 KiB are enough for any (docs/SPEED.md has the figures).
+ * Stack. No call allocates. As measured on x86-64 and on Arm, a parse takes up to 20 KiB of stack where 64 constructs are open, a mending under
+ * 3 KiB and every other call under 2 KiB; 64 KiB are enough for any (docs/SPEED.md has the figures).
  */
 #ifndef SPOONHARBOR_H
 #define SPOONHARBOR_H
@@ -270,7 +270,7 @@ enum sh_refusal {
  * the rows in front, of any nesting and with the checks of 24, 26 to 29 and 31 left aside. Only 21, 22, 23, 25 and 30 tell kinds. */
 #define SH_FITS(answer, kind) ((answer)[(kind) < 32 ? SH_FIRST : SH_SECOND] >> ((kind) % 32) & 1)
 
-/* Refusal numbers of the calls over files, beside 3 and 4; their place is 0 1 1. */
+/* Refusal numbers of the calls over files, beside 1 to 4; their place is 0 1 1. */
 enum sh_file_refusal {
     SH_FILE_TOO_MANY_ROWS = 40, /* over SH_MOST_STORED_ROWS */
     SH_FILE_BAD_BLOCK = 41,     /* check, number, row count or filler is wrong of the block that SH_FIRST tells; blocks count from 0 */
