@@ -309,7 +309,8 @@ void spoonharbor_scan(const uint8_t *text, size_t text_length, uint32_t *rows, s
 /* 1 if a table is well formed, else 0. */
 uint32_t spoonharbor_well_formed(const uint32_t *rows, size_t row_words, const uint32_t table[SH_WORDS]);
 
-/* The part of the text that a row spells: bytes SH_FIRST to SH_SECOND, whole characters if the table is the text's own. Refusals 1, 2, 3. */
+/* The part of the text that a row spells: bytes SH_FIRST to SH_SECOND, whole characters if the table is the text's own. Refusals 1, 2, 3.
+ * The whole text and table are tested at each call; who keeps both as a call left them reads SH_ROW_START and SH_ROW_END of the row instead. */
 void spoonharbor_spelling(const uint8_t *text, size_t text_length, const uint32_t *rows, size_t row_words, const uint32_t table[SH_WORDS],
                           uint32_t row, uint32_t answer[SH_WORDS]);
 
