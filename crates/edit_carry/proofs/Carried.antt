@@ -63,7 +63,8 @@ unfolding recounted withComments
 recounted-snoc c [] q = refl
 recounted-snoc c (r ∷ rs) q = rw (ne-eqb (suc (length rs)) 0 (λ e. omega arith))
 
-recounted-length : (c : ℕ) (rs : List Row) → length (recounted c rs) ≡ length rs
+-- a new count for the first row leaves how many there are
+pub recounted-length : (c : ℕ) (rs : List Row) → length (recounted c rs) ≡ length rs
 unfolding recounted
 recounted-length c [] = refl
 recounted-length c (r ∷ rs) = refl
