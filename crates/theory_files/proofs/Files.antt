@@ -32,7 +32,7 @@ use Rattle.file_rules.specs.Blocks.{fileLength, blockBytes}
 use Rattle.file_rules.specs.declared.EndingRead.the-variants.{Ends}
 use Rattle.file_rules.specs.Files.{mostRows, rowBytes, formNumber, saidAt, said, endingSaid, readRefused, readEnding, endingIn, countSaid}
 use Rattle.file_rules.specs.Files.{lengthSaid, formSaid, rowWordsIn, rowsTold, loadTold, loadLeaves, storeTold, storeLeaves, encode}
-use Rattle.theory_files.specs.Bounds.{none, some, Bytes, Words}
+use Rattle.laws.specs.Bounds.{none, some, Bytes, Words}
 use Rattle.theory_files.specs.Whole.{Holds, saidFrom, wordsOf}
 use Rattle.theory_files.proofs.Whole.{words-size, held-length, held-bytes, held-said, held-whole, held-words, whole-file}
 use Rattle.theory_files.proofs.Told.{told-rows, told-table, told-full, changed-bad}

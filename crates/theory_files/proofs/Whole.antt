@@ -13,9 +13,10 @@ use Rattle.file_rules.specs.Bytes.{number, numberAt, bytesOf, wordsIn, wordByte
 use Rattle.file_rules.specs.Blocks.{blockBytes, atContent, contentRoom, block, contentOf, sound, soundFrom, bodyFrom, blocksFor, blocksFrom}
 use Rattle.file_rules.specs.Blocks.{fileLength, fileOf}
 use Rattle.file_rules.specs.Files.{saidAt}
-use Rattle.theory_files.specs.Bounds.{Bytes, Words}
+use Rattle.laws.specs.Bounds.{Bytes, Words}
 use Rattle.theory_files.specs.Whole.{Fits, fileWith, saidFrom, wordsOf, soundOf, Whole, Holds}
-use Rattle.theory_files.proofs.Numbers.{below-take, below-drop, below-append, bytes-length, bytes-bytes, bytes-take, bytes-append}
+use Rattle.laws.proofs.Bounds.{below-take, below-drop, below-append}
+use Rattle.theory_files.proofs.Numbers.{bytes-length, bytes-bytes, bytes-take, bytes-append}
 use Rattle.theory_files.proofs.Numbers.{words-bytes, bytes-words, words-length, read-words}
 use Rattle.theory_files.proofs.One.{block-length, block-bytes, block-sound, content-block, sound-block, sound-holds, content-length}
 use Rattle.theory_files.proofs.One.{changed-judged}

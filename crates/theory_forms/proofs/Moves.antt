@@ -26,7 +26,7 @@ use Rattle.form_rules.specs.declared.Moved.the-variants as moved
 use Rattle.form_rules.specs.Short.{shortened, shortSaid, shortEncode, shortJudged, shortBytes, shortNumber}
 use Rattle.form_rules.specs.Forms.{isForm, rowBytesIn, judged, rowsBeside, tableBeside, agreesBeside, besideTold, besideLeaves, encodeIn}
 use Rattle.form_rules.specs.Forms.{moveJudged, moveTold, movedFrom, moveLeaves, isShort}
-use Rattle.theory_files.specs.Bounds.{Bytes}
+use Rattle.laws.specs.Bounds.{Bytes}
 use Rattle.theory_files.proofs.Numbers.{bytes-length}
 use Rattle.theory_files.proofs.Whole.{file-length}
 use Rattle.theory_files.proofs.Files.{ending-four, read-stored}

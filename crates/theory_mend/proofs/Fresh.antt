@@ -25,7 +25,7 @@ use Rattle.mend_rules.specs.Mend.{freshTable, freshWords, freshFile}
 use Rattle.theory_edits.specs.Scanned.{Scanned}
 use Rattle.theory_edits.proofs.Well.{Well, well-row, well-eof, well-stops, scan-well}
 use Rattle.theory_edits.proofs.WellFormed.{scanned-rows, scanned-well-formed}
-use Rattle.theory_files.specs.Bounds.{Words}
+use Rattle.laws.specs.Bounds.{Words}
 use Rattle.theory_files.proofs.Files.{count-is, encode-framed, rows-are, stored-read}
 use Rattle.theory_forms.proofs.Short.{placedTable}
 use Rattle.theory_forms.proofs.Written.{written-form, written-words, written-count, written-judged}
