@@ -5,8 +5,8 @@ use mathlib.Core.List.{List, [], _∷_, _++_, append-assoc, append-nil}
 use Prim.Native.Nat.{ℕ, zero, suc, _+_, _-_, _*_, _≤_, _<_, min}
 use native.Mathlib.Numerals.{add-one}
 use native.Mathlib.Omega.{arith}
-use lib.ListN.{length, take, drop, length-append, length-take, length-drop, take-append-drop}
-use lib.Seq.{take-at, drop-at, drop-drop, drop-append-add}
+use lib.ListN.{length, take, drop, length-take, take-append-drop}
+use lib.Seq.{drop-drop}
 use borrow.Author.Tests.{lt-ltb, le-ltb}
 use borrow.Rule.Slice.PartMut.{putMid}
 use Rattle.rules.specs.declared.Table.{Table}
@@ -22,30 +22,7 @@ use Rattle.file_rules.specs.Files.{mostRows, endingSaid, said, encode, storeTol
 use Rattle.theory_files.proofs.Numbers.{bytes-length, bytes-take, bytes-drop}
 use Rattle.theory_files.proofs.One.{block-length}
 use Rattle.theory_files.proofs.Many.{blocks-none, blocks-more}
-use Rattle.file_blocks.proofs.Laws.{put-length}
-
--- ---- a part of a file, written over
-
-mid : (xs ys : List ℕ) (a : ℕ) → putMid a ((a + 512) - a) xs ys ≡ (take a xs ++ ys) ++ drop (a + 512) xs
-mid xs ys a = let e : (a + 512) - a ≡ 512 = omega arith in rw (e, drop-drop, append-assoc)
-
-module _ (xs ys : List ℕ) (a : ℕ) (h : a + 512 ≤ length xs) (l : length ys ≡ 512) where
-  front-length : length (take a xs ++ ys) ≡ a + 512
-  front-length = rw (length-append, length-take) (omega arith)
-
-  mid-length : length ((take a xs ++ ys) ++ drop (a + 512) xs) ≡ length xs
-  mid-length = put-length xs ys a (a + 512) (omega arith) h
-
-  mid-take : take (a + 512) ((take a xs ++ ys) ++ drop (a + 512) xs) ≡ take a xs ++ ys
-  mid-take = take-at (take a xs ++ ys) (drop (a + 512) xs) (a + 512) front-length
-
-  mid-drop : (d : ℕ) → a + 512 ≤ d → drop d ((take a xs ++ ys) ++ drop (a + 512) xs) ≡ drop d xs
-  mid-drop d g =
-      let e : d ≡ length (take a xs ++ ys) + (d - (a + 512)) = omega (arith, front-length) in
-      let f : (a + 512) + (d - (a + 512)) ≡ d = omega arith in
-      ap (λ (x : ℕ). drop x ((take a xs ++ ys) ++ drop (a + 512) xs)) e
-      ∙ drop-append-add (take a xs ++ ys) (drop (a + 512) xs) (d - (a + 512)) ∙ drop-drop (d - (a + 512)) (a + 512) xs
-      ∙ ap (λ (x : ℕ). drop x xs) f
+use Rattle.file_parts.proofs.Parts.{mid, mid-length, mid-take, mid-drop}
 
 -- ---- the loop
 
