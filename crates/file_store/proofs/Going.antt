@@ -12,16 +12,16 @@ use borrow.Rule.Slice.PartMut.{putMid}
 use Rattle.rules.specs.declared.Table.{Table}
 use Rattle.file_rules.specs.Bytes.{bytesOf}
 use Rattle.file_rules.specs.Blocks.{block, blocksFor, blocksFrom, fileLength, fileOf}
-use Rattle.rules.specs.declared.Ending.{Ending}
-use Rattle.rules.specs.declared.Ending.the-variants.{None, Refused}
+use Rattle.rules.specs.declared.Ending.the-variants.{Refused}
 use Rattle.rules.specs.declared.Outer.the-variants.{NotWellFormed, NoRowRoom}
 use Rattle.rules.specs.Rows.{wellFormed}
 use Rattle.file_rules.specs.declared.Fault.the-variants.{Outer, TooManyRows}
 use Rattle.file_rules.specs.declared.Stored.the-variants as stored
-use Rattle.file_rules.specs.Files.{mostRows, endingSaid, said, encode, storeTold}
+use Rattle.file_rules.specs.Files.{mostRows, said, encode, storeTold}
 use Rattle.theory_files.proofs.Numbers.{bytes-length, bytes-take, bytes-drop}
 use Rattle.theory_files.proofs.One.{block-length}
 use Rattle.theory_files.proofs.Many.{blocks-none, blocks-more}
+use Rattle.theory_files.proofs.Files.{ending-four}
 use Rattle.file_parts.proofs.Parts.{mid, mid-length, mid-take, mid-drop}
 
 -- ---- the loop
@@ -143,11 +143,7 @@ most-length n h = omega arith
 
 -- what block 0 says is seven words
 said-size : (t : Table) → length (bytesOf (said t)) ≡ 28
-said-size t = bytes-length (said t) ∙ omega (arith, four (t .ending))
-  where
-    four : (e : Ending) → length (endingSaid e) ≡ 4
-    four None = refl
-    four (Refused why p) = refl
+said-size t = bytes-length (said t) ∙ omega (arith, ending-four (t .ending))
 
 -- block 0 over the front of a file, and then the blocks of the rows
 pub file-put : (rows file front : List ℕ) (t : Table) → fileLength 32 (t .count) ≤ length file → front ≡ block 0 0 (bytesOf (said t))
