@@ -19,11 +19,11 @@ use Rattle.laws.proofs.Tests.{both-true}
 use Rattle.scan_reader.specs.Read.{onward}
 use Rattle.scan_walk.specs.declared.Stop.{Stop}
 use Rattle.scan_walk.specs.declared.Stop.the-variants.{Met, Over, Short}
+use Rattle.edit_carry.proofs.Carried.{recounted-length}
 use Rattle.edit.specs.declared.Job.{Job}
 use Rattle.scan_walk.specs.Meeting.{meetsAt}
 use Rattle.scan_walk.specs.Walk.{startOf, rowsSeen, stopSeen}
 use Rattle.edit.specs.Job.{oldRows}
-use Rattle.edit.proofs.Tails.{recounted-length}
 
 -- ---- the rows from a start on are the last ones
 

@@ -24,6 +24,7 @@ use Rattle.rules.specs.Edit.{carryRow, recounted}
 use Rattle.rows.specs.Shape.{rowNo}
 use Rattle.laws.proofs.Lists.{lent-tail, back-tail}
 use Rattle.laws.proofs.Rows.{rows-length, words-length, take-rows, drop-rows, told-full, room-behind, laid-append, laid-front, laid-part, laid-all}
+use Rattle.edit_carry.proofs.Carried.{recounted-length}
 use Rattle.edit.specs.declared.Tail.{Tail}
 use Rattle.edit.specs.declared.Tail.the-variants.{Rows, Full}
 use Rattle.edit.specs.Job.{tailTold, rowsBehind, endingBehind, behindOf, FewBehind, tellOf, TellsFit}
@@ -84,12 +85,7 @@ map-take f zero xs = refl
 map-take f (suc n) [] = refl
 map-take f (suc n) (x ∷ xs) = ap (_∷_ (f x)) (map-take f n xs)
 
--- a new count for the first row leaves how many there are, and which come first
-pub recounted-length : (c : ℕ) (rs : List Row) → length (recounted c rs) ≡ length rs
-unfolding recounted
-recounted-length c [] = refl
-recounted-length c (r ∷ rs) = refl
-
+-- a new count for the first row leaves which come first
 recounted-take : (c n : ℕ) (rs : List Row) → take n (recounted c rs) ≡ recounted c (take n rs)
 unfolding recounted
 recounted-take c zero rs = refl

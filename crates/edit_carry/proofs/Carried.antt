@@ -1,7 +1,7 @@
 -- Moved places, endings and rows, and the loop that writes moved rows.
 use mathlib.Core.Path.{_≡_, refl, sym, ap, _∙_}
 use mathlib.Core.Bool.{cond}
-use mathlib.Core.List.{List, [], _∷_, _++_, map, append-assoc, append-nil}
+use mathlib.Core.List.{List, [], _∷_, _++_, map, append-assoc, append-nil, map-append}
 use Prim.Native.Nat.{ℕ, zero, suc, _+_, _-_, _*_, _≤_, _<_}
 use native.Mathlib.Numerals.{add-one}
 use native.Mathlib.Omega.{arith}
@@ -17,7 +17,7 @@ use Rattle.rules.specs.Text.{place}
 use Rattle.rules.specs.Rows.{Row, rowsIn, rowWords, wordsOf}
 use Rattle.rules.specs.Edit.{carry, carryRow, withComments, recounted}
 use Rattle.rows.specs.Shape.{rowNo}
-use Rattle.laws.proofs.Lists.{map-append, lent-tail, back-tail}
+use Rattle.laws.proofs.Lists.{lent-tail, back-tail}
 use Rattle.laws.proofs.Rows.{rows-length, rows-snoc, words-length, words-append}
 use Rattle.edit_carry.specs.Moves.{MovesPlace, MovesEnding, refused}
 
@@ -63,7 +63,8 @@ unfolding recounted withComments
 recounted-snoc c [] q = refl
 recounted-snoc c (r ∷ rs) q = rw (ne-eqb (suc (length rs)) 0 (λ e. omega arith))
 
-recounted-length : (c : ℕ) (rs : List Row) → length (recounted c rs) ≡ length rs
+-- a new count for the first row leaves how many there are
+pub recounted-length : (c : ℕ) (rs : List Row) → length (recounted c rs) ≡ length rs
 unfolding recounted
 recounted-length c [] = refl
 recounted-length c (r ∷ rs) = refl

@@ -9,14 +9,13 @@ use lib.Dec.{eqb}
 use borrow.Author.Tests.{eqb-true, eq-eqb, ne-eqb}
 use Rattle.laws.specs.Tests.{allBelow}
 use Rattle.laws.proofs.Tests.{false-by, both-true, true-both, below, below-by, below-one}
-use Rattle.laws.proofs.Places.{place-eq}
 use Rattle.laws.proofs.Rows.{rows-at, rows-length}
 use Rattle.rules.specs.declared.Cursor.{Cursor}
 use Rattle.rules.specs.declared.Ending.{Ending}
 use Rattle.rules.specs.declared.Lexical.{Lexical}
 use Rattle.rules.specs.declared.Ending.the-variants.{None, Refused}
 use Rattle.rules.specs.declared.Table.{Table}
-use Rattle.rules.specs.Text.{startPlace, lineAt, columnAt, placeAt}
+use Rattle.rules.specs.Text.{startPlace, placeAt}
 use Rattle.rules.specs.Rows.{Row, rowIn, rowNo, rowsIn, rowPlace, every}
 use Rattle.rows.proofs.Lists.{every-at, every-by}
 use Rattle.file_rules.specs.Files.{countSaid, rowWordsIn}
@@ -26,6 +25,7 @@ use Rattle.form_rules.specs.Short.{placedEnding}
 use Rattle.form_rules.specs.Forms.{isShort, rowsBeside, tableBeside, isPlaceIn, endingAgrees, agrees, agreesBeside}
 use Rattle.form_rules.specs.Shapes.{formOf, rowWordsOf}
 use Rattle.file_load.specs.Judged.{Framed}
+use Rattle.theory_forms.proofs.Agree.{place-of, place-agrees}
 use Rattle.file_beside.proofs.Known.{known, is-short, is-full}
 use Rattle.file_beside.proofs.Rows.{seated, judgedRow, row-beside, last-first, last-next, count-is, counts-row}
 use Rattle.file_beside.specs.Counting.{Counts, Holds, Agrees, lastPlace, rowsAgree, placedAt}
@@ -34,18 +34,6 @@ use Rattle.file_beside.specs.Counting.{Counts, Holds, Agrees, lastPlace,
 abbrev pub inPlace : List ℕ → Row → Bool
 inPlace text r = isPlaceIn text (rowPlace r)
 
--- a place with the line and column of its offset is the place of its offset
-place-of : (text : List ℕ) (p : Cursor) → isPlaceIn text p ≡ true → p ≡ placeAt text (p .offset .0)
-unfolding isPlaceIn placeAt
-place-of text p e =
-    let a = both-true (eqb (p .line .0) (lineAt text (p .offset .0))) (eqb (p .column .0) (columnAt text (p .offset .0))) e in
-    place-eq p _ refl (eqb-true _ _ (a .0)) (eqb-true _ _ (a .1))
-
--- and the other way round
-place-agrees : (text : List ℕ) (k : ℕ) → isPlaceIn text (placeAt text k) ≡ true
-unfolding isPlaceIn placeAt
-place-agrees text k = true-both (eq-eqb (lineAt text k) (lineAt text k) refl) (eq-eqb (columnAt text k) (columnAt text k) refl)
-
 row-agrees : (text : List ℕ) (r : Row) → inPlace text (seated r (placeAt text (r .start))) ≡ true
 unfolding rowPlace placeAt
 row-agrees text r = place-agrees text (r .start)
@@ -53,7 +41,7 @@ row-agrees text r = place-agrees text (r .start)
 seated-place : (form : Form) (text : List ℕ) (r : Row) → inPlace text (seated r (placedAt form text r)) ≡ true
     → placedAt form text r ≡ placeAt text (r .start)
 unfolding rowPlace
-seated-place Full text r e = place-of text (rowPlace r) e
+seated-place Full text r e = sym (place-of text (rowPlace r) e)
 seated-place Short text r e = refl
 
 -- ---- a file that agrees

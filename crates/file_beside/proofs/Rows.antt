@@ -7,7 +7,6 @@ use native.Mathlib.Numerals.{add-one}
 use native.Mathlib.Omega.{arith}
 use lib.ListN.{length, drop}
 use lib.Seq.{drop-drop}
-use lib.Dec.{leb}
 use borrow.Author.Tests.{leb-true}
 use Rattle.laws.proofs.Tests.{both-true}
 use Rattle.laws.proofs.Places.{over-start}
@@ -17,9 +16,9 @@ use Rattle.rules.specs.declared.Ending.the-variants.{None, Refused}
 use Rattle.rules.specs.declared.Lexical.{Lexical}
 use Rattle.rules.specs.declared.Table.{Table}
 use Rattle.rules.specs.Text.{mostBytes, startPlace, placeAt, over}
-use Rattle.rules.specs.Rows.{Row, wordsPerRow, rowIn, rowNo, rowPlace, linesFit, follows}
-use Rattle.rows.specs.Shape.{rowBefore, behind}
-use Rattle.rows.proofs.Inside.{Fine, fine, row-sound, within, few-rows, broken-of}
+use Rattle.rules.specs.Rows.{Row, wordsPerRow, rowIn, rowNo, rowPlace, follows}
+use Rattle.rows.specs.Shape.{rowBefore}
+use Rattle.rows.proofs.Inside.{Fine, fine, behind-ends, row-sound, within, few-rows, broken-of}
 use Rattle.rows.proofs.Tables.{before-first, before-on}
 use Rattle.file_rules.specs.declared.Loaded.the-variants as loaded
 use Rattle.file_rules.specs.Files.{countSaid, rowWordsIn}
@@ -109,11 +108,6 @@ last-first text file =
 pub last-next : (text file : List ℕ) (i : ℕ) → i < countSaid file → lastPlace text file (i + 1) ≡ placeAt text (judgedRow file i .start)
 last-next text file i h = rw (before-on (rowsBeside text file) i, start-beside text file i h)
 
--- a place that is behind a row is not before its end
-behind-end : (r : Row) (p : Cursor) → behind r p ≡ true → r .end ≤ p .offset .0
-unfolding behind
-behind-end r p e = leb-true (r .end) (p .offset .0) (both-true (leb (r .end) (p .offset .0)) (linesFit (rowPlace r) p) e .0)
-
 -- ---- how far is counted, of a file that holds a table of a text's length
 
 module _ (text file : List ℕ) (t : Table) (held : judged file ≡ loaded.Rows t) (long : length text ≡ t .length) where
@@ -168,7 +162,7 @@ module _ (text file : List ℕ) (t : Table) (held : judged file ≡ loaded.Rows 
       go None q = tt
       go (Refused why p) q =
           let b = broken-of are-fine {why = why} {p = p} q in
-          let f = before-below (t .count) (p .offset .0) (omega arith) (λ j e. behind-end (judgedRow file j) p (b .last j e)) in
+          let f = before-below (t .count) (p .offset .0) (omega arith) (λ j e. behind-ends (judgedRow file j) p (b .last j e)) in
           counts-from (t .count) (p .offset .0) f (omega (arith, b .within))
 
   -- the same, of a refused ending

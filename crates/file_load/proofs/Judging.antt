@@ -16,9 +16,10 @@ use Rattle.form_rules.specs.declared.Form.the-variants.{Full, Short}
 use Rattle.form_rules.specs.Shapes.{rowBytesOf, soundOf}
 use Rattle.file_blocks.specs.Standing.{rowsFrom, stand}
 use Rattle.theory_files.proofs.Many.{blocks-none, blocks-more, first-sound, first-not}
+use Rattle.file_sizes.proofs.Sizes.{some-bytes, few-bytes}
 use Rattle.file_load.specs.declared.Blocks.the-variants.{Bad, Sound}
 use Rattle.file_load.specs.Judged.{Framed, lastOf, standUpto, blocksJudged}
-use Rattle.file_load.proofs.Rows.{most, some-bytes, few-bytes, rows-words, words-file, rows-here-more, stand-append}
+use Rattle.file_load.proofs.Rows.{most, rows-words, words-file, rows-here-more, stand-append}
 
 -- the bytes of the rows from block k on, of which there are so many
 pub left-body : Form → List ℕ → ℕ → ℕ → List ℕ

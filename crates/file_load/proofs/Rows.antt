@@ -14,6 +14,7 @@ use Rattle.rules.specs.declared.Cursor.{Cursor}
 use Rattle.rules.specs.Rows.{Row, rowIn, rowNo, rowsIn}
 use Rattle.laws.specs.Tests.{allBelow}
 use Rattle.laws.proofs.Rows.{rows-snoc}
+use Rattle.laws.proofs.Lists.{part-front}
 use Rattle.rows.specs.Shape.{rowBefore, standsOn, stands}
 use Rattle.rows.proofs.Tables.{before-first, before-on, stands-next}
 use Rattle.file_rules.specs.Bytes.{number, wordsIn}
@@ -25,8 +26,8 @@ use Rattle.form_rules.specs.Short.{placedRow, placed, onOneLine, shortWordsIn}
 use Rattle.form_rules.specs.Shapes.{rowBytesOf, rowWordsOf}
 use Rattle.file_blocks.specs.Standing.{rowFrom, rowsFrom, stand}
 use Rattle.theory_files.proofs.Numbers.{words-length, words-front, words-drop}
-use Rattle.theory_files.proofs.Said.{part-front}
 use Rattle.theory_files.proofs.Many.{here-few, blocks-next, blocks-zero}
+use Rattle.file_sizes.proofs.Sizes.{some-bytes, few-bytes}
 use Rattle.file_load.specs.Judged.{lastOf}
 
 -- ---- the sizes of a form
@@ -34,14 +35,6 @@ use Rattle.file_load.specs.Judged.{lastOf}
 -- how many rows stand in a full block
 abbrev pub most : Form → ℕ
 most form = perBlock (rowBytesOf form)
-
-pub some-bytes : (form : Form) → 0 < rowBytesOf form
-some-bytes Full = omega arith
-some-bytes Short = omega arith
-
-pub few-bytes : (form : Form) → rowBytesOf form ≤ 504
-few-bytes Full = omega arith
-few-bytes Short = omega arith
 
 -- the bytes of the rows of a block
 pub here-bytes : (form : Form) (n left : ℕ) → n ≡ min (most form) left → rowBytesOf form * n ≤ 504

@@ -6,6 +6,7 @@ use native.Mathlib.Numerals.{add-one}
 use native.Mathlib.Omega.{arith}
 use lib.ListN.{length, drop, length-append, length-take, length-drop}
 use Rattle.laws.proofs.Valid.{fine-text}
+use Rattle.laws.proofs.Rows.{few-rows}
 use Rattle.rules.specs.declared.Ending.{Ending}
 use Rattle.rules.specs.declared.Judged.the-variants.{Fine}
 use Rattle.rules.specs.declared.Table.{Table}
@@ -23,7 +24,7 @@ use Rattle.scan_part.specs.Part.{readFrom, partRows, Begun, PartOf}
 use Rattle.scan_part.proofs.Readings.{put-rows, put-ending, from-start, begun-start}
 use Rattle.file_mend.specs.declared.Step.{Step}
 use Rattle.file_mend.specs.Mending.{rowsDiffering, rowsOf, rowsAt, PartHeld}
-use Rattle.file_mend.proofs.Parts.{few-rows, rows-part, rows-few}
+use Rattle.file_mend.proofs.Parts.{rows-part, rows-few}
 
 -- ---- a part of a text's rows
 

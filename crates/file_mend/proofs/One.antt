@@ -6,8 +6,9 @@ use Prim.Native.Nat.{ℕ, zero, suc, _+_, _-_, _*_, _≤_, _<_}
 use native.Mathlib.Numerals.{add-one}
 use native.Mathlib.Omega.{arith}
 use lib.ListN.{length, take, drop, set, length-take, length-drop, take-append-drop}
-use lib.Seq.{take-all, take-nil, take-take, drop-drop, set-split, paste}
+use lib.Seq.{take-all, take-nil, drop-drop, set-split, paste}
 use Rattle.laws.proofs.Spelled.{same-eq, differs}
+use Rattle.laws.proofs.Lists.{part-front}
 use Rattle.rules.specs.Kinds.{sameBytes}
 use Rattle.file_mend.specs.Mending.{blockOf, entry}
 
@@ -19,10 +20,6 @@ drop-front zero n s = let e : n - 0 ≡ n = omega arith in rw e
 drop-front (suc a) zero s = let e : 0 - suc a ≡ 0 = omega arith in rw e
 drop-front (suc a) (suc n) [] = sym (take-nil (suc n - suc a))
 drop-front (suc a) (suc n) (x ∷ s) = let e : suc n - suc a ≡ n - a = omega arith in rw e (drop-front a n s)
-
--- a part of what stands in front
-part-within : (a b n : ℕ) (s : List ℕ) → b + a ≤ n → take a (drop b (take n s)) ≡ take a (drop b s)
-part-within a b n s h = rw (drop-front b n s) (take-take a (n - b) (drop b s) (omega arith))
 
 -- ---- a block held
 
@@ -60,7 +57,7 @@ module _ (fresh memory : List ℕ) (n k : ℕ) (l : length fresh ≡ 512) (e : s
       let f = same-eq fresh (blockOf k (take n memory)) e in
       let h : b + 512 ≤ n =
       omega (arith, ap length f, length-take 512 (drop b (take n memory)), length-drop b (take n memory), length-take n memory) in
-      f ∙ part-within 512 b n memory h
+      f ∙ part-front 512 b n memory h
 
   -- memory is as if a block that is right were written
   pub right-stays : memory ≡ take (512 * k) memory ++ (fresh ++ drop (512 * k + 512) memory)

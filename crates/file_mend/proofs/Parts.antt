@@ -2,16 +2,13 @@
 use mathlib.Core.Path.{_≡_, sym, ap, _∙_}
 use mathlib.Core.Bool.{Bool, true, false, cond}
 use mathlib.Core.List.{List, [], _∷_, _++_, append-nil}
-use Prim.Native.Nat.{ℕ, zero, suc, pred, _+_, _-_, _*_, _≤_, _<_, min}
+use Prim.Native.Nat.{ℕ, suc, _+_, _-_, _*_, _≤_, _<_, min}
 use native.Mathlib.Omega.{arith}
 use lib.ListN.{length, take, drop, length-append}
 use lib.Seq.{take-at, drop-at, take-all, take-append-le, drop-drop}
 use Rattle.laws.proofs.Rows.{words-length, words-append}
-use Rattle.rules.specs.declared.Cursor.{Cursor}
 use Rattle.rules.specs.Kinds.{sameBytes}
-use Rattle.rules.specs.Rows.{Row, rowWords, rowIn, wordsOf, rowAt}
-use Rattle.rules.specs.Lex.{Piece, blank, comment, row, refused, piece}
-use Rattle.rules.specs.Scan.{Reading, put, stops, readRows, read}
+use Rattle.rules.specs.Rows.{Row, rowWords, rowIn, wordsOf}
 use Rattle.file_rules.specs.Bytes.{bytesOf}
 use Rattle.file_rules.specs.Blocks.{block, perBlock, blocksFor, blocksFrom}
 use Rattle.form_rules.specs.declared.Form.{Form}
@@ -23,29 +20,8 @@ use Rattle.theory_files.proofs.Numbers.{bytes-length, bytes-append}
 use Rattle.theory_files.proofs.One.{block-length}
 use Rattle.theory_files.proofs.Many.{blocks-none, blocks-more, blocks-length}
 use Rattle.file_parts.proofs.Parts.{rows-size}
-use Rattle.file_sizes.proofs.Sizes.{some-rows}
+use Rattle.file_sizes.proofs.Sizes.{some-bytes, few-bytes, some-rows}
 use Rattle.file_mend.specs.Mending.{blockOf, entry, blocksOf, rowsDiffering, rowsBlock}
-
--- ---- how many rows there are
-
--- A reading has as many rows as bytes and one more, at most.
-pub few-rows : (pos : ℕ → Cursor) (c n k : ℕ) (s : List ℕ) → length (readRows (read pos c n k s)) ≤ length s + 1
-unfolding read readRows
-few-rows pos c n k [] = omega arith
-few-rows pos c (suc n) k (b ∷ s) = omega (arith, few-rows pos c n (suc k) s)
-few-rows pos c zero k (b ∷ s) = pick (piece (b ∷ s)) (λ d m. few-rows pos d m (suc k) s)
-  where
-    pick : (x : Piece) → ((d m : ℕ) → length (readRows (read pos d m (suc k) s)) ≤ length s + 1) →
-        length (readRows (elim x as (λ _. Reading) [
-          | blank ↦ read pos c zero (suc k) s
-          | comment n d ↦ read pos (suc c) (pred n) (suc k) s
-          | row kind n bits d ↦ put (rowAt (pos k) c kind (k + n) bits) (read pos zero (pred n) (suc k) s)
-          | refused why p d ↦ stops why (pos (k + p)) (k + d)
-        ])) ≤ suc (length s) + 1
-    pick blank h = omega (arith, h c 0)
-    pick (comment n d) h = omega (arith, h (suc c) (pred n))
-    pick (row kind n bits d) h = omega (arith, h 0 (pred n))
-    pick (refused why p d) h = omega arith
 
 -- ---- the words of rows in a form
 
@@ -82,16 +58,6 @@ body-size Short rs = rows-size (length rs) (wordsOf rs)
 
 -- ---- so many rows in a block
 
--- A row of either form has some bytes,
-some-size : (form : Form) → 0 < rowBytesOf form
-some-size Full = omega arith
-some-size Short = omega arith
-
--- and no more than a block has room for.
-few-size : (form : Form) → rowBytesOf form ≤ 504
-few-size Full = omega arith
-few-size Short = omega arith
-
 block-fits : (form : Form) (n : ℕ) → n ≤ perBlock (rowBytesOf form) → rowBytesOf form * n ≤ 504
 block-fits Full n h = omega arith
 block-fits Short n h = omega arith
@@ -116,13 +82,13 @@ module _ (form : Form) (k : ℕ) where
   -- no rows have none
   pub blocks-of-none : blocksOf form k [] ≡ []
   unfolding blocksOf blocksFrom
-  blocks-of-none = rw (blocks-none (rowBytesOf form) (some-size form) (few-size form))
+  blocks-of-none = rw (blocks-none (rowBytesOf form) (some-bytes form) (few-bytes form))
 
   -- Each block has 512 bytes.
   pub blocks-size : (rs : List Row) → length (blocksOf form k rs) ≡ 512 * blocksFor (rowBytesOf form) (length rs)
   unfolding blocksOf
   blocks-size rs =
-      blocks-length (rowBytesOf form) (some-size form) (few-size form) (blocksFor (rowBytesOf form) (length rs)) k (length rs) _
+      blocks-length (rowBytesOf form) (some-bytes form) (few-bytes form) (blocksFor (rowBytesOf form) (length rs)) k (length rs) _
 
   -- rows of one block have that one
   pub blocks-of-one : (rs : List Row) → 0 < length rs → length rs ≤ perBlock (rowBytesOf form) → blocksOf form k rs ≡ rowsBlock form k rs
@@ -131,8 +97,8 @@ module _ (form : Form) (k : ℕ) where
       let a = length rs in
       let x : List ℕ = bytesOf (bodyOf form (length rs) (wordsOf rs)) in
       let z : length rs + 0 ≡ length rs = omega arith in
-      let n = blocks-none (rowBytesOf form) (some-size form) (few-size form) in
-      let s = split-blocks (rowBytesOf form) (some-size form) (few-size form) (length rs) 0 k x [] some
+      let n = blocks-none (rowBytesOf form) (some-bytes form) (few-bytes form) in
+      let s = split-blocks (rowBytesOf form) (some-bytes form) (few-bytes form) (length rs) 0 k x [] some
       (omega arith) (omega arith) (body-size form rs) in
       (rw (z, append-nil x, n) at s) ∙ append-nil (rowsBlock form k rs)
 
@@ -142,7 +108,7 @@ module _ (form : Form) (k : ℕ) where
     blocks-then =
         let p = some-rows form in
         let e : length (xs ++ ys) - perBlock (rowBytesOf form) ≡ length ys = omega (arith, length-append xs ys) in
-        let m = blocks-more (rowBytesOf form) (some-size form) (few-size form) (length (xs ++ ys)) (omega (arith, length-append xs ys)) in
+        let m = blocks-more (rowBytesOf form) (some-bytes form) (few-bytes form) (length (xs ++ ys)) (omega (arith, length-append xs ys)) in
         rw e at m
 
     -- a full block, and those of the rows behind it
@@ -153,7 +119,7 @@ module _ (form : Form) (k : ℕ) where
         let x : List ℕ = bytesOf (bodyOf form (length xs) (wordsOf xs)) in
         let y : List ℕ = bytesOf (bodyOf form (length ys) (wordsOf ys)) in
         rw (body-append form xs ys, bytes-append, length-append xs ys)
-        (split-blocks (rowBytesOf form) (some-size form) (few-size form) (length xs) (length ys) k x y
+        (split-blocks (rowBytesOf form) (some-bytes form) (few-bytes form) (length xs) (length ys) k x y
         (omega arith) (omega arith) (omega arith) (body-size form xs))
 
     -- The blocks of a full part stand in front of those of the rows behind it.
@@ -177,16 +143,16 @@ module _ (form : Form) (k : ℕ) (file : List ℕ) where
   -- No rows have no entries.
   pub rows-none : rowsDiffering form k [] file ≡ []
   unfolding rowsDiffering differing
-  rows-none = rw (blocks-none (rowBytesOf form) (some-size form) (few-size form))
+  rows-none = rw (blocks-none (rowBytesOf form) (some-bytes form) (few-bytes form))
 
   -- Rows of one block have its entry.
   pub rows-one : (rs : List Row) → 0 < length rs → length rs ≤ perBlock (rowBytesOf form)
       → rowsDiffering form k rs file ≡ entry k (rowsBlock form k rs) file
   unfolding rowsDiffering differing
   rows-one rs some few =
-      let n = blocks-none (rowBytesOf form) (some-size form) (few-size form) in
+      let n = blocks-none (rowBytesOf form) (some-bytes form) (few-bytes form) in
       let e : length rs - perBlock (rowBytesOf form) ≡ 0 = omega arith in
-      let m = blocks-more (rowBytesOf form) (some-size form) (few-size form) (length rs) some in
+      let m = blocks-more (rowBytesOf form) (some-bytes form) (few-bytes form) (length rs) some in
       let c : blocksFor (rowBytesOf form) (length rs) ≡ 1 = (rw (e, n) at m) in
       let b = rowsBlock form k rs in
       rw (c, blocks-of-one form k rs some few)

@@ -22,7 +22,7 @@ use Rattle.form_rules.specs.Short.{shortNumber, shortJudged}
 use Rattle.form_rules.specs.Forms.{isShort, judged, rowsBeside, tableBeside, agreesBeside, encodeIn, rowBytesIn}
 use Rattle.form_rules.specs.Forms.{moveJudged, moveTold, movedFrom, moveLeaves}
 use Rattle.form_rules.specs.Shapes.{numberOf, rowBytesOf, formOf}
-use Rattle.theory_files.specs.Bounds.{Bytes}
+use Rattle.laws.specs.Bounds.{Bytes}
 use Rattle.theory_files.proofs.Said.{reads-of}
 use Rattle.theory_forms.proofs.Short.{reads-short}
 use Rattle.theory_forms.proofs.Moves.{own-form}

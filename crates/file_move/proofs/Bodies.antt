@@ -4,8 +4,9 @@ use mathlib.Core.Path.{_≡_, refl, sym, ap, _∙_}
 use mathlib.Core.List.{List, [], _++_, append-assoc}
 use Prim.Native.Nat.{ℕ, zero, suc, _+_, _-_, _*_, _≤_, _<_, min}
 use native.Mathlib.Omega.{arith}
-use lib.ListN.{length, take, drop, getD}
-use lib.Seq.{take-at, drop-at, take-add, take-all, drop-drop, getD-take, length-take-le}
+use lib.ListN.{length, take, drop}
+use lib.Seq.{take-at, drop-at, take-add, take-all, drop-drop, length-take-le}
+use Rattle.laws.proofs.Rows.{row-take}
 use Rattle.rules.specs.declared.Table.{Table}
 use Rattle.rules.specs.Rows.{wordsPerRow, rowIn}
 use Rattle.file_rules.specs.Bytes.{bytesOf}
@@ -20,6 +21,7 @@ use Rattle.theory_files.proofs.Numbers.{bytes-length, bytes-append}
 use Rattle.theory_files.proofs.Many.{here-few, blocks-none, blocks-more}
 use Rattle.theory_files.proofs.Files.{drop-take}
 use Rattle.theory_forms.proofs.Written.{shortened-length}
+use Rattle.file_sizes.proofs.Sizes.{some-bytes, few-bytes}
 
 -- ---- rows but their lines and columns
 
@@ -33,21 +35,6 @@ short-split (suc n) (suc m) ws h =
     rw (e, f, ← drop-drop (wordsPerRow * n) wordsPerRow ws, append-assoc)
     (ap (λ (l : List ℕ). shortRow (rowIn ws) ++ l) (short-split n m (drop wordsPerRow ws) (omega arith)))
 
-front-row : (m : ℕ) (ws : List ℕ) → wordsPerRow ≤ m → rowIn (take m ws) ≡ rowIn ws
-unfolding rowIn
-front-row m ws h =
-    let g : (i : ℕ) → i < wordsPerRow → getD (take m ws) i 0 ≡ getD ws i 0 = λ i l. getD-take m ws i 0 (omega arith) in
-    rw (
-      g 0 (omega arith),
-      g 1 (omega arith),
-      g 2 (omega arith),
-      g 3 (omega arith),
-      g 4 (omega arith),
-      g 5 (omega arith),
-      g 6 (omega arith),
-      g 7 (omega arith),
-    )
-
 -- only the words of the rows count
 short-front : (n : ℕ) (ws : List ℕ) → shortened n (take (wordsPerRow * n) ws) ≡ shortened n ws
 unfolding shortened
@@ -56,7 +43,7 @@ short-front (suc n) ws =
     let e : wordsPerRow * suc n ≡ wordsPerRow + wordsPerRow * n = omega arith in
     rw (
       e,
-      front-row (wordsPerRow + wordsPerRow * n) ws (omega arith),
+      row-take (wordsPerRow + wordsPerRow * n) ws (omega arith),
       drop-take wordsPerRow (wordsPerRow * n) ws,
       short-front n (drop wordsPerRow ws),
     )
@@ -86,14 +73,6 @@ body-front Short n ws tail h =
 
 -- ---- blocks
 
-small : (form : Form) → 0 < rowBytesOf form
-small Full = omega arith
-small Short = omega arith
-
-large : (form : Form) → rowBytesOf form ≤ contentRoom
-large Full = omega arith
-large Short = omega arith
-
 -- the blocks of so many rows, from block k on
 unfoldable pub blocksOf : Form → ℕ → ℕ → List ℕ → List ℕ
 blocksOf form k n ws = blocksFrom (rowBytesOf form) (blocksFor (rowBytesOf form) n) k n (bytesOf (bodyOf form n ws))
@@ -103,7 +82,7 @@ pub blocks-less : (form : Form) (left n : ℕ) → 0 < left → n ≡ min (perBl
     → blocksFor (rowBytesOf form) left ≡ suc (blocksFor (rowBytesOf form) (left - n))
 blocks-less form left n l here =
     let e : left - perBlock (rowBytesOf form) ≡ left - n = omega arith in
-    rw (← e) (blocks-more (rowBytesOf form) (small form) (large form) left l)
+    rw (← e) (blocks-more (rowBytesOf form) (some-bytes form) (few-bytes form) left l)
 
 -- one block further
 pub blocks-further : (form : Form) (left k n : ℕ) (ws : List ℕ) → 0 < left → n ≡ min (perBlock (rowBytesOf form)) left
@@ -125,12 +104,12 @@ blocks-further form left k n ws l here h =
 pub body-few : (form : Form) (left n : ℕ) (ws : List ℕ) → n ≡ min (perBlock (rowBytesOf form)) left → wordsPerRow * left ≤ length ws
     → length (bytesOf (bodyOf form n ws)) ≤ contentRoom
 body-few form left n ws here h =
-    let b : rowBytesOf form * n ≤ contentRoom = rw here (here-few (rowBytesOf form) (small form) (large form) left) in
+    let b : rowBytesOf form * n ≤ contentRoom = rw here (here-few (rowBytesOf form) (some-bytes form) (few-bytes form) left) in
     omega (arith, body-size form n ws (omega arith), b)
 
 -- no row is left
 pub blocks-zero : (form : Form) → blocksFor (rowBytesOf form) 0 ≡ 0
-blocks-zero form = blocks-none (rowBytesOf form) (small form) (large form)
+blocks-zero form = blocks-none (rowBytesOf form) (some-bytes form) (few-bytes form)
 
 pub blocks-end : (form : Form) (k : ℕ) (ws : List ℕ) → blocksOf form k 0 ws ≡ []
 unfolding blocksOf blocksFrom

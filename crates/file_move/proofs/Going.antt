@@ -4,8 +4,8 @@ use mathlib.Core.List.{List, [], _++_, append-assoc, append-nil}
 use Prim.Native.Nat.{ℕ, suc, _+_, _-_, _*_, _≤_, _<_, min}
 use native.Mathlib.Numerals.{add-one}
 use native.Mathlib.Omega.{arith}
-use lib.ListN.{length, take, drop, length-append, length-take, length-drop, take-append-drop}
-use lib.Seq.{take-at, drop-at, drop-drop, drop-append-add, length-take-le}
+use lib.ListN.{length, take, drop, length-append, length-drop, take-append-drop}
+use lib.Seq.{drop-at, drop-drop, length-take-le}
 use borrow.Rule.Slice.PartMut.{putMid}
 use Rattle.rules.specs.declared.Cursor.{Cursor}
 use Rattle.rules.specs.declared.Table.{Table}
@@ -18,34 +18,11 @@ use Rattle.form_rules.specs.Forms.{rowsBeside, encodeIn}
 use Rattle.form_rules.specs.Shapes.{numberOf, rowBytesOf, saidIn, bodyOf}
 use Rattle.theory_files.proofs.One.{block-length}
 use Rattle.file_sizes.proofs.Sizes.{few-rows, few-blocks, some-length}
+use Rattle.file_parts.proofs.Parts.{mid, mid-length, mid-take, mid-drop}
 use Rattle.file_move.proofs.Bodies.{blocksOf, blocks-less, blocks-further, blocks-end, blocks-zero, body-few, body-front, encoded}
 use Rattle.file_beside.specs.Counting.{Agrees, lastPlace}
 use Rattle.file_beside.proofs.Rows.{beside-length, count-is}
 use Rattle.file_beside.proofs.Agreeing.{agrees-long}
-
--- ---- a part of a file, written over
-
-mid : (xs ys : List ℕ) (a : ℕ) → putMid a ((a + blockBytes) - a) xs ys ≡ (take a xs ++ ys) ++ drop (a + blockBytes) xs
-mid xs ys a = let e : (a + blockBytes) - a ≡ blockBytes = omega arith in rw (e, drop-drop, append-assoc)
-
-module _ (xs ys : List ℕ) (a : ℕ) (h : a + blockBytes ≤ length xs) (l : length ys ≡ blockBytes) where
-  front-length : length (take a xs ++ ys) ≡ a + blockBytes
-  front-length = rw (length-append, length-take) (omega arith)
-
-  mid-length : length ((take a xs ++ ys) ++ drop (a + blockBytes) xs) ≡ length xs
-  mid-length = rw (length-append, length-append, length-take, length-drop) (omega arith)
-
-  mid-take : take (a + blockBytes) ((take a xs ++ ys) ++ drop (a + blockBytes) xs) ≡ take a xs ++ ys
-  mid-take = take-at (take a xs ++ ys) (drop (a + blockBytes) xs) (a + blockBytes) front-length
-
-  mid-drop : (d : ℕ) → a + blockBytes ≤ d → drop d ((take a xs ++ ys) ++ drop (a + blockBytes) xs) ≡ drop d xs
-  mid-drop d g =
-      let e : d ≡ length (take a xs ++ ys) + (d - (a + blockBytes)) = omega (arith, front-length) in
-      let f : (a + blockBytes) + (d - (a + blockBytes)) ≡ d = omega arith in
-      ap (λ (x : ℕ). drop x ((take a xs ++ ys) ++ drop (a + blockBytes) xs)) e
-      ∙ drop-append-add (take a xs ++ ys) (drop (a + blockBytes) xs) (d - (a + blockBytes))
-      ∙ drop-drop (d - (a + blockBytes)) (a + blockBytes) xs
-      ∙ ap (λ (x : ℕ). drop x xs) f
 
 -- ---- the loop
 

@@ -1,21 +1,22 @@
--- Laws of parts that are written one behind the other from a byte on, and of the words of one row more.
+-- Laws of parts that are written one behind the other from a byte on, of a block that is written over, and of the words of one row more.
 use mathlib.Core.Path.{_≡_, refl, sym, ap, _∙_}
 use mathlib.Core.List.{List, [], _∷_, _++_, append-assoc, append-nil}
-use Prim.Native.Nat.{ℕ, zero, suc, _+_, _*_, _≤_}
+use Prim.Native.Nat.{ℕ, zero, suc, _+_, _-_, _*_, _≤_}
 use native.Mathlib.Numerals.{add-one}
 use native.Mathlib.Omega.{arith}
-use lib.ListN.{length, take, drop, getD, length-append, take-append-drop}
-use lib.Seq.{drop-drop, length-take-le}
+use lib.ListN.{length, take, drop, getD, length-append, length-take, take-append-drop}
+use lib.Seq.{take-at, drop-drop, drop-append-add, length-take-le}
+use borrow.Rule.Slice.PartMut.{putMid}
 use Rattle.rules.specs.Rows.{Row, rowIn, wordsPerRow, atStart, atEnd, atLow, atHigh, atComments}
 use Rattle.file_rules.specs.Bytes.{little, bytesOf, wordBytes}
-use Rattle.file_rules.specs.Blocks.{atContent, perBlock}
+use Rattle.file_rules.specs.Blocks.{blockBytes, atContent, perBlock}
 use Rattle.file_rules.specs.Files.{rowBytes}
 use Rattle.form_rules.specs.declared.Form.{Form}
 use Rattle.form_rules.specs.declared.Form.the-variants.{Full, Short}
 use Rattle.form_rules.specs.Short.{shortWords, shortBytes, shortRow, shortened}
 use Rattle.form_rules.specs.Shapes.{rowBytesOf}
 use Rattle.theory_files.proofs.Numbers.{little-length, bytes-length, bytes-append}
-use Rattle.file_blocks.proofs.Laws.{onto}
+use Rattle.file_blocks.proofs.Laws.{onto, put-length}
 
 -- ---- parts, one behind the other
 
@@ -43,6 +44,30 @@ module _ (b₀ : List ℕ) (at : ℕ) where
         size-is = length-append c v ∙ omega (arith, p .size-is);
         is = w ∙ rw (l, drop-drop, e) (ap (λ (x : List ℕ). x ++ drop (at + (size + more)) b₀) (append-assoc (take at b₀) c v));
       }
+
+-- ---- a block of a file, written over
+
+pub mid : (xs ys : List ℕ) (a : ℕ) → putMid a ((a + blockBytes) - a) xs ys ≡ (take a xs ++ ys) ++ drop (a + blockBytes) xs
+mid xs ys a = let e : (a + blockBytes) - a ≡ blockBytes = omega arith in rw (e, drop-drop, append-assoc)
+
+module _ (xs ys : List ℕ) (a : ℕ) (h : a + blockBytes ≤ length xs) (l : length ys ≡ blockBytes) where
+  front-length : length (take a xs ++ ys) ≡ a + blockBytes
+  front-length = rw (length-append, length-take) (omega arith)
+
+  pub mid-length : length ((take a xs ++ ys) ++ drop (a + blockBytes) xs) ≡ length xs
+  mid-length = put-length xs ys a (a + blockBytes) (omega arith) h
+
+  pub mid-take : take (a + blockBytes) ((take a xs ++ ys) ++ drop (a + blockBytes) xs) ≡ take a xs ++ ys
+  mid-take = take-at (take a xs ++ ys) (drop (a + blockBytes) xs) (a + blockBytes) front-length
+
+  pub mid-drop : (d : ℕ) → a + blockBytes ≤ d → drop d ((take a xs ++ ys) ++ drop (a + blockBytes) xs) ≡ drop d xs
+  mid-drop d g =
+      let e : d ≡ length (take a xs ++ ys) + (d - (a + blockBytes)) = omega (arith, front-length) in
+      let f : (a + blockBytes) + (d - (a + blockBytes)) ≡ d = omega arith in
+      ap (λ (x : ℕ). drop x ((take a xs ++ ys) ++ drop (a + blockBytes) xs)) e
+      ∙ drop-append-add (take a xs ++ ys) (drop (a + blockBytes) xs) (d - (a + blockBytes))
+      ∙ drop-drop (d - (a + blockBytes)) (a + blockBytes) xs
+      ∙ ap (λ (x : ℕ). drop x xs) f
 
 -- ---- a row but its line and column
 

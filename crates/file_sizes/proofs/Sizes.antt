@@ -1,12 +1,21 @@
--- How many rows stand in a block of either form, and how long a file is at most.
+-- How long a row of either form is, how many rows stand in a block, and how long a file is at most.
 use mathlib.Core.Path.{_≡_}
-use Prim.Native.Nat.{ℕ, _+_, _-_, _*_, _/_, _≤_}
+use Prim.Native.Nat.{ℕ, _+_, _-_, _*_, _/_, _≤_, _<_}
 use native.Mathlib.Omega.{arith}
-use Rattle.file_rules.specs.Blocks.{blockBytes, blocksFor, fileLength, perBlock}
+use Rattle.file_rules.specs.Blocks.{blockBytes, contentRoom, blocksFor, fileLength, perBlock}
 use Rattle.form_rules.specs.declared.Form.{Form}
 use Rattle.form_rules.specs.declared.Form.the-variants.{Full, Short}
 use Rattle.form_rules.specs.Short.{shortBytes}
 use Rattle.form_rules.specs.Shapes.{rowBytesOf}
+
+-- a row has some bytes, and no more than a block has room for
+pub some-bytes : (form : Form) → 0 < rowBytesOf form
+some-bytes Full = omega arith
+some-bytes Short = omega arith
+
+pub few-bytes : (form : Form) → rowBytesOf form ≤ contentRoom
+few-bytes Full = omega arith
+few-bytes Short = omega arith
 
 -- a block has a row at least
 pub some-rows : (form : Form) → 1 ≤ perBlock (rowBytesOf form)

@@ -5,47 +5,24 @@ use mathlib.Core.List.{List, [], _∷_, _++_, append-assoc, append-nil}
 use Prim.Native.Nat.{ℕ, zero, suc, _+_, _-_, _*_, _≤_, _<_, min}
 use native.Mathlib.Numerals.{add-one}
 use native.Mathlib.Omega.{arith}
-use lib.ListN.{length, take, drop, length-append, length-take, length-drop, take-append-drop}
-use lib.Seq.{take-at, drop-at, drop-drop, drop-append-add}
+use lib.ListN.{length, take, drop, length-take, take-append-drop}
+use lib.Seq.{drop-drop}
 use borrow.Author.Tests.{lt-ltb, le-ltb}
 use borrow.Rule.Slice.PartMut.{putMid}
 use Rattle.rules.specs.declared.Table.{Table}
 use Rattle.file_rules.specs.Bytes.{bytesOf}
 use Rattle.file_rules.specs.Blocks.{block, blocksFor, blocksFrom, fileLength, fileOf}
-use Rattle.rules.specs.declared.Ending.{Ending}
-use Rattle.rules.specs.declared.Ending.the-variants.{None, Refused}
+use Rattle.rules.specs.declared.Ending.the-variants.{Refused}
 use Rattle.rules.specs.declared.Outer.the-variants.{NotWellFormed, NoRowRoom}
 use Rattle.rules.specs.Rows.{wellFormed}
 use Rattle.file_rules.specs.declared.Fault.the-variants.{Outer, TooManyRows}
 use Rattle.file_rules.specs.declared.Stored.the-variants as stored
-use Rattle.file_rules.specs.Files.{mostRows, endingSaid, said, encode, storeTold}
+use Rattle.file_rules.specs.Files.{mostRows, said, encode, storeTold}
 use Rattle.theory_files.proofs.Numbers.{bytes-length, bytes-take, bytes-drop}
 use Rattle.theory_files.proofs.One.{block-length}
 use Rattle.theory_files.proofs.Many.{blocks-none, blocks-more}
-use Rattle.file_blocks.proofs.Laws.{put-length}
-
--- ---- a part of a file, written over
-
-mid : (xs ys : List ℕ) (a : ℕ) → putMid a ((a + 512) - a) xs ys ≡ (take a xs ++ ys) ++ drop (a + 512) xs
-mid xs ys a = let e : (a + 512) - a ≡ 512 = omega arith in rw (e, drop-drop, append-assoc)
-
-module _ (xs ys : List ℕ) (a : ℕ) (h : a + 512 ≤ length xs) (l : length ys ≡ 512) where
-  front-length : length (take a xs ++ ys) ≡ a + 512
-  front-length = rw (length-append, length-take) (omega arith)
-
-  mid-length : length ((take a xs ++ ys) ++ drop (a + 512) xs) ≡ length xs
-  mid-length = put-length xs ys a (a + 512) (omega arith) h
-
-  mid-take : take (a + 512) ((take a xs ++ ys) ++ drop (a + 512) xs) ≡ take a xs ++ ys
-  mid-take = take-at (take a xs ++ ys) (drop (a + 512) xs) (a + 512) front-length
-
-  mid-drop : (d : ℕ) → a + 512 ≤ d → drop d ((take a xs ++ ys) ++ drop (a + 512) xs) ≡ drop d xs
-  mid-drop d g =
-      let e : d ≡ length (take a xs ++ ys) + (d - (a + 512)) = omega (arith, front-length) in
-      let f : (a + 512) + (d - (a + 512)) ≡ d = omega arith in
-      ap (λ (x : ℕ). drop x ((take a xs ++ ys) ++ drop (a + 512) xs)) e
-      ∙ drop-append-add (take a xs ++ ys) (drop (a + 512) xs) (d - (a + 512)) ∙ drop-drop (d - (a + 512)) (a + 512) xs
-      ∙ ap (λ (x : ℕ). drop x xs) f
+use Rattle.theory_files.proofs.Files.{ending-four}
+use Rattle.file_parts.proofs.Parts.{mid, mid-length, mid-take, mid-drop}
 
 -- ---- the loop
 
@@ -166,11 +143,7 @@ most-length n h = omega arith
 
 -- what block 0 says is seven words
 said-size : (t : Table) → length (bytesOf (said t)) ≡ 28
-said-size t = bytes-length (said t) ∙ omega (arith, four (t .ending))
-  where
-    four : (e : Ending) → length (endingSaid e) ≡ 4
-    four None = refl
-    four (Refused why p) = refl
+said-size t = bytes-length (said t) ∙ omega (arith, ending-four (t .ending))
 
 -- block 0 over the front of a file, and then the blocks of the rows
 pub file-put : (rows file front : List ℕ) (t : Table) → fileLength 32 (t .count) ≤ length file → front ≡ block 0 0 (bytesOf (said t))

@@ -1,5 +1,5 @@
--- Laws of the front of a list, the bytes that meet a test: how long it is, at an index of a text, and in a line.
-use mathlib.Core.Path.{_≡_, refl, sym, _∙_}
+-- Laws of the front of a list, the bytes that meet a test: how long it is, at an index of a text, of its first bytes, and in a line.
+use mathlib.Core.Path.{_≡_, refl, sym, ap, _∙_}
 use mathlib.Core.Bool.{Bool, true, false, true≢false}
 use mathlib.Core.List.{List, [], _∷_}
 use Prim.Native.Nat.{ℕ, zero, suc, _+_, _≤_, _<_}
@@ -7,7 +7,7 @@ use native.Mathlib.Nat.{zero-add}
 use native.Mathlib.Decide.{decLt}
 use native.Mathlib.Numerals.{add-one}
 use native.Mathlib.Omega.{arith}
-use lib.ListN.{length, drop, getD, drop-of-length-le, List·getD-eq-default}
+use lib.ListN.{length, take, drop, getD, drop-of-length-le, List·getD-eq-default}
 use lib.Seq.{drop-cons, drop-drop}
 use borrow.Author.Tests.{ne-eqb}
 use Rattle.rules.specs.Text.{front, notNewline}
@@ -90,6 +90,30 @@ pub front-more : (p : ℕ → Bool) (t : List ℕ) (a n : ℕ) → n ≤ front p
 front-more p t a n h i e =
     let d : front p (drop a t) ≡ n + front p (drop (a + n) t) = rw (← drop-drop n a t) (front-drop p n (drop a t) h) in
     omega (arith, front-on p t (a + n) i e)
+
+-- ---- of the first n bytes
+
+module _ (p : ℕ → Bool) where
+  -- a front that ends in them is the whole list's
+  pub front-first : (n : ℕ) (s : List ℕ) → front p (take n s) < n → front p s ≡ front p (take n s)
+  unfolding front
+  front-first zero s h = absurd (let y : ⊥ = omega arith in y)
+  front-first (suc n) [] h = refl
+  front-first (suc n) (b ∷ s) h = by (p b) refl (front-first n s)
+    where
+      by : (q : Bool) → p b ≡ q → (front p (take n s) < n → front p s ≡ front p (take n s)) → front p (b ∷ s) ≡ front p (b ∷ take n s)
+      by true e r = rw (front-in p b s e, front-in p b (take n s) e) (ap suc (r (omega (arith, front-in p b (take n s) e))))
+      by false e r = rw (front-out p b s e, front-out p b (take n s) e)
+
+  pub front-part : (n : ℕ) (s : List ℕ) → front p (take n s) ≤ front p s
+  unfolding front
+  front-part zero s = omega arith
+  front-part (suc n) [] = omega arith
+  front-part (suc n) (b ∷ s) = by (p b) refl (front-part n s)
+    where
+      by : (q : Bool) → p b ≡ q → front p (take n s) ≤ front p s → front p (b ∷ take n s) ≤ front p (b ∷ s)
+      by true e r = rw (front-in p b s e, front-in p b (take n s) e) (omega arith)
+      by false e r = rw (front-out p b (take n s) e) (omega arith)
 
 -- ---- in a line: a test that no newline meets
 

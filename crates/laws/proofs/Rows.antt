@@ -1,11 +1,11 @@
 -- Laws of rows in words: the words of a row, the rows from a number on, the words of rows, rows laid over lent words, and a scan's answer.
 use mathlib.Core.Path.{_≡_, refl, sym, ap, _∙_}
 use mathlib.Core.List.{List, [], _∷_, _++_, append-assoc}
-use Prim.Native.Nat.{ℕ, zero, suc, _+_, _-_, _*_, _≤_, _<_, min}
+use Prim.Native.Nat.{ℕ, zero, suc, pred, _+_, _-_, _*_, _≤_, _<_, min}
 use native.Mathlib.Nat.{not-suc-le-zero, le-of-suc-le-suc}
 use native.Mathlib.Omega.{arith}
 use lib.ListN.{length, take, drop, getD, length-append, length-take, length-drop}
-use lib.Seq.{take-add, take-all, take-append-le, take-append-add, getD-drop, drop-drop}
+use lib.Seq.{take-add, take-all, take-append-le, take-append-add, getD-take, getD-drop, drop-drop}
 use borrow.Author.Tests.{le-leb, lt-leb}
 use Rattle.rules.specs.declared.Cursor.{Cursor}
 use Rattle.rules.specs.declared.Ending.{Ending}
@@ -14,8 +14,9 @@ use Rattle.rules.specs.declared.Outer.the-variants.{NoRowRoom}
 use Rattle.rules.specs.declared.Judged.the-variants as verdict
 use Rattle.rules.specs.declared.Told.the-variants.{Rows, Refused}
 use Rattle.rules.specs.Text.{startPlace, textJudged}
-use Rattle.rules.specs.Rows.{Row, rowWords, rowIn, rowNo, rowsIn, wordsOf}
-use Rattle.rules.specs.Scan.{readRows, readEnding, scan, roomOf, told, laid, scanTold, scanLeaves}
+use Rattle.rules.specs.Rows.{Row, rowWords, rowIn, rowAt, rowNo, rowsIn, wordsOf}
+use Rattle.rules.specs.Lex.{Piece, blank, comment, row, refused, piece}
+use Rattle.rules.specs.Scan.{Reading, put, stops, readRows, readEnding, read, scan, roomOf, told, laid, scanTold, scanLeaves}
 
 -- ---- the words of row i
 
@@ -34,6 +35,14 @@ module _ (ws : List ℕ) (i : ℕ) where
   pub end-word : rowNo ws i .end ≡ getD ws (i * 8 + 2) 0
   unfolding rowIn
   end-word = word-of ws i 2
+
+-- a front of eight words or more has the row that stands first
+pub row-take : (m : ℕ) (ws : List ℕ) → 8 ≤ m → rowIn (take m ws) ≡ rowIn ws
+unfolding rowIn
+row-take m ws h =
+    let g : (i : ℕ) → i < 8 → getD (take m ws) i 0 ≡ getD ws i 0 = λ i l. getD-take m ws i 0 (omega arith) in
+    rw (g 0 (omega arith), g 1 (omega arith), g 2 (omega arith), g 3 (omega arith))
+    (rw (g 4 (omega arith), g 5 (omega arith), g 6 (omega arith), g 7 (omega arith)))
 
 -- row i of the words from row a on
 pub row-from : (ws : List ℕ) (a i : ℕ) → rowNo (drop (8 * a) ws) i ≡ rowNo ws (a + i)
@@ -179,6 +188,25 @@ module _ (xs ys : List Row) (ws : List ℕ) where
   laid-just h = laid-front (omega arith) ∙ rw (take-all (roomOf ws) xs (omega arith), h)
 
 -- ---- what a scan tells and leaves
+
+-- a reading has as many rows as bytes and one more, at most
+pub few-rows : (pos : ℕ → Cursor) (c n k : ℕ) (s : List ℕ) → length (readRows (read pos c n k s)) ≤ length s + 1
+unfolding read readRows
+few-rows pos c n k [] = omega arith
+few-rows pos c (suc n) k (b ∷ s) = omega (arith, few-rows pos c n (suc k) s)
+few-rows pos c zero k (b ∷ s) = pick (piece (b ∷ s)) (λ d m. few-rows pos d m (suc k) s)
+  where
+    pick : (x : Piece) → ((d m : ℕ) → length (readRows (read pos d m (suc k) s)) ≤ length s + 1) →
+        length (readRows (elim x as (λ _. Reading) [
+          | blank ↦ read pos c zero (suc k) s
+          | comment n d ↦ read pos (suc c) (pred n) (suc k) s
+          | row kind n bits d ↦ put (rowAt (pos k) c kind (k + n) bits) (read pos zero (pred n) (suc k) s)
+          | refused why p d ↦ stops why (pos (k + p)) (k + d)
+        ])) ≤ suc (length s) + 1
+    pick blank h = omega (arith, h c 0)
+    pick (comment n d) h = omega (arith, h (suc c) (pred n))
+    pick (row kind n bits d) h = omega (arith, h 0 (pred n))
+    pick (refused why p d) h = omega arith
 
 module _ (t : List ℕ) where
   pub scan-told-refused : {why : Outer} {p : Cursor} → textJudged t ≡ verdict.Refused why p → (m : ℕ) → scanTold t m ≡ Refused why p 0

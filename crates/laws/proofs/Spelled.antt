@@ -24,7 +24,7 @@ differs a b h = go (sameBytes a b) refl
     go true e = absurd (h (sym (same-eq a b e)))
     go false e = refl
 
-same-self : (a : List ℕ) → sameBytes a a ≡ true
+pub same-self : (a : List ℕ) → sameBytes a a ≡ true
 unfolding sameBytes
 same-self [] = refl
 same-self (x ∷ xs) = rw (eq-eqb x x refl, same-self xs)

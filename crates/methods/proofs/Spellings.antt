@@ -1,18 +1,10 @@
 -- Laws of the sections, one after the other.
-use mathlib.Core.Path.{_≡_, refl, ap, _∙_}
+use mathlib.Core.Path.{_≡_, refl, _∙_}
 use mathlib.Core.Bool.{Bool, true, false, cond}
 use mathlib.Core.List.{List, [], _∷_}
-use Prim.Native.Nat.{ℕ, suc, _<_}
-use native.Mathlib.Omega.{arith}
-use lib.ListN.{length, getD, take, drop}
-use lib.Seq.{take-all}
-use Rattle.rules.specs.Kinds.{sameBytes}
+use Prim.Native.Nat.{ℕ, suc}
+use lib.ListN.{getD, drop}
 use Rattle.rules.specs.Sets.{Section, Unknown, sections, fits, kindOfSection}
-use Rattle.laws.proofs.Spelled.{differs}
-
--- a text that is shorter than a spelling does not begin with it
-pub too-short : (s w : List ℕ) → length w < length s → sameBytes s (take (length s) w) ≡ false
-too-short s w l = differs s _ (λ e. omega (arith, ap length e, ap length (take-all (length s) w (omega arith))))
 
 unfoldable pub sectionAt : ℕ → Section
 sectionAt k = getD sections k (record { whole = true; spelling = []; kind = Unknown })

@@ -3,9 +3,6 @@ use rules::Asked;
 use rules::Outer;
 use rules::fact;
 ghost use mathlib.Core.Path.{_≡_};
-ghost use mathlib.Core.Bool.{cond};
-ghost use lib.ListN.{length, take};
-ghost use Rattle.rules.specs.Kinds.{sameBytes};
 ghost use Rattle.rules.specs.Sets.{fromSection};
 ghost use Rattle.rules.specs.Calls.{memberAsked, sizeAsked};
 
@@ -29,52 +26,28 @@ const LAST_KIND: u32 = fact::PROGRAM_UNKNOWN;
 
 const LAST_METHOD: u32 = 15;
 
-// A kind where a text is a spelling, and else another.
-fn named(text: &[u8], spelling: &[u8], kind: u32, other: u32) -> u32
-    ensures { λ r. ⌜ r ≡ cond (sameBytes (now (spelling .entry)) (now (text .entry))) kind other ⌝ }
-{
-    if check::same(text, spelling) {
-        return kind;
-    }
-    other
-}
-
-// A kind where a text begins with a spelling, and else another.
-fn begun(text: &[u8], spelling: &[u8], kind: u32, other: u32) -> u32
-    ensures { λ r. ⌜ r ≡ cond (sameBytes (now (spelling .entry)) (take (length (now (spelling .entry))) (now (text .entry)))) kind other ⌝ }
-{
-    let n = spelling.len();
-    if text.len() < n {
-        return other;
-    }
-    if check::same(&text[..n], spelling) {
-        return kind;
-    }
-    other
-}
-
 // The program kind of a section's text: the first section that it fits, so the last is asked first. Bytes are compared where they stand.
 pub fn section_kind(text: &[u8]) -> u32
     ensures { λ r. ⌜ r ≡ fromSection (now (text .entry)) ⌝ }
 {
-    let lsm = begun(text, b"lsm/", fact::PROGRAM_LSM, fact::PROGRAM_UNKNOWN);
-    let fexit = begun(text, b"fexit/", fact::PROGRAM_FEXIT, lsm);
-    let fentry = begun(text, b"fentry/", fact::PROGRAM_FENTRY, fexit);
-    let raw = begun(
+    let lsm = names::begun(text, b"lsm/", fact::PROGRAM_LSM, fact::PROGRAM_UNKNOWN);
+    let fexit = names::begun(text, b"fexit/", fact::PROGRAM_FEXIT, lsm);
+    let fentry = names::begun(text, b"fentry/", fact::PROGRAM_FENTRY, fexit);
+    let raw = names::begun(
         text,
         b"raw_tracepoint/",
         fact::PROGRAM_RAW_TRACEPOINT,
         fentry,
     );
-    let tracepoint = begun(text, b"tracepoint/", fact::PROGRAM_TRACEPOINT, raw);
-    let kretprobe = begun(text, b"kretprobe/", fact::PROGRAM_KPROBE, tracepoint);
-    let kprobe = begun(text, b"kprobe/", fact::PROGRAM_KPROBE, kretprobe);
-    let cgroup = begun(text, b"cgroup/", fact::PROGRAM_CGROUP, kprobe);
-    let socket = begun(text, b"sk_", fact::PROGRAM_SOCKET, cgroup);
-    let tc = begun(text, b"tc", fact::PROGRAM_TC, socket);
-    let classifier = named(text, b"classifier", fact::PROGRAM_TC, tc);
-    let tc_whole = named(text, b"tc", fact::PROGRAM_TC, classifier);
-    named(text, b"xdp", fact::PROGRAM_XDP, tc_whole)
+    let tracepoint = names::begun(text, b"tracepoint/", fact::PROGRAM_TRACEPOINT, raw);
+    let kretprobe = names::begun(text, b"kretprobe/", fact::PROGRAM_KPROBE, tracepoint);
+    let kprobe = names::begun(text, b"kprobe/", fact::PROGRAM_KPROBE, kretprobe);
+    let cgroup = names::begun(text, b"cgroup/", fact::PROGRAM_CGROUP, kprobe);
+    let socket = names::begun(text, b"sk_", fact::PROGRAM_SOCKET, cgroup);
+    let tc = names::begun(text, b"tc", fact::PROGRAM_TC, socket);
+    let classifier = names::spelt(text, b"classifier", fact::PROGRAM_TC, tc);
+    let tc_whole = names::spelt(text, b"tc", fact::PROGRAM_TC, classifier);
+    names::spelt(text, b"xdp", fact::PROGRAM_XDP, tc_whole)
 }
 
 // Whether a kind allows a method: 1 or 0.

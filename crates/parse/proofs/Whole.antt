@@ -42,9 +42,8 @@ use Rattle.parse_nodes.specs.declared.Got.{Got}
 use Rattle.parse_nodes.specs.declared.Got.the-variants.{Done}
 use Rattle.parse_nodes.proofs.Rows.{word-test}
 use Rattle.parse_nodes.proofs.Turn.{Came, came}
-use Rattle.parse_nodes.proofs.Steps.{stands-at, mem-over}
+use Rattle.parse_nodes.proofs.Steps.{Flat, stands-at, mem-over}
 use Rattle.parse_nodes.proofs.Told.{names-told}
-use Rattle.parse_events.proofs.Nodes.{Flat}
 use Rattle.parse.specs.Program.{AsksWhole, readingOf, Final}
 
 -- ---- one thing of a program, and its end

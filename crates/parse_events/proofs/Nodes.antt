@@ -8,7 +8,7 @@ use native.Mathlib.Omega.{arith}
 use lib.Seq.{sets}
 use Rattle.rules.specs.Parse
 use Rattle.rules.specs.declared.Syntax.{Syntax}
-use Rattle.rules.specs.Tree.{Tok, Tree, none, seq, event, isVariable, isSum, hangs, count}
+use Rattle.rules.specs.Tree.{Tok, Tree, event, isVariable, isSum, hangs, count}
 use Rattle.rules.specs.Nodes.{node, factNode, nodeWords, width, size, placeOf, treeWords}
 use Rattle.rules.specs.Parse.{Out, ok, no}
 use Rattle.theory_grammar.proofs.Laws.{words-plain-field, words-bytes-field, words-array-field, words-event}
@@ -21,7 +21,7 @@ use Rattle.parse_nodes.specs.Post.{stateAt, Met, Stands}
 use Rattle.parse_nodes.specs.declared.At.{At}
 use Rattle.parse_nodes.specs.declared.Got.{Got}
 use Rattle.parse_nodes.proofs.Turn.{Came, came}
-use Rattle.parse_nodes.proofs.Steps.{stands-at, mem-over}
+use Rattle.parse_nodes.proofs.Steps.{Flat, stands-at, mem-over}
 use Rattle.parse_events.specs.Shapes.{Shows, plain, bytes, array, Found}
 use Rattle.parse_events.specs.declared.Shape.{Shape}
 use Rattle.parse_events.specs.declared.Shaped.{Shaped}
@@ -90,18 +90,6 @@ field-met o i n m m′ s g q =
     (rw (shows-size (g .shows), shows-place i (g .shows), e .0, e .1, e .2, e .3), rw (shows-words i (g .shows)) q))
 
 -- ---- a field's call, and the event behind its fields
-
--- behind a field or a list of fields no `else` may stand
-abbrev pub Flat : Tree → Type 0
-Flat t = hangs t ≡ false
-
-pub flat-none : Flat none
-unfolding hangs
-flat-none = refl
-
-pub flat-seq : (l t : Tree) → Flat t → Flat (seq l t)
-unfolding hangs
-flat-seq l t h = h
 
 flat-field : {d : ℕ} {t : Tree} → Is true EventField d t → Flat t
 unfolding hangs

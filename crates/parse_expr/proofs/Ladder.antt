@@ -8,15 +8,16 @@ use lib.Dec.{eqb}
 use lib.ListN.{length}
 use borrow.Author.Tests.{eq-eqb, ne-eqb}
 use Rattle.rules.specs.declared.Syntax.{Syntax}
-use Rattle.rules.specs.Kinds.{Plus, Minus, Star, Slash, Percent, Eof}
-use Rattle.rules.specs.Tree.{Tok, Tree, bin, isSum, count}
+use Rattle.rules.specs.Kinds.{Plus, Minus, Eof}
+use Rattle.rules.specs.Tree.{Tok, Tree, bin, count}
 use Rattle.rules.specs.Nodes.{width}
 use Rattle.rules.specs.Parse
 use Rattle.rules.specs.Parse.{Out, ok, P, isAdd, isShift, isMul, kindAt}
-use Rattle.rules.specs.Grammar.{Is, Mul, Unary, Basic, i-num, i-var, i-group, i-field, i-bare, i-call, i-prim, i-star, i-unary, i-mul}
-use Rattle.theory_grammar.proofs.Laws.{either-kind, three-kinds}
+use Rattle.rules.specs.Grammar.{Mul, Unary}
+use Rattle.theory_grammar.proofs.Laws.{either-kind}
 use Rattle.theory_grammar.proofs.Cases.{then-ok, then-no, mul-is, shift-is, add-is}
 use Rattle.theory_grammar.proofs.Sound.{Reads}
+use Rattle.theory_grammar.proofs.AgainExpr.{mul-no-sum}
 use Rattle.parse_nodes.specs.Post.{Met, Stands}
 use Rattle.parse_nodes.specs.declared.At.{At}
 use Rattle.parse_nodes.specs.declared.Got.{Got}
@@ -139,22 +140,6 @@ module _ {ts : List Tok} {d i n : ℕ} {m : List ℕ} {s : At} {k at : ℕ} {m�
       level-again w (ap isMul (sym ek) ∙ b) ek (rw ea at v) g
 
 -- ---- shifts, and from the first sign on signs alone
-
--- no operand of `mul` is a sum
-basic-no-sum : {d : ℕ} {t : Tree} → Is true Basic d t → isSum t ≡ false
-unfolding isSum
-basic-no-sum i-num = refl
-basic-no-sum i-var = refl
-basic-no-sum (i-group a) = refl
-basic-no-sum (i-field a) = refl
-basic-no-sum (i-bare a p) = refl
-basic-no-sum (i-call a p b) = refl
-
-mul-no-sum : {d : ℕ} {t : Tree} → Is true Mul d t → isSum t ≡ false
-unfolding isSum
-mul-no-sum (i-unary (i-prim a)) = basic-no-sum a
-mul-no-sum (i-unary (i-star a)) = refl
-mul-no-sum (i-mul {k = k} a e b) = three-kinds (λ x. isAdd x ≡ false) k Star Slash Percent e refl refl refl
 
 abbrev Shifts : List Tok → (d i n : ℕ) → List ℕ → At → List ℕ → Type 0
 Shifts ts d i n m s m′ = Level ts d isShift (Parse.mul ts (Parse.inner ts d)) (Parse.shift ts (Parse.inner ts d) i) i n m s m′

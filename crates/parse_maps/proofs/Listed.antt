@@ -1,6 +1,6 @@
 -- A list of a map's fields, with one field more or a refusal.
 use mathlib.Core.Path.{_≡_, refl, ap, _∙_}
-use mathlib.Core.Bool.{true, false}
+use mathlib.Core.Bool.{true}
 use mathlib.Core.List.{List}
 use Prim.Native.Nat.{ℕ, _≤_, _<_}
 use native.Mathlib.Omega.{arith}
@@ -16,12 +16,9 @@ use Rattle.theory_grammar.proofs.Laws.{is-wide}
 use Rattle.theory_grammar.proofs.Runs.{All, map-all}
 use Rattle.theory_grammar.proofs.Sound.{Reads, list-sound, map-field-sound}
 use Rattle.parse_nodes.specs.Fitting.{retoldAt}
+use Rattle.parse_nodes.proofs.Steps.{Flat, flat-none, flat-seq}
 use Rattle.parse_maps.specs.Steps.{over, listed, factsOf}
 use Rattle.parse_maps.specs.declared.Facts.{Facts}
-
--- behind it no `else` may stand
-abbrev pub Flat : Tree → Type 0
-Flat t = hangs t ≡ false
 
 flat-field : {d : ℕ} {t : Tree} → Is true MapField d t → Flat t
 unfolding hangs
@@ -46,12 +43,12 @@ pub record Holds (f : Facts) (l : Tree) : Type 0 where
   pub flat : Flat l
 
 pub holds-none : (i : ℕ) → Holds (record { row = i; maptype = 0; key = 0; value = 0; limit = 0 }) none
-unfolding typeOf typedBy limitOf hangs
-holds-none i = record { facts = refl; flat = refl }
+unfolding typeOf typedBy limitOf
+holds-none i = record { facts = refl; flat = flat-none }
 
 pub holds-more : (f g : Facts) (l t : Tree) → Holds f l → g ≡ over f t (g .row) → Flat t → Holds g (seq l t)
-unfolding typeOf typedBy limitOf hangs
-holds-more f g l t h e q = record { facts = e ∙ ap (λ (x : Facts). over x t (g .row)) (h .facts); flat = q }
+unfolding typeOf typedBy limitOf
+holds-more f g l t h e q = record { facts = e ∙ ap (λ (x : Facts). over x t (g .row)) (h .facts); flat = flat-seq l t q }
 
 module _ (ts : List Tok) (l : Tree) (j : ℕ) where
   pub one-more : (t : Tree) (k : ℕ) → Parse.mapField ts j ≡ ok t k → Parse.listStep ts mapFields (Parse.mapField ts) l j ≡ ok (seq l t) k

@@ -25,10 +25,10 @@ use rules::limit;
 use rules::node_kind;
 use rules::row;
 ghost use mathlib.Core.Path.{_≡_};
-ghost use mathlib.Core.Bool.{true, cond};
+ghost use mathlib.Core.Bool.{true};
 ghost use Prim.Native.Nat.{_+_, _*_, _≤_};
 ghost use lib.ListN.{length};
-ghost use Rattle.rules.specs.Kinds.{KeywordType, KeywordMax, sameBytes};
+ghost use Rattle.rules.specs.Kinds.{KeywordType, KeywordMax};
 ghost use Rattle.rules.specs.Tree.{mapTypeNumber, lacking, shiftBits};
 ghost use Rattle.rules.specs.Parse.{isTyped};
 ghost use Rattle.parse_nodes.specs.Post.{Asks, AsksOpen};
@@ -210,25 +210,15 @@ fn typed_field(rows: &[u32], count: u32, f: Facts, kind: u32) -> Found
     })
 }
 
-// A number where a word has a spelling, and else another.
-fn spelt(word: &[u8], spelling: &[u8], number: u32, other: u32) -> u32
-    ensures { λ r. ⌜ r ≡ cond (sameBytes (now (spelling .entry)) (now (word .entry))) number other ⌝ }
-{
-    if check::same(word, spelling) {
-        return number;
-    }
-    other
-}
-
 // A map type's number, 1 to 5, or 0. Bytes are compared where they stand.
 fn type_number(word: &[u8]) -> u32
     ensures { λ r. ⌜ r ≡ mapTypeNumber (now (word .entry)) ⌝ }
 {
-    let prog_array = spelt(word, b"prog_array", fact::MAP_PROG_ARRAY, 0);
-    let lru_hash = spelt(word, b"lru_hash", fact::MAP_LRU_HASH, prog_array);
-    let ringbuf = spelt(word, b"ringbuf", fact::MAP_RINGBUF, lru_hash);
-    let array = spelt(word, b"array", fact::MAP_ARRAY, ringbuf);
-    spelt(word, b"hash", fact::MAP_HASH, array)
+    let prog_array = names::spelt(word, b"prog_array", fact::MAP_PROG_ARRAY, 0);
+    let lru_hash = names::spelt(word, b"lru_hash", fact::MAP_LRU_HASH, prog_array);
+    let ringbuf = names::spelt(word, b"ringbuf", fact::MAP_RINGBUF, lru_hash);
+    let array = names::spelt(word, b"array", fact::MAP_ARRAY, ringbuf);
+    names::spelt(word, b"hash", fact::MAP_HASH, array)
 }
 
 // `type` at the fields' row. The rows' spellings lie inside the text.

@@ -51,6 +51,20 @@ module _ (m : List ℕ) (i n : ℕ) (t : Tree) (s : At) (m₁ : List ℕ) (a : S
     pub mem-join : m₂ ≡ sets m (8 * n) (treeWords i t ++ treeWords j u)
     mem-join = mem-over m₂ (treeWords j u) (b .mem)
 
+-- ---- no `else` may stand behind a tree
+
+abbrev pub Flat : Tree → Type 0
+Flat t = hangs t ≡ false
+
+pub flat-none : Flat none
+unfolding hangs
+flat-none = refl
+
+-- behind a list it is as behind its last thing
+pub flat-seq : (l t : Tree) → Flat t → Flat (seq l t)
+unfolding hangs
+flat-seq l t h = h
+
 -- ---- lists
 
 module _ (i n : ℕ) (m : List ℕ) (s : At) where

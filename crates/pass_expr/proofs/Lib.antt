@@ -1,6 +1,5 @@
 -- What the proofs of the first pass share.
 pub mod Built
-pub mod Operators
 pub mod Parts
 pub mod Passes
 pub mod Ladder

@@ -260,7 +260,7 @@ follow-ends : (r q : Row) → follows r q ≡ true → r .end ≤ q .start
 unfolding follows
 follow-ends r q e = leb-true (r .end) (q .start) (both-true (leb (r .end) (q .start)) (linesFit (rowPlace r) (rowPlace q)) e .0)
 
-behind-ends : (r : Row) (p : Cursor) → behind r p ≡ true → r .end ≤ p .offset .0
+pub behind-ends : (r : Row) (p : Cursor) → behind r p ≡ true → r .end ≤ p .offset .0
 unfolding behind
 behind-ends r p e = leb-true (r .end) (p .offset .0) (both-true (leb (r .end) (p .offset .0)) (linesFit (rowPlace r) p) e .0)
 

@@ -20,31 +20,11 @@ use Rattle.rules.specs.Edit.{Seen, sees, over′, look, from, some}
 use Rattle.theory_machine.proofs.Spans.{Spans, refused-spans}
 use Rattle.theory_machine.proofs.Same.{piece-spans}
 use Rattle.laws.proofs.Places.{over-start}
-use Rattle.laws.proofs.Rows.{scan-told-refused, scan-leaves-refused, scan-told, scan-leaves}
+use Rattle.laws.proofs.Rows.{scan-told-refused, scan-leaves-refused, scan-told, scan-leaves, few-rows}
 use Rattle.scan_walk.specs.declared.Olds.{Olds}
 use Rattle.scan_walk.specs.declared.Stop.the-variants.{Over}
 use Rattle.scan_walk.specs.Meeting.{meetsAt}
 use Rattle.scan_walk.specs.Walk.{placeIn, rowsSeen, stopSeen, seenFrom, walkRows, walkOf, Walkable}
-
--- ---- as many rows as bytes and one more, at most
-
-pub few-rows : (pos : ℕ → Cursor) (c n k : ℕ) (s : List ℕ) → length (readRows (read pos c n k s)) ≤ length s + 1
-unfolding read readRows
-few-rows pos c n k [] = omega arith
-few-rows pos c (suc n) k (b ∷ s) = omega (arith, few-rows pos c n (suc k) s)
-few-rows pos c zero k (b ∷ s) = pick (piece (b ∷ s)) (λ d m. few-rows pos d m (suc k) s)
-  where
-    pick : (x : Piece) → ((d m : ℕ) → length (readRows (read pos d m (suc k) s)) ≤ length s + 1) →
-        length (readRows (elim x as (λ _. Reading) [
-          | blank ↦ read pos c zero (suc k) s
-          | comment n d ↦ read pos (suc c) (pred n) (suc k) s
-          | row kind n bits d ↦ put (rowAt (pos k) c kind (k + n) bits) (read pos zero (pred n) (suc k) s)
-          | refused why p d ↦ stops why (pos (k + p)) (k + d)
-        ])) ≤ suc (length s) + 1
-    pick blank h = omega (arith, h c 0)
-    pick (comment n d) h = omega (arith, h (suc c) (pred n))
-    pick (row kind n bits d) h = omega (arith, h 0 (pred n))
-    pick (refused why p d) h = omega arith
 
 -- ---- a reading as what is seen
 

@@ -15,7 +15,7 @@ use lib.Bits.{shifted-half, shifted-even}
 use lib.Count.{under, trailingZeros, trailing-of-zero}
 use Rattle.rules.specs.Text.{front}
 use Rattle.rules.specs.Lex.{isWord}
-use Rattle.laws.proofs.Fronts.{front-drop}
+use Rattle.laws.proofs.Fronts.{front-drop, front-first, front-part}
 use Rattle.scan_eights.specs.Eights.{numberOf, endMark}
 
 -- a front with the byte before it, by the test of that byte
@@ -72,31 +72,6 @@ some-mark s h = pick (decLt (front isWord s) (length s))
     pick : Dec (front isWord s < length s) → front isWord s < length s
     pick (yes p) = p
     pick (no p) = absurd (h (all-words s (omega arith)))
-
--- ---- the front of the first n bytes
-
-module _ (p : ℕ → Bool) where
-  front-first : (n : ℕ) (s : List ℕ) → front p (take n s) < n → front p s ≡ front p (take n s)
-  unfolding front
-  front-first zero s h = absurd (let y : ⊥ = omega arith in y)
-  front-first (suc n) [] h = refl
-  front-first (suc n) (b ∷ s) h = by (p b) h (front-first n s)
-    where
-      by : (q : Bool) → one-more q (front p (take n s)) < suc n
-          → (front p (take n s) < n → front p s ≡ front p (take n s))
-          → one-more q (front p s) ≡ one-more q (front p (take n s))
-      by true h r = ap suc (r (omega arith))
-      by false h r = refl
-
-  front-part : (n : ℕ) (s : List ℕ) → front p (take n s) ≤ front p s
-  unfolding front
-  front-part zero s = omega arith
-  front-part (suc n) [] = omega arith
-  front-part (suc n) (b ∷ s) = by (p b) (front-part n s)
-    where
-      by : (q : Bool) → front p (take n s) ≤ front p s → one-more q (front p (take n s)) ≤ one-more q (front p s)
-      by true r = omega arith
-      by false r = omega arith
 
 -- ---- eight bytes at an index
 

@@ -2,7 +2,7 @@
 use mathlib.Core.Path.{_≡_, refl, sym, ap, ap₂, _∙_}
 use mathlib.Core.Bool.{true}
 use mathlib.Core.List.{List, [], _∷_, map}
-use Prim.Native.Nat.{ℕ, zero, suc, _+_, _*_, _^_, _≤_, _<_}
+use Prim.Native.Nat.{ℕ, suc, _+_, _*_, _^_, _≤_, _<_}
 use native.Mathlib.Nat.{add-assoc}
 use native.Mathlib.Numerals.{add-one}
 use native.Mathlib.Omega.{arith}
@@ -12,24 +12,11 @@ use lib.Dec.{ltb, eqb}
 use lib.Bits.{bitAnd, bitOr, bitXor, and-block, or-block, xor-block, and-lt, or-lt, xor-lt}
 use borrow.Author.Tests.{ltb-true, eqb-true}
 use Rattle.laws.specs.Tests.{allBelow}
+use Rattle.laws.specs.Bounds.{Bytes, none, some}
 use Rattle.laws.proofs.Tests.{below}
-use Rattle.scan_eights.specs.Eights.{numberOf, Bytes, none, some}
+use Rattle.scan_eights.specs.Eights.{numberOf}
 
 -- ---- the bytes of a text
-
-pub bytes-of : (s : List ℕ) → ((k : ℕ) → getD s k 0 < 256) → Bytes s
-bytes-of [] h = none
-bytes-of (b ∷ s) h = some (h 0) (bytes-of s (λ k. h (suc k)))
-
-pub bytes-take : (n : ℕ) {s : List ℕ} → Bytes s → Bytes (take n s)
-bytes-take zero y = none
-bytes-take (suc n) none = none
-bytes-take (suc n) (some h y) = some h (bytes-take n y)
-
-pub bytes-drop : (n : ℕ) {s : List ℕ} → Bytes s → Bytes (drop n s)
-bytes-drop zero y = y
-bytes-drop (suc n) none = none
-bytes-drop (suc n) (some h y) = bytes-drop n y
 
 -- the byte at an index is the lowest of those from it on
 number-on : (t : List ℕ) (i n : ℕ) → i < length t
@@ -100,7 +87,7 @@ module _ (op : ℕ → ℕ → ℕ) (nothing : op 0 0 ≡ 0)
     through : {s : List ℕ} → Bytes s → op (numberOf (map f s)) (numberOf (map g s)) ≡ numberOf (map (λ b. op (f b) (g b)) s)
     unfolding numberOf
     through none = nothing
-    through (some {b} {s} h y) =
+    through (some {x = b} {xs = s} h y) =
         block 8 (numberOf (map f s)) (numberOf (map g s)) (f b) (g b) (hf b h) (hg b h)
         ∙ ap (λ (n : ℕ). n * 256 + op (f b) (g b)) (through y)
 
@@ -137,7 +124,7 @@ each-add {s} {f} {g} v w e = record {
 number-same : (f g : ℕ → ℕ) → ((b : ℕ) → b < 256 → f b ≡ g b) → {s : List ℕ} → Bytes s → numberOf (map f s) ≡ numberOf (map g s)
 unfolding numberOf
 number-same f g e none = refl
-number-same f g e (some {b} h y) = ap₂ (λ (m n : ℕ). m * 256 + n) (number-same f g e y) (e b h)
+number-same f g e (some {x = b} h y) = ap₂ (λ (m n : ℕ). m * 256 + n) (number-same f g e y) (e b h)
 
 pub each-is : {s : List ℕ} {f : ℕ → ℕ} {x : ℕ} → Bytes s → Each s f x → (g : ℕ → ℕ) → allBelow (λ b. eqb (f b) (g b)) 256 ≡ true
     → x ≡ numberOf (map g s)

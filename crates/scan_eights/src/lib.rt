@@ -7,8 +7,9 @@ ghost use Prim.Native.Nat.{ℕ, _+_, _≤_, _<_};
 ghost use lib.ListN.{length, getD, take, drop};
 ghost use Rattle.rules.specs.Text.{front};
 ghost use Rattle.rules.specs.Lex.{isWord};
+ghost use Rattle.laws.specs.Bounds.{Bytes};
 ghost use Rattle.scan_words.specs.Class.{Classes};
-ghost use Rattle.scan_eights.specs.Eights.{numberOf, endMark, Bytes};
+ghost use Rattle.scan_eights.specs.Eights.{numberOf, endMark};
 
 // A byte as a number that eight of them fit.
 fn wide(text: &[u8], at: usize) -> u64

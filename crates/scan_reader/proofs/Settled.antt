@@ -79,17 +79,17 @@ module _ (t : List ℕ) (a : ℕ) (w : Word) (r : w ≡ wordOf a (drop a t)) whe
 
 -- ---- comments: the byte behind the slash at the index
 
-behind : (t : List ℕ) (a : ℕ) → getD (drop a t) 1 0 ≡ getD t (a + 1) 0
-behind t a = getD-drop a t 1 0
+pub byte-next : (t : List ℕ) (i : ℕ) → getD (drop i t) 1 0 ≡ getD t (i + 1) 0
+byte-next t i = getD-drop i t 1 0
 
 module _ (t : List ℕ) (a n d : ℕ) where
   line-told : getD t (a + 1) 0 ≡ 47 → told (drop a t) (known (comment n d)) ≡ record { size = n; kind = Line; bits = 0 }
   unfolding told
-  line-told b = rw (behind t a, b)
+  line-told b = rw (byte-next t a, b)
 
   block-told : getD t (a + 1) 0 ≡ 42 → told (drop a t) (known (comment n d)) ≡ record { size = n; kind = Block; bits = 0 }
   unfolding told
-  block-told b = rw (behind t a, b)
+  block-told b = rw (byte-next t a, b)
 
 -- to the end of its line, at the index e
 module _ (whole : Bool) (t : List ℕ) (a : ℕ) (b : getD t (a + 1) 0 ≡ 47) (e : ℕ) (l : e ≡ a + front notNewline (drop a t)) where

@@ -14,7 +14,7 @@ use Rattle.rules.specs.declared.Lexical.the-variants.{LoneSign, NoRowBegins}
 use Rattle.laws.specs.Tests.{allBelow}
 use Rattle.laws.proofs.Tests.{below}
 use Rattle.scan_reader.specs.Brief.{refusalCode, told, settled}
-use Rattle.scan_reader.proofs.Settled.{nothing, settled-known, settled-unknown}
+use Rattle.scan_reader.proofs.Settled.{nothing, settled-known, settled-unknown, byte-next}
 
 -- ---- one byte
 
@@ -46,9 +46,6 @@ twoAt t a = kindIn signs Eof (getD t a 0 ∷ getD t (a + 1) 0 ∷ [])
 
 pub byte-here : (t : List ℕ) (i : ℕ) → getD (drop i t) 0 0 ≡ getD t i 0
 byte-here t i = rw (getD-drop, add-zero)
-
-byte-next : (t : List ℕ) (i : ℕ) → getD (drop i t) 1 0 ≡ getD t (i + 1) 0
-byte-next t i = getD-drop i t 1 0
 
 -- a sign at an index that may be the first byte of two
 module _ (t : List ℕ) (a : ℕ) (d : maybeTwo (getD t a 0) ≡ true) where

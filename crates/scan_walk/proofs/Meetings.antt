@@ -1,6 +1,6 @@
 -- The old rows from a start on, by a pointer that only moves forward.
 use mathlib.Core.Path.{_≡_, refl, sym, ap, _∙_}
-use mathlib.Core.Bool.{Bool, true, false, _&&_}
+use mathlib.Core.Bool.{Bool, true, false, _&&_, and-false}
 use mathlib.Core.List.{List, [], _∷_}
 use Prim.Native.Nat.{ℕ, zero, suc, _+_, _-_, _≤_, _<_}
 use native.Mathlib.Nat.{le-of-suc-le-suc}
@@ -104,10 +104,6 @@ lt-of {x} {y} h e = pick (decLe y x)
 
 not-lt : {x y : ℕ} → x < y → y ≤ x → ⊥
 not-lt h e = omega arith
-
-and-false : (p : Bool) → (p && false) ≡ false
-and-false true = refl
-and-false false = refl
 
 module _ (ws : List ℕ) (count least b row k : ℕ) (u : List ℕ) (passed : Passed ws least b row k) where
   -- nothing meets

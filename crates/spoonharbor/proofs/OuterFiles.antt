@@ -20,7 +20,7 @@ use Rattle.file_rules.specs.declared.Loaded.{Loaded}
 use Rattle.file_rules.specs.declared.Loaded.the-variants as loaded
 use Rattle.file_rules.specs.Files.{faultNumber, storeTold, loadTold, loadLeaves}
 use Rattle.file_answers.specs.Layout.{storedWords, loadedWords}
-use Rattle.theory_files.specs.Bounds.{Bytes, Words}
+use Rattle.laws.specs.Bounds.{Bytes, Words}
 use Rattle.theory_files.proofs.Files.{stored-loaded, stored-left, read-well}
 use Rattle.answers.specs.Layout.{toldWords, isEnding, tableOf}
 use Rattle.answers.proofs.Table.{told-table, lent-table}

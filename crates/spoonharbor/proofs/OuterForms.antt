@@ -20,7 +20,7 @@ use Rattle.mend_rules.specs.declared.Mended.the-variants as mended
 use Rattle.mend_rules.specs.Mend.{freshTable, mendTold}
 use Rattle.answers.specs.Layout.{toldWords}
 use Rattle.file_answers.specs.Layout.{besideWords, movedWords, mendedWords}
-use Rattle.theory_files.specs.Bounds.{Bytes}
+use Rattle.laws.specs.Bounds.{Bytes}
 use Rattle.theory_forms.specs.Forms.{IsMoved}
 use Rattle.theory_forms.proofs.Back.{there-and-back, read-alike}
 use Rattle.theory_mend.specs.Mended.{IsMended}

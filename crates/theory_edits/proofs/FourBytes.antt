@@ -18,11 +18,12 @@ use borrow.Author.Tests.{eqb-true, eqb-false}
 use Rattle.rules.specs.Text.{isTail, validBytes, valid, cutBytes, placeAt, over}
 use Rattle.rules.specs.Edit.{restart, judging, windowBytes, windowValid}
 use Rattle.laws.proofs.Valid.{valid-all, valid-le, is-valid, valid-join, valid-both, valid-sides, cut-le, cut-stays, Ends, last-char, before-valid}
+use Rattle.laws.proofs.Lists.{empty}
 use Rattle.theory_edits.specs.Change.{Change, oldText, newText, a, n, oldRows, starts, stops, Window, Unjudged, endsText}
 use Rattle.theory_edits.proofs.Places.{place-window}
 use Rattle.theory_edits.proofs.Kept.{restart-le}
 use Rattle.theory_edits.proofs.Meeting.{restart-place}
-use Rattle.theory_edits.proofs.Fresh.{empty, new-length, inside}
+use Rattle.theory_edits.proofs.Fresh.{new-length, inside}
 use Rattle.theory_edits.proofs.Low.{restart-between}
 
 module _ (c : Change) (w : List ℕ) (v : Window c w) (old : valid (oldText c) ≡ true) where

@@ -3,7 +3,7 @@
 use Prim.Native.Nat.{ℕ, _+_, _-_, _≤_}
 use native.Mathlib.Omega.{arith}
 use mathlib.Core.Bool.{Bool, true, false, not, _&&_, true≢false}
-use mathlib.Core.List.{List, [], _∷_, _++_}
+use mathlib.Core.List.{List, [], _++_}
 use mathlib.Core.Logic.{_↔_}
 use mathlib.Core.Path.{_≡_, refl, ap, sym, _∙_}
 use lib.Dec.{ltb, eqb}
@@ -15,6 +15,7 @@ use Rattle.rules.specs.Scan.{Reading, readRows, readEnding, scan}
 use Rattle.rules.specs.Edit
 use Rattle.rules.specs.Edit.{seen, newRows, newEnding, newLength, judging, unjudged, windowShort}
 use Rattle.laws.proofs.Tests.{false-by, both-true}
+use Rattle.laws.proofs.Lists.{empty}
 use Rattle.theory_edits.specs.Shows.{Shows, meeting, refusal}
 use Rattle.theory_edits.specs.Change.{Change, oldText, newText, a, b, n, oldRows, oldEnding, starts, stops, Window, isUnjudged, isShort, Unjudged, Unmet, endsText, editRows, editEnding}
 use Rattle.theory_edits.proofs.Stand.{At}
@@ -26,10 +27,6 @@ use Rattle.theory_edits.proofs.Bytes.{seenBytes, fresh-rows, fresh-endi
 same-seen : (rows : List Row) (e : Ending) (a b n : ℕ) (w : List ℕ) (whole : Bool) → seen rows e a b n w whole ≡ seenBytes rows e a b n w whole
 unfolding seen seenBytes
 same-seen rows e a b n w whole = same-look _ _ whole w 0 _
-
-pub empty : (z : List ℕ) → length z ≡ 0 → z ≡ []
-empty [] h = refl
-empty (x ∷ z) h = absurd (let y : ⊥ = omega arith in y)
 
 shows-more : {old new : Reading} {a b n hi hi′ : ℕ} → hi ≤ hi′ → Shows old new a b n hi → Shows old new a b n hi′
 shows-more l (meeting m c h s s′) = meeting m c (omega arith) s s′

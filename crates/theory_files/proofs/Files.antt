@@ -7,7 +7,7 @@ use mathlib.Core.List.{List, [], _∷_, _++_}
 use Prim.Native.Nat.{ℕ, zero, suc, _+_, _*_, _/_, _^_, _≤_, _<_}
 use native.Mathlib.Omega.{arith}
 use lib.ListN.{length, take, drop, getD, set, length-append, length-take}
-use lib.Seq.{take-nil, take-at, take-set-le, getD-take}
+use lib.Seq.{take-nil, take-at, take-set-le}
 use lib.Dec.{eqb, leb, ltb}
 use borrow.Author.Tests.{leb-true, le-leb, ltb-false, not-false}
 use Rattle.laws.proofs.Tests.{both-true}
@@ -18,7 +18,7 @@ use Rattle.rules.specs.declared.Ending.{Ending}
 use Rattle.rules.specs.declared.Ending.the-variants.{None, Refused}
 use Rattle.rules.specs.declared.Table.{Table}
 use Rattle.rules.specs.Text.{place, mostBytes}
-use Rattle.rules.specs.Rows.{Row, rowIn, rowsIn, every, isEof, placeFits, endsBehind, lastRow, endingFits, rowsFit, chained, follows}
+use Rattle.rules.specs.Rows.{Row, rowsIn, every, isEof, placeFits, endsBehind, lastRow, endingFits, rowsFit, chained, follows}
 use Rattle.rules.specs.Rows.{gapsFit, rowFits, wellFormed, wordsPerRow}
 use Rattle.rules.specs.Scan.{roomOf}
 use Rattle.rules.specs.Refusals.{lexicalNumber}
@@ -32,21 +32,17 @@ use Rattle.file_rules.specs.Blocks.{fileLength, blockBytes}
 use Rattle.file_rules.specs.declared.EndingRead.the-variants.{Ends}
 use Rattle.file_rules.specs.Files.{mostRows, rowBytes, formNumber, saidAt, said, endingSaid, readRefused, readEnding, endingIn, countSaid}
 use Rattle.file_rules.specs.Files.{lengthSaid, formSaid, rowWordsIn, rowsTold, loadTold, loadLeaves, storeTold, storeLeaves, encode}
-use Rattle.theory_files.specs.Bounds.{none, some, Bytes, Words}
+use Rattle.file_rules.specs.Bytes.{bytesOf}
+use Rattle.laws.specs.Bounds.{none, some, Bytes, Words}
+use Rattle.laws.proofs.Rows.{row-take}
 use Rattle.theory_files.specs.Whole.{Holds, saidFrom, wordsOf}
-use Rattle.theory_files.proofs.Whole.{words-size, held-length, held-bytes, held-said, held-whole, held-words, whole-file}
+use Rattle.theory_files.proofs.Whole.{words-size, held-bytes, held-said, held-whole, held-words, whole-file, file-length}
 use Rattle.theory_files.proofs.Told.{told-rows, told-table, told-full, changed-bad}
 use Rattle.theory_files.proofs.Said.{long-fits, Framed, framed-whole, whole-framed, framed-told, load-tests, Reads, reads-of}
 use Rattle.theory_files.proofs.Said.{saidWords, said-front, ending-said}
+use Rattle.theory_files.proofs.Numbers.{bytes-length}
 
 -- ---- the rows of a table are its first words
-
-row-take : (m : ℕ) (ws : List ℕ) → 8 ≤ m → rowIn (take m ws) ≡ rowIn ws
-unfolding rowIn
-row-take m ws h =
-    let g : (i : ℕ) → i < 8 → getD (take m ws) i 0 ≡ getD ws i 0 = λ i l. getD-take m ws i 0 (omega arith) in
-    rw (g 0 (omega arith), g 1 (omega arith), g 2 (omega arith), g 3 (omega arith))
-    (rw (g 4 (omega arith), g 5 (omega arith), g 6 (omega arith), g 7 (omega arith)))
 
 pub drop-take : (a m : ℕ) (ws : List ℕ) → drop a (take (a + m) ws) ≡ take m (drop a ws)
 drop-take zero m ws = let e : 0 + m ≡ m = omega arith in rw e
@@ -134,6 +130,13 @@ ending-four (Refused why p) = refl
 
 -- ---- a table and its file
 
+pub encode-length : (ws : List ℕ) (t : Table) → length (encode ws t) ≡ fileLength rowBytes (t .count)
+unfolding encode
+encode-length ws t =
+    file-length rowBytes (omega arith) (omega arith) (bytesOf (said t)) (omega (arith, bytes-length (said t), ending-four (t .ending)))
+    (t .count)
+    (bytesOf ws)
+
 module _ (ws : List ℕ) (t : Table) (well : wellFormed ws t ≡ true) (few : t .count ≤ mostRows) (words : Words ws) where
   pub said-words : Words (said t)
   unfolding rowsFit
@@ -158,10 +161,6 @@ module _ (ws : List ℕ) (t : Table) (well : wellFormed ws t ≡ true) (few : t 
     all = omega (arith, well-of ws t well .lent);
     rows-fit = words;
   }
-
-  pub encode-length : length (encode ws t) ≡ fileLength rowBytes (t .count)
-  unfolding encode
-  encode-length = held-length long-fits its
 
   pub encode-bytes : Bytes (encode ws t)
   unfolding encode
@@ -342,7 +341,7 @@ module _ (ws : List ℕ) (t : Table) (file : List ℕ) (n : ℕ) (e : storeTold 
 
   pub stored-file : take n (storeLeaves ws t file) ≡ encode ws t
   stored-file =
-      let l : length (encode ws t) ≡ n = encode-length ws t (is-stored .well) (is-stored .few) words ∙ is-stored .size in
+      let l : length (encode ws t) ≡ n = encode-length ws t ∙ is-stored .size in
       rw (store-written ws t file n e, take-at (encode ws t) (drop n file) n l)
 
   pub stored-loaded : (room : ℕ) → t .count ≤ room → loadTold (take n (storeLeaves ws t file)) room ≡ loaded.Rows t

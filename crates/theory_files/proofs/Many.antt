@@ -13,8 +13,8 @@ use lib.Dec.{ltb}
 use borrow.Author.Tests.{ltb-true, ltb-false}
 use Rattle.file_rules.specs.Blocks.{block, contentOf, sound, perBlock, rowsHere, bytesHere, blocksFor, blocksFrom, soundFrom, bodyFrom}
 use Rattle.file_rules.specs.Blocks.{blockBytes, contentRoom}
-use Rattle.theory_files.specs.Bounds.{none, some, Bytes}
-use Rattle.theory_files.proofs.Numbers.{below-take, below-drop, below-append}
+use Rattle.laws.specs.Bounds.{none, some, Bytes}
+use Rattle.laws.proofs.Bounds.{below-take, below-drop, below-append}
 use Rattle.theory_files.proofs.One.{block-length, block-bytes, block-sound, content-block, sound-holds, sound-block, changed-unsound}
 
 -- ---- how many

@@ -1,49 +1,14 @@
--- Laws of lists below a bound, of numbers in bytes and of words in bytes: each is the other's inverse.
+-- Laws of numbers in bytes and of words in bytes: each is the other's inverse.
 use mathlib.Core.Path.{_≡_, refl, sym, ap, _∙_}
 use mathlib.Core.List.{List, [], _∷_, _++_, append-assoc}
 use Prim.Native.Nat.{ℕ, zero, suc, _+_, _*_, _/_, _%_, _^_, _≤_, _<_}
 use native.Mathlib.Nat.{not-suc-le-zero, le-of-suc-le-suc}
 use native.Mathlib.Omega.{arith}
-use lib.ListN.{length, take, drop, getD, set, replicate, length-append, length-take, length-drop}
+use lib.ListN.{length, take, drop, length-append, length-take, length-drop}
 use lib.Seq.{take-add, drop-drop, take-at, drop-at, take-append-le, drop-append-le}
+use Rattle.laws.specs.Bounds.{none, some, Bytes, Words}
+use Rattle.laws.proofs.Bounds.{below-take, below-drop, below-append}
 use Rattle.file_rules.specs.Bytes.{little, number, bytesOf, wordsIn}
-use Rattle.theory_files.specs.Bounds.{Below, none, some, Bytes, Words}
-
--- ---- below a bound
-
-module _ {m : ℕ} where
-  pub below-take : (n : ℕ) {s : List ℕ} → Below m s → Below m (take n s)
-  below-take zero b = none
-  below-take (suc n) none = none
-  below-take (suc n) (some h b) = some h (below-take n b)
-
-  pub below-drop : (n : ℕ) {s : List ℕ} → Below m s → Below m (drop n s)
-  below-drop zero b = b
-  below-drop (suc n) none = none
-  below-drop (suc n) (some h b) = below-drop n b
-
-  pub below-append : {s t : List ℕ} → Below m s → Below m t → Below m (s ++ t)
-  below-append none c = c
-  below-append (some h b) c = some h (below-append b c)
-
-  pub below-set : {s : List ℕ} (i v : ℕ) → v < m → Below m s → Below m (set s i v)
-  below-set i v l none = none
-  below-set zero v l (some h b) = some l b
-  below-set (suc i) v l (some h b) = some h (below-set i v l b)
-
-  pub below-zeros : (n : ℕ) → 0 < m → Below m (replicate n 0)
-  below-zeros zero l = none
-  below-zeros (suc n) l = some l (below-zeros n l)
-
-  pub below-at : {s : List ℕ} → Below m s → (i : ℕ) → 0 < m → getD s i 0 < m
-  below-at none i l = l
-  below-at (some h b) zero l = h
-  below-at (some h b) (suc i) l = below-at b i l
-
--- from what is known of each index
-pub below-by : (m : ℕ) (s : List ℕ) → ((i : ℕ) → getD s i 0 < m) → Below m s
-below-by m [] f = none
-below-by m (x ∷ s) f = some (f 0) (below-by m s (λ i. f (suc i)))
 
 -- ---- a number in bytes
 

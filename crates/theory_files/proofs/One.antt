@@ -15,8 +15,9 @@ use borrow.Author.Tests.{eqb-true, eq-eqb, ltb-true, ltb-false}
 use Rattle.laws.proofs.Tests.{both-true, false-by}
 use Rattle.file_rules.specs.Bytes.{little, number, numberAt}
 use Rattle.file_rules.specs.Blocks.{sumFrom, check, checked, block, contentOf, zeros, sound, blockBytes, checkedBytes, contentRoom}
-use Rattle.theory_files.specs.Bounds.{none, some, Bytes}
-use Rattle.theory_files.proofs.Numbers.{below-take, below-drop, below-append, below-set, below-zeros, little-length, little-bytes}
+use Rattle.laws.specs.Bounds.{none, some, Bytes}
+use Rattle.laws.proofs.Bounds.{below-take, below-drop, below-append, below-set, below-zeros}
+use Rattle.theory_files.proofs.Numbers.{little-length, little-bytes}
 use Rattle.theory_files.proofs.Numbers.{number-two, number-four, little-number, number-same, number-below}
 
 -- ---- the check

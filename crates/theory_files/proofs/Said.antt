@@ -27,7 +27,7 @@ use Rattle.file_rules.specs.Files.{saidBytes}
 use Rattle.theory_files.specs.Whole.{Fits, Whole, soundOf, wholeTold}
 use Rattle.theory_files.proofs.Whole.{content-said, said-kept}
 use Rattle.theory_files.proofs.Told.{told-whole, whole-told, read-of}
-pub use Rattle.theory_files.proofs.Whole.{part-front, words-at}
+pub use Rattle.theory_files.proofs.Whole.{words-at}
 pub use Rattle.theory_files.proofs.Told.{passed, Last, last-of}
 pub use Rattle.theory_files.proofs.Told.{told-nothing, told-rows, told-many, told-unformed, told-full, told-table}
 

@@ -22,7 +22,7 @@ use Rattle.file_rules.specs.declared.Loaded.the-variants as loaded
 use Rattle.file_rules.specs.Bytes.{wordBytes}
 use Rattle.file_rules.specs.Blocks.{blockBytes, sound, blocksFor, fileLength}
 use Rattle.file_rules.specs.Files.{mostRows, rowsTold, readTold}
-use Rattle.theory_files.specs.Bounds.{Bytes}
+use Rattle.laws.specs.Bounds.{Bytes}
 use Rattle.theory_files.specs.Whole.{Fits, Whole, soundOf, wholeTold}
 use Rattle.theory_files.proofs.Whole.{first-changed, others-changed, changed-inside}
 

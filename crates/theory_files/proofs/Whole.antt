@@ -8,14 +8,16 @@ use Prim.Native.Nat.{ℕ, zero, suc, _+_, _-_, _*_, _/_, _≤_, _<_}
 use native.Mathlib.Nat.{not-suc-le-zero, le-of-suc-le-suc}
 use native.Mathlib.Omega.{arith}
 use lib.ListN.{length, take, drop, getD, set, length-append, length-take, length-drop, take-append-drop, drop-of-length-le}
-use lib.Seq.{take-at, drop-at, take-all, take-take, drop-drop, drop-cons, take-set-lt, drop-set-add, getD-take, getD-drop}
+use lib.Seq.{take-at, drop-at, take-all, drop-drop, drop-cons, take-set-lt, drop-set-add, getD-take, getD-drop}
 use Rattle.file_rules.specs.Bytes.{number, numberAt, bytesOf, wordsIn, wordBytes}
 use Rattle.file_rules.specs.Blocks.{blockBytes, atContent, contentRoom, block, contentOf, sound, soundFrom, bodyFrom, blocksFor, blocksFrom}
 use Rattle.file_rules.specs.Blocks.{fileLength, fileOf}
 use Rattle.file_rules.specs.Files.{saidAt}
-use Rattle.theory_files.specs.Bounds.{Bytes, Words}
+use Rattle.laws.specs.Bounds.{Bytes, Words}
 use Rattle.theory_files.specs.Whole.{Fits, fileWith, saidFrom, wordsOf, soundOf, Whole, Holds}
-use Rattle.theory_files.proofs.Numbers.{below-take, below-drop, below-append, bytes-length, bytes-bytes, bytes-take, bytes-append}
+use Rattle.laws.proofs.Bounds.{below-take, below-drop, below-append}
+use Rattle.laws.proofs.Lists.{part-front}
+use Rattle.theory_files.proofs.Numbers.{bytes-length, bytes-bytes, bytes-take, bytes-append}
 use Rattle.theory_files.proofs.Numbers.{words-bytes, bytes-words, words-length, read-words}
 use Rattle.theory_files.proofs.One.{block-length, block-bytes, block-sound, content-block, sound-block, sound-holds, content-length}
 use Rattle.theory_files.proofs.One.{changed-judged}
@@ -23,13 +25,6 @@ use Rattle.theory_files.proofs.Many.{blocks-few, blocks-length, blocks-
 use Rattle.theory_files.proofs.Many.{body-bytes, sound-most, changed-first}
 
 -- ---- words where they stand
-
--- a part of a front
-pub part-front : (a b c : ℕ) (l : List ℕ) → b + a ≤ c → take a (drop b (take c l)) ≡ take a (drop b l)
-part-front a zero c l h = take-take a c l (omega arith)
-part-front a (suc b) zero l h = absurd (omega arith)
-part-front a (suc b) (suc c) [] h = refl
-part-front a (suc b) (suc c) (x ∷ l) h = part-front a b c l (omega arith)
 
 -- word i of some bytes
 pub words-at : (n : ℕ) (s : List ℕ) (i : ℕ) → i < n → getD (wordsIn n s) i 0 ≡ numberAt 4 (4 * i) s

@@ -1,3 +1,2 @@
 -- The words in which the theorems about stored tables are stated.
-pub mod Bounds
 pub mod Whole

@@ -12,7 +12,7 @@ use Rattle.file_rules.specs.declared.Loaded.the-variants as loaded
 use Rattle.file_rules.specs.Bytes.{bytesOf, wordsIn, wordBytes}
 use Rattle.file_rules.specs.Blocks.{blockBytes, contentRoom, sound, blocksFor, fileLength, fileOf, soundFrom, bodyFrom}
 use Rattle.file_rules.specs.Files.{mostRows, saidAt}
-use Rattle.theory_files.specs.Bounds.{Words}
+use Rattle.laws.specs.Bounds.{Words}
 
 -- a block has room for a row, and block 0 for what it says
 pub record Fits (row said : ℕ) : Type 0 where

@@ -7,8 +7,8 @@ use native.Mathlib.Omega.{arith}
 use lib.ListN.{length, take, drop, getD, length-drop}
 use lib.Seq.{take-add}
 use lib.Dec.{eqb}
-use borrow.Author.Tests.{eqb-true}
-use Rattle.laws.proofs.Tests.{both-true}
+use borrow.Author.Tests.{eqb-true, eq-eqb}
+use Rattle.laws.proofs.Tests.{both-true, true-both}
 use Rattle.laws.proofs.Places.{place-eq}
 use Rattle.laws.proofs.Rows.{front-words}
 use Rattle.rules.specs.declared.Cursor.{Cursor}
@@ -19,11 +19,17 @@ use Rattle.rules.specs.Rows.{rowIn, rowsIn, rowWords, rowPlace, every, wordsPer
 use Rattle.form_rules.specs.Short.{shortRow, shortened, placedRow, placed, placedEnding, onOneLine}
 use Rattle.form_rules.specs.Forms.{isPlaceIn, endingAgrees}
 
-place-of : (text : List ℕ) (p : Cursor) → isPlaceIn text p ≡ true → placeAt text (p .offset .0) ≡ p
+-- a place with the line and column of its offset is the place of its offset
+pub place-of : (text : List ℕ) (p : Cursor) → isPlaceIn text p ≡ true → placeAt text (p .offset .0) ≡ p
 unfolding isPlaceIn placeAt
 place-of text p e =
     let a = both-true (eqb (p .line .0) (lineAt text (p .offset .0))) (eqb (p .column .0) (columnAt text (p .offset .0))) e in
     place-eq _ p refl (sym (eqb-true _ _ (a .0))) (sym (eqb-true _ _ (a .1)))
+
+-- and the other way round
+pub place-agrees : (text : List ℕ) (k : ℕ) → isPlaceIn text (placeAt text k) ≡ true
+unfolding isPlaceIn placeAt
+place-agrees text k = true-both (eq-eqb (lineAt text k) (lineAt text k) refl) (eq-eqb (columnAt text k) (columnAt text k) refl)
 
 whole : (ws : List ℕ) → wordsPerRow ≤ length ws
     → (getD ws 0 0 ∷ getD ws 1 0 ∷ getD ws 2 0 ∷ getD ws 3 0 ∷ getD ws 4 0 ∷ getD ws 5 0 ∷ getD ws 6 0 ∷ getD ws 7 0 ∷ [])

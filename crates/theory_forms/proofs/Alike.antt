@@ -17,7 +17,7 @@ use Rattle.form_rules.specs.declared.Beside.the-variants as beside
 use Rattle.form_rules.specs.declared.Moved.the-variants as moved
 use Rattle.form_rules.specs.Forms.{isForm, rowBytesIn, judged, rowsBeside, tableBeside, agreesBeside, besideJudged, besideTold}
 use Rattle.form_rules.specs.Forms.{besideLeaves, moveJudged, moveTold, movedFrom, moveLeaves, isShort}
-use Rattle.theory_files.specs.Bounds.{Bytes}
+use Rattle.laws.specs.Bounds.{Bytes}
 use Rattle.theory_files.proofs.Said.{reads-of}
 use Rattle.theory_forms.proofs.Moves.{own-form, encoded-length}
 

@@ -19,8 +19,8 @@ use Rattle.file_rules.specs.Files.{mostRows, formSaid, countSaid, rowWordsIn, l
 use Rattle.form_rules.specs.Short.{placedRow, placed, onOneLine, shortened, shortEncode, shortWordsIn, shortJudged, shortWords, shortNumber}
 use Rattle.form_rules.specs.Forms.{isForm, judged, rowsBeside, tableBeside, isPlaceIn, endingAgrees, agrees, agreesBeside, encodeIn}
 use Rattle.form_rules.specs.Forms.{isShort}
-use Rattle.theory_files.specs.Bounds.{none, some, Bytes, Words}
-use Rattle.theory_files.proofs.Numbers.{below-drop, below-at, below-append}
+use Rattle.laws.specs.Bounds.{none, some, Bytes, Words}
+use Rattle.laws.proofs.Bounds.{below-drop, below-at, below-append}
 use Rattle.theory_files.specs.Whole.{wordsOf}
 use Rattle.theory_files.proofs.Whole.{words-size, words-fit}
 use Rattle.theory_files.proofs.Said.{long-fits, Reads, reads-of}

@@ -17,7 +17,7 @@ use Rattle.file_rules.specs.Blocks.{blockBytes}
 use Rattle.file_rules.specs.Files.{formNumber, formSaid, countSaid, saidAt}
 use Rattle.form_rules.specs.Short.{shortWords, shortTable}
 use Rattle.form_rules.specs.Forms.{isShort, judged}
-use Rattle.theory_files.specs.Bounds.{Bytes}
+use Rattle.laws.specs.Bounds.{Bytes}
 use Rattle.theory_files.specs.Whole.{Fits, Whole}
 use Rattle.theory_files.proofs.Told.{first-bad, changed-bad}
 use Rattle.theory_files.proofs.Said.{saidWords, long-fits, said-front, framed-whole, load-tests, reads-of}

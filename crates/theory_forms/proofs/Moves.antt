@@ -17,7 +17,7 @@ use Rattle.file_rules.specs.declared.Loaded.{Loaded}
 use Rattle.file_rules.specs.declared.Loaded.the-variants as loaded
 use Rattle.file_rules.specs.Bytes.{bytesOf}
 use Rattle.file_rules.specs.Blocks.{fileLength}
-use Rattle.file_rules.specs.Files.{said, formSaid, countSaid, loadTold, encode, rowBytes, formNumber}
+use Rattle.file_rules.specs.Files.{formSaid, countSaid, loadTold, encode, rowBytes, formNumber}
 use Rattle.form_rules.specs.declared.Apart.{Apart}
 use Rattle.form_rules.specs.declared.Apart.the-variants.{File, OtherText}
 use Rattle.form_rules.specs.declared.Beside.the-variants as beside
@@ -26,10 +26,10 @@ use Rattle.form_rules.specs.declared.Moved.the-variants as moved
 use Rattle.form_rules.specs.Short.{shortened, shortSaid, shortEncode, shortJudged, shortBytes, shortNumber}
 use Rattle.form_rules.specs.Forms.{isForm, rowBytesIn, judged, rowsBeside, tableBeside, agreesBeside, besideTold, besideLeaves, encodeIn}
 use Rattle.form_rules.specs.Forms.{moveJudged, moveTold, movedFrom, moveLeaves, isShort}
-use Rattle.theory_files.specs.Bounds.{Bytes}
+use Rattle.laws.specs.Bounds.{Bytes}
 use Rattle.theory_files.proofs.Numbers.{bytes-length}
 use Rattle.theory_files.proofs.Whole.{file-length}
-use Rattle.theory_files.proofs.Files.{ending-four, read-stored}
+use Rattle.theory_files.proofs.Files.{read-stored, encode-length}
 use Rattle.theory_forms.specs.Forms.{IsMoved, SameBytes, written}
 use Rattle.theory_forms.proofs.Short.{reads-short, short-stored}
 use Rattle.theory_forms.proofs.Written.{ending-two}
@@ -90,13 +90,6 @@ module _ (text file : List ℕ) (bytes : Bytes file) (t : Table) (held : judged 
 
 -- ---- what a move writes
 
-long-length : (ws : List ℕ) (t : Table) → length (encode ws t) ≡ fileLength rowBytes (t .count)
-unfolding encode
-long-length ws t =
-    file-length rowBytes (omega arith) (omega arith) (bytesOf (said t)) (omega (arith, bytes-length (said t), ending-four (t .ending)))
-    (t .count)
-    (bytesOf ws)
-
 short-length : (ws : List ℕ) (t : Table) → length (shortEncode ws t) ≡ fileLength shortBytes (t .count)
 unfolding shortEncode
 short-length ws t =
@@ -112,7 +105,7 @@ encoded-length form ws t = go (eqb form shortNumber)
   where
     go : (b : Bool) → length (cond b (shortEncode ws t) (encode ws t)) ≡ fileLength (cond b shortBytes rowBytes) (t .count)
     go true = short-length ws t
-    go false = long-length ws t
+    go false = encode-length ws t
 
 module _ (text file : List ℕ) (form : ℕ) (lent : List ℕ) (n : ℕ) (m : IsMoved text file form lent n) where
   -- the file that is moved holds a table, and agrees with the text

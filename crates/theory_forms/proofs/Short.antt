@@ -23,7 +23,7 @@ use Rattle.file_rules.specs.Files.{mostRows, endingSaid, saidAt, formSaid, coun
 use Rattle.form_rules.specs.Short.{shortRow, shortened, placedRow, placed, placedEnding, onOneLine, shortEndingSaid, shortSaid, shortEncode}
 use Rattle.form_rules.specs.Short.{shortEnding, shortWordsIn, shortSoundIn, shortTable, shortBlocks, shortJudged, shortBytes}
 use Rattle.form_rules.specs.Short.{shortSaidBytes, shortWords, shortNumber}
-use Rattle.theory_files.specs.Bounds.{Bytes}
+use Rattle.laws.specs.Bounds.{Bytes}
 use Rattle.theory_files.specs.Whole.{Fits, Whole, saidFrom, wordsOf, soundOf, wholeTold}
 use Rattle.theory_forms.specs.Forms.{RefusedByName}
 use Rattle.theory_forms.proofs.Older.{refused-by-name}

@@ -22,9 +22,9 @@ use Rattle.file_rules.specs.declared.Loaded.the-variants as loaded
 use Rattle.file_rules.specs.Files.{formNumber, mostRows, endingSaid, saidAt, formSaid, countSaid, reasons, readRefused, readEnding}
 use Rattle.form_rules.specs.Short.{shortRow, shortened, placed, placedEnding, onOneLine, shortEndingSaid, shortSaid, shortEncode}
 use Rattle.form_rules.specs.Short.{shortEnding, shortWordsIn, shortTable, shortJudged, shortWords, shortNumber}
-use Rattle.theory_files.specs.Bounds.{none, some, Words}
+use Rattle.laws.specs.Bounds.{none, some, Words}
 use Rattle.theory_files.specs.Whole.{Whole, Holds, wordsOf}
-use Rattle.theory_files.proofs.Numbers.{below-append, below-at, below-drop}
+use Rattle.laws.proofs.Bounds.{below-append, below-at, below-drop}
 use Rattle.theory_files.proofs.Whole.{held-said, held-whole, held-words}
 use Rattle.theory_files.proofs.Told.{whole-told, told-rows, told-table}
 use Rattle.theory_files.proofs.Files.{said-words}

@@ -5,11 +5,10 @@ use mathlib.Core.Path.{_≡_, refl, sym, ap, _∙_, subst}
 use mathlib.Core.Bool.{Bool, true, false, not, cond, _&&_, _||_, and-eq-true-iff, true≢false}
 use mathlib.Core.List.{List}
 use mathlib.Core.Logic.{_⊎_, inl, inr}
-use Prim.Native.Nat.{ℕ, zero, suc, _+_, _-_, _/_, _%_, _^_, _<_}
-use native.Mathlib.Nat.{eq-or-lt-of-le, div-self}
+use Prim.Native.Nat.{ℕ, zero, suc, _+_, _-_, _<_}
+use native.Mathlib.Nat.{eq-or-lt-of-le}
 use native.Mathlib.Omega.{arith}
 use lib.Dec.{eqb}
-use lib.Pow.{pow-pos}
 use borrow.Author.Tests.{eqb-true, eq-eqb}
 use Rattle.rules.specs.declared.Syntax.the-variants.{CallOnOther}
 use Rattle.rules.specs.Kinds.{Dot, LParen, RParen, Star, Slash, Percent, Shr, Shl, Plus, Minus, Comma, Semicolon, Equals, PlusEquals, Identifier, StringLiteral, Number}
@@ -27,10 +26,7 @@ use Rattle.theory_grammar.proofs.Complete.{isBasic, isStart, start-case
 use Rattle.theory_grammar.proofs.Local.{Alike, Local, upward, inner-local, arg-step, post-local, unary-local, mul-local, bin-step}
 use Rattle.theory_grammar.proofs.Unread.{unary-unread, mul-unread, add-unread, whole-unread}
 use Rattle.theory_grammar.proofs.Held.{Misfit, unmet, Off, Spared, off, off-kind, spared-of, Near, Free, Again, Held, held-from, other-held, ok-held, then-known, then-held, then-near, or-near, or-held, Loop, steps-held}
-
-pub has-only : (k : ℕ) → has (only k) k ≡ true
-unfolding has
-has-only k = eq-eqb (2 ^ k / 2 ^ k % 2) 1 (ap (λ (x : ℕ). x % 2) (div-self (pow-pos k)))
+use Rattle.theory_grammar.proofs.Members.{only-has}
 
 -- ---- sets behind an expression
 
@@ -126,7 +122,7 @@ going-of a b s e =
 
 -- ---- trees that are no sum
 
-basic-no-sum : {b : Bool} {d : ℕ} {t : Tree} → Is b Basic d t → isSum t ≡ false
+pub basic-no-sum : {b : Bool} {d : ℕ} {t : Tree} → Is b Basic d t → isSum t ≡ false
 unfolding isSum
 basic-no-sum i-num = refl
 basic-no-sum i-var = refl
@@ -140,7 +136,7 @@ unfolding isSum
 unary-no-sum (i-prim h) = basic-no-sum h
 unary-no-sum (i-star h) = refl
 
-mul-no-sum : {b : Bool} {d : ℕ} {t : Tree} → Is b Mul d t → isSum t ≡ false
+pub mul-no-sum : {b : Bool} {d : ℕ} {t : Tree} → Is b Mul d t → isSum t ≡ false
 unfolding isSum
 mul-no-sum (i-unary h) = unary-no-sum h
 mul-no-sum (i-mul {k = k} l e r) = three-kinds (λ x. isAdd x ≡ false) k Star Slash Percent e refl refl refl
@@ -263,7 +259,7 @@ module _ {ts ts′ : List Tok} {n : ℕ} (agreed : Alike ts ts′ n) where
     pub want-held : (k : ℕ) (f f′ : P) (i : ℕ) → (kindAt ts i ≡ k → Held ts ts′ n F (i + 1) (f (i + 1)) (f′ (i + 1)))
         → Held ts ts′ n F i (Parse.want ts k f i) (Parse.want ts′ k f′ i)
     unfolding Parse.want
-    want-held k f f′ i h = want-in-held (only k) (only k) k f f′ i (has-only k) h
+    want-held k f f′ i h = want-in-held (only k) (only k) k f f′ i (only-has k) h
 
     pub named-held : (f f′ : List ℕ → P) (i : ℕ)
         → ((w : List ℕ) → kindAt ts i ≡ Identifier → Held ts ts′ n F (i + 1) (f w (i + 1)) (f′ w (i + 1)))
@@ -316,7 +312,7 @@ module _ {ts ts′ : List Tok} {n : ℕ} (agreed : Alike ts ts′ n) where
         there true e q a x = absurd (omega (arith, h (eqb-true (kindAt ts i) k e) .near a))
         there false e q a x =
             let c : eqb (kindAt ts n) k ≡ false = ap (λ (m : ℕ). eqb (kindAt ts m) k) (sym q) ∙ e in
-            c ∙ sym (off-kind (only k) k (has-only k) (spared-of (only k) x) .fails c)
+            c ∙ sym (off-kind (only k) k (only-has k) (spared-of (only k) x) .fails c)
 
     -- ---- the row behind an expression or arguments t
 

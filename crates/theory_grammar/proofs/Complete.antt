@@ -11,6 +11,7 @@ use lib.Dec.{eqb, leb}
 use lib.ListN.{length, getD, drop, length-drop, length-append}
 use lib.Seq.{drop-drop, drop-append-seam, getD-drop}
 use borrow.Author.Tests.{eqb-true, eqb-false, eq-eqb, not-true, not-false}
+use Rattle.laws.proofs.Tests.{false-by}
 use Rattle.rules.specs.declared.Syntax.the-variants.{TooDeep}
 use Rattle.rules.specs.Kinds.{KeywordUnit, KeywordSection, KeywordLicense, KeywordReturn, KeywordReg, KeywordImm, KeywordMap, KeywordKey, KeywordValue, KeywordMax, KeywordIf, KeywordElse, KeywordGuard, KeywordHeap, KeywordEvent, LBrace, RBrace, LParen, RParen, Colon, Dot, Comma, Semicolon, LBracket, RBracket, Equals, PlusEquals, Plus, Minus, Star, Slash, Percent, Shr, Shl, Identifier, Number, Eof}
 use Rattle.rules.specs.Fits.{bodyThings, unitThings, eventFields, tops, mapFields}
@@ -68,10 +69,6 @@ or-nested s i (no why r) c =
     Cases.or-no (λ x n. (isMisfit x ≡ false) × (isCheck x ≡ false)) s i why r
     (Cases.retold-misfit s why ∙ c .0, Cases.retold-check s why ∙ c .1) c
 
-not-strict : (b : Bool) → (b ≡ true → ⊥) → b ≡ false
-not-strict true h = absurd (h refl)
-not-strict false h = refl
-
 module _ {strict close : Bool} {o : Out} where
   infixr 30 _▹_
   _▹_ : {o′ r : Out} → o ≡ o′ → Gives strict close o′ r → Gives strict close o r
@@ -98,7 +95,7 @@ module _ {strict close : Bool} {o : Out} where
   -- a check that holds where checks count: what is given if it holds, and a refusal if it does not
   passes : {r : Out} (b : Bool) → (strict ≡ true → b ≡ true) → (b ≡ true → Gives strict close o r) → (b ≡ false → Checked o) → Gives strict close o r
   passes true q g c = g refl
-  passes false q g c = checked (not-strict strict (λ e. true≢false (sym (q e)))) (c refl)
+  passes false q g c = checked (false-by strict (λ e. true≢false (sym (q e)))) (c refl)
 
 -- ---- what a run of rows says of the rows in it
 
@@ -388,7 +385,7 @@ module _ (strict close : Bool) (ts : List Tok) where
   -- 32, where none is left
   too-deep : (n r : ℕ) {o o′ : Out} → Fits (suc n) 0 → o ≡ no TooDeep r → Gives strict close o o′
   unfolding isMisfit isCheck
-  too-deep n r f e = nested (not-strict close (λ q. omega (arith, f q))) (subst Nested (sym e) (refl, refl))
+  too-deep n r f e = nested (false-by close (λ q. omega (arith, f q))) (subst Nested (sym e) (refl, refl))
 
   -- what is read behind the opening row o: an expression, an operand, statements in braces
   abbrev WholeAt : ℕ → Tree → Type 0

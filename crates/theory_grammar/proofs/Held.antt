@@ -5,8 +5,8 @@ use mathlib.Core.Path.{_≡_, refl, sym, ap, _∙_, subst}
 use mathlib.Core.Bool.{Bool, true, false, cond, true≢false}
 use mathlib.Core.List.{List}
 use mathlib.Core.Logic.{_⊎_, inl, inr}
-use Prim.Native.Nat.{ℕ, zero, suc, _+_, _-_, _^_, _≤_, _<_}
-use native.Mathlib.Nat.{eq-or-lt-of-le, div-add-mod'}
+use Prim.Native.Nat.{ℕ, zero, suc, _+_, _-_, _≤_, _<_}
+use native.Mathlib.Nat.{eq-or-lt-of-le}
 use native.Mathlib.Omega.{arith}
 use lib.Dec.{eqb}
 use lib.ListN.{length}
@@ -21,6 +21,7 @@ use Rattle.theory_grammar.specs.Lost.{isMisfit, lost}
 use Rattle.theory_grammar.proofs.Runs.{All, all-any}
 use Rattle.theory_grammar.proofs.Cases.{or-no, retold-misfit, retold-lost}
 use Rattle.theory_grammar.proofs.Local.{Alike}
+use Rattle.theory_grammar.proofs.Members.{told-wrong}
 
 -- 21, 22, 23, 25 or 30
 abbrev pub Misfit : Out → Type 0
@@ -36,11 +37,6 @@ misfit-or : (s q : ℕ) (o : Out) → Misfit o → Misfit (or s q o)
 unfolding or
 misfit-or s q (ok t j) m = m
 misfit-or s q (no why r) m = or-no (λ x k. isMisfit x ≡ true) s q why r (retold-misfit s why ∙ m) m
-
--- the set of 21 is the one that was given
-pub set-of-wrong : (s : ℕ) → setTold (wrong s) ≡ s
-unfolding setTold
-set-of-wrong s = div-add-mod' s (2 ^ 32)
 
 -- a kind that is not in a set fails the tests of those that are
 pub unmet : (s : ℕ) (test : ℕ → Bool) → ((k : ℕ) → test k ≡ true → has s k ≡ true) → (k : ℕ) → has s k ≡ false → test k ≡ false
@@ -115,7 +111,7 @@ module _ {ts ts′ : List Tok} {n : ℕ} where
 
   -- the set of 21
   pub spared-of : (s : ℕ) → Spared ts ts′ n (setTold (wrong s)) → Spared ts ts′ n s
-  spared-of s p = subst (Spared ts ts′ n) (set-of-wrong s) p
+  spared-of s p = subst (Spared ts ts′ n) (told-wrong s) p
 
   -- ---- answers
 

@@ -1,5 +1,6 @@
 -- Laws of rows, trees and node memory; the parser's definitions by cases; and the theorems between the parser and the grammar.
 pub mod Laws
+pub mod Operators
 pub mod Cases
 pub mod Runs
 pub mod Leads

@@ -13,7 +13,7 @@ use Rattle.laws.proofs.Valid.{fine-text}
 use Rattle.laws.proofs.Rows.{words-length}
 use Rattle.rules.specs.declared.Judged.the-variants as verdict
 use Rattle.rules.specs.declared.Table.{Table}
-use Rattle.rules.specs.Text.{lineAt, columnAt, placeAt, textJudged}
+use Rattle.rules.specs.Text.{placeAt, textJudged}
 use Rattle.rules.specs.Rows.{wordsPerRow, rowsIn, rowAt, eofRow, rowPlace, every, wellFormed}
 use Rattle.rules.specs.Scan.{Reading, readRows, readEnding, scan}
 use Rattle.file_rules.specs.declared.Loaded.the-variants as loaded
@@ -25,11 +25,11 @@ use Rattle.mend_rules.specs.Mend.{freshTable, freshWords, freshFile}
 use Rattle.theory_edits.specs.Scanned.{Scanned}
 use Rattle.theory_edits.proofs.Well.{Well, well-row, well-eof, well-stops, scan-well}
 use Rattle.theory_edits.proofs.WellFormed.{scanned-rows, scanned-well-formed}
-use Rattle.theory_files.specs.Bounds.{Words}
+use Rattle.laws.specs.Bounds.{Words}
 use Rattle.theory_files.proofs.Files.{count-is, encode-framed, rows-are, stored-read}
 use Rattle.theory_forms.proofs.Short.{placedTable}
 use Rattle.theory_forms.proofs.Written.{written-form, written-words, written-count, written-judged}
-use Rattle.theory_forms.proofs.Agree.{rows-placed, ending-placed}
+use Rattle.theory_forms.proofs.Agree.{rows-placed, ending-placed, place-agrees}
 use Rattle.theory_forms.proofs.Moves.{encoded-length, only-one}
 use Rattle.theory_mend.proofs.Words.{scanned-words}
 
@@ -45,21 +45,17 @@ fresh-whole form text =
 
 -- ---- a scan's places are the text's
 
-own-place : (T : List ℕ) (t : ℕ) → isPlaceIn T (placeAt T t) ≡ true
-unfolding isPlaceIn placeAt
-own-place T t = true-both (eq-eqb (lineAt T t) (lineAt T t) refl) (eq-eqb (columnAt T t) (columnAt T t) refl)
-
 rows-agree : {T : List ℕ} {lo : ℕ} {l : Reading} → Well T lo l → every (λ r. isPlaceIn T (rowPlace r)) (readRows l) ≡ true
 unfolding every readRows rowPlace rowAt eofRow placeAt
-rows-agree {T} (well-row {t = t} c a h f w) = true-both (own-place T t) (rows-agree w)
-rows-agree {T} (well-eof {n = n} c a h) = true-both (own-place T n) refl
+rows-agree {T} (well-row {t = t} c a h f w) = true-both (place-agrees T t) (rows-agree w)
+rows-agree {T} (well-eof {n = n} c a h) = true-both (place-agrees T n) refl
 rows-agree (well-stops a h) = refl
 
 ending-agrees : {T : List ℕ} {lo : ℕ} {l : Reading} → Well T lo l → endingAgrees T (readEnding l) ≡ true
 unfolding endingAgrees readEnding
 ending-agrees (well-row c a h f w) = ending-agrees w
 ending-agrees (well-eof c a h) = refl
-ending-agrees {T} (well-stops {m = m} a h) = own-place T m
+ending-agrees {T} (well-stops {m = m} a h) = place-agrees T m
 
 -- ---- the file of a text that is judged fine
 

@@ -10,7 +10,7 @@ use lib.Seq.{take-add, take-all, drop-drop}
 use lib.Dec.{ltb}
 use borrow.Author.Tests.{ltb-true, ltb-false, lt-ltb, le-ltb}
 use Rattle.laws.proofs.Tests.{false-by}
-use Rattle.laws.proofs.Spelled.{same-eq, same-says}
+use Rattle.laws.proofs.Spelled.{same-eq, same-self}
 use Rattle.rules.specs.Kinds.{sameBytes}
 use Rattle.file_rules.specs.Blocks.{blockBytes}
 use Rattle.mend_rules.specs.Mend.{differing, surplus, listed}
@@ -38,9 +38,6 @@ member-one : {k j : ℕ} → Member k (j ∷ []) → k ≡ j
 member-one here = refl
 
 -- ---- blocks
-
-same-self : (s : List ℕ) → sameBytes s s ≡ true
-same-self s = sym (same-says true s s (λ _. refl, λ _. refl))
 
 differs-by : (s t : List ℕ) → sameBytes s t ≡ false → s ≡ t → ⊥
 differs-by s t e d = true≢false (sym (same-self t) ∙ ap (λ (x : List ℕ). sameBytes x t) (sym d) ∙ e)

@@ -1,15 +1,16 @@
 -- A mended file reads back as the fresh scan's table, mending again lists and changes nothing, and what need not change stays.
 use mathlib.Core.Path.{_≡_, refl, sym, ap, _∙_}
 use mathlib.Core.Bool.{Bool, true, false, cond, not, _||_}
-use mathlib.Core.List.{List, [], _∷_, _++_}
+use mathlib.Core.List.{List, [], _++_}
 use Prim.Native.Nat.{ℕ, _+_, _-_, _*_, _/_, _≤_, _<_}
 use native.Mathlib.Omega.{arith}
 use lib.ListN.{length, take, drop, take-append-drop, length-append, length-take, length-drop}
-use lib.Seq.{take-at, drop-at, take-all, take-take, drop-drop, take-append-le, drop-append-le, drop-append-add}
+use lib.Seq.{take-at, drop-at, take-all, drop-drop, take-append-le, drop-append-le, drop-append-add}
 use lib.Dec.{ltb}
 use borrow.Author.Tests.{ltb-false, ltb-true, le-ltb, not-false}
 use Rattle.laws.proofs.Tests.{neither}
 use Rattle.laws.proofs.Rows.{scan-told, scan-leaves, told-all, laid-all}
+use Rattle.laws.proofs.Lists.{empty, part-front}
 use Rattle.rules.specs.declared.Cursor.{Cursor}
 use Rattle.rules.specs.declared.Judged.{Judged}
 use Rattle.rules.specs.declared.Judged.the-variants as verdict
@@ -28,17 +29,11 @@ use Rattle.form_rules.specs.Forms.{isForm, besideJudged, besideTold, besideLeav
 use Rattle.mend_rules.specs.declared.Mended.{Mended}
 use Rattle.mend_rules.specs.declared.Mended.the-variants as mended
 use Rattle.mend_rules.specs.Mend.{freshTable, freshWords, freshFile, listed, tooSmall, freshTold, mendTold, mendLeaves, listLeaves}
-use Rattle.theory_files.proofs.Files.{drop-take, stored-read, stored-words}
+use Rattle.theory_files.proofs.Files.{stored-read, stored-words}
 use Rattle.theory_mend.specs.Mended.{IsMended, left, ReadsBack, IsRight, NothingAgain, Untouched, RestStays}
 use Rattle.theory_mend.specs.Mended.{blockAt, Member, ListTells}
 use Rattle.theory_mend.proofs.Listed.{listed-exactly, cut-listed, listed-ascending, listed-none, none-right, unlisted}
 use Rattle.theory_mend.proofs.Fresh.{Holds, fresh-whole, fresh-well, fresh-words, fresh-size, fresh-agrees, fresh-says, fresh-holds}
-
--- a part of what stands in front
-part-within : (a b c : ℕ) (s : List ℕ) → b + a ≤ c → take a (drop b (take c s)) ≡ take a (drop b s)
-part-within a b c s h =
-    let e : c ≡ b + (c - b) = omega arith in
-    ap (λ (x : ℕ). take a (drop b (take x s))) e ∙ ap (take a) (drop-take b (c - b) s) ∙ take-take a (c - b) (drop b s) (omega arith)
 
 -- ---- what is known of a mending that was told
 
@@ -157,10 +152,6 @@ module _ (text : List ℕ) (form : ℕ) (memory : List ℕ) (n : ℕ) (r : IsRig
     list = λ list. entries-left text form memory n list n 0 (right-told list) ∙ rw none-listed;
   }
 
-empty-of : (s : List ℕ) → length s ≡ 0 → s ≡ []
-empty-of [] e = refl
-empty-of (x ∷ s) e = absurd (let z : ⊥ = omega arith in z)
-
 -- Only a right file does: where nothing is listed, the file was right.
 pub only-right : (text : List ℕ) (form : ℕ) (memory : List ℕ) (n : ℕ) (list : List ℕ) (size : ℕ)
     → IsMended text form memory n list size 0 → IsRight text form memory n
@@ -172,7 +163,7 @@ only-right text form memory n list size m =
       fine = o .fine;
       few = o .few;
       held = o .held;
-      file = none-right fresh (take n memory) (fresh-whole form text) (empty-of (listed fresh (take n memory)) (o .count-is));
+      file = none-right fresh (take n memory) (fresh-whole form text) (empty (listed fresh (take n memory)) (o .count-is));
     }
 
 -- A refused call leaves lent memory and the lent list as they were.
@@ -303,7 +294,7 @@ module _ (text : List ℕ) (form : ℕ) (memory : List ℕ) (n : ℕ) (list : Li
       let l : length (blockAt k (take n memory)) ≡ blockBytes = ap length (sym e) ∙ block-length k h in
       let f : b + blockBytes ≤ n =
       omega (arith, length-take blockBytes (drop b (take n memory)), length-drop b (take n memory), length-take n memory) in
-      part-within blockBytes b n memory f
+      part-front blockBytes b n memory f
 
   right-block : (k : ℕ) → k < length (freshFile form text) / blockBytes → (Member k (listed (freshFile form text) (take n memory)) → ⊥)
       → blockAt k now ≡ blockAt k memory

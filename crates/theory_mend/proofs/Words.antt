@@ -21,8 +21,8 @@ use Rattle.rules.specs.Lex.{number, isEscape, string, isLone, maybeTwo, single,
 use Rattle.rules.specs.Scan.{Reading, put, ends, stops, readRows, read, scan}
 use Rattle.theory_edits.proofs.Lines.{place-fits}
 use Rattle.theory_edits.proofs.Well.{Well, well-row, well-eof, well-stops, scan-well}
-use Rattle.theory_files.specs.Bounds.{none, some, Words}
-use Rattle.theory_files.proofs.Numbers.{below-append}
+use Rattle.laws.specs.Bounds.{none, some, Words}
+use Rattle.laws.proofs.Bounds.{below-append}
 
 -- ---- a value has 64 bits at most
 

@@ -10,8 +10,8 @@ use Rattle.file_rules.specs.Bytes.{bytesOf}
 use Rattle.file_rules.specs.Blocks.{blockBytes, block}
 use Rattle.form_rules.specs.Forms.{rowsBeside, tableBeside}
 use Rattle.form_rules.specs.Shapes.{numberOf, formOf, saidIn}
-use Rattle.theory_files.specs.Bounds.{Bytes}
-use Rattle.theory_files.proofs.Numbers.{below-by}
+use Rattle.laws.specs.Bounds.{Bytes}
+use Rattle.laws.proofs.Bounds.{below-from}
 use Rattle.file_sizes.proofs.Sizes.{some-length}
 use Rattle.file_beside.proofs.Known.{known}
 use Rattle.file_move.proofs.Bodies.{blocksOf}
@@ -46,7 +46,7 @@ same c =
 
 -- a lent file is bytes
 bytes : (c : tie.After-number) → Bytes (start c .args .file .now)
-bytes c = below-by 256 (start c .args .file .now) (λ i. c .before .before .shared-slice-known2 .given i .fits)
+bytes c = below-from 256 (start c .args .file .now) (λ i. c .before .before .shared-slice-known2 .given i .fits)
 
 number-requires : tie.Need-number-requires
 number-requires c κs = search needs

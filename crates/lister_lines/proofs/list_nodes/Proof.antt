@@ -1,8 +1,10 @@
 -- `list_nodes` writes the heading and the lines.
+use Prim.Native.Nat.{_^_}
 use borrow.Author.Needs.{needs}
+use Rattle.laws.proofs.Bounds.{below-from}
 use Rattle.lister_lines.specs.Lines.{listedNodes}
 use Rattle.lister_lines.proofs.Adding.{adds-then}
-use Rattle.lister_lines.proofs.Shorts.{small-words, nodes-short}
+use Rattle.lister_lines.proofs.Shorts.{nodes-short}
 use Rattle.lister_lines.proofs.list_nodes.Statement.{statement}
 use Rattle.lister_lines.proofs.list_nodes.Tie as tie
 
@@ -22,7 +24,7 @@ returns : tie.Need-returns
 unfolding listedNodes
 returns c =
     let s = c .before .before .before .before .before .before .before .before .before .before .before in
-    let small = small-words (s .args .nodes .now) (λ i. c .before .before .before .before .before .before .before .before .before .shared-slice-known .given i .fits) in
+    let small = below-from (2 ^ 32) (s .args .nodes .now) (λ i. c .before .before .before .before .before .before .before .before .before .shared-slice-known .given i .fits) in
     (adds-then (c .before .before .before .before .before .before .heading .ensures) (c .before .before .node-lines .ensures), nodes-short (s .args .count) (s .pre .1) small)
 
 pub list-nodes-spec : {M : Type 1} → statement M

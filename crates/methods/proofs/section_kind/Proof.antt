@@ -66,23 +66,23 @@ slice-aggregate-begun-10 c = search needs
 begun-requires-10 : tie.Need-begun-requires-10
 begun-requires-10 c κs = search needs
 
-slice-aggregate-named : tie.Need-slice-aggregate-named
-slice-aggregate-named c = search needs
+slice-aggregate-spelt : tie.Need-slice-aggregate-spelt
+slice-aggregate-spelt c = search needs
 
-named-requires : tie.Need-named-requires
-named-requires c κs = search needs
+spelt-requires : tie.Need-spelt-requires
+spelt-requires c κs = search needs
 
-slice-aggregate-named-2 : tie.Need-slice-aggregate-named-2
-slice-aggregate-named-2 c = search needs
+slice-aggregate-spelt-2 : tie.Need-slice-aggregate-spelt-2
+slice-aggregate-spelt-2 c = search needs
 
-named-requires-2 : tie.Need-named-requires-2
-named-requires-2 c κs = search needs
+spelt-requires-2 : tie.Need-spelt-requires-2
+spelt-requires-2 c κs = search needs
 
-slice-aggregate-named-3 : tie.Need-slice-aggregate-named-3
-slice-aggregate-named-3 c = search needs
+slice-aggregate-spelt-3 : tie.Need-slice-aggregate-spelt-3
+slice-aggregate-spelt-3 c = search needs
 
-named-requires-3 : tie.Need-named-requires-3
-named-requires-3 c κs = search needs
+spelt-requires-3 : tie.Need-spelt-requires-3
+spelt-requires-3 c κs = search needs
 
 returns : tie.Need-returns
 unfolding sectionAt sections fits kindOfSection fromSection
@@ -100,9 +100,9 @@ returns c =
     let fexit = fentry .before .before in
     let lsm = fexit .before .before in
     let w = lsm .before .before .before .args .text .now in
-    kind-by 0 w (c .named3 .ensures)
-    (kind-by 1 w (whole .named2 .ensures)
-    (kind-by 2 w (classifier .named .ensures)
+    kind-by 0 w (c .spelt3 .ensures)
+    (kind-by 1 w (whole .spelt2 .ensures)
+    (kind-by 2 w (classifier .spelt .ensures)
     (kind-by 3 w (tc .begun10 .ensures)
     (kind-by 4 w (socket .begun9 .ensures)
     (kind-by 5 w (cgroup .begun8 .ensures)
@@ -138,10 +138,10 @@ section-kind-spec =
     begun-requires-9
     slice-aggregate-begun-10
     begun-requires-10
-    slice-aggregate-named
-    named-requires
-    slice-aggregate-named-2
-    named-requires-2
-    slice-aggregate-named-3
-    named-requires-3
+    slice-aggregate-spelt
+    spelt-requires
+    slice-aggregate-spelt-2
+    spelt-requires-2
+    slice-aggregate-spelt-3
+    spelt-requires-3
     returns)

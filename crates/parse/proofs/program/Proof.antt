@@ -16,10 +16,9 @@ use Rattle.theory_grammar.proofs.Cases.{then-ok, then-no, parse-is}
 use Rattle.parse_nodes.specs.Names.{Names}
 use Rattle.parse_nodes.specs.declared.At.{At}
 use Rattle.parse_nodes.proofs.Turn.{Came, refused, met-ok, met-told, same-len}
-use Rattle.parse_nodes.proofs.Steps.{Listing, list-start, list-ends, list-fails-flat, list-again}
+use Rattle.parse_nodes.proofs.Steps.{Flat, flat-none, flat-seq, Listing, list-start, list-ends, list-fails-flat, list-again}
 use Rattle.parse_nodes.proofs.Seen.{seen}
 use Rattle.parse_nodes.proofs.Told.{names-told}
-use Rattle.parse_events.proofs.Nodes.{Flat, flat-none, flat-seq}
 use Rattle.parse.proofs.Whole.{word-in, TopEnds, top-came, top-up, stands-program}
 use Rattle.parse.proofs.program.Statement.{statement}
 use Rattle.parse.proofs.program.Tie as tie

@@ -13,11 +13,11 @@ use Rattle.theory_grammar.proofs.Cases.{then-ok, then-no}
 use Rattle.parse_nodes.specs.Post.{Tells}
 use Rattle.parse_nodes.proofs.Rows.{tokens, tells-some}
 use Rattle.parse_nodes.proofs.Turn.{Came, refused, met-ok, met-told, same-len}
-use Rattle.parse_nodes.proofs.Steps.{Listing, list-start, list-ends, list-fails-flat, list-again}
+use Rattle.parse_nodes.proofs.Steps.{Flat, flat-none, flat-seq, Listing, list-start, list-ends, list-fails-flat, list-again}
 use Rattle.parse_nodes.specs.declared.At.{At}
 use Rattle.parse_nodes.proofs.Seen.{seen}
 use Rattle.rules.specs.Fits.{eventFields}
-use Rattle.parse_events.proofs.Nodes.{Flat, FieldEnds, field-came, field-up, flat-none, flat-seq, stands-event}
+use Rattle.parse_events.proofs.Nodes.{FieldEnds, field-came, field-up, stands-event}
 use Rattle.parse_events.proofs.fields.Statement.{statement}
 use Rattle.parse_events.proofs.fields.Tie as tie
 

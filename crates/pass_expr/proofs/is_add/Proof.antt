@@ -1,5 +1,5 @@
 -- `pass_expr::is_add` meets its contract.
-use Rattle.pass_expr.proofs.Operators.{add-between}
+use Rattle.theory_grammar.proofs.Operators.{add-between}
 use Rattle.pass_expr.proofs.is_add.Statement.{statement}
 use Rattle.pass_expr.proofs.is_add.Tie as tie
 

@@ -1,5 +1,5 @@
 -- `pass_expr::is_mul` meets its contract.
-use Rattle.pass_expr.proofs.Operators.{mul-between}
+use Rattle.theory_grammar.proofs.Operators.{mul-between}
 use Rattle.pass_expr.proofs.is_mul.Statement.{statement}
 use Rattle.pass_expr.proofs.is_mul.Tie as tie
 

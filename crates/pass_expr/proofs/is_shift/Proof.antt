@@ -1,5 +1,5 @@
 -- `pass_expr::is_shift` meets its contract.
-use Rattle.pass_expr.proofs.Operators.{shift-between}
+use Rattle.theory_grammar.proofs.Operators.{shift-between}
 use Rattle.pass_expr.proofs.is_shift.Statement.{statement}
 use Rattle.pass_expr.proofs.is_shift.Tie as tie
 

@@ -7,8 +7,8 @@ use lib.ListN.{length, take, drop}
 use lib.Count.{trailing-le}
 use Rattle.rules.specs.Text.{front}
 use Rattle.rules.specs.Lex.{isWord}
+use Rattle.laws.proofs.Bounds.{below-take, below-drop, below-from}
 use Rattle.scan_eights.specs.Eights.{numberOf, endMark}
-use Rattle.scan_eights.proofs.Numbers.{bytes-of, bytes-take, bytes-drop}
 use Rattle.scan_eights.proofs.Ends.{eight-long, eight-on, eight-stop}
 use Rattle.scan_eights.proofs.word_end.Statement.{statement}
 use Rattle.scan_eights.proofs.word_end.Tie as tie
@@ -34,8 +34,8 @@ marks-are : (c : tie.After-marks Inv-loop μ-loop) → c .marks .result ≡ numb
 marks-are c =
     let l = at-loop c in
     let i = l .loop .i in
-    let u = bytes-of (text c) (λ k. l .before .shared-slice-known .given k .fits) in
-    c .marks .ensures (take 8 (drop i (text c))) (eight-long (text c) i (inside c)) (bytes-take 8 (bytes-drop i u)) (c .before .eight .ensures)
+    let u = below-from 256 (text c) (λ k. l .before .shared-slice-known .given k .fits) in
+    c .marks .ensures (take 8 (drop i (text c))) (eight-long (text c) i (inside c)) (below-take 8 (below-drop i u)) (c .before .eight .ensures)
 
 -- ---- the needs
 

@@ -1,5 +1,5 @@
 -- `words::two_sign` meets its contract: behind a first byte the table has one second byte, and behind any other none.
-use mathlib.Core.Bool.{Bool, true, false, cond, _&&_}
+use mathlib.Core.Bool.{Bool, true, false, cond, _&&_, and-false}
 use mathlib.Core.List.{List, [], _∷_}
 use mathlib.Core.Path.{_≡_, refl, sym, _∙_}
 use Prim.Native.Nat.{ℕ}
@@ -15,10 +15,6 @@ second : (p : Bool) (k d : ℕ) → elim (p && true) [ true ↦ k | false ↦ d 
 second true k d = refl
 second false k d = refl
 
-never : (p : Bool) → (p && false) ≡ false
-never true = refl
-never false = refl
-
 -- the keys of the match, the last first, and that a byte is none of them
 abbrev NoneOf : List ℕ → ℕ → Type 0
 NoneOf [] b = Unit {0}
@@ -29,7 +25,7 @@ none : (b x : ℕ) → NoneOf (60 ∷ 62 ∷ 37 ∷ 47 ∷ 42 ∷ 45 ∷ 43 ∷ 
 unfolding allFail signs sameBytes
 none b x h = no-entry signs Eof (b ∷ x ∷ [])
     (simp (
-      never,
+      and-false,
       ne-eqb 60 b (λ e. h .1 (sym e)),
       ne-eqb 62 b (λ e. h .0 .1 (sym e)),
       ne-eqb 37 b (λ e. h .0 .0 .1 (sym e)),

@@ -3,10 +3,10 @@ use mathlib.Core.Path.{sym, _∙_}
 use native.Mathlib.Omega.{arith}
 use lib.Seq.{length-take-le}
 use Rattle.laws.proofs.Spelled.{same-says}
-use Rattle.methods.proofs.Spellings.{too-short}
+use Rattle.names.proofs.Spellings.{too-short}
 use borrow.Author.Needs.{needs}
-use Rattle.methods.proofs.begun.Statement.{statement}
-use Rattle.methods.proofs.begun.Tie as tie
+use Rattle.names.proofs.begun.Statement.{statement}
+use Rattle.names.proofs.begun.Tie as tie
 
 returns : tie.Need-returns
 returns c = let a = c .before .before .before .args in rw (too-short (a .spelling .now) (a .text .now) (omega arith))

@@ -1,9 +1,9 @@
--- `maps::spelt` meets its contract: the two branches are the two cases.
+-- `spelt` meets its contract: the two branches are the two cases.
 use mathlib.Core.Path.{sym, _∙_}
 use Rattle.laws.proofs.Spelled.{same-says}
 use borrow.Author.Needs.{needs}
-use Rattle.parse_maps.proofs.spelt.Statement.{statement}
-use Rattle.parse_maps.proofs.spelt.Tie as tie
+use Rattle.names.proofs.spelt.Statement.{statement}
+use Rattle.names.proofs.spelt.Tie as tie
 
 same-requires : tie.Need-same-requires
 same-requires c κs = search needs
