@@ -3,27 +3,30 @@
 use crate::change::BYTES;
 use crate::change::Edit;
 use crate::change::WORDS;
+use crate::report::CALLS;
+use crate::report::CHANGES;
+use crate::report::KINDS;
+use crate::report::RESTARTS;
+use crate::report::ROWS;
 use crate::report::memory_line;
 use crate::report::word_line;
-use crate::tally::CALLS;
-use crate::tally::CHANGES;
-use crate::tally::COUNTERS;
-use crate::tally::KINDS;
-use crate::tally::Tally;
-use crate::words::first_other;
 use crate::words::told_words;
-use crate::words::words_read;
 use replay_input::input::LOST;
 use replay_input::input::count;
 use replay_input::input::letter;
+use replay_input::memory::UNTOUCHED;
+use replay_input::memory::expected;
+use replay_input::memory::first_changed;
+use replay_input::memory::lent_words;
+use replay_input::part::Part;
+use replay_input::part::bytes_of;
 use replay_input::part::number;
+use replay_input::tally::Tally;
+use replay_input::tally::counter;
+use replay_input::words::first_other;
+use replay_input::words::words_read;
 use rules::Table;
-use rules::Told;
 use rules::row;
-ghost use Prim.Native.Nat.{_≤_};
-
-// What stands in lent memory before a call.
-const UNTOUCHED: u32 = 2863311530;
 
 // The window is so many bytes from a start on, so many words are lent for rows; and the number, place, count and length that are
 // expected.
@@ -55,55 +58,7 @@ fn call_at(sample: &[u8], at: usize) -> Call {
 fn window(text: &[u8], start: u32, size: u32) -> &[u8] {
     let from = start as usize;
     let end = from + size as usize;
-    if text.len() < end {
-        return &text[..0];
-    }
-    &text[from..end]
-}
-
-// So many words, or all where there are fewer.
-fn fewer(size: usize, words: u32) -> usize
-    ensures { λ r. ⌜ r ≤ size ⌝ }
-{
-    let all = words as usize;
-    if size < all { size } else { all }
-}
-
-// The edit call, with the first so many words lent.
-fn told_by(
-    old: &[u32],
-    table: Table,
-    edit: Edit,
-    call: Call,
-    text: &[u8],
-    memory: &mut [u32],
-) -> Told {
-    let end = fewer(memory.len(), call.words);
-    let start = call.start;
-    let shown = window(text, start, call.size);
-    edit::edit(
-        old,
-        table,
-        edit.a,
-        edit.b,
-        edit.n,
-        start,
-        shown,
-        &mut memory[..end],
-    )
-}
-
-// The change call, with the first so many words lent.
-fn changed_by(
-    old: &[u32],
-    table: Table,
-    edit: Edit,
-    words: u32,
-    text: &[u8],
-    memory: &mut [u32],
-) -> Told {
-    let end = fewer(memory.len(), words);
-    edit_change::change(old, table, edit.a, edit.b, edit.n, text, &mut memory[..end])
+    bytes_of(text, Part { from, end })
 }
 
 // Whether a call of which this number is expected writes rows: all, those that have room, or those before a lexical refusal.
@@ -115,29 +70,6 @@ fn writes(number: u32) -> bool {
         return true;
     }
     11 <= number
-}
-
-// Word i of memory behind a call that wrote so many of these rows.
-fn expected(rows: &[u32; WORDS], count: u32, i: usize) -> u32 {
-    if WORDS <= i {
-        return UNTOUCHED;
-    }
-    if ((i / row::WORDS) as u64) < count as u64 {
-        return rows[i];
-    }
-    UNTOUCHED
-}
-
-// The first word of memory that is not as expected; the number of words where there is none.
-fn first_changed(memory: &[u32; WORDS], rows: &[u32; WORDS], count: u32) -> usize {
-    let mut i = 0;
-    while i < WORDS {
-        if memory[i] != expected(rows, count, i) {
-            return i;
-        }
-        i += 1;
-    }
-    i
 }
 
 // Six words that were told against those that are expected: what differs is written.
@@ -153,33 +85,18 @@ pub fn words_compared(tally: Tally, ours: &[u32; 6], theirs: &[u32; 6]) -> Tally
 // Memory behind a call against so many rows and what was there: what differs is written.
 fn memory_compared(tally: Tally, memory: &[u32; WORDS], rows: &[u32; WORDS], count: u32) -> Tally {
     let i = first_changed(memory, rows, count);
-    let same = (i / row::WORDS) as u64;
-    let all = count as u64;
     if i < WORDS {
         memory_line(tally, i, memory[i], expected(rows, count, i));
-        let agreed = if same < all { same } else { all };
-        return tally.rows(all, agreed).differs();
     }
-    tally.rows(all, all)
-}
-
-// The counter of one of so many numbers, from a first on.
-fn counter(first: usize, n: u32, most: u32) -> usize
-    requires { ⌜ first ≤ 33 ⌝ }
-{
-    if n < most {
-        first + n as usize
-    } else {
-        COUNTERS
-    }
+    tally.up_to(ROWS, count, i / row::WORDS, i < WORDS)
 }
 
 // One call more, of this kind of edit, of which a number is expected; it agrees if it has no difference more.
 fn counted(before: Tally, now: Tally, kind: u32, number: u32) -> Tally {
     let agrees = before.differences == now.differences;
     now.held(CALLS, agrees)
-        .held(counter(0, number, 18), agrees)
-        .held(counter(KINDS, kind, 11), agrees)
+        .held(counter(0, number, KINDS), agrees)
+        .held(counter(KINDS, kind, RESTARTS - KINDS), agrees)
 }
 
 // The edit of a call as a change by the whole new text, where the call writes rows: the same is expected of it.
@@ -197,7 +114,8 @@ fn change_compared(
         return tally;
     }
     let mut memory = [UNTOUCHED; WORDS];
-    let told = changed_by(old, table, edit, call.words, text, &mut memory);
+    let lent = lent_words(&mut memory, call.words as usize);
+    let told = edit_change::change(old, table, edit.a, edit.b, edit.n, text, lent);
     let told_too = words_compared(tally, &told_words(told), &theirs);
     let now = memory_compared(told_too, &memory, rows, theirs[4]);
     now.held(CHANGES, tally.differences == now.differences)
@@ -219,7 +137,10 @@ fn call_compared(
         return tally.moved(LOST);
     }
     let mut memory = [UNTOUCHED; WORDS];
-    let told = told_by(old, table, edit, call, text, &mut memory);
+    let start = call.start;
+    let shown = window(text, start, call.size);
+    let lent = lent_words(&mut memory, call.words as usize);
+    let told = edit::edit(old, table, edit.a, edit.b, edit.n, start, shown, lent);
     let begun = tally.moved(call.next).next_call();
     let theirs = call.told;
     let told_too = words_compared(begun, &told_words(told), &theirs);

@@ -2,6 +2,9 @@
 use replay_input::input::LOST;
 use replay_input::input::count;
 use replay_input::input::letter;
+use replay_input::memory::put;
+use replay_input::part::Part;
+use replay_input::part::bytes_of;
 use replay_input::part::number;
 use rules::kind;
 use rules::row;
@@ -38,28 +41,11 @@ pub fn edit_at(sample: &[u8], at: usize) -> Edit {
     }
 }
 
-// Bytes behind the first so many of a text, as far as there is room: how many there are then.
-fn put(text: &mut [u8; BYTES], size: usize, bytes: &[u8]) -> usize {
-    let mut at = size;
-    let mut i = 0;
-    while i < bytes.len() {
-        if BYTES <= at {
-            return at;
-        }
-        text[at] = bytes[i];
-        at += 1;
-        i += 1;
-    }
-    at
-}
-
 // The bytes from one on.
 fn behind(text: &[u8], b: u32) -> &[u8] {
     let from = b as usize;
-    if text.len() < from {
-        return &text[..0];
-    }
-    &text[from..]
+    let end = text.len();
+    bytes_of(text, Part { from, end })
 }
 
 // The text that an edit makes of an old one: how many bytes it has.

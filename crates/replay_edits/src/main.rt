@@ -7,21 +7,20 @@ use call::calls_compared;
 use call::words_compared;
 use change::BYTES;
 use change::WORDS;
-use libc::STDIN_FILENO;
+use replay_input::SAMPLE;
 use replay_input::input::LOST;
-use replay_input::input::count;
 use replay_input::input::letter;
 use replay_input::lines;
 use replay_input::part;
+use replay_input::tally::Tally;
 use replay_input::told::table_of;
+use replay_input::words::words_read;
+use report::RESTARTS;
 use rules::Table;
-use tally::RESTARTS;
-use tally::Tally;
 
 mod call;
 mod change;
 mod report;
-mod tally;
 mod words;
 
 // The table of a text, its rows in lent memory.
@@ -43,7 +42,7 @@ fn restart_compared(
     a: u32,
 ) -> Tally {
     let mut theirs = [0u32; 6];
-    let next = words::words_read(sample, letter(sample, tally.at, b'S'), &mut theirs, 4);
+    let next = words_read(sample, letter(sample, tally.at, b'S'), &mut theirs, 4);
     if next == LOST {
         return tally.moved(LOST);
     }
@@ -71,7 +70,7 @@ fn edit_compared(sample: &[u8], tally: Tally) -> Tally {
     scanned_first(&text, size, &mut rows);
     let begun = restart_compared(
         sample,
-        tally.moved(new.end).next_edit(),
+        tally.moved(new.end).next_item(),
         &old,
         table,
         edit.a,
@@ -97,10 +96,9 @@ fn edits(sample: &[u8], at: usize, size: u64) -> Tally {
 
 // The counts of a sample.
 fn replay(sample: &[u8]) {
-    let size = count(sample, replay_input::header(sample, b"spoonharbor-edits"));
-    let heading = part::part_at(sample, size.next, b'H');
-    let tally = edits(sample, heading.end, size.value);
-    lines::two(b"edits ", tally.edit, b" of ", size.value);
+    let size = replay_input::headed(sample, b"spoonharbor-edits");
+    let tally = edits(sample, size.next, size.value);
+    lines::two(b"edits ", tally.item, b" of ", size.value);
     lines::one(
         b"bytes behind the last edit ",
         replay_input::rest(sample, tally.at),
@@ -108,19 +106,9 @@ fn replay(sample: &[u8]) {
     report::counts(tally);
 }
 
-// How many bytes were read.
-fn filled(sample: &mut [u8; 500000]) -> usize {
-    io::read_full(STDIN_FILENO, sample)
-}
-
-// The counts of the first so many bytes.
-fn replay_first(sample: &[u8; 500000], size: usize) {
-    replay(replay_input::first(sample, size as u64));
-}
-
 // The counts of the sample on standard input.
 fn main() {
-    let mut sample = [0u8; 500000];
-    let size = filled(&mut sample);
-    replay_first(&sample, size);
+    let mut sample = [0u8; SAMPLE];
+    let size = replay_input::filled(&mut sample);
+    replay(replay_input::shown(&sample, size));
 }

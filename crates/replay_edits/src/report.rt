@@ -1,19 +1,26 @@
-// What is written: where a call differs from what is expected of it, and the counts.
-use crate::tally::CALLS;
-use crate::tally::CHANGES;
-use crate::tally::COUNTERS;
-use crate::tally::KINDS;
-use crate::tally::RESTARTS;
-use crate::tally::ROWS;
-use crate::tally::Tally;
+// What is counted, and what is written: where a call differs from what is expected of it, and the counts.
 use libc::STDOUT_FILENO;
 use replay_input::lines::one;
 use replay_input::lines::told;
 use replay_input::lines::two;
+use replay_input::tally::Tally;
+use replay_input::tally::is_written;
+use replay_input::tally::line;
+
+// What is counted: calls by the number that is expected of them, 0 where all rows are; by the kind of edit; and all of a thing.
+pub const KINDS: usize = 18;
+
+pub const RESTARTS: usize = 29;
+
+pub const CALLS: usize = 30;
+
+pub const ROWS: usize = 31;
+
+pub const CHANGES: usize = 32;
 
 // Which edit, and which call of it; no call where it is the restart place.
 fn place(tally: Tally) {
-    told(b"edit ", tally.edit);
+    told(b"edit ", tally.item);
     if tally.call == 0 {
         io::write_all(STDOUT_FILENO, b", restart: ");
         return;
@@ -35,11 +42,6 @@ fn name(i: usize) {
     ;
 }
 
-// Whether a difference is written: the first few are.
-fn is_written(tally: Tally) -> bool {
-    tally.differences < 20
-}
-
 // Word i of what was told is one number, and another is expected.
 pub fn word_line(tally: Tally, i: usize, ours: u32, theirs: u32) {
     if is_written(tally) {
@@ -56,13 +58,6 @@ pub fn memory_line(tally: Tally, i: usize, ours: u32, theirs: u32) {
         told(b"row ", (i / 8) as u64);
         told(b", word ", (i % 8) as u64);
         two(b" is ", ours as u64, b", expected ", theirs as u64);
-    }
-}
-
-// How many of a thing were held against the sample, and how many agree.
-fn line(name: &[u8], tally: Tally, what: usize) {
-    if what < COUNTERS {
-        two(name, tally.seen[what], b", agreed ", tally.agreed[what]);
     }
 }
 

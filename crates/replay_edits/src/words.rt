@@ -1,28 +1,11 @@
-// What the calls tell, and what the sample expects of them, as six words: number, offset, line, column, row count, text length.
+// What the calls tell, as the six words that the sample expects of them: number, offset, line, column, row count, text length.
 use refusals::outer_number;
-use replay_input::part::number;
 use replay_input::told::at_place;
 use replay_input::told::ending_words;
 use replay_input::told::table_of;
 use rules::Cursor;
 use rules::Restart;
 use rules::Told;
-
-// The sample's next so many numbers, at most six, over the first of these: the place behind them.
-pub fn words_read(sample: &[u8], at: usize, words: &mut [u32; 6], size: usize) -> usize {
-    let mut next = at;
-    let mut i = 0;
-    while i < size {
-        if 6 <= i {
-            return next;
-        }
-        let w = number(sample, next);
-        words[i] = w.value;
-        next = w.next;
-        i += 1;
-    }
-    next
-}
 
 // A number and a place, a count and a length.
 fn joined(at: [u32; 4], count: u32, length: u32) -> [u32; 6] {
@@ -41,16 +24,4 @@ pub fn restart_words(restart: Restart) -> [u32; 6] {
         Restart::At(place) => joined(at_place(0, place), 0, 0),
         Restart::Refused(why) => joined(at_place(outer_number(why), Cursor::start()), 0, 0),
     }
-}
-
-// The first of the six words in which two differ; 6 where there is none.
-pub fn first_other(ours: &[u32; 6], theirs: &[u32; 6]) -> usize {
-    let mut i = 0;
-    while i < 6 {
-        if ours[i] != theirs[i] {
-            return i;
-        }
-        i += 1;
-    }
-    i
 }

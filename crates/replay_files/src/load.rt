@@ -1,33 +1,34 @@
 // Reading a file that came of the sample's table, sound or damaged: what the call tells and leaves, held against what is expected.
-use crate::report::difference;
-use crate::table::BYTES;
-use crate::table::WORDS;
-use crate::table::bounded;
-use crate::table::changed;
-use crate::table::copied;
-use crate::tally::DAMAGES;
-use crate::tally::LOADS;
-use crate::tally::ROWS;
-use crate::tally::STORES;
-use crate::tally::Tally;
-use crate::words::COUNT;
-use crate::words::NUMBER;
-use crate::words::counter;
-use crate::words::words_compared;
-use crate::words::words_read;
+use crate::report::DAMAGES;
+use crate::report::LOADS;
+use crate::report::ROWS;
+use crate::report::STORES;
+use crate::report::words_compared;
+use crate::table::COUNT;
+use crate::table::NUMBER;
 use file_answers::put_loaded;
-use file_rules::Loaded;
+use file_load::load;
+use replay_input::file::BYTES;
+use replay_input::file::ROW_WORDS;
+use replay_input::file::changed;
+use replay_input::file::first_bytes;
 use replay_input::input::LOST;
 use replay_input::input::count;
 use replay_input::input::letter;
+use replay_input::memory::UNTOUCHED;
+use replay_input::memory::expected;
+use replay_input::memory::first_changed;
+use replay_input::memory::lent_words;
+use replay_input::part::bounded;
 use replay_input::part::number;
+use replay_input::tally::Tally;
+use replay_input::tally::counter;
+use replay_input::tally::difference;
+use replay_input::words::words_read;
 use rules::row;
 
-// What stands in lent memory before a call.
-const UNTOUCHED: u32 = 2863311530;
-
 // How many damages there are.
-const KINDS: u32 = (STORES - DAMAGES) as u32;
+const KINDS: usize = STORES - DAMAGES;
 
 // What happened to the file; so many of its bytes are lent, and so many words for rows.
 struct Call {
@@ -41,7 +42,7 @@ struct Call {
 fn call_at(sample: &[u8], at: usize) -> Call {
     let damage = number(sample, at);
     let size = bounded(sample, damage.next, BYTES);
-    let words = bounded(sample, size.next, WORDS);
+    let words = bounded(sample, size.next, ROW_WORDS);
     Call {
         damage: damage.value,
         size: size.value,
@@ -50,83 +51,54 @@ fn call_at(sample: &[u8], at: usize) -> Call {
     }
 }
 
-// The first so many bytes of a file.
-fn first_bytes(file: &[u8; BYTES], size: u32) -> &[u8] {
-    replay_input::first(file, size as u64)
-}
-
-// The load call, with the first so many words lent.
-fn told_by(file: &[u8], memory: &mut [u32], words: usize) -> Loaded {
-    if memory.len() < words {
-        return file_load::load(file, memory);
-    }
-    file_load::load(file, &mut memory[..words])
-}
-
-// Word i of memory behind a call that wrote so many of these rows.
-fn expected(rows: &[u32; WORDS], count: u32, i: usize) -> u32 {
-    if WORDS <= i {
-        return UNTOUCHED;
-    }
-    if ((i / row::WORDS) as u64) < count as u64 {
-        return rows[i];
-    }
-    UNTOUCHED
-}
-
-// The first word of memory that is not as expected; the number of words where there is none.
-fn first_changed(memory: &[u32; WORDS], rows: &[u32; WORDS], count: u32) -> usize {
-    let mut i = 0;
-    while i < WORDS {
-        if memory[i] != expected(rows, count, i) {
-            return i;
-        }
-        i += 1;
-    }
-    i
-}
-
 // Memory behind a call against so many rows and what was there: what differs is written.
-fn memory_compared(tally: Tally, memory: &[u32; WORDS], rows: &[u32; WORDS], count: u32) -> Tally {
+fn memory_compared(
+    tally: Tally,
+    memory: &[u32; ROW_WORDS],
+    rows: &[u32; ROW_WORDS],
+    count: u32,
+) -> Tally {
     let i = first_changed(memory, rows, count);
-    let same = (i / row::WORDS) as u64;
-    let all = count as u64;
-    if i < WORDS {
+    if i < ROW_WORDS {
         difference(
             tally,
+            b"table ",
             b": row word ",
             i,
             memory[i],
             expected(rows, count, i),
         );
-        let agreed = if same < all { same } else { all };
-        return tally.many(ROWS, all, agreed).differs();
     }
-    tally.many(ROWS, all, all)
+    tally.up_to(ROWS, count, i / row::WORDS, i < ROW_WORDS)
 }
 
 // One load more, of a file with this damage, of which a number is expected; it agrees if it has no difference more.
 fn counted(before: Tally, now: Tally, damage: u32, number: u32) -> Tally {
     let agrees = before.differences == now.differences;
     now.held(LOADS, agrees)
-        .held(counter(0, number, DAMAGES as u32), agrees)
+        .held(counter(0, number, DAMAGES), agrees)
         .held(counter(DAMAGES, damage, KINDS), agrees)
 }
 
 // The sample's next load.
-fn load_compared(sample: &[u8], tally: Tally, rows: &[u32; WORDS], file: &[u8; BYTES]) -> Tally {
+fn load_compared(
+    sample: &[u8],
+    tally: Tally,
+    rows: &[u32; ROW_WORDS],
+    file: &[u8; BYTES],
+) -> Tally {
     let call = call_at(sample, tally.at);
-    let mut bytes = [0u8; BYTES];
-    copied(file, &mut bytes);
+    let mut bytes = *file;
     let mut theirs = [0u32; 8];
-    let next = words_read(sample, changed(sample, call.next, &mut bytes), &mut theirs);
+    let read = changed(sample, call.next, &mut bytes);
+    let next = words_read(sample, read, &mut theirs, 8);
     if next == LOST {
         return tally.moved(LOST);
     }
-    let mut memory = [UNTOUCHED; WORDS];
+    let mut memory = [UNTOUCHED; ROW_WORDS];
     let mut ours = [0u32; 8];
-    let lent = first_bytes(&bytes, call.size);
-    put_loaded(&mut ours, told_by(lent, &mut memory, call.words as usize));
+    let lent = lent_words(&mut memory, call.words as usize);
+    put_loaded(&mut ours, load(first_bytes(&bytes, call.size), lent));
     let begun = tally.moved(next).next_call();
     let told_too = words_compared(begun, &ours, &theirs);
     let now = memory_compared(told_too, &memory, rows, theirs[COUNT]);
@@ -137,7 +109,7 @@ fn load_compared(sample: &[u8], tally: Tally, rows: &[u32; WORDS], file: &[u8; B
 pub fn loads_compared(
     sample: &[u8],
     tally: Tally,
-    rows: &[u32; WORDS],
+    rows: &[u32; ROW_WORDS],
     file: &[u8; BYTES],
 ) -> Tally {
     let calls = count(sample, letter(sample, tally.at, b'L'));

@@ -1,25 +1,23 @@
 // Holds the calls over files against a stored sample of tables: reads the sample on standard input, stores each table and reads files
 // that came of it, sound and damaged, and writes how many agree with what is expected in answer, bytes, rows and memory.
 // `cargo run --release --offline --bin files` in compare/ writes `stdin`; compare/README.md says what stands in it.
-use libc::STDIN_FILENO;
 use load::loads_compared;
+use replay_input::SAMPLE;
+use replay_input::file::BYTES;
+use replay_input::file::ROW_WORDS;
+use replay_input::file::file_read;
 use replay_input::input::LOST;
-use replay_input::input::count;
 use replay_input::input::letter;
 use replay_input::lines;
-use replay_input::part;
+use replay_input::tally::Tally;
+use replay_input::words::words_read;
 use rules::row;
 use store::stores_compared;
-use table::BYTES;
-use table::WORDS;
-use tally::Tally;
 
 mod load;
 mod report;
 mod store;
 mod table;
-mod tally;
-mod words;
 
 // The words of the first so many rows, or all if there are fewer.
 fn first_rows(rows: &[u32], size: u32) -> &[u32] {
@@ -35,7 +33,7 @@ fn calls_compared(
     sample: &[u8],
     tally: Tally,
     table: &[u32; 8],
-    rows: &[u32; WORDS],
+    rows: &[u32; ROW_WORDS],
     size: u32,
     file: &[u8; BYTES],
 ) -> Tally {
@@ -46,12 +44,12 @@ fn calls_compared(
 // The sample's next table, with its calls.
 fn table_compared(sample: &[u8], tally: Tally) -> Tally {
     let mut table = [0u32; 8];
-    let mut rows = [0u32; WORDS];
+    let mut rows = [0u32; ROW_WORDS];
     let mut file = [0u8; BYTES];
-    let told = words::words_read(sample, letter(sample, tally.at, b'T'), &mut table);
+    let told = words_read(sample, letter(sample, tally.at, b'T'), &mut table, 8);
     let listed = table::rows_read(sample, told, &mut rows);
-    let written = table::file_read(sample, listed.next, &mut file);
-    let begun = tally.moved(written.next).next_table();
+    let written = file_read(sample, listed.next, &mut file);
+    let begun = tally.moved(written.next).next_item();
     calls_compared(sample, begun, &table, &rows, listed.value, &file)
 }
 
@@ -72,10 +70,9 @@ fn tables(sample: &[u8], at: usize, size: u64) -> Tally {
 
 // The counts of a sample.
 fn replay(sample: &[u8]) {
-    let size = count(sample, replay_input::header(sample, b"spoonharbor-files"));
-    let heading = part::part_at(sample, size.next, b'H');
-    let tally = tables(sample, heading.end, size.value);
-    lines::two(b"tables ", tally.table, b" of ", size.value);
+    let size = replay_input::headed(sample, b"spoonharbor-files");
+    let tally = tables(sample, size.next, size.value);
+    lines::two(b"tables ", tally.item, b" of ", size.value);
     lines::one(
         b"bytes behind the last table ",
         replay_input::rest(sample, tally.at),
@@ -83,19 +80,9 @@ fn replay(sample: &[u8]) {
     report::counts(tally);
 }
 
-// How many bytes were read.
-fn filled(sample: &mut [u8; 1000000]) -> usize {
-    io::read_full(STDIN_FILENO, sample)
-}
-
-// The counts of the first so many bytes.
-fn replay_first(sample: &[u8; 1000000], size: usize) {
-    replay(replay_input::first(sample, size as u64));
-}
-
 // The counts of the sample on standard input.
 fn main() {
-    let mut sample = [0u8; 1000000];
-    let size = filled(&mut sample);
-    replay_first(&sample, size);
+    let mut sample = [0u8; SAMPLE];
+    let size = replay_input::filled(&mut sample);
+    replay(replay_input::shown(&sample, size));
 }

@@ -1,33 +1,24 @@
-// What is written: where a call differs from what is expected of it, and the counts.
-use crate::tally::BLOCKS;
-use crate::tally::COUNTERS;
-use crate::tally::DAMAGES;
-use crate::tally::LOADS;
-use crate::tally::ROWS;
-use crate::tally::STORES;
-use crate::tally::Tally;
+// What is counted, and what is written of it.
 use replay_input::lines::one;
-use replay_input::lines::told;
-use replay_input::lines::two;
+use replay_input::tally;
+use replay_input::tally::Tally;
+use replay_input::tally::line;
 
-// How many differences are written; the others are only counted.
-const WRITTEN: u64 = 20;
+// What is counted: calls by the number that is expected of them, 0 where nothing is refused; loads by what happened to the file; and all
+// of a thing.
+pub const DAMAGES: usize = 45;
 
-// Word or byte i of a call is one number, and another is expected.
-pub fn difference(tally: Tally, name: &[u8], i: usize, ours: u32, theirs: u32) {
-    if tally.differences < WRITTEN {
-        told(b"table ", tally.table);
-        told(b", call ", tally.call);
-        told(name, i as u64);
-        two(b" is ", ours as u64, b", expected ", theirs as u64);
-    }
-}
+pub const STORES: usize = 52;
 
-// How many of a thing were held against the sample, and how many agree.
-fn line(name: &[u8], tally: Tally, what: usize) {
-    if what < COUNTERS {
-        two(name, tally.seen[what], b", agreed ", tally.agreed[what]);
-    }
+pub const LOADS: usize = 53;
+
+pub const BLOCKS: usize = 54;
+
+pub const ROWS: usize = 55;
+
+// Eight words that were told against those that are expected: what differs is written.
+pub fn words_compared(tally: Tally, ours: &[u32; 8], theirs: &[u32; 8]) -> Tally {
+    tally::words_compared(tally, b"table ", ours, theirs)
 }
 
 // The loads by what happened to the file.

@@ -1,42 +1,33 @@
 // Storing a table of the sample: what the call tells and leaves, held against what is expected.
-use crate::report::difference;
-use crate::table::BYTES;
-use crate::table::bounded;
-use crate::tally::BLOCKS;
-use crate::tally::DAMAGES;
-use crate::tally::STORES;
-use crate::tally::Tally;
-use crate::words::COUNT;
-use crate::words::NUMBER;
-use crate::words::counter;
-use crate::words::words_compared;
-use crate::words::words_read;
+use crate::report::BLOCKS;
+use crate::report::DAMAGES;
+use crate::report::STORES;
+use crate::report::words_compared;
+use crate::table::COUNT;
+use crate::table::NUMBER;
 use answers::table_of;
 use file_answers::put_stored;
-use file_rules::Stored;
 use file_rules::form;
+use file_store::store;
+use replay_input::file::BYTES;
 use replay_input::input::LOST;
 use replay_input::input::count;
 use replay_input::input::letter;
-
-// What stands in lent memory before a call.
-const UNTOUCHED: u8 = 170;
-
-// The store call, with the first so many bytes lent.
-fn told_by(rows: &[u32], table: &[u32; 8], memory: &mut [u8], room: usize) -> Stored {
-    if memory.len() < room {
-        return file_store::store(rows, table_of(table), memory);
-    }
-    file_store::store(rows, table_of(table), &mut memory[..room])
-}
+use replay_input::memory::UNTOUCHED_BYTE;
+use replay_input::memory::lent_bytes;
+use replay_input::part::bounded;
+use replay_input::tally::Tally;
+use replay_input::tally::counter;
+use replay_input::tally::difference;
+use replay_input::words::words_read;
 
 // Byte i of memory behind a call that wrote so many bytes of a file.
 fn expected(file: &[u8; BYTES], size: usize, i: usize) -> u8 {
     if size <= i {
-        return UNTOUCHED;
+        return UNTOUCHED_BYTE;
     }
     if BYTES <= i {
-        return UNTOUCHED;
+        return UNTOUCHED_BYTE;
     }
     file[i]
 }
@@ -62,20 +53,17 @@ fn first_changed(memory: &[u8; BYTES], file: &[u8; BYTES], size: usize) -> usize
 fn memory_compared(tally: Tally, memory: &[u8; BYTES], file: &[u8; BYTES], blocks: u32) -> Tally {
     let size = blocks as usize * form::BLOCK;
     let i = first_changed(memory, file, size);
-    let all = blocks as u64;
-    let same = (i / form::BLOCK) as u64;
     if i < BYTES {
         difference(
             tally,
+            b"table ",
             b": byte ",
             i,
             wide(memory[i]),
             wide(expected(file, size, i)),
         );
-        let agreed = if same < all { same } else { all };
-        return tally.many(BLOCKS, all, agreed).differs();
     }
-    tally.many(BLOCKS, all, all)
+    tally.up_to(BLOCKS, blocks, i / form::BLOCK, i < BYTES)
 }
 
 // The sample's next store of a table.
@@ -88,22 +76,20 @@ fn store_compared(
 ) -> Tally {
     let room = bounded(sample, tally.at, BYTES);
     let mut theirs = [0u32; 8];
-    let next = words_read(sample, room.next, &mut theirs);
+    let next = words_read(sample, room.next, &mut theirs, 8);
     if next == LOST {
         return tally.moved(LOST);
     }
-    let mut memory = [UNTOUCHED; BYTES];
+    let mut memory = [UNTOUCHED_BYTE; BYTES];
     let mut ours = [0u32; 8];
-    put_stored(
-        &mut ours,
-        told_by(rows, table, &mut memory, room.value as usize),
-    );
+    let lent = lent_bytes(&mut memory, room.value as usize);
+    put_stored(&mut ours, store(rows, table_of(table), lent));
     let begun = tally.moved(next).next_call();
     let told_too = words_compared(begun, &ours, &theirs);
     let now = memory_compared(told_too, &memory, file, theirs[COUNT]);
     let agrees = begun.differences == now.differences;
     now.held(STORES, agrees)
-        .held(counter(0, theirs[NUMBER], DAMAGES as u32), agrees)
+        .held(counter(0, theirs[NUMBER], DAMAGES), agrees)
 }
 
 // The sample's stores of a table.

@@ -2,20 +2,20 @@
 // beside its text, moves it and mends it, and writes how many calls agree with what is expected in answer and lent memory.
 // `cargo run --release --offline --bin forms` in compare/ writes `stdin`; compare/README.md says what stands in it.
 use calls::call_compared;
-use libc::STDIN_FILENO;
+use replay_input::SAMPLE;
+use replay_input::file::BYTES;
+use replay_input::file::file_read;
+use replay_input::file::first_bytes;
 use replay_input::input::LOST;
 use replay_input::input::count;
 use replay_input::input::letter;
 use replay_input::lines;
 use replay_input::part;
-use stored::BYTES;
-use stored::file_read;
-use tally::Tally;
+use replay_input::tally::Tally;
 
 mod answer;
 mod calls;
-mod stored;
-mod tally;
+mod report;
 
 // The sample's calls of a text and a file.
 fn calls_compared(sample: &[u8], tally: Tally, text: &[u8], file: &[u8]) -> Tally {
@@ -32,17 +32,12 @@ fn calls_compared(sample: &[u8], tally: Tally, text: &[u8], file: &[u8]) -> Tall
     now
 }
 
-// The first so many bytes of a file.
-fn first_bytes(file: &[u8; BYTES], size: u32) -> &[u8] {
-    replay_input::first(file, size as u64)
-}
-
 // The sample's next text and file, with its calls.
 fn case_compared(sample: &[u8], tally: Tally) -> Tally {
     let mut bytes = [0u8; BYTES];
     let shown = part::part_at(sample, tally.at, b'P');
     let written = file_read(sample, shown.end, &mut bytes);
-    let begun = tally.moved(written.next).next_case();
+    let begun = tally.moved(written.next).next_item();
     let text = part::bytes_of(sample, shown);
     calls_compared(sample, begun, text, first_bytes(&bytes, written.value))
 }
@@ -64,30 +59,19 @@ fn cases(sample: &[u8], at: usize, size: u64) -> Tally {
 
 // The counts of a sample.
 fn replay(sample: &[u8]) {
-    let size = count(sample, replay_input::header(sample, b"spoonharbor-forms"));
-    let heading = part::part_at(sample, size.next, b'H');
-    let tally = cases(sample, heading.end, size.value);
-    lines::two(b"cases ", tally.case, b" of ", size.value);
+    let size = replay_input::headed(sample, b"spoonharbor-forms");
+    let tally = cases(sample, size.next, size.value);
+    lines::two(b"cases ", tally.item, b" of ", size.value);
     lines::one(
         b"bytes behind the last case ",
         replay_input::rest(sample, tally.at),
     );
-    tally::written(tally);
-}
-
-// How many bytes were read.
-fn filled(sample: &mut [u8; 1000000]) -> usize {
-    io::read_full(STDIN_FILENO, sample)
-}
-
-// The counts of the first so many bytes.
-fn replay_first(sample: &[u8; 1000000], size: usize) {
-    replay(replay_input::first(sample, size as u64));
+    report::counts(tally);
 }
 
 // The counts of the sample on standard input.
 fn main() {
-    let mut sample = [0u8; 1000000];
-    let size = filled(&mut sample);
-    replay_first(&sample, size);
+    let mut sample = [0u8; SAMPLE];
+    let size = replay_input::filled(&mut sample);
+    replay(replay_input::shown(&sample, size));
 }

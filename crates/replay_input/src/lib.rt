@@ -1,10 +1,30 @@
-// What the programs that replay a stored sample share: its words, what calls tell as such words, counters, and lines of numbers.
+// What the programs that replay a stored sample share: its words and files, what calls tell as such words and leave in lent memory,
+// counters, and lines of numbers.
 use input::LOST;
+use input::Word;
+use libc::STDIN_FILENO;
 
+pub mod file;
 pub mod input;
 pub mod lines;
+pub mod memory;
 pub mod part;
+pub mod tally;
 pub mod told;
+pub mod words;
+
+// The most bytes of a sample.
+pub const SAMPLE: usize = 2000000;
+
+// Standard input at the front of memory: how many bytes were read.
+pub fn filled(sample: &mut [u8; SAMPLE]) -> usize {
+    io::read_full(STDIN_FILENO, sample)
+}
+
+// The first so many bytes of it.
+pub fn shown(sample: &[u8; SAMPLE], size: usize) -> &[u8] {
+    first(sample, size as u64)
+}
 
 // One more, as far as that goes.
 pub fn more(n: u64) -> u64 {
@@ -34,6 +54,17 @@ pub fn header(sample: &[u8], name: &[u8]) -> usize {
         return LOST;
     }
     version.next
+}
+
+// How many items a sample of this name has, and the place of the first, behind a heading.
+pub fn headed(sample: &[u8], name: &[u8]) -> Word {
+    let size = input::count(sample, header(sample, name));
+    let heading = part::part_at(sample, size.next, b'H');
+    Word {
+        value: size.value,
+        said: true,
+        next: heading.end,
+    }
 }
 
 // How many bytes the sample has from a place on, blanks left out.

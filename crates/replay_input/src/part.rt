@@ -32,6 +32,18 @@ pub fn number(sample: &[u8], at: usize) -> Small {
     }
 }
 
+// The next number, which must be at most so much.
+pub fn bounded(sample: &[u8], at: usize, most: usize) -> Small {
+    let n = number(sample, at);
+    if most < n.value as usize {
+        return Small {
+            value: 0,
+            next: LOST,
+        };
+    }
+    n
+}
+
 // A stretch that cannot be read.
 fn lost() -> Part {
     Part {

@@ -1,8 +1,9 @@
 // Words of ours, held against the sample's.
-use crate::tally::Tally;
+use crate::report::UNSAID;
 use replay_input::input::Word;
 use replay_input::input::next_word;
 use replay_input::more;
+use replay_input::tally::Tally;
 use rules::row;
 
 // A word as a wider one.
@@ -21,10 +22,19 @@ fn word_agrees(ours: &[u32], i: usize, theirs: Word) -> bool {
     wide(ours[i]) == theirs.value
 }
 
+// One thing more that was held, and one difference more where it does not agree.
+pub fn judged(tally: Tally, what: usize, agrees: bool) -> Tally {
+    let now = tally.held(what, agrees);
+    if agrees {
+        return now;
+    }
+    now.differs()
+}
+
 // The next so many words of the sample against ours, as one thing.
 pub fn compared(sample: &[u8], tally: Tally, what: usize, ours: &[u32], size: usize) -> Tally {
     let mut at = tally.at;
-    let mut unsaid = tally.unsaid;
+    let mut unsaid: u64 = 0;
     let mut agrees = true;
     let mut i = 0;
     while i < size {
@@ -38,9 +48,7 @@ pub fn compared(sample: &[u8], tally: Tally, what: usize, ours: &[u32], size: us
         }
         i += 1;
     }
-    let mut behind = tally.moved(at);
-    behind.unsaid = unsaid;
-    behind.held(what, agrees)
+    judged(tally.moved(at).many(UNSAID, unsaid, unsaid), what, agrees)
 }
 
 // The eight words of row or node i of so many, or none.

@@ -1,22 +1,20 @@
 // Holds the scanner and the parser against the stored answers of the Rust: reads the sample on standard input, scans and parses each
 // of its texts, and writes how many things were held against it and how many agree. `stdin` is a copy of compare/sample.txt, which
 // `cargo run --release --offline --bin sample 4000 1` writes in compare/; compare/README.md says what stands in it.
-use libc::STDIN_FILENO;
+use replay_input::SAMPLE;
 use replay_input::input::LOST;
 use replay_input::lines;
+use replay_input::tally::Tally;
 use replay_input::told::table_of;
-use tally::Tally;
 
 mod compared;
 mod report;
 mod table;
-mod tally;
 mod text;
 mod tree;
 
-// The cases that were read: how many, what was counted, and how many of them differ, with the numbers of the first few.
+// What was counted of the cases that were read, and how many of them differ, with the numbers of the first few.
 struct Run {
-    read: u64,
     tally: Tally,
     differing: u64,
     first: [u64; 8],
@@ -26,7 +24,6 @@ impl Run {
     // Nothing is read yet.
     fn start(at: usize) -> Run {
         Run {
-            read: 0,
             tally: Tally::start(at),
             differing: 0,
             first: [0; 8],
@@ -35,15 +32,13 @@ impl Run {
 
     // One case more.
     fn with(mut self, tally: Tally) -> Run {
-        let read = replay_input::more(self.read);
-        if tally.faults != self.tally.faults {
+        if tally.differences != self.tally.differences {
             let n = self.differing;
             if n < 8 {
-                self.first[n as usize] = read;
+                self.first[n as usize] = tally.item;
             }
             self.differing = replay_input::more(n);
         }
-        self.read = read;
         self.tally = tally;
         self
     }
@@ -80,7 +75,7 @@ fn case_compared(sample: &[u8], tally: Tally) -> Tally {
     if next == LOST {
         return tally.moved(LOST);
     }
-    first_compared(sample, tally.moved(next), &text, size.value)
+    first_compared(sample, tally.moved(next).next_item(), &text, size.value)
 }
 
 // The number of the case that differs behind i others.
@@ -123,7 +118,7 @@ fn replay(sample: &[u8]) {
         replay_input::header(sample, b"spoonharbor-sample"),
     );
     let run = cases(sample, size.next, size.value);
-    lines::two(b"cases ", run.read, b" of ", size.value);
+    lines::two(b"cases ", run.tally.item, b" of ", size.value);
     lines::one(
         b"bytes behind the last case ",
         replay_input::rest(sample, run.tally.at),
@@ -133,19 +128,9 @@ fn replay(sample: &[u8]) {
     list_differing(run);
 }
 
-// How many bytes were read.
-fn filled(sample: &mut [u8; 2000000]) -> usize {
-    io::read_full(STDIN_FILENO, sample)
-}
-
-// The same with the bytes that were read.
-fn replay_first(sample: &[u8; 2000000], size: usize) {
-    replay(replay_input::first(sample, size as u64));
-}
-
 // Replays the sample on standard input.
 fn main() {
-    let mut sample = [0u8; 2000000];
-    let size = filled(&mut sample);
-    replay_first(&sample, size);
+    let mut sample = [0u8; SAMPLE];
+    let size = replay_input::filled(&mut sample);
+    replay(replay_input::shown(&sample, size));
 }

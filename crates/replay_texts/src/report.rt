@@ -1,22 +1,27 @@
-// What is written of the counts.
-use crate::tally::DECLARATIONS;
-use crate::tally::ENDINGS;
-use crate::tally::NODES;
-use crate::tally::PROGRAMS;
-use crate::tally::REFUSALS;
-use crate::tally::ROWS;
-use crate::tally::TABLES;
-use crate::tally::Tally;
-use crate::tally::UNCOMPARED;
+// What is counted, and what is written of it.
 use replay_input::lines::one;
-use replay_input::lines::two;
+use replay_input::tally::Tally;
+use replay_input::tally::line;
 
-// How many of a thing were held against the sample, and how many agree.
-fn line(name: &[u8], tally: Tally, what: usize) {
-    if what < 8 {
-        two(name, tally.seen[what], b", agreed ", tally.agreed[what]);
-    }
-}
+// What is counted: row counts, rows, endings, refused parses, parses that the sample has no answer for, programs, declarations, nodes.
+pub const TABLES: usize = 0;
+
+pub const ROWS: usize = 1;
+
+pub const ENDINGS: usize = 2;
+
+pub const REFUSALS: usize = 3;
+
+pub const UNCOMPARED: usize = 4;
+
+pub const PROGRAMS: usize = 5;
+
+pub const DECLARATIONS: usize = 6;
+
+pub const NODES: usize = 7;
+
+// The counter of the words that the sample does not say.
+pub const UNSAID: usize = 8;
 
 // How many of each thing agreed.
 pub fn counts(tally: Tally) {
@@ -28,5 +33,5 @@ pub fn counts(tally: Tally) {
     line(b"declarations ", tally, DECLARATIONS);
     line(b"nodes ", tally, NODES);
     line(b"parses that only the language answers ", tally, UNCOMPARED);
-    one(b"words that the sample does not say ", tally.unsaid);
+    one(b"words that the sample does not say ", tally.seen[UNSAID]);
 }

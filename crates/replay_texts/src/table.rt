@@ -1,13 +1,14 @@
 // The rows of a text and their ending, held against the sample's.
 use crate::compared::compared;
+use crate::compared::judged;
 use crate::compared::part;
-use crate::tally::ENDINGS;
-use crate::tally::ROWS;
-use crate::tally::TABLES;
-use crate::tally::Tally;
+use crate::report::ENDINGS;
+use crate::report::ROWS;
+use crate::report::TABLES;
 use replay_input::input::LOST;
 use replay_input::input::count;
 use replay_input::input::letter;
+use replay_input::tally::Tally;
 use replay_input::told::ending_words;
 use replay_input::told::table_of;
 use rules::Told;
@@ -31,9 +32,7 @@ fn rows_compared(sample: &[u8], tally: Tally, rows: &[u32], own: usize, size: u6
 pub fn table_compared(sample: &[u8], tally: Tally, rows: &[u32], told: Told) -> Tally {
     let own = table_of(told).count;
     let size = count(sample, letter(sample, tally.at, b'R'));
-    let headed = tally
-        .moved(size.next)
-        .held(TABLES, size.value == own as u64);
+    let headed = judged(tally.moved(size.next), TABLES, size.value == own as u64);
     let listed = rows_compared(sample, headed, rows, own as usize, size.value);
     let ended = listed.moved(letter(sample, listed.at, b'E'));
     compared(sample, ended, ENDINGS, &ending_words(told), 4)

@@ -1,13 +1,13 @@
 // What a parse tells and writes, held against the sample's.
 use crate::compared::compared;
+use crate::compared::judged;
 use crate::compared::part;
 use crate::compared::wide;
-use crate::tally::DECLARATIONS;
-use crate::tally::NODES;
-use crate::tally::PROGRAMS;
-use crate::tally::REFUSALS;
-use crate::tally::Tally;
-use crate::tally::UNCOMPARED;
+use crate::report::DECLARATIONS;
+use crate::report::NODES;
+use crate::report::PROGRAMS;
+use crate::report::REFUSALS;
+use crate::report::UNCOMPARED;
 use refusals::first_told;
 use refusals::lexical_number;
 use refusals::reason_number;
@@ -17,6 +17,7 @@ use replay_input::input::LOST;
 use replay_input::input::count;
 use replay_input::input::letter;
 use replay_input::more;
+use replay_input::tally::Tally;
 use rules::Cursor;
 use rules::Ending;
 use rules::Parsed;
@@ -25,6 +26,12 @@ use rules::Syntax;
 use rules::Table;
 use rules::node;
 use rules::node_kind;
+
+// What was counted, and the next of our own nodes.
+struct Walk {
+    tally: Tally,
+    node: usize,
+}
 
 // The number of a refused parse, its place, the two words that it tells, and that the place is known. Zeros where it is not refused.
 fn refusal_words(parsed: Parsed) -> [u32; 7] {
@@ -83,26 +90,38 @@ fn past_left_out(nodes: &[u32], own: usize, i: usize) -> usize {
 }
 
 // The sample's next node against our next.
-fn node_compared(sample: &[u8], tally: Tally, nodes: &[u32], own: usize) -> Tally {
-    let i = past_left_out(nodes, own, tally.node);
+fn node_compared(sample: &[u8], walk: Walk, nodes: &[u32], own: usize) -> Walk {
+    let i = past_left_out(nodes, own, walk.node);
     let next = if i < own { i + 1 } else { i };
-    compared(sample, tally, NODES, part(nodes, own, i), node::WORDS).next_node(next)
+    let before = walk.tally;
+    let tally = compared(sample, before, NODES, part(nodes, own, i), node::WORDS);
+    Walk { tally, node: next }
 }
 
 // The sample's next declaration against our next nodes.
-fn declaration_compared(sample: &[u8], tally: Tally, nodes: &[u32], own: usize) -> Tally {
-    let size = count(sample, letter(sample, tally.at, b'D'));
-    let faults = tally.faults;
-    let mut now = tally.moved(size.next);
+fn declaration_compared(sample: &[u8], walk: Walk, nodes: &[u32], own: usize) -> Walk {
+    let before = walk.tally;
+    let size = count(sample, letter(sample, before.at, b'D'));
+    let begun = before.moved(size.next);
+    let mut now = Walk {
+        tally: begun,
+        node: walk.node,
+    };
     let mut i: u64 = 0;
     while i < size.value {
-        if now.at == LOST {
+        if now.tally.at == LOST {
             return now;
         }
         now = node_compared(sample, now, nodes, own);
         i += 1;
     }
-    now.held(DECLARATIONS, now.faults == faults)
+    let behind = now.tally;
+    let agrees = behind.differences == before.differences;
+    let tally = judged(behind, DECLARATIONS, agrees);
+    Walk {
+        tally,
+        node: now.node,
+    }
 }
 
 // Whether our next node is the program's and the last: at the last row, with so many declarations.
@@ -132,19 +151,21 @@ fn program_agrees(nodes: &[u32], own: usize, i: usize, rows: u32, size: u64) -> 
 // An accepted text: its declarations, then the program.
 fn program_compared(sample: &[u8], tally: Tally, nodes: &[u32], own: usize, rows: u32) -> Tally {
     let size = count(sample, tally.at);
-    let mut now = tally.moved(size.next).next_node(0);
+    let begun = tally.moved(size.next);
+    let mut now = Walk {
+        tally: begun,
+        node: 0,
+    };
     let mut i: u64 = 0;
     while i < size.value {
-        if now.at == LOST {
-            return now;
+        if now.tally.at == LOST {
+            return now.tally;
         }
         now = declaration_compared(sample, now, nodes, own);
         i += 1;
     }
-    now.held(
-        PROGRAMS,
-        program_agrees(nodes, own, now.node, rows, size.value),
-    )
+    let agrees = program_agrees(nodes, own, now.node, rows, size.value);
+    judged(now.tally, PROGRAMS, agrees)
 }
 
 // Whether a refusal has this number and place.
@@ -190,7 +211,7 @@ pub fn parse_compared(
     let ours = refusal_words(parsed);
     let number = form.value;
     match number {
-        0 => now.held(UNCOMPARED, uncompared_agrees(table, ours)),
+        0 => judged(now, UNCOMPARED, uncompared_agrees(table, ours)),
         1 => compared(sample, now, REFUSALS, &ours, 7),
         2 => program_compared(sample, now, &nodes, node_count(parsed), table.count),
         _ => now.moved(LOST),

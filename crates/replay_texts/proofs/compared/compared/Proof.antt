@@ -34,8 +34,11 @@ loop-again c = search needs
 moved-requires : tie.Need-moved-requires Inv-loop μ-loop
 moved-requires c κs = search needs
 
-held-requires : tie.Need-held-requires Inv-loop μ-loop
-held-requires c κs = search needs
+many-requires : tie.Need-many-requires Inv-loop μ-loop
+many-requires c κs = search needs
+
+judged-requires : tie.Need-judged-requires Inv-loop μ-loop
+judged-requires c κs = search needs
 
 returns : tie.Need-returns Inv-loop μ-loop
 returns c = search needs
@@ -54,5 +57,6 @@ compared-spec =
     loop-less
     loop-again
     moved-requires
-    held-requires
+    many-requires
+    judged-requires
     returns)

@@ -5,10 +5,10 @@ use Rattle.replay_texts.proofs.tree.declaration_compared.Statement.{sta
 use Rattle.replay_texts.proofs.tree.declaration_compared.Tie as tie
 
 abbrev Inv-loop : tie.InvT-loop
-Inv-loop sample nodes own size faults now₀ i₀ now i = Unit {0}
+Inv-loop sample nodes own before size now₀ i₀ now i = Unit {0}
 
 abbrev μ-loop : tie.MeasureT-loop
-μ-loop sample nodes own size faults now₀ i₀ now i = size .value - i
+μ-loop sample nodes own before size now₀ i₀ now i = size .value - i
 
 letter-requires : tie.Need-letter-requires Inv-loop μ-loop
 letter-requires c κs = search needs
@@ -37,8 +37,8 @@ loop-less c = search needs
 loop-again : tie.Need-loop-again Inv-loop μ-loop
 loop-again c = search needs
 
-held-requires : tie.Need-held-requires Inv-loop μ-loop
-held-requires c κs = search needs
+judged-requires : tie.Need-judged-requires Inv-loop μ-loop
+judged-requires c κs = search needs
 
 returns-2 : tie.Need-returns-2 Inv-loop μ-loop
 returns-2 c = search needs
@@ -58,5 +58,5 @@ declaration-compared-spec =
     add-i
     loop-less
     loop-again
-    held-requires
+    judged-requires
     returns-2)

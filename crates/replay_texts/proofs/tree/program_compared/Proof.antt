@@ -16,9 +16,6 @@ count-requires c κs = search needs
 moved-requires : tie.Need-moved-requires Inv-loop μ-loop
 moved-requires c κs = search needs
 
-next-node-requires : tie.Need-next-node-requires Inv-loop μ-loop
-next-node-requires c κs = search needs
-
 loop-holds : tie.Need-loop-holds Inv-loop μ-loop
 loop-holds c = search needs
 
@@ -40,8 +37,8 @@ loop-again c = search needs
 program-agrees-requires : tie.Need-program-agrees-requires Inv-loop μ-loop
 program-agrees-requires c κs = search needs
 
-held-requires : tie.Need-held-requires Inv-loop μ-loop
-held-requires c κs = search needs
+judged-requires : tie.Need-judged-requires Inv-loop μ-loop
+judged-requires c κs = search needs
 
 returns-2 : tie.Need-returns-2 Inv-loop μ-loop
 returns-2 c = search needs
@@ -54,7 +51,6 @@ program-compared-spec =
     μ-loop
     count-requires
     moved-requires
-    next-node-requires
     loop-holds
     returns
     declaration-compared-requires
@@ -62,5 +58,5 @@ program-compared-spec =
     loop-less
     loop-again
     program-agrees-requires
-    held-requires
+    judged-requires
     returns-2)
