@@ -106,9 +106,9 @@ module _ {d : ℕ} {ws : List ℕ} {n i j : ℕ} where
 
   -- behind a sign, or behind a shift where no sign was read
   pub level-again : (b sign shift : Bool) {d′ : ℕ} → Looks ws n i d′ → Seen (levelOf b) d ws n i j → isAdd (kindIn ws j) ≡ sign
-      → isShift (kindIn ws j) ≡ shift → sign || shift ≡ true → b && shift ≡ false
+      → isShift (kindIn ws j) ≡ shift → sign || shift ≡ true → (b ≡ true → shift ≡ true → ⊥)
       → Turn (levelOf (b || sign)) (opOf (b || sign)) d ws n i (j + 1)
   level-again false true shift l s p q e f = turn-again sums l (seen-as (λ ts r. Parts.up r) s) p
   level-again false false shift l s p q e f = turn-again shifts l s (q ∙ e)
   level-again true true shift l s p q e f = turn-again sums l s p
-  level-again true false shift l s p q e f = absurd (true≢false (sym e ∙ f))
+  level-again true false shift l s p q e f = absurd (f refl e)

@@ -1,8 +1,8 @@
 -- Laws of bytes as one number: which bytes they are, and what is computed of each of them alone.
-use mathlib.Core.Path.{_≡_, refl, sym, ap, ap₂, _∙_}
-use mathlib.Core.Bool.{true}
+use mathlib.Core.Path.{_≡_, refl, sym, ap, ap₂, subst, _∙_}
+use mathlib.Core.Bool.{Bool, true, _&&_}
 use mathlib.Core.List.{List, [], _∷_, map}
-use Prim.Native.Nat.{ℕ, suc, _+_, _*_, _^_, _≤_, _<_}
+use Prim.Native.Nat.{ℕ, suc, _+_, _*_, _/_, _^_, _≤_, _<_}
 use native.Mathlib.Nat.{add-assoc}
 use native.Mathlib.Numerals.{add-one}
 use native.Mathlib.Omega.{arith}
@@ -13,7 +13,7 @@ use lib.Bits.{bitAnd, bitOr, bitXor, and-block, or-block, xor-block, and-lt, or-
 use borrow.Author.Tests.{ltb-true, eqb-true}
 use Rattle.laws.specs.Tests.{allBelow}
 use Rattle.laws.specs.Bounds.{Bytes, none, some}
-use Rattle.laws.proofs.Tests.{below}
+use Rattle.laws.proofs.Tests.{below, both-true}
 use Rattle.scan_eights.specs.Eights.{numberOf}
 
 -- ---- the bytes of a text
@@ -76,8 +76,17 @@ eight-times : (c : ℕ) → one-each * c ≡ numberOf (replicate 8 c)
 unfolding numberOf
 eight-times c = omega arith
 
-pub each-of : (c : ℕ) {s : List ℕ} → c < 256 → length s ≡ 8 → Each s (λ _. c) (one-each * c)
+each-of : (c : ℕ) {s : List ℕ} → c < 256 → length s ≡ 8 → Each s (λ _. c) (one-each * c)
 each-of c {s} h l = record { is = eight-times c ∙ ap (λ (n : ℕ). numberOf (replicate n c)) (sym l) ∙ sym (alike c s); byte = λ b _. h }
+
+-- a number that has the same byte in each place: it is tested, not named
+abbrev pub allAlike : ℕ → Bool
+allAlike n = ltb (n / one-each) 256 && eqb (one-each * (n / one-each)) n
+
+pub each-all : {n : ℕ} {s : List ℕ} → length s ≡ 8 → allAlike n ≡ true → Each s (λ _. n / one-each) n
+each-all {n} {s} l e =
+    let y = both-true (ltb (n / one-each) 256) (eqb (one-each * (n / one-each)) n) e in
+    subst (λ (m : ℕ). Each s (λ _. n / one-each) m) (eqb-true _ _ (y .1)) (each-of (n / one-each) (ltb-true _ _ (y .0)) l)
 
 -- an operation that works on each run of bits apart
 module _ (op : ℕ → ℕ → ℕ) (nothing : op 0 0 ≡ 0)

@@ -1,19 +1,24 @@
--- Blanks that are passed over, one at a time and four spaces at a time.
+-- Blanks that are passed over, one at a time and four at a time.
 use mathlib.Core.Path.{_≡_, refl, sym, ap, _∙_}
-use mathlib.Core.Bool.{Bool, true, false}
+use mathlib.Core.Bool.{Bool, true, false, _&&_}
 use mathlib.Core.List.{List}
-use Prim.Native.Nat.{ℕ, _+_, _*_, _≤_, _<_}
+use Prim.Native.Nat.{ℕ, _+_, _/_, _%_, _≤_, _<_}
 use native.Mathlib.Omega.{arith}
 use lib.ListN.{length, getD, drop}
 use lib.Seq.{drop-drop}
 use Rattle.rules.specs.declared.Cursor.{Cursor}
 use Rattle.rules.specs.Text.{isBlank, moved, along, front, notNewline}
+use Rattle.laws.proofs.Tests.{both-true}
 use Rattle.laws.proofs.Fronts.{front-on, front-off, front-end, front-more, front-drop}
 use Rattle.scan_reader.specs.declared.Spot.{Spot}
 use Rattle.scan_reader.specs.Read.{onward, Ahead}
 use Rattle.scan_reader.proofs.Moves.{onward-none, onward-more, onward-one, ahead-more}
 use Rattle.scan_walk.specs.Walk.{blanks, Blanked, Four}
 use Rattle.scan_walk.proofs.Passing.{over-line}
+
+-- a test of each of the four bytes of a number
+abbrev pub fourMeet : (ℕ → Bool) → ℕ → Bool
+fourMeet p n = (p (n % 256) && p (n / 256 % 256)) && (p (n / 65536 % 256) && p (n / 16777216))
 
 pub blanked-start : (t : List ℕ) (from : Spot) → Ahead t from → Blanked t from from
 blanked-start t from a = record { ahead = a; behind = omega arith; ends = refl }
@@ -58,26 +63,34 @@ module _ {t : List ℕ} {from here : Spot} (g : Blanked t from here) where
   unfolding blanks
   blanked-on h e m = rw m (blanked-more 1 _ (omega arith) (onward-one t here h) (front-on isBlank t i h e))
 
-  -- four of them, if the four bytes are spaces
-  module _ (h : i + 4 ≤ length t) (f : Four t i 0x20202020) where
-    four-meet : (p : ℕ → Bool) → p 32 ≡ true → 4 ≤ front p (drop i t)
-    four-meet p e =
-        let b = f .bytes in
-        let s = f .sum in
-        let three : getD t (i + 1) 0 + (getD t (i + 2) 0 * 256 + getD t (i + 3) 0 * 65536) ≡ 0x202020 = omega arith in
-        let two : getD t (i + 2) 0 + getD t (i + 3) 0 * 256 ≡ 0x2020 = omega arith in
-        let e3 : getD t (i + 3) 0 ≡ 32 = omega arith in
-        let e2 : getD t (i + 2) 0 ≡ 32 = omega arith in
-        let e1 : getD t (i + 1) 0 ≡ 32 = omega arith in
-        let e0 : getD t i 0 ≡ 32 = omega arith in
-        let n1 : 1 ≤ front p (drop i t) = omega (arith, front-on p t i (omega arith) (ap p e0 ∙ e)) in
-        let n2 : 2 ≤ front p (drop i t) = front-more p t i 1 n1 (omega arith) (ap p e1 ∙ e) in
-        let n3 : 3 ≤ front p (drop i t) = front-more p t i 2 n2 (omega arith) (ap p e2 ∙ e) in
-        front-more p t i 3 n3 (omega arith) (ap p e3 ∙ e)
+  -- four of them, if each of the four bytes of a number is a blank and no newline
+  module _ (h : i + 4 ≤ length t) {n : ℕ} (f : Four t i n) where
+    byte-0 : getD t i 0 ≡ n % 256
+    byte-0 = let b = f .bytes in omega (arith, f .sum)
 
-    pub blanked-four : {cursor : Cursor} → cursor ≡ along (here .cursor) 4 → Blanked t from (record { at = i + 4; cursor = cursor })
-    unfolding blanks isBlank
-    blanked-four m =
+    byte-1 : getD t (i + 1) 0 ≡ n / 256 % 256
+    byte-1 = let b = f .bytes in omega (arith, f .sum)
+
+    byte-2 : getD t (i + 2) 0 ≡ n / 65536 % 256
+    byte-2 = let b = f .bytes in omega (arith, f .sum)
+
+    byte-3 : getD t (i + 3) 0 ≡ n / 16777216
+    byte-3 = let b = f .bytes in omega (arith, f .sum)
+
+    four-meet : (p : ℕ → Bool) → fourMeet p n ≡ true → 4 ≤ front p (drop i t)
+    four-meet p e =
+        let d = both-true (p (n % 256) && p (n / 256 % 256)) _ e in
+        let x = both-true (p (n % 256)) _ (d .0) in
+        let y = both-true (p (n / 65536 % 256)) _ (d .1) in
+        let n1 : 1 ≤ front p (drop i t) = omega (arith, front-on p t i (omega arith) (ap p byte-0 ∙ x .0)) in
+        let n2 : 2 ≤ front p (drop i t) = front-more p t i 1 n1 (omega arith) (ap p byte-1 ∙ x .1) in
+        let n3 : 3 ≤ front p (drop i t) = front-more p t i 2 n2 (omega arith) (ap p byte-2 ∙ y .0) in
+        front-more p t i 3 n3 (omega arith) (ap p byte-3 ∙ y .1)
+
+    pub blanked-four : fourMeet isBlank n ≡ true → fourMeet notNewline n ≡ true → {cursor : Cursor} → cursor ≡ along (here .cursor) 4
+        → Blanked t from (record { at = i + 4; cursor = cursor })
+    unfolding blanks
+    blanked-four b o m =
         rw m
-        (blanked-more 4 _ h (over-line t here 4 (four-meet notNewline refl))
-        (front-drop isBlank 4 (drop i t) (four-meet isBlank refl) ∙ rw drop-drop))
+        (blanked-more 4 _ h (over-line t here 4 (four-meet notNewline o))
+        (front-drop isBlank 4 (drop i t) (four-meet isBlank b) ∙ rw drop-drop))

@@ -1,6 +1,7 @@
 -- `edit::restart` meets its contract.
 use mathlib.Core.Path.{_≡_, sym, _∙_}
 use mathlib.Core.Bool.{true}
+use native.Mathlib.Omega.{arith}
 use borrow.Author.Tests.{not-true, not-false, lt-ltb, le-ltb}
 use borrow.Author.Needs.{needs}
 use Rattle.rules.specs.Rows.{wellFormed}
@@ -25,7 +26,7 @@ returns-2 : tie.Need-returns-2
 unfolding restartTold
 returns-2 c =
     let a = c .before .before .before .before .args in
-    rw (formed (c .before), lt-ltb (a .table .length) (a .a) (c .if2 .taken))
+    rw (formed (c .before), lt-ltb (a .table .length) (a .a) (omega (arith, c .if2 .taken)))
 
 cast-kept-rows : tie.Need-cast-kept-rows
 cast-kept-rows c = search needs
@@ -46,7 +47,7 @@ unfolding restartTold
 returns-3 c =
     let e = c .before .before .before .before in
     let a = e .before .before .before .args in
-    rw (formed e, le-ltb (a .table .length) (a .a) (c .before .before .before .if2 .left), c .place-behind .ensures, restart-by (a .old .now) (a .table) (a .a) (c .before .kept-rows .result) (c .before .kept-rows .ensures))
+    rw (formed e, le-ltb (a .table .length) (a .a) (omega (arith, c .before .before .before .if2 .left)), c .place-behind .ensures, restart-by (a .old .now) (a .table) (a .a) (c .before .kept-rows .result) (c .before .kept-rows .ensures))
 
 pub restart-spec : {M : Type 1} → statement M
 restart-spec =

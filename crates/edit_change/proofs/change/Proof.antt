@@ -1,14 +1,14 @@
 -- `edit_change::change` meets its contract: 3, 6 by the text's length, and then what the edit of the tested table gives.
 use mathlib.Core.Path.{_≡_, sym, _∙_}
 use mathlib.Core.Bool.{true}
-use Prim.Native.Nat.{_≤_}
+use Prim.Native.Nat.{_+_, _≤_}
 use native.Mathlib.Omega.{arith}
 use lib.ListN.{length}
 use borrow.Author.Tests.{not-true, not-false}
 use borrow.Author.Needs.{needs}
 use Rattle.rules.specs.Rows.{wellFormed}
 use Rattle.rules.specs.Scan.{roomOf}
-use Rattle.edit_change.proofs.Calls.{Fits, fits-by, change-3, change-6, job-inside, change-job}
+use Rattle.edit_change.proofs.Calls.{Fits, fits-by, reaches, change-3, change-6, job-inside, change-job}
 use Rattle.edit_change.proofs.change.Statement.{statement}
 use Rattle.edit_change.proofs.change.Tie as tie
 
@@ -38,6 +38,10 @@ within c =
     let a = at-job c .args in
     job-inside (a .old .now) (a .table) (a .a) (a .b) (a .n) (a .text .now) (roomOf (a .new .now)) (a .new .now)
     (formed (c .before .before .before)) (fitting (c .before)) (c .job-of .result) (c .job-of .ensures)
+
+-- and so does a: a window from there would lie in the text as well
+a-within : (c : tie.After-job-of) → let a = at-job c .args in a .a + a .n ≤ length (a .text .now)
+a-within c = let a = at-job c .args in reaches (a .table .length) (a .a) (a .b) (a .n) (length (a .text .now)) (fitting (c .before))
 
 well-formed-requires : tie.Need-well-formed-requires
 well-formed-requires c κs = search needs
@@ -74,10 +78,10 @@ cast-edit-tested : tie.Need-cast-edit-tested
 cast-edit-tested c = omega (arith, within c)
 
 sub-edit-tested : tie.Need-sub-edit-tested
-sub-edit-tested c = within c
+sub-edit-tested c = omega (arith, within c, a-within c)
 
 part-edit-tested-start : tie.Need-part-edit-tested-start
-part-edit-tested-start c = within c
+part-edit-tested-start c = sub-edit-tested c
 
 part-edit-tested-end : tie.Need-part-edit-tested-end
 part-edit-tested-end c = search needs

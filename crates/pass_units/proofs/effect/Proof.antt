@@ -1,6 +1,6 @@
 -- `effect` meets its contract: an expression, and behind it `;`, or `=` or `+=` and another expression and its `;`.
 use mathlib.Core.Path.{_≡_, refl, sym, ap, _∙_}
-use mathlib.Core.Bool.{Bool, true, false, not, _&&_, _||_, true≢false}
+use mathlib.Core.Bool.{Bool, true, false, _||_, true≢false}
 use Prim.Native.Nat.{_+_, _<_}
 use native.Mathlib.Omega.{arith}
 use lib.Dec.{eqb}
@@ -26,16 +26,17 @@ abbrev looked : tie.Else3 → tie.After-kind
 looked c = c .before .before
 
 -- one of two holds where not both fail
-either : (a b : Bool) → not a && not b ≡ false → a || b ≡ true
-either true b e = refl
-either false true e = refl
-either false false e = absurd (true≢false e)
+either : (a b : Bool) → (a ≡ false → b ≡ false → ⊥) → a || b ≡ true
+either true b f = refl
+either false true f = refl
+either false false f = absurd (f refl refl)
 
--- the sign behind the first expression is one of an assignment
+-- the sign behind the first expression is one of an assignment: were it none, the test before it would have held
 sign : (c : tie.Else3) → isAssign (kindIn (start (called (looked c)) .args .rows .now) (called (looked c) .expression .result)) ≡ true
 sign c =
     let k = looked c .kind in
-    ap isAssign (sym (k .ensures)) ∙ either (eqb (k .result) Equals) (eqb (k .result) PlusEquals) (c .if3 .left)
+    ap isAssign (sym (k .ensures))
+    ∙ either (eqb (k .result) Equals) (eqb (k .result) PlusEquals) (λ x y. true≢false (simp (x, y) at (c .if3 .left)))
 
 sign-behind : (c : tie.Else3) → called (looked c) .expression .result + 1 < start (called (looked c)) .args .count
 sign-behind c =

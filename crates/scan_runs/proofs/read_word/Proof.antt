@@ -65,7 +65,7 @@ returns-2 c =
     let k = c .before .before .before in
     let l = turn k .loop in
     packing-full (start k .pre .0) _ _ (l .packed) (l .i) (l .inv) (k .before .before .loop-test .taken) (fits k)
-    (c .before .before .if1 .left) (c .before .if2 .taken) (c .word-end .ensures)
+    (c .before .before .if1 .left) (omega (arith, c .before .if2 .taken)) (c .word-end .ensures)
 
 loop-less : tie.Need-loop-less Inv-loop μ-loop
 loop-less c = omega arith
@@ -75,7 +75,7 @@ loop-again c =
     let k = c .before .before in
     let l = turn k .loop in
     packing-on (start k .pre .0) _ _ (l .packed) (l .i) (l .inv) (k .before .before .loop-test .taken) (fits k)
-    (c .before .if1 .left) (c .if2 .left)
+    (c .before .if1 .left) (λ e. c .if2 .left (omega arith))
 
 returns-3 : tie.Need-returns-3 Inv-loop μ-loop
 returns-3 c =

@@ -1,7 +1,7 @@
 -- `expression` of the circle: products behind shifts, and from the first sign on behind signs alone.
 use Prim.Native.Nat.{ℕ, _+_, _-_}
 use mathlib.Core.Path.{refl, sym, ap, _∙_}
-use mathlib.Core.Bool.{_||_}
+use mathlib.Core.Bool.{_||_, true≢false}
 use native.Mathlib.Omega.{arith}
 use borrow.Author.Needs.{needs}
 use borrow.Author.Tests.{not-false}
@@ -90,7 +90,7 @@ module _ (t : ℕ) where
       let l = turning (at-end c) in
       level-again (l .loop .summed) (p .before .is-add .result) (p .is-shift .result) (entry l .pre .1) (whole (at-end c))
       (ap isAdd (sym k) ∙ sym (p .before .is-add .ensures)) (ap isShift (sym k) ∙ sym (p .is-shift .ensures))
-      (not-false _ (c .before .if2 .left)) (c .if3 .left)
+      (not-false _ (c .before .if2 .left)) (λ x y. true≢false (simp (x, y) at (c .if3 .left)))
 
   -- ---- the needs
 

@@ -124,7 +124,7 @@ module _ (t : ℕ) where
       let o = bare c in
       let e = at-open o in
       seen-bare (look e) (is-variable e) (is-dot (dotted (named o))) (is-name (named o)) (is-open o)
-      (sym (c .before .kind4 .ensures) ∙ c .if4 .taken)
+      (omega (arith, c .before .kind4 .ensures, c .if4 .taken))
 
   args : (c : Ended) → (let e = at-end c in
       Seen Args (e .args .left - 1) (e .args .rows .now) (e .args .count) (e .args .row + 1 + 2 + 1) (c .before .arguments .result))

@@ -56,7 +56,7 @@ module _ (t : ℕ) where
       let d = held (c .before) in
       let k = c .before .kind in
       step (entry (guarded d) .pre .1 .0) (d .before .body .result) KeywordElse (k .result)
-      (first d .inside) (k .ensures) (c .if3 .taken) refl
+      (first d .inside) (k .ensures) (omega (arith, c .if3 .taken)) refl
 
   -- ---- the needs
 
@@ -94,7 +94,7 @@ module _ (t : ℕ) where
       let e = entry g in
       let a = e .args in
       if-elses (a .rows .now) (a .count) (a .left) (a .row) (g .before .head .result) (d .before .body .result) (c .body2 .result)
-      (e .pre .1 .1) (opened g) (first d) (sym (f .before .kind .ensures) ∙ f .if3 .taken) (c .body2 .ensures h)
+      (e .pre .1 .1) (opened g) (first d) (omega (arith, f .before .kind .ensures, f .if3 .taken)) (c .body2 .ensures h)
 
   pub returns-4 : lts.Need-returns-4 (cs t) (branch-at t) branch.Post
   returns-4 c h =

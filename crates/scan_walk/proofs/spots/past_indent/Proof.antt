@@ -1,7 +1,10 @@
--- `scan_walk::spots::past_indent` meets its contract: each turn passes four spaces.
+-- `scan_walk::spots::past_indent` meets its contract: each turn passes four bytes, each of them a blank and no newline by a test of the
+-- number that the code holds them against.
+use mathlib.Core.Path.{refl}
 use Prim.Native.Nat.{_-_}
 use native.Mathlib.Omega.{arith}
 use lib.ListN.{length}
+use Rattle.rules.specs.Text.{isBlank}
 use Rattle.laws.proofs.Places.{roomy-less}
 use Rattle.scan_walk.specs.Walk.{Blanked}
 use Rattle.scan_walk.proofs.Blanks.{blanked-start, blanked-four}
@@ -30,7 +33,7 @@ onward-requires : tie.Need-onward-requires Inv-loop μ-loop
 onward-requires c κs =
     let n = c .before .before in
     let l = n .before .loop in
-    roomy-less (length (n .before .before .before .before .args .text .now) - l .i) 4 (l .cursor) (omega arith) (l .inv .ahead .roomy)
+    roomy-less (length (n .before .before .before .before .args .text .now) - l .i) _ (l .cursor) (omega arith) (l .inv .ahead .roomy)
 
 add-i : tie.Need-add-i Inv-loop μ-loop
 add-i c = omega (arith, c .before .before .before .before .loop .inv .ahead .inside)
@@ -39,10 +42,11 @@ loop-less : tie.Need-loop-less Inv-loop μ-loop
 loop-less c = omega arith
 
 loop-again : tie.Need-loop-again Inv-loop μ-loop
+unfolding isBlank
 loop-again c =
     let f = c .before .before in
     let g = f .before .before .loop .inv in
-    blanked-four g (omega (arith, g .ahead .inside)) (rw (c .before .if1 .left) at (f .four .ensures)) (c .onward .ensures)
+    blanked-four g (omega (arith, g .ahead .inside)) (rw (c .before .if1 .left) at (f .four .ensures)) refl refl (c .onward .ensures)
 
 returns-2 : tie.Need-returns-2 Inv-loop μ-loop
 returns-2 c = c .before .loop .inv
