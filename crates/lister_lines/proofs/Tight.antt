@@ -9,7 +9,9 @@ use Rattle.lister_lines.specs.Lines.{listed}
 use Rattle.lister_lines.proofs.listing
 
 pub listing-tight : Tight listing.Kinds.ps listing.Kinds.r listing.Reads.Asked listing.Reads.Learnt
-listing-tight κs a =
-    (tt, λ r₁ r₂ m₁ m₂ p q.
-    let e : r₁ ≡ r₂ = alike (p .1 .0) (q .1 .0) in
-    (e, refl ▸ (p .1 .1 ∙ ap (λ (n : ℕ). listed (a .0 .now) ++ drop n (a .1 .0 .now)) e ∙ sym (q .1 .1)) ▸ refl))
+listing-tight κs a = (
+  tt,
+  λ r₁ r₂ m₁ m₂ p q.
+      let e : r₁ ≡ r₂ = alike (p .1 .0) (q .1 .0) in
+      (e, refl ▸ (p .1 .1 ∙ ap (λ (n : ℕ). listed (a .0 .now) ++ drop n (a .1 .0 .now)) e ∙ sym (q .1 .1)) ▸ refl),
+)
