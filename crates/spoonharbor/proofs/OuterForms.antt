@@ -108,6 +108,17 @@ module _ (κs : Lfts 4) (a : Dens κs of-move.ps) (r : Unit {0}) (e : AtExit (en
       record { told = p .0; left = p .1; moved = z } in
       rw (s .0, s .1, x, y, w) (outer-there-and-back _ _ _ _ _ _ g bytes (b .1 .1 .1 .0 .now) room)
 
+-- A move that is not refused, and then a reading beside the text of the file that it wrote: it is that of the first file.
+module _ (κs : Lfts 4) (a : Dens κs of-move.ps) (r : Unit {0}) (e : AtExit (endedOf 4 of-move.ps of-move.r) κs)
+    (λs : Lfts 4) (b : Dens λs of-load.ps) (q : Unit {0}) (f : AtExit (endedOf 4 of-load.ps of-load.r) λs) where
+  pub outer-move-then-load : MovePost κs a r e → LoadPost λs b q f → Bytes (a .1 .0 .now) → getD (e .1 .1 .1 .1 .0 .now) 0 0 ≡ 0
+      → b .0 .now ≡ a .0 .now → b .1 .0 .now ≡ fileOf (e .1 .1 .1 .1 .0 .now) (e .1 .1 .1 .0 .now)
+      → OuterAlike (a .0 .now) (a .1 .0 .now) (b .1 .1 .0 .now) (f .1 .1 .1 .0 .now) (f .1 .1 .0 .now)
+  outer-move-then-load p s bytes z x y =
+      let g : OuterMoved (a .0 .now) (a .1 .0 .now) (a .1 .1 .0) (a .1 .1 .1 .0 .now) (e .1 .1 .1 .1 .0 .now) (e .1 .1 .1 .0 .now) =
+      record { told = p .0; left = p .1; moved = z } in
+      rw (s .0, s .1, x, y) (outer-read-alike _ _ _ _ _ _ g bytes (b .1 .1 .0 .now))
+
 -- A mending that is not refused, and then a reading beside the text of the file that it left, in room for the text's rows.
 module _ (κs : Lfts 4) (a : Dens κs of-mend.ps) (r : Unit {0}) (e : AtExit (endedOf 4 of-mend.ps of-mend.r) κs)
     (λs : Lfts 4) (b : Dens λs of-load.ps) (q : Unit {0}) (f : AtExit (endedOf 4 of-load.ps of-load.r) λs) where
