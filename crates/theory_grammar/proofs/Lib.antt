@@ -1,4 +1,4 @@
--- Laws of rows, trees and node memory; the parser's definitions by cases; and the theorems between the parser and the grammar.
+-- Laws of rows, trees, operators and node memory; the parser's definitions by cases; and the theorems between the parser and the grammar.
 pub mod Laws
 pub mod Operators
 pub mod Cases
