@@ -11,7 +11,7 @@ const MOST: [(&str, usize); 15] = [
     ("change", 1_024),
     ("restart", 704),
     ("table test", 640),
-    ("spelling", 704),
+    ("spelling", 768),
     ("section", 64),
     ("method", 64),
     ("methods", 64),
