@@ -1,4 +1,4 @@
--- The contracts of `edit::edit` and `edit::restart` ask nothing, and determine their results, that of the edit every word of the lent new rows too. The
+-- The contracts of `edit` and `restart` ask nothing, and determine their results, that of the edit every word of the lent new rows too. The
 -- old rows and the window are lent as `&`, and shared memory cannot change.
 use mathlib.Core.Path.{refl}
 use Rattle.laws.specs.Tight.{Tight}

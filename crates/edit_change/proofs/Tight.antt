@@ -1,4 +1,4 @@
--- The contract of `edit_change::change` asks nothing, and determines its result and every word of the lent new rows. The old rows and the
+-- The contract of `change` asks nothing, and determines its result and every word of the lent new rows. The old rows and the
 -- text are lent as `&`, and shared memory cannot change.
 use mathlib.Core.Path.{refl}
 use Rattle.laws.specs.Tight.{Tight}

@@ -5,21 +5,21 @@ use mathlib.Core.List.{List}
 use Prim.Native.Nat.{ℕ, _/_}
 use Rattle.rules.specs.Text.{startPlace}
 use Rattle.answers.specs.Layout.{words, nowhere, endingWords}
-use Rattle.file_rules.specs.declared.Fault.{Fault}
-use Rattle.file_rules.specs.declared.Stored.{Stored}
-use Rattle.file_rules.specs.declared.Stored.the-variants as stored
-use Rattle.file_rules.specs.declared.Loaded.{Loaded}
-use Rattle.file_rules.specs.declared.Loaded.the-variants as loaded
-use Rattle.file_rules.specs.Blocks.{blockBytes}
-use Rattle.file_rules.specs.Files.{faultNumber, blockTold}
-use Rattle.form_rules.specs.declared.Apart.{Apart}
-use Rattle.form_rules.specs.declared.Beside.{Beside}
-use Rattle.form_rules.specs.declared.Beside.the-variants as beside
-use Rattle.form_rules.specs.declared.Moved.{Moved}
-use Rattle.form_rules.specs.declared.Moved.the-variants as moved
-use Rattle.form_rules.specs.Forms.{apartNumber, apartBlock}
-use Rattle.mend_rules.specs.declared.Mended.{Mended}
-use Rattle.mend_rules.specs.declared.Mended.the-variants as mended
+use Rattle.rules_files.specs.declared.Fault.{Fault}
+use Rattle.rules_files.specs.declared.Stored.{Stored}
+use Rattle.rules_files.specs.declared.Stored.the-variants as stored
+use Rattle.rules_files.specs.declared.Loaded.{Loaded}
+use Rattle.rules_files.specs.declared.Loaded.the-variants as loaded
+use Rattle.rules_files.specs.Blocks.{blockBytes}
+use Rattle.rules_files.specs.Files.{faultNumber, blockTold}
+use Rattle.rules_forms.specs.declared.Apart.{Apart}
+use Rattle.rules_forms.specs.declared.Beside.{Beside}
+use Rattle.rules_forms.specs.declared.Beside.the-variants as beside
+use Rattle.rules_forms.specs.declared.Moved.{Moved}
+use Rattle.rules_forms.specs.declared.Moved.the-variants as moved
+use Rattle.rules_forms.specs.Forms.{apartNumber, apartBlock}
+use Rattle.rules_mend.specs.declared.Mended.{Mended}
+use Rattle.rules_mend.specs.declared.Mended.the-variants as mended
 
 abbrev pub faultWords : Fault → List ℕ
 faultWords why = words (faultNumber why) startPlace (blockTold why) 0 0 0

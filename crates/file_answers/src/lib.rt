@@ -2,20 +2,20 @@
 use answers::no_place;
 use answers::put;
 use answers::put_told;
-use file_rules::Fault;
-use file_rules::Loaded;
-use file_rules::Stored;
-use file_rules::form;
-use form_rules::Apart;
-use form_rules::Beside;
-use form_rules::Moved;
-use mend_rules::Mended;
 use refusals::outer_number;
 use rules::Cursor;
 use rules::Told;
+use rules_files::Fault;
+use rules_files::Loaded;
+use rules_files::Stored;
+use rules_files::form;
+use rules_forms::Apart;
+use rules_forms::Beside;
+use rules_forms::Moved;
+use rules_mend::Mended;
 ghost use mathlib.Core.Path.{_≡_};
-ghost use Rattle.file_rules.specs.Files.{faultNumber, blockTold};
-ghost use Rattle.form_rules.specs.Forms.{apartNumber, apartBlock};
+ghost use Rattle.rules_files.specs.Files.{faultNumber, blockTold};
+ghost use Rattle.rules_forms.specs.Forms.{apartNumber, apartBlock};
 ghost use Rattle.file_answers.specs.Layout.{faultWords, storedWords, loadedWords, apartWords, besideWords, movedWords, mendedWords};
 
 // The bytes of a block, in a word.

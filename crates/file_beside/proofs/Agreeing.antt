@@ -18,12 +18,12 @@ use Rattle.rules.specs.declared.Table.{Table}
 use Rattle.rules.specs.Text.{startPlace, placeAt}
 use Rattle.rules.specs.Rows.{Row, rowIn, rowNo, rowsIn, rowPlace, every}
 use Rattle.rows.proofs.Lists.{every-at, every-by}
-use Rattle.file_rules.specs.Files.{countSaid, rowWordsIn}
-use Rattle.form_rules.specs.declared.Form.{Form}
-use Rattle.form_rules.specs.declared.Form.the-variants.{Full, Short}
-use Rattle.form_rules.specs.Short.{placedEnding}
-use Rattle.form_rules.specs.Forms.{isShort, rowsBeside, tableBeside, isPlaceIn, endingAgrees, agrees, agreesBeside}
-use Rattle.form_rules.specs.Shapes.{formOf, rowWordsOf}
+use Rattle.rules_files.specs.Files.{countSaid, rowWordsIn}
+use Rattle.rules_forms.specs.declared.Form.{Form}
+use Rattle.rules_forms.specs.declared.Form.the-variants.{Full, Short}
+use Rattle.rules_forms.specs.Short.{placedEnding}
+use Rattle.rules_forms.specs.Forms.{isShort, rowsBeside, tableBeside, isPlaceIn, endingAgrees, agrees, agreesBeside}
+use Rattle.rules_forms.specs.Shapes.{formOf, rowWordsOf}
 use Rattle.file_load.specs.Judged.{Framed}
 use Rattle.theory_forms.proofs.Agree.{place-of, place-agrees}
 use Rattle.file_beside.proofs.Known.{known, is-short, is-full}

@@ -16,17 +16,17 @@ use Rattle.rules.specs.declared.Table.{Table}
 use Rattle.rules.specs.Text.{placeAt}
 use Rattle.rules.specs.Rows.{wordsPerRow}
 use Rattle.rules.specs.Scan.{roomOf}
-use Rattle.file_rules.specs.declared.Fault.{Fault}
-use Rattle.file_rules.specs.declared.Fault.the-variants.{Outer}
-use Rattle.file_rules.specs.declared.Loaded.{Loaded}
-use Rattle.file_rules.specs.declared.Loaded.the-variants as loaded
-use Rattle.file_rules.specs.Files.{countSaid, rowWordsIn}
-use Rattle.form_rules.specs.declared.Apart.the-variants.{File, OtherText}
-use Rattle.form_rules.specs.declared.Beside.{Beside}
-use Rattle.form_rules.specs.declared.Beside.the-variants as beside
-use Rattle.form_rules.specs.declared.Form.the-variants.{Full, Short}
-use Rattle.form_rules.specs.Forms.{judged, rowsBeside, tableBeside, agreesBeside, besideJudged, besideTold, besideLeaves}
-use Rattle.form_rules.specs.Shapes.{formOf}
+use Rattle.rules_files.specs.declared.Fault.{Fault}
+use Rattle.rules_files.specs.declared.Fault.the-variants.{Outer}
+use Rattle.rules_files.specs.declared.Loaded.{Loaded}
+use Rattle.rules_files.specs.declared.Loaded.the-variants as loaded
+use Rattle.rules_files.specs.Files.{countSaid, rowWordsIn}
+use Rattle.rules_forms.specs.declared.Apart.the-variants.{File, OtherText}
+use Rattle.rules_forms.specs.declared.Beside.{Beside}
+use Rattle.rules_forms.specs.declared.Beside.the-variants as beside
+use Rattle.rules_forms.specs.declared.Form.the-variants.{Full, Short}
+use Rattle.rules_forms.specs.Forms.{judged, rowsBeside, tableBeside, agreesBeside, besideJudged, besideTold, besideLeaves}
+use Rattle.rules_forms.specs.Shapes.{formOf}
 use Rattle.file_beside.proofs.Known.{is-short, is-full}
 use Rattle.file_beside.proofs.Rows.{beside-length}
 use Rattle.file_beside.specs.Counting.{tableLeaves}

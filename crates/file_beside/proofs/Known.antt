@@ -7,14 +7,14 @@ use native.Mathlib.Omega.{arith}
 use lib.ListN.{length}
 use Rattle.rules.specs.declared.Table.{Table}
 use Rattle.rules.specs.Rows.{wellFormed}
-use Rattle.file_rules.specs.declared.Loaded.the-variants as loaded
-use Rattle.file_rules.specs.Blocks.{blockBytes}
-use Rattle.file_rules.specs.Files.{countSaid, loadTold}
-use Rattle.form_rules.specs.declared.Form.{Form}
-use Rattle.form_rules.specs.declared.Form.the-variants.{Full, Short}
-use Rattle.form_rules.specs.Short.{shortJudged}
-use Rattle.form_rules.specs.Forms.{isShort, judged}
-use Rattle.form_rules.specs.Shapes.{formOf, rowWordsOf}
+use Rattle.rules_files.specs.declared.Loaded.the-variants as loaded
+use Rattle.rules_files.specs.Blocks.{blockBytes}
+use Rattle.rules_files.specs.Files.{countSaid, loadTold}
+use Rattle.rules_forms.specs.declared.Form.{Form}
+use Rattle.rules_forms.specs.declared.Form.the-variants.{Full, Short}
+use Rattle.rules_forms.specs.Short.{shortJudged}
+use Rattle.rules_forms.specs.Forms.{isShort, judged}
+use Rattle.rules_forms.specs.Shapes.{formOf, rowWordsOf}
 use Rattle.theory_files.proofs.Said.{reads-of}
 use Rattle.theory_forms.proofs.Short.{reads-short}
 use Rattle.file_load.specs.Judged.{Framed}

@@ -12,9 +12,9 @@ use Rattle.rules.specs.declared.Cursor.{Cursor}
 use Rattle.rules.specs.declared.Table.{Table}
 use Rattle.rules.specs.Text.{placeAt}
 use Rattle.rules.specs.Rows.{Row, wordsPerRow, rowNo, rowWords}
-use Rattle.file_rules.specs.Files.{countSaid}
-use Rattle.form_rules.specs.Forms.{rowsBeside}
-use Rattle.form_rules.specs.Shapes.{formOf}
+use Rattle.rules_files.specs.Files.{countSaid}
+use Rattle.rules_forms.specs.Forms.{rowsBeside}
+use Rattle.rules_forms.specs.Shapes.{formOf}
 use Rattle.file_beside.proofs.Rows.{seated, judgedRow, beside-length, row-beside, last-next, count-is, counts-row}
 use Rattle.file_beside.proofs.Agreeing.{agrees-long, placed-is}
 use Rattle.file_beside.specs.Counting.{Counts, Agrees, lastPlace, placedAt}

@@ -20,13 +20,13 @@ use Rattle.rules.specs.Rows.{Row, wordsPerRow, rowIn, rowNo, rowPlace, follows}
 use Rattle.rows.specs.Shape.{rowBefore}
 use Rattle.rows.proofs.Inside.{Fine, fine, behind-ends, row-sound, within, few-rows, broken-of}
 use Rattle.rows.proofs.Tables.{before-first, before-on}
-use Rattle.file_rules.specs.declared.Loaded.the-variants as loaded
-use Rattle.file_rules.specs.Files.{countSaid, rowWordsIn}
-use Rattle.form_rules.specs.declared.Form.{Form}
-use Rattle.form_rules.specs.declared.Form.the-variants.{Full, Short}
-use Rattle.form_rules.specs.Short.{shortWords, placedRow, placed, onOneLine, shortWordsIn}
-use Rattle.form_rules.specs.Forms.{isShort, judged, rowsBeside}
-use Rattle.form_rules.specs.Shapes.{formOf, rowWordsOf}
+use Rattle.rules_files.specs.declared.Loaded.the-variants as loaded
+use Rattle.rules_files.specs.Files.{countSaid, rowWordsIn}
+use Rattle.rules_forms.specs.declared.Form.{Form}
+use Rattle.rules_forms.specs.declared.Form.the-variants.{Full, Short}
+use Rattle.rules_forms.specs.Short.{shortWords, placedRow, placed, onOneLine, shortWordsIn}
+use Rattle.rules_forms.specs.Forms.{isShort, judged, rowsBeside}
+use Rattle.rules_forms.specs.Shapes.{formOf, rowWordsOf}
 use Rattle.theory_files.proofs.Numbers.{words-length}
 use Rattle.theory_forms.proofs.Short.{placed-length}
 use Rattle.file_beside.proofs.Known.{known}

@@ -11,14 +11,14 @@ use Rattle.rules.specs.declared.Table.{Table}
 use Rattle.rules.specs.Text.{mostBytes, placeAt}
 use Rattle.rules.specs.Rows.{Row, rowPlace, rowsIn, wordsPerRow, every}
 use Rattle.rows.specs.Shape.{rowBefore}
-use Rattle.file_rules.specs.declared.Loaded.the-variants as loaded
-use Rattle.file_rules.specs.Files.{rowWordsIn}
-use Rattle.form_rules.specs.declared.Beside.{Beside}
-use Rattle.form_rules.specs.declared.Beside.the-variants as beside
-use Rattle.form_rules.specs.declared.Form.{Form}
-use Rattle.form_rules.specs.declared.Form.the-variants.{Full, Short}
-use Rattle.form_rules.specs.Forms.{judged, rowsBeside, isPlaceIn, agreesBeside}
-use Rattle.form_rules.specs.Shapes.{formOf}
+use Rattle.rules_files.specs.declared.Loaded.the-variants as loaded
+use Rattle.rules_files.specs.Files.{rowWordsIn}
+use Rattle.rules_forms.specs.declared.Beside.{Beside}
+use Rattle.rules_forms.specs.declared.Beside.the-variants as beside
+use Rattle.rules_forms.specs.declared.Form.{Form}
+use Rattle.rules_forms.specs.declared.Form.the-variants.{Full, Short}
+use Rattle.rules_forms.specs.Forms.{judged, rowsBeside, isPlaceIn, agreesBeside}
+use Rattle.rules_forms.specs.Shapes.{formOf}
 
 -- an offset's place can be counted from a place of the text that is not behind it
 pub record Counts (text : List ℕ) (here : Cursor) (offset : ℕ) : Type 0 where

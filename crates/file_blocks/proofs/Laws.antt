@@ -15,12 +15,12 @@ use Rattle.laws.proofs.Tests.{same-bool, both-true, true-both}
 use Rattle.rules.specs.Text.{mostBytes}
 use Rattle.rules.specs.Rows.{Row, rowIn}
 use Rattle.rows.specs.Shape.{standsOn}
-use Rattle.file_rules.specs.Bytes.{little, number, numberAt, bytesOf, wordsIn}
-use Rattle.file_rules.specs.Blocks.{sumFrom, check, checked, block, contentOf, zeros, sound}
-use Rattle.form_rules.specs.declared.Form.{Form}
-use Rattle.form_rules.specs.declared.Form.the-variants.{Full, Short}
-use Rattle.form_rules.specs.Short.{placedRow, onOneLine}
-use Rattle.form_rules.specs.Shapes.{rowBytesOf}
+use Rattle.rules_files.specs.Bytes.{little, number, numberAt, bytesOf, wordsIn}
+use Rattle.rules_files.specs.Blocks.{sumFrom, check, checked, block, contentOf, zeros, sound}
+use Rattle.rules_forms.specs.declared.Form.{Form}
+use Rattle.rules_forms.specs.declared.Form.the-variants.{Full, Short}
+use Rattle.rules_forms.specs.Short.{placedRow, onOneLine}
+use Rattle.rules_forms.specs.Shapes.{rowBytesOf}
 use Rattle.file_blocks.specs.Standing.{rowFrom, rowsFrom, stand}
 use Rattle.theory_files.proofs.Said.{words-at}
 use Rattle.theory_files.proofs.Numbers.{words-length, little-length, bytes-length, bytes-append}

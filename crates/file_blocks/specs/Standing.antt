@@ -5,11 +5,11 @@ use Prim.Native.Nat.{ℕ, zero, suc}
 use lib.ListN.{drop}
 use Rattle.rules.specs.Rows.{Row, rowIn, wordsPerRow}
 use Rattle.rows.specs.Shape.{standsOn}
-use Rattle.file_rules.specs.Bytes.{wordsIn}
-use Rattle.form_rules.specs.declared.Form.{Form}
-use Rattle.form_rules.specs.declared.Form.the-variants.{Full, Short}
-use Rattle.form_rules.specs.Short.{shortWords, placedRow, onOneLine}
-use Rattle.form_rules.specs.Shapes.{rowBytesOf}
+use Rattle.rules_files.specs.Bytes.{wordsIn}
+use Rattle.rules_forms.specs.declared.Form.{Form}
+use Rattle.rules_forms.specs.declared.Form.the-variants.{Full, Short}
+use Rattle.rules_forms.specs.Short.{shortWords, placedRow, onOneLine}
+use Rattle.rules_forms.specs.Shapes.{rowBytesOf}
 
 -- the row whose bytes stand at the front, in a form, and the first n rows
 unfoldable pub rowFrom : Form → List ℕ → Row

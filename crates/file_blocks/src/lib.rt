@@ -1,22 +1,22 @@
 // One block of a stored table: its numbers, its check, whether it is sound, its rows, and the writing of it.
-use file_rules::form;
-use form_rules::Form;
-use form_rules::short;
 use rows::shape;
 use rows::shape::Row;
 use rules::kind;
 use rules::limit;
 use rules::row;
+use rules_files::form;
+use rules_forms::Form;
+use rules_forms::short;
 ghost use mathlib.Core.Path.{_≡_};
 ghost use mathlib.Core.List.{_++_};
 ghost use Prim.Native.Nat.{_+_, _-_, _*_, _≤_, min, max};
 ghost use lib.ListN.{length, take, drop, replicate};
 ghost use Rattle.rules.specs.Text.{mostBytes};
 ghost use Rattle.rows.specs.Shape.{LengthTable, asRow};
-ghost use Rattle.file_rules.specs.Bytes.{little, numberAt, bytesOf, wordsIn};
-ghost use Rattle.file_rules.specs.Blocks.{check, contentOf, block, zeros, sound};
-ghost use Rattle.form_rules.specs.declared.Form.the-variants.{Full, Short};
-ghost use Rattle.form_rules.specs.Shapes.{rowBytesOf};
+ghost use Rattle.rules_files.specs.Bytes.{little, numberAt, bytesOf, wordsIn};
+ghost use Rattle.rules_files.specs.Blocks.{check, contentOf, block, zeros, sound};
+ghost use Rattle.rules_forms.specs.declared.Form.the-variants.{Full, Short};
+ghost use Rattle.rules_forms.specs.Shapes.{rowBytesOf};
 ghost use Rattle.file_blocks.specs.Columns.{plus, strip, total, Within, Added};
 ghost use Rattle.file_blocks.specs.Standing.{rowFrom, rowsFrom, stand};
 

@@ -10,16 +10,16 @@ use borrow.Author.Tests.{ltb-false, lt-ltb, le-ltb, eq-eqb, ne-eqb}
 use Rattle.rules.specs.declared.Ending.{Ending}
 use Rattle.rules.specs.declared.Table.{Table}
 use Rattle.rules.specs.Scan.{roomOf}
-use Rattle.file_rules.specs.declared.Fault.the-variants.{BadBlock, WrongLength, NoTable}
-use Rattle.file_rules.specs.declared.Loaded.the-variants as loaded
-use Rattle.file_rules.specs.declared.EndingRead.the-variants.{Ends, Nothing}
-use Rattle.file_rules.specs.Blocks.{sound, blocksFor, fileLength}
-use Rattle.file_rules.specs.Files.{formSaid, countSaid, lengthSaid, soundIn, rowsTold, readTold, blocksTold, loadTold}
-use Rattle.form_rules.specs.declared.Form.{Form}
-use Rattle.form_rules.specs.declared.Form.the-variants.{Full, Short}
-use Rattle.form_rules.specs.Short.{shortNumber, shortBytes, shortSaidBytes, shortSoundIn, shortTable, shortBlocks, shortJudged}
-use Rattle.form_rules.specs.Forms.{judged}
-use Rattle.form_rules.specs.Shapes.{rowBytesOf, formOf, rowWordsOf, endingOf, soundOf, blocksIn}
+use Rattle.rules_files.specs.declared.Fault.the-variants.{BadBlock, WrongLength, NoTable}
+use Rattle.rules_files.specs.declared.Loaded.the-variants as loaded
+use Rattle.rules_files.specs.declared.EndingRead.the-variants.{Ends, Nothing}
+use Rattle.rules_files.specs.Blocks.{sound, blocksFor, fileLength}
+use Rattle.rules_files.specs.Files.{formSaid, countSaid, lengthSaid, soundIn, rowsTold, readTold, blocksTold, loadTold}
+use Rattle.rules_forms.specs.declared.Form.{Form}
+use Rattle.rules_forms.specs.declared.Form.the-variants.{Full, Short}
+use Rattle.rules_forms.specs.Short.{shortNumber, shortBytes, shortSaidBytes, shortSoundIn, shortTable, shortBlocks, shortJudged}
+use Rattle.rules_forms.specs.Forms.{judged}
+use Rattle.rules_forms.specs.Shapes.{rowBytesOf, formOf, rowWordsOf, endingOf, soundOf, blocksIn}
 use Rattle.theory_files.proofs.Said.{reads-of, told-short, told-nothing, told-rows}
 use Rattle.file_load.specs.declared.Blocks.the-variants.{Bad, Sound}
 use Rattle.file_load.specs.Judged.{Framed, plainBy, standUpto, standing, blocksJudged}

@@ -9,11 +9,11 @@ use lib.ListN.{length, take, drop, length-take, length-drop}
 use lib.Seq.{drop-drop}
 use borrow.Author.Tests.{lt-ltb, le-ltb}
 use Rattle.rules.specs.Rows.{Row, rowIn}
-use Rattle.file_rules.specs.Blocks.{sound, blocksFor, fileLength, soundFrom, bodyFrom}
-use Rattle.file_rules.specs.Files.{countSaid}
-use Rattle.form_rules.specs.declared.Form.{Form}
-use Rattle.form_rules.specs.declared.Form.the-variants.{Full, Short}
-use Rattle.form_rules.specs.Shapes.{rowBytesOf, soundOf}
+use Rattle.rules_files.specs.Blocks.{sound, blocksFor, fileLength, soundFrom, bodyFrom}
+use Rattle.rules_files.specs.Files.{countSaid}
+use Rattle.rules_forms.specs.declared.Form.{Form}
+use Rattle.rules_forms.specs.declared.Form.the-variants.{Full, Short}
+use Rattle.rules_forms.specs.Shapes.{rowBytesOf, soundOf}
 use Rattle.file_blocks.specs.Standing.{rowsFrom, stand}
 use Rattle.theory_files.proofs.Many.{blocks-none, blocks-more, first-sound, first-not}
 use Rattle.file_sizes.proofs.Sizes.{some-bytes, few-bytes}

@@ -17,13 +17,13 @@ use Rattle.laws.proofs.Rows.{rows-snoc}
 use Rattle.laws.proofs.Lists.{part-front}
 use Rattle.rows.specs.Shape.{rowBefore, standsOn, stands}
 use Rattle.rows.proofs.Tables.{before-first, before-on, stands-next}
-use Rattle.file_rules.specs.Bytes.{number, wordsIn}
-use Rattle.file_rules.specs.Blocks.{contentOf, perBlock, blocksFor, bodyFrom}
-use Rattle.file_rules.specs.Files.{countSaid, rowWordsIn}
-use Rattle.form_rules.specs.declared.Form.{Form}
-use Rattle.form_rules.specs.declared.Form.the-variants.{Full, Short}
-use Rattle.form_rules.specs.Short.{placedRow, placed, onOneLine, shortWordsIn}
-use Rattle.form_rules.specs.Shapes.{rowBytesOf, rowWordsOf}
+use Rattle.rules_files.specs.Bytes.{number, wordsIn}
+use Rattle.rules_files.specs.Blocks.{contentOf, perBlock, blocksFor, bodyFrom}
+use Rattle.rules_files.specs.Files.{countSaid, rowWordsIn}
+use Rattle.rules_forms.specs.declared.Form.{Form}
+use Rattle.rules_forms.specs.declared.Form.the-variants.{Full, Short}
+use Rattle.rules_forms.specs.Short.{placedRow, placed, onOneLine, shortWordsIn}
+use Rattle.rules_forms.specs.Shapes.{rowBytesOf, rowWordsOf}
 use Rattle.file_blocks.specs.Standing.{rowFrom, rowsFrom, stand}
 use Rattle.theory_files.proofs.Numbers.{words-length, words-front, words-drop}
 use Rattle.theory_files.proofs.Many.{here-few, blocks-next, blocks-zero}

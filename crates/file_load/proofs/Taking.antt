@@ -8,12 +8,12 @@ use lib.ListN.{length, take, drop, length-append, length-take, length-drop}
 use lib.Seq.{take-at, drop-at, drop-drop}
 use borrow.Rule.Slice.PartMut.{putMid}
 use Rattle.laws.proofs.Lists.{lent-tail, back-tail}
-use Rattle.file_rules.specs.Bytes.{wordsIn}
-use Rattle.file_rules.specs.Blocks.{blocksFor, fileLength, bodyFrom}
-use Rattle.file_rules.specs.Files.{rowWordsIn}
+use Rattle.rules_files.specs.Bytes.{wordsIn}
+use Rattle.rules_files.specs.Blocks.{blocksFor, fileLength, bodyFrom}
+use Rattle.rules_files.specs.Files.{rowWordsIn}
 use Rattle.theory_files.proofs.Numbers.{words-length}
 use Rattle.theory_files.proofs.Many.{blocks-more}
-use Rattle.form_rules.specs.declared.Form.the-variants.{Full}
+use Rattle.rules_forms.specs.declared.Form.the-variants.{Full}
 use Rattle.file_load.specs.Judged.{Framed}
 use Rattle.file_load.proofs.Rows.{words-split, words-here, body-behind}
 

@@ -18,13 +18,13 @@ use Rattle.rules.specs.Refusals.{lexicalNumber}
 use Rattle.laws.specs.Tests.{allBelow}
 use Rattle.rows.specs.Shape.{stands, closes, breaks}
 use Rattle.rows.proofs.Tables.{well-empty, well-none, well-refused}
-use Rattle.file_rules.specs.declared.EndingRead.the-variants.{Ends, Nothing}
-use Rattle.file_rules.specs.Blocks.{blocksFor, fileLength, bodyFrom}
-use Rattle.file_rules.specs.Files.{reasons, readRefused, readEnding, saidAt}
-use Rattle.form_rules.specs.declared.Form.{Form}
-use Rattle.form_rules.specs.declared.Form.the-variants.{Full, Short}
-use Rattle.form_rules.specs.Short.{onOneLine, shortEnding}
-use Rattle.form_rules.specs.Shapes.{rowBytesOf, rowWordsOf}
+use Rattle.rules_files.specs.declared.EndingRead.the-variants.{Ends, Nothing}
+use Rattle.rules_files.specs.Blocks.{blocksFor, fileLength, bodyFrom}
+use Rattle.rules_files.specs.Files.{reasons, readRefused, readEnding, saidAt}
+use Rattle.rules_forms.specs.declared.Form.{Form}
+use Rattle.rules_forms.specs.declared.Form.the-variants.{Full, Short}
+use Rattle.rules_forms.specs.Short.{onOneLine, shortEnding}
+use Rattle.rules_forms.specs.Shapes.{rowBytesOf, rowWordsOf}
 use Rattle.file_blocks.specs.Standing.{rowFrom}
 use Rattle.file_load.specs.Judged.{Framed, plainBy, standUpto, standing}
 use Rattle.file_load.proofs.Rows.{most, by-length, words-file, row-word, body-row, stand-below}

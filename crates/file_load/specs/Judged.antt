@@ -9,12 +9,12 @@ use Rattle.rules.specs.declared.Cursor.{Cursor}
 use Rattle.rules.specs.declared.Ending.{Ending}
 use Rattle.rules.specs.declared.Ending.the-variants as ending
 use Rattle.rules.specs.Rows.{Row, rowIn, rowsIn}
-use Rattle.file_rules.specs.declared.EndingRead.{EndingRead}
-use Rattle.file_rules.specs.declared.EndingRead.the-variants.{Ends, Nothing}
-use Rattle.file_rules.specs.Blocks.{blocksFor, fileLength}
-use Rattle.file_rules.specs.Files.{reasons, readRefused, countSaid}
-use Rattle.form_rules.specs.declared.Form.{Form}
-use Rattle.form_rules.specs.Shapes.{rowBytesOf, rowWordsOf, soundOf}
+use Rattle.rules_files.specs.declared.EndingRead.{EndingRead}
+use Rattle.rules_files.specs.declared.EndingRead.the-variants.{Ends, Nothing}
+use Rattle.rules_files.specs.Blocks.{blocksFor, fileLength}
+use Rattle.rules_files.specs.Files.{reasons, readRefused, countSaid}
+use Rattle.rules_forms.specs.declared.Form.{Form}
+use Rattle.rules_forms.specs.Shapes.{rowBytesOf, rowWordsOf, soundOf}
 use Rattle.file_blocks.specs.Standing.{stand}
 use Rattle.file_load.specs.declared.Blocks.{Blocks}
 use Rattle.file_load.specs.declared.Blocks.the-variants.{Bad, Sound}

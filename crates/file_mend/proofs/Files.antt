@@ -16,15 +16,15 @@ use Rattle.rules.specs.declared.Table.{Table}
 use Rattle.rules.specs.Kinds.{sameBytes}
 use Rattle.rules.specs.Rows.{Row, wordsOf}
 use Rattle.rules.specs.Scan.{readRows, scan}
-use Rattle.file_rules.specs.Bytes.{bytesOf}
-use Rattle.file_rules.specs.Blocks.{block, blocksFor, fileLength, fileOf}
-use Rattle.file_rules.specs.Files.{endingSaid, encode}
-use Rattle.form_rules.specs.declared.Form.{Form}
-use Rattle.form_rules.specs.declared.Form.the-variants.{Full, Short}
-use Rattle.form_rules.specs.Short.{shortEndingSaid, shortEncode}
-use Rattle.form_rules.specs.Forms.{encodeIn}
-use Rattle.form_rules.specs.Shapes.{numberOf, rowBytesOf, saidIn}
-use Rattle.mend_rules.specs.Mend.{freshTable, freshWords, freshFile, differing, surplus, listed}
+use Rattle.rules_files.specs.Bytes.{bytesOf}
+use Rattle.rules_files.specs.Blocks.{block, blocksFor, fileLength, fileOf}
+use Rattle.rules_files.specs.Files.{endingSaid, encode}
+use Rattle.rules_forms.specs.declared.Form.{Form}
+use Rattle.rules_forms.specs.declared.Form.the-variants.{Full, Short}
+use Rattle.rules_forms.specs.Short.{shortEndingSaid, shortEncode}
+use Rattle.rules_forms.specs.Forms.{encodeIn}
+use Rattle.rules_forms.specs.Shapes.{numberOf, rowBytesOf, saidIn}
+use Rattle.rules_mend.specs.Mend.{freshTable, freshWords, freshFile, differing, surplus, listed}
 use Rattle.theory_files.proofs.Numbers.{bytes-length}
 use Rattle.theory_files.proofs.One.{block-length}
 use Rattle.theory_forms.proofs.Moves.{encoded-length}

@@ -11,11 +11,11 @@ use Rattle.rules.specs.declared.Ending.{Ending}
 use Rattle.rules.specs.Text.{startPlace}
 use Rattle.rules.specs.Rows.{Row}
 use Rattle.rules.specs.Scan.{scan}
-use Rattle.file_rules.specs.Blocks.{perBlock, blocksFor}
-use Rattle.form_rules.specs.declared.Form.{Form}
-use Rattle.form_rules.specs.declared.Form.the-variants.{Full, Short}
-use Rattle.form_rules.specs.Shapes.{numberOf, rowBytesOf}
-use Rattle.mend_rules.specs.Mend.{freshFile}
+use Rattle.rules_files.specs.Blocks.{perBlock, blocksFor}
+use Rattle.rules_forms.specs.declared.Form.{Form}
+use Rattle.rules_forms.specs.declared.Form.the-variants.{Full, Short}
+use Rattle.rules_forms.specs.Shapes.{numberOf, rowBytesOf}
+use Rattle.rules_mend.specs.Mend.{freshFile}
 use Rattle.scan_reader.specs.declared.Spot.{Spot}
 use Rattle.scan_part.specs.declared.Next.the-variants.{On, Over}
 use Rattle.scan_part.specs.Part.{readFrom, partRows, Begun}

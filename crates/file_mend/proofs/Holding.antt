@@ -13,10 +13,10 @@ use Rattle.rules.specs.declared.Table.{Table}
 use Rattle.rules.specs.Text.{startPlace, placeAt, textJudged}
 use Rattle.rules.specs.Rows.{Row}
 use Rattle.rules.specs.Scan.{readRows, readEnding, scan}
-use Rattle.file_rules.specs.Blocks.{perBlock}
-use Rattle.form_rules.specs.declared.Form.{Form}
-use Rattle.form_rules.specs.Shapes.{rowBytesOf}
-use Rattle.mend_rules.specs.Mend.{freshTable}
+use Rattle.rules_files.specs.Blocks.{perBlock}
+use Rattle.rules_forms.specs.declared.Form.{Form}
+use Rattle.rules_forms.specs.Shapes.{rowBytesOf}
+use Rattle.rules_mend.specs.Mend.{freshTable}
 use Rattle.scan_reader.specs.declared.Spot.{Spot}
 use Rattle.scan_part.specs.declared.Next.the-variants.{On, Over}
 use Rattle.scan_part.specs.declared.Part.{Part}

@@ -9,13 +9,13 @@ use lib.Seq.{take-at, drop-at, take-all, take-append-le, drop-drop}
 use Rattle.laws.proofs.Rows.{words-length, words-append}
 use Rattle.rules.specs.Kinds.{sameBytes}
 use Rattle.rules.specs.Rows.{Row, rowWords, rowIn, wordsOf}
-use Rattle.file_rules.specs.Bytes.{bytesOf}
-use Rattle.file_rules.specs.Blocks.{block, perBlock, blocksFor, blocksFrom}
-use Rattle.form_rules.specs.declared.Form.{Form}
-use Rattle.form_rules.specs.declared.Form.the-variants.{Full, Short}
-use Rattle.form_rules.specs.Short.{shortRow, shortened}
-use Rattle.form_rules.specs.Shapes.{rowBytesOf, bodyOf}
-use Rattle.mend_rules.specs.Mend.{differing}
+use Rattle.rules_files.specs.Bytes.{bytesOf}
+use Rattle.rules_files.specs.Blocks.{block, perBlock, blocksFor, blocksFrom}
+use Rattle.rules_forms.specs.declared.Form.{Form}
+use Rattle.rules_forms.specs.declared.Form.the-variants.{Full, Short}
+use Rattle.rules_forms.specs.Short.{shortRow, shortened}
+use Rattle.rules_forms.specs.Shapes.{rowBytesOf, bodyOf}
+use Rattle.rules_mend.specs.Mend.{differing}
 use Rattle.theory_files.proofs.Numbers.{bytes-length, bytes-append}
 use Rattle.theory_files.proofs.One.{block-length}
 use Rattle.theory_files.proofs.Many.{blocks-none, blocks-more, blocks-length}

@@ -6,10 +6,10 @@ use native.Mathlib.Omega.{arith}
 use lib.ListN.{length, take, drop, length-append, take-append-drop}
 use Rattle.laws.proofs.Rows.{words-length}
 use Rattle.rules.specs.Rows.{Row, wordsOf}
-use Rattle.file_rules.specs.Bytes.{bytesOf}
-use Rattle.file_rules.specs.Blocks.{block, perBlock}
-use Rattle.form_rules.specs.declared.Form.{Form}
-use Rattle.form_rules.specs.Shapes.{rowBytesOf, bodyOf}
+use Rattle.rules_files.specs.Bytes.{bytesOf}
+use Rattle.rules_files.specs.Blocks.{block, perBlock}
+use Rattle.rules_forms.specs.declared.Form.{Form}
+use Rattle.rules_forms.specs.Shapes.{rowBytesOf, bodyOf}
 use Rattle.scan_part.specs.declared.Part.{Part}
 use Rattle.scan_part.specs.Part.{partRows, PartOf}
 use Rattle.file_mend.specs.Mending.{entry, entryHere, blocksOf, rowsDiffering, rowsAt, rowsBlock, PartHeld, PartFits, PartMended}

@@ -15,15 +15,15 @@ use Rattle.rules.specs.declared.Judged.the-variants.{Fine}
 use Rattle.rules.specs.declared.Table.{Table}
 use Rattle.rules.specs.Text.{textJudged}
 use Rattle.rules.specs.Scan.{readRows}
-use Rattle.file_rules.specs.declared.Fault.{Fault}
-use Rattle.file_rules.specs.Blocks.{fileLength}
-use Rattle.form_rules.specs.declared.Form.{Form}
-use Rattle.form_rules.specs.declared.Form.the-variants.{Full, Short}
-use Rattle.form_rules.specs.Forms.{isForm}
-use Rattle.form_rules.specs.Shapes.{numberOf, rowBytesOf}
-use Rattle.mend_rules.specs.declared.Mended.{Mended}
-use Rattle.mend_rules.specs.declared.Mended.the-variants as mended
-use Rattle.mend_rules.specs.Mend.{freshTable, freshFile, surplus, listed, tooSmall, mendTold, mendLeaves, listLeaves}
+use Rattle.rules_files.specs.declared.Fault.{Fault}
+use Rattle.rules_files.specs.Blocks.{fileLength}
+use Rattle.rules_forms.specs.declared.Form.{Form}
+use Rattle.rules_forms.specs.declared.Form.the-variants.{Full, Short}
+use Rattle.rules_forms.specs.Forms.{isForm}
+use Rattle.rules_forms.specs.Shapes.{numberOf, rowBytesOf}
+use Rattle.rules_mend.specs.declared.Mended.{Mended}
+use Rattle.rules_mend.specs.declared.Mended.the-variants as mended
+use Rattle.rules_mend.specs.Mend.{freshTable, freshFile, surplus, listed, tooSmall, mendTold, mendLeaves, listLeaves}
 use Rattle.theory_mend.proofs.Fresh.{fresh-whole}
 use Rattle.theory_mend.proofs.Listed.{none-right}
 use Rattle.theory_mend.proofs.Mended.{MendOf, told-of}

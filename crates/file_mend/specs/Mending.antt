@@ -9,12 +9,12 @@ use Rattle.rules.specs.Text.{textJudged}
 use Rattle.rules.specs.Kinds.{sameBytes}
 use Rattle.rules.specs.Rows.{Row, wordsOf}
 use Rattle.rules.specs.Scan.{readRows, scan}
-use Rattle.file_rules.specs.Bytes.{bytesOf}
-use Rattle.file_rules.specs.Blocks.{blockBytes, perBlock, blocksFor, block, blocksFrom}
-use Rattle.form_rules.specs.declared.Form.{Form}
-use Rattle.form_rules.specs.Shapes.{numberOf, rowBytesOf, bodyOf}
+use Rattle.rules_files.specs.Bytes.{bytesOf}
+use Rattle.rules_files.specs.Blocks.{blockBytes, perBlock, blocksFor, block, blocksFrom}
+use Rattle.rules_forms.specs.declared.Form.{Form}
+use Rattle.rules_forms.specs.Shapes.{numberOf, rowBytesOf, bodyOf}
 use Rattle.scan_part.specs.Part.{partRows, PartOf}
-use Rattle.mend_rules.specs.Mend.{freshTable, freshFile, differing, listed}
+use Rattle.rules_mend.specs.Mend.{freshTable, freshFile, differing, listed}
 use Rattle.file_mend.specs.declared.Seen.{Seen}
 use Rattle.file_mend.specs.declared.Step.{Step}
 

@@ -8,20 +8,20 @@ use lib.ListN.{length}
 use borrow.Author.Tests.{lt-ltb, le-ltb, ne-eqb, eqb-true}
 use Rattle.rules.specs.declared.Outer.the-variants.{NoRowRoom}
 use Rattle.rules.specs.declared.Table.{Table}
-use Rattle.file_rules.specs.declared.Fault.{Fault}
-use Rattle.file_rules.specs.declared.Fault.the-variants.{Outer, OtherForm}
-use Rattle.file_rules.specs.declared.Loaded.{Loaded}
-use Rattle.file_rules.specs.declared.Loaded.the-variants as loaded
-use Rattle.file_rules.specs.Files.{formNumber, mostRows, formSaid, countSaid, loadTold}
-use Rattle.form_rules.specs.declared.Apart.the-variants.{File, OtherText}
-use Rattle.form_rules.specs.declared.Moved.{Moved}
-use Rattle.form_rules.specs.declared.Moved.the-variants as moved
-use Rattle.form_rules.specs.declared.Form.{Form}
-use Rattle.form_rules.specs.declared.Form.the-variants.{Full, Short}
-use Rattle.form_rules.specs.Short.{shortNumber, shortJudged}
-use Rattle.form_rules.specs.Forms.{isShort, judged, rowsBeside, tableBeside, agreesBeside, encodeIn, rowBytesIn}
-use Rattle.form_rules.specs.Forms.{moveJudged, moveTold, movedFrom, moveLeaves}
-use Rattle.form_rules.specs.Shapes.{numberOf, rowBytesOf, formOf}
+use Rattle.rules_files.specs.declared.Fault.{Fault}
+use Rattle.rules_files.specs.declared.Fault.the-variants.{Outer, OtherForm}
+use Rattle.rules_files.specs.declared.Loaded.{Loaded}
+use Rattle.rules_files.specs.declared.Loaded.the-variants as loaded
+use Rattle.rules_files.specs.Files.{formNumber, mostRows, formSaid, countSaid, loadTold}
+use Rattle.rules_forms.specs.declared.Apart.the-variants.{File, OtherText}
+use Rattle.rules_forms.specs.declared.Moved.{Moved}
+use Rattle.rules_forms.specs.declared.Moved.the-variants as moved
+use Rattle.rules_forms.specs.declared.Form.{Form}
+use Rattle.rules_forms.specs.declared.Form.the-variants.{Full, Short}
+use Rattle.rules_forms.specs.Short.{shortNumber, shortJudged}
+use Rattle.rules_forms.specs.Forms.{isShort, judged, rowsBeside, tableBeside, agreesBeside, encodeIn, rowBytesIn}
+use Rattle.rules_forms.specs.Forms.{moveJudged, moveTold, movedFrom, moveLeaves}
+use Rattle.rules_forms.specs.Shapes.{numberOf, rowBytesOf, formOf}
 use Rattle.laws.specs.Bounds.{Bytes}
 use Rattle.theory_files.proofs.Said.{reads-of}
 use Rattle.theory_forms.proofs.Short.{reads-short}

@@ -9,14 +9,14 @@ use lib.Seq.{take-at, drop-at, take-add, take-all, drop-drop, length-take-le}
 use Rattle.laws.proofs.Rows.{row-take}
 use Rattle.rules.specs.declared.Table.{Table}
 use Rattle.rules.specs.Rows.{wordsPerRow, rowIn}
-use Rattle.file_rules.specs.Bytes.{bytesOf}
-use Rattle.file_rules.specs.Blocks.{contentRoom, block, perBlock, blocksFor, blocksFrom, fileOf}
-use Rattle.file_rules.specs.Files.{encode}
-use Rattle.form_rules.specs.declared.Form.{Form}
-use Rattle.form_rules.specs.declared.Form.the-variants.{Full, Short}
-use Rattle.form_rules.specs.Short.{shortRow, shortened, shortEncode}
-use Rattle.form_rules.specs.Forms.{encodeIn}
-use Rattle.form_rules.specs.Shapes.{numberOf, rowBytesOf, saidIn, bodyOf}
+use Rattle.rules_files.specs.Bytes.{bytesOf}
+use Rattle.rules_files.specs.Blocks.{contentRoom, block, perBlock, blocksFor, blocksFrom, fileOf}
+use Rattle.rules_files.specs.Files.{encode}
+use Rattle.rules_forms.specs.declared.Form.{Form}
+use Rattle.rules_forms.specs.declared.Form.the-variants.{Full, Short}
+use Rattle.rules_forms.specs.Short.{shortRow, shortened, shortEncode}
+use Rattle.rules_forms.specs.Forms.{encodeIn}
+use Rattle.rules_forms.specs.Shapes.{numberOf, rowBytesOf, saidIn, bodyOf}
 use Rattle.theory_files.proofs.Numbers.{bytes-length, bytes-append}
 use Rattle.theory_files.proofs.Many.{here-few, blocks-none, blocks-more}
 use Rattle.theory_files.proofs.Files.{drop-take}

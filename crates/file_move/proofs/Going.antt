@@ -10,12 +10,12 @@ use borrow.Rule.Slice.PartMut.{putMid}
 use Rattle.rules.specs.declared.Cursor.{Cursor}
 use Rattle.rules.specs.declared.Table.{Table}
 use Rattle.rules.specs.Rows.{wordsPerRow}
-use Rattle.file_rules.specs.Bytes.{bytesOf}
-use Rattle.file_rules.specs.Blocks.{blockBytes, block, perBlock, blocksFor, fileLength}
-use Rattle.form_rules.specs.declared.Form.{Form}
-use Rattle.form_rules.specs.Short.{shortBytes}
-use Rattle.form_rules.specs.Forms.{rowsBeside, encodeIn}
-use Rattle.form_rules.specs.Shapes.{numberOf, rowBytesOf, saidIn, bodyOf}
+use Rattle.rules_files.specs.Bytes.{bytesOf}
+use Rattle.rules_files.specs.Blocks.{blockBytes, block, perBlock, blocksFor, fileLength}
+use Rattle.rules_forms.specs.declared.Form.{Form}
+use Rattle.rules_forms.specs.Short.{shortBytes}
+use Rattle.rules_forms.specs.Forms.{rowsBeside, encodeIn}
+use Rattle.rules_forms.specs.Shapes.{numberOf, rowBytesOf, saidIn, bodyOf}
 use Rattle.theory_files.proofs.One.{block-length}
 use Rattle.file_sizes.proofs.Sizes.{few-rows, few-blocks, some-length}
 use Rattle.file_parts.proofs.Parts.{mid, mid-length, mid-take, mid-drop}

@@ -2,8 +2,8 @@
 use mathlib.Core.List.{List, _++_}
 use Prim.Native.Nat.{ℕ}
 use lib.ListN.{drop}
-use Rattle.form_rules.specs.declared.Moved.{Moved}
-use Rattle.form_rules.specs.declared.Moved.the-variants as moved
+use Rattle.rules_forms.specs.declared.Moved.{Moved}
+use Rattle.rules_forms.specs.declared.Moved.the-variants as moved
 
 -- a file in front of what was there, or what was there
 abbrev pub leftBy : Moved → List ℕ → List ℕ → List ℕ

@@ -8,13 +8,13 @@ use lib.ListN.{length, take, drop, getD, length-append, length-take, take-append
 use lib.Seq.{take-at, drop-drop, drop-append-add, length-take-le}
 use borrow.Rule.Slice.PartMut.{putMid}
 use Rattle.rules.specs.Rows.{Row, rowIn, wordsPerRow, atStart, atEnd, atLow, atHigh, atComments}
-use Rattle.file_rules.specs.Bytes.{little, bytesOf, wordBytes}
-use Rattle.file_rules.specs.Blocks.{blockBytes, atContent, perBlock}
-use Rattle.file_rules.specs.Files.{rowBytes}
-use Rattle.form_rules.specs.declared.Form.{Form}
-use Rattle.form_rules.specs.declared.Form.the-variants.{Full, Short}
-use Rattle.form_rules.specs.Short.{shortWords, shortBytes, shortRow, shortened}
-use Rattle.form_rules.specs.Shapes.{rowBytesOf}
+use Rattle.rules_files.specs.Bytes.{little, bytesOf, wordBytes}
+use Rattle.rules_files.specs.Blocks.{blockBytes, atContent, perBlock}
+use Rattle.rules_files.specs.Files.{rowBytes}
+use Rattle.rules_forms.specs.declared.Form.{Form}
+use Rattle.rules_forms.specs.declared.Form.the-variants.{Full, Short}
+use Rattle.rules_forms.specs.Short.{shortWords, shortBytes, shortRow, shortened}
+use Rattle.rules_forms.specs.Shapes.{rowBytesOf}
 use Rattle.theory_files.proofs.Numbers.{little-length, bytes-length, bytes-append}
 use Rattle.file_blocks.proofs.Laws.{onto, put-length}
 

@@ -2,23 +2,23 @@
 use file_blocks::put_block;
 use file_blocks::put_word;
 use file_blocks::seal;
-use file_rules::form;
-use form_rules::Form;
-use form_rules::short;
 use refusals::lexical_number;
 use rules::Ending;
 use rules::Table;
 use rules::row;
+use rules_files::form;
+use rules_forms::Form;
+use rules_forms::short;
 ghost use mathlib.Core.Path.{_≡_};
 ghost use mathlib.Core.List.{_++_};
 ghost use Prim.Native.Nat.{_+_, _*_, _≤_};
 ghost use lib.ListN.{length, take, drop};
 ghost use Rattle.rules.specs.Rows.{rowIn};
-ghost use Rattle.file_rules.specs.Bytes.{bytesOf};
-ghost use Rattle.file_rules.specs.Blocks.{block, perBlock};
-ghost use Rattle.file_rules.specs.Files.{said};
-ghost use Rattle.form_rules.specs.Short.{shortRow, shortened, shortSaid};
-ghost use Rattle.form_rules.specs.Shapes.{rowBytesOf, saidIn, bodyOf};
+ghost use Rattle.rules_files.specs.Bytes.{bytesOf};
+ghost use Rattle.rules_files.specs.Blocks.{block, perBlock};
+ghost use Rattle.rules_files.specs.Files.{said};
+ghost use Rattle.rules_forms.specs.Short.{shortRow, shortened, shortSaid};
+ghost use Rattle.rules_forms.specs.Shapes.{rowBytesOf, saidIn, bodyOf};
 
 // What block 0 of form 1 says of a table.
 fn words_of(table: Table) -> [u32; 7]

@@ -2,11 +2,11 @@
 use mathlib.Core.Path.{_≡_}
 use Prim.Native.Nat.{ℕ, _+_, _-_, _*_, _/_, _≤_, _<_}
 use native.Mathlib.Omega.{arith}
-use Rattle.file_rules.specs.Blocks.{blockBytes, contentRoom, blocksFor, fileLength, perBlock}
-use Rattle.form_rules.specs.declared.Form.{Form}
-use Rattle.form_rules.specs.declared.Form.the-variants.{Full, Short}
-use Rattle.form_rules.specs.Short.{shortBytes}
-use Rattle.form_rules.specs.Shapes.{rowBytesOf}
+use Rattle.rules_files.specs.Blocks.{blockBytes, contentRoom, blocksFor, fileLength, perBlock}
+use Rattle.rules_forms.specs.declared.Form.{Form}
+use Rattle.rules_forms.specs.declared.Form.the-variants.{Full, Short}
+use Rattle.rules_forms.specs.Short.{shortBytes}
+use Rattle.rules_forms.specs.Shapes.{rowBytesOf}
 
 -- a row has some bytes, and no more than a block has room for
 pub some-bytes : (form : Form) → 0 < rowBytesOf form

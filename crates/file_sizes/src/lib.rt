@@ -1,11 +1,11 @@
 // The sizes of both forms: the bytes of a row and of what block 0 says, how many rows stand in a block, and how long a file is.
-use file_rules::form;
-use form_rules::Form;
-use form_rules::short;
+use rules_files::form;
+use rules_forms::Form;
+use rules_forms::short;
 ghost use mathlib.Core.Path.{_≡_};
 ghost use Prim.Native.Nat.{min};
-ghost use Rattle.file_rules.specs.Blocks.{perBlock, fileLength};
-ghost use Rattle.form_rules.specs.Shapes.{numberOf, rowBytesOf, saidBytesOf};
+ghost use Rattle.rules_files.specs.Blocks.{perBlock, fileLength};
+ghost use Rattle.rules_forms.specs.Shapes.{numberOf, rowBytesOf, saidBytesOf};
 
 // The number of a form.
 pub fn number(form: Form) -> u32

@@ -10,14 +10,14 @@ use lib.Seq.{drop-drop}
 use borrow.Author.Tests.{lt-ltb, le-ltb}
 use borrow.Rule.Slice.PartMut.{putMid}
 use Rattle.rules.specs.declared.Table.{Table}
-use Rattle.file_rules.specs.Bytes.{bytesOf}
-use Rattle.file_rules.specs.Blocks.{block, blocksFor, blocksFrom, fileLength, fileOf}
+use Rattle.rules_files.specs.Bytes.{bytesOf}
+use Rattle.rules_files.specs.Blocks.{block, blocksFor, blocksFrom, fileLength, fileOf}
 use Rattle.rules.specs.declared.Ending.the-variants.{Refused}
 use Rattle.rules.specs.declared.Outer.the-variants.{NotWellFormed, NoRowRoom}
 use Rattle.rules.specs.Rows.{wellFormed}
-use Rattle.file_rules.specs.declared.Fault.the-variants.{Outer, TooManyRows}
-use Rattle.file_rules.specs.declared.Stored.the-variants as stored
-use Rattle.file_rules.specs.Files.{mostRows, said, encode, storeTold}
+use Rattle.rules_files.specs.declared.Fault.the-variants.{Outer, TooManyRows}
+use Rattle.rules_files.specs.declared.Stored.the-variants as stored
+use Rattle.rules_files.specs.Files.{mostRows, said, encode, storeTold}
 use Rattle.theory_files.proofs.Numbers.{bytes-length, bytes-take, bytes-drop}
 use Rattle.theory_files.proofs.One.{block-length}
 use Rattle.theory_files.proofs.Many.{blocks-none, blocks-more}

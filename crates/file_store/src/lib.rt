@@ -1,23 +1,23 @@
 // A table into a file of form 1: 3, 40, then 4, or the one file that the table has.
 use file_blocks::put_block;
 use file_parts::put_said;
-use file_rules::Fault;
-use file_rules::Stored;
-use file_rules::form;
 use file_sizes::length_for;
 use file_sizes::rows_here;
-use form_rules::Form;
 use rows::well_formed;
 use rules::Outer;
 use rules::Table;
 use rules::row;
+use rules_files::Fault;
+use rules_files::Stored;
+use rules_files::form;
+use rules_forms::Form;
 ghost use mathlib.Core.Path.{_≡_};
 ghost use mathlib.Core.List.{_++_};
 ghost use Prim.Native.Nat.{_+_, _*_, _≤_};
 ghost use lib.ListN.{length, take, drop};
-ghost use Rattle.file_rules.specs.Bytes.{bytesOf};
-ghost use Rattle.file_rules.specs.Blocks.{blocksFor, blocksFrom, fileLength};
-ghost use Rattle.file_rules.specs.Files.{rowBytes, mostRows, encode, storeTold, storeLeaves};
+ghost use Rattle.rules_files.specs.Bytes.{bytesOf};
+ghost use Rattle.rules_files.specs.Blocks.{blocksFor, blocksFrom, fileLength};
+ghost use Rattle.rules_files.specs.Files.{rowBytes, mostRows, encode, storeTold, storeLeaves};
 
 // The blocks of so many rows, behind block 0.
 fn put_rows(rows: &[u32], count: usize, file: &mut [u8])

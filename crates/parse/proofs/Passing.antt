@@ -22,7 +22,7 @@ use Rattle.theory_grammar.proofs.Loops.{runs-once, decls-run}
 use Rattle.theory_grammar.proofs.Complete.{top-complete}
 use Rattle.parse_nodes.specs.Fitting.{retoldAt}
 use Rattle.parse_nodes.proofs.Steps.{Flat, flat-none, flat-seq}
-use Rattle.pass_expr.specs.Seen.{Read}
+use Rattle.parse_pass_expr.specs.Seen.{Read}
 use Rattle.parse.specs.declared.Passed.{Passed}
 use Rattle.parse.specs.declared.Passed.the-variants.{To, Refused}
 use Rattle.parse.specs.Program.{PassedAs}

@@ -1,4 +1,4 @@
--- The contract of `parse::parse` asks nothing, and determines its result and every word of the lent nodes. The text and the rows are lent
+-- The contract of `parse` asks nothing, and determines its result and every word of the lent nodes. The text and the rows are lent
 -- as `&`, and shared memory cannot change.
 use mathlib.Core.Path.{refl}
 use Rattle.laws.specs.Tight.{Tight}

@@ -90,7 +90,7 @@ fn top_passed(text: &[u8], rows: &[u32], count: u32, none: &mut [u32], row: u32)
     ensures { λ r. ⌜ TopPassed (now (text .entry)) (now (rows .entry)) count row r ⌝ }
 {
     if parse_nodes::kind_at(rows, count, row) == UNIT {
-        let end = pass_units::unit(rows, count, row);
+        let end = parse_pass_units::unit(rows, count, row);
         if end != 0 {
             return Passed::To(end);
         }

@@ -7,7 +7,6 @@ use crate::table::COUNT;
 use crate::table::NUMBER;
 use answers::table_of;
 use file_answers::put_stored;
-use file_rules::form;
 use file_store::store;
 use replay_input::file::BYTES;
 use replay_input::input::LOST;
@@ -20,6 +19,7 @@ use replay_input::tally::Tally;
 use replay_input::tally::counter;
 use replay_input::tally::difference;
 use replay_input::words::words_read;
+use rules_files::form;
 
 // Byte i of memory behind a call that wrote so many bytes of a file.
 fn expected(file: &[u8; BYTES], size: usize, i: usize) -> u8 {

@@ -1,4 +1,4 @@
--- The contract of `scan::scan` asks nothing, and determines its result and every word of the lent rows. The text is lent as `&`, and
+-- The contract of `scan` asks nothing, and determines its result and every word of the lent rows. The text is lent as `&`, and
 -- shared memory cannot change.
 use mathlib.Core.Path.{refl}
 use Rattle.laws.specs.Tight.{Tight}

@@ -8,7 +8,7 @@ use Rattle.scan_words.specs.Slots.{packedOf, plain, slotOf, slotIn}
 use Rattle.scan_words.specs.Words.{padded, long, kindOf, listed}
 use Rattle.scan_words.proofs.Packed.{answered, slot-tells}
 
--- what `spellings`, `lengths` and `kinds` of `scan_words::words` promise of their answers
+-- what `spellings`, `lengths` and `kinds` of `words` promise of their answers
 module _ {ss : List (List ℕ)} {ns ks : List ℕ}
     (s : ss ≡ map padded reserved) (n : ns ≡ map long reserved) (k : ks ≡ map kindOf reserved) where
   pub table-lists : listed ss ns ks ≡ reserved

@@ -12,13 +12,13 @@ use Rattle.rules.specs.declared.Outer.the-variants as outer
 use Rattle.rules.specs.declared.Table.{Table}
 use Rattle.rules.specs.declared.Told.the-variants.{Rows}
 use Rattle.rules.specs.Scan.{roomOf}
-use Rattle.file_rules.specs.declared.Fault.{Fault}
-use Rattle.file_rules.specs.declared.Fault.the-variants as fault
-use Rattle.file_rules.specs.declared.Stored.{Stored}
-use Rattle.file_rules.specs.declared.Stored.the-variants as stored
-use Rattle.file_rules.specs.declared.Loaded.{Loaded}
-use Rattle.file_rules.specs.declared.Loaded.the-variants as loaded
-use Rattle.file_rules.specs.Files.{faultNumber, storeTold, loadTold, loadLeaves}
+use Rattle.rules_files.specs.declared.Fault.{Fault}
+use Rattle.rules_files.specs.declared.Fault.the-variants as fault
+use Rattle.rules_files.specs.declared.Stored.{Stored}
+use Rattle.rules_files.specs.declared.Stored.the-variants as stored
+use Rattle.rules_files.specs.declared.Loaded.{Loaded}
+use Rattle.rules_files.specs.declared.Loaded.the-variants as loaded
+use Rattle.rules_files.specs.Files.{faultNumber, storeTold, loadTold, loadLeaves}
 use Rattle.file_answers.specs.Layout.{storedWords, loadedWords}
 use Rattle.laws.specs.Bounds.{Bytes, Words}
 use Rattle.theory_files.proofs.Files.{stored-loaded, stored-left, read-well}

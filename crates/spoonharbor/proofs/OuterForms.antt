@@ -8,16 +8,16 @@ use contract.Lifetimes.{Lfts}
 use borrow.Fn.Kinds.{Dens, endedOf}
 use denote.Triple.Clauses.{AtExit}
 use Rattle.rules.specs.Scan.{roomOf, scanTold}
-use Rattle.file_rules.specs.Files.{formSaid}
-use Rattle.form_rules.specs.declared.Apart.the-variants.{File, OtherText}
-use Rattle.form_rules.specs.declared.Beside.{Beside}
-use Rattle.form_rules.specs.declared.Beside.the-variants as beside
-use Rattle.form_rules.specs.declared.Moved.{Moved}
-use Rattle.form_rules.specs.declared.Moved.the-variants as moved
-use Rattle.form_rules.specs.Forms.{besideTold, besideLeaves, moveTold, moveLeaves}
-use Rattle.mend_rules.specs.declared.Mended.{Mended}
-use Rattle.mend_rules.specs.declared.Mended.the-variants as mended
-use Rattle.mend_rules.specs.Mend.{freshTable, mendTold}
+use Rattle.rules_files.specs.Files.{formSaid}
+use Rattle.rules_forms.specs.declared.Apart.the-variants.{File, OtherText}
+use Rattle.rules_forms.specs.declared.Beside.{Beside}
+use Rattle.rules_forms.specs.declared.Beside.the-variants as beside
+use Rattle.rules_forms.specs.declared.Moved.{Moved}
+use Rattle.rules_forms.specs.declared.Moved.the-variants as moved
+use Rattle.rules_forms.specs.Forms.{besideTold, besideLeaves, moveTold, moveLeaves}
+use Rattle.rules_mend.specs.declared.Mended.{Mended}
+use Rattle.rules_mend.specs.declared.Mended.the-variants as mended
+use Rattle.rules_mend.specs.Mend.{freshTable, mendTold}
 use Rattle.answers.specs.Layout.{toldWords}
 use Rattle.file_answers.specs.Layout.{besideWords, movedWords, mendedWords}
 use Rattle.laws.specs.Bounds.{Bytes}

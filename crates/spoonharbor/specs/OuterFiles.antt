@@ -8,8 +8,8 @@ use Rattle.rules.specs.declared.Table.{Table}
 use Rattle.rules.specs.declared.Told.the-variants.{Rows}
 use Rattle.rules.specs.Rows.{wellFormed}
 use Rattle.rules.specs.Scan.{roomOf}
-use Rattle.file_rules.specs.declared.Loaded.the-variants as loaded
-use Rattle.file_rules.specs.Files.{storeTold, storeLeaves, loadTold}
+use Rattle.rules_files.specs.declared.Loaded.the-variants as loaded
+use Rattle.rules_files.specs.Files.{storeTold, storeLeaves, loadTold}
 use Rattle.file_answers.specs.Layout.{storedWords}
 use Rattle.answers.specs.Layout.{toldWords, tableOf}
 

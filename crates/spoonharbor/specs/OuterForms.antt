@@ -4,8 +4,8 @@ use mathlib.Core.List.{List, _++_}
 use mathlib.Core.Path.{_≡_}
 use lib.ListN.{length, drop, getD}
 use Rattle.rules.specs.Scan.{roomOf, scanTold, scanLeaves}
-use Rattle.form_rules.specs.Forms.{besideTold, besideLeaves, moveTold, moveLeaves}
-use Rattle.mend_rules.specs.Mend.{mendTold, mendLeaves, listLeaves}
+use Rattle.rules_forms.specs.Forms.{besideTold, besideLeaves, moveTold, moveLeaves}
+use Rattle.rules_mend.specs.Mend.{mendTold, mendLeaves, listLeaves}
 use Rattle.answers.specs.Layout.{toldWords}
 use Rattle.file_answers.specs.Layout.{besideWords, movedWords, mendedWords}
 

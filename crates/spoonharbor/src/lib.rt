@@ -26,9 +26,9 @@ ghost use Rattle.rules.specs.Edit.{editTold, editLeaves, restartTold};
 ghost use Rattle.rules.specs.Sets.{fromSection};
 ghost use Rattle.rules.specs.Calls.{memberAsked, sizeAsked, parseTold, parseLeaves, nodeRoom};
 ghost use Rattle.answers.specs.Layout.{toldWords, askedWords, restartWords, parsedWords, tableOf, spellingWords};
-ghost use Rattle.file_rules.specs.Files.{storeTold, storeLeaves, loadTold, loadLeaves};
-ghost use Rattle.form_rules.specs.Forms.{besideTold, besideLeaves, moveTold, moveLeaves};
-ghost use Rattle.mend_rules.specs.Mend.{mendTold, mendLeaves, listLeaves};
+ghost use Rattle.rules_files.specs.Files.{storeTold, storeLeaves, loadTold, loadLeaves};
+ghost use Rattle.rules_forms.specs.Forms.{besideTold, besideLeaves, moveTold, moveLeaves};
+ghost use Rattle.rules_mend.specs.Mend.{mendTold, mendLeaves, listLeaves};
 ghost use Rattle.file_answers.specs.Layout.{storedWords, loadedWords, besideWords, movedWords, mendedWords};
 ghost use Rattle.spoonharbor.specs.Version.{version};
 

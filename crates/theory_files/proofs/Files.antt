@@ -22,17 +22,17 @@ use Rattle.rules.specs.Rows.{Row, rowsIn, every, isEof, placeFits, endsBehind, 
 use Rattle.rules.specs.Rows.{gapsFit, rowFits, wellFormed, wordsPerRow}
 use Rattle.rules.specs.Scan.{roomOf}
 use Rattle.rules.specs.Refusals.{lexicalNumber}
-use Rattle.file_rules.specs.declared.Fault.{Fault}
-use Rattle.file_rules.specs.declared.Fault.the-variants.{Outer, TooManyRows, BadBlock}
+use Rattle.rules_files.specs.declared.Fault.{Fault}
+use Rattle.rules_files.specs.declared.Fault.the-variants.{Outer, TooManyRows, BadBlock}
 use Rattle.rules.specs.declared.Outer.the-variants.{NotWellFormed, NoRowRoom}
-use Rattle.file_rules.specs.declared.Stored.{Stored}
-use Rattle.file_rules.specs.declared.Stored.the-variants as stored
-use Rattle.file_rules.specs.declared.Loaded.the-variants as loaded
-use Rattle.file_rules.specs.Blocks.{fileLength, blockBytes}
-use Rattle.file_rules.specs.declared.EndingRead.the-variants.{Ends}
-use Rattle.file_rules.specs.Files.{mostRows, rowBytes, formNumber, saidAt, said, endingSaid, readRefused, readEnding, endingIn, countSaid}
-use Rattle.file_rules.specs.Files.{lengthSaid, formSaid, rowWordsIn, rowsTold, loadTold, loadLeaves, storeTold, storeLeaves, encode}
-use Rattle.file_rules.specs.Bytes.{bytesOf}
+use Rattle.rules_files.specs.declared.Stored.{Stored}
+use Rattle.rules_files.specs.declared.Stored.the-variants as stored
+use Rattle.rules_files.specs.declared.Loaded.the-variants as loaded
+use Rattle.rules_files.specs.Blocks.{fileLength, blockBytes}
+use Rattle.rules_files.specs.declared.EndingRead.the-variants.{Ends}
+use Rattle.rules_files.specs.Files.{mostRows, rowBytes, formNumber, saidAt, said, endingSaid, readRefused, readEnding, endingIn, countSaid}
+use Rattle.rules_files.specs.Files.{lengthSaid, formSaid, rowWordsIn, rowsTold, loadTold, loadLeaves, storeTold, storeLeaves, encode}
+use Rattle.rules_files.specs.Bytes.{bytesOf}
 use Rattle.laws.specs.Bounds.{none, some, Bytes, Words}
 use Rattle.laws.proofs.Rows.{row-take}
 use Rattle.theory_files.specs.Whole.{Holds, saidFrom, wordsOf}

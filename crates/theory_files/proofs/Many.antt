@@ -11,8 +11,8 @@ use lib.ListN.{length, take, drop, getD, set, length-append, length-take, length
 use lib.Seq.{take-add, take-at, drop-at, take-set-lt, take-set-le, drop-set-add, getD-drop, getD-take}
 use lib.Dec.{ltb}
 use borrow.Author.Tests.{ltb-true, ltb-false}
-use Rattle.file_rules.specs.Blocks.{block, contentOf, sound, perBlock, rowsHere, bytesHere, blocksFor, blocksFrom, soundFrom, bodyFrom}
-use Rattle.file_rules.specs.Blocks.{blockBytes, contentRoom}
+use Rattle.rules_files.specs.Blocks.{block, contentOf, sound, perBlock, rowsHere, bytesHere, blocksFor, blocksFrom, soundFrom, bodyFrom}
+use Rattle.rules_files.specs.Blocks.{blockBytes, contentRoom}
 use Rattle.laws.specs.Bounds.{none, some, Bytes}
 use Rattle.laws.proofs.Bounds.{below-take, below-drop, below-append}
 use Rattle.theory_files.proofs.One.{block-length, block-bytes, block-sound, content-block, sound-holds, sound-block, changed-unsound}

@@ -8,7 +8,7 @@ use lib.ListN.{length, take, drop, length-append, length-take, length-drop}
 use lib.Seq.{take-add, drop-drop, take-at, drop-at, take-append-le, drop-append-le}
 use Rattle.laws.specs.Bounds.{none, some, Bytes, Words}
 use Rattle.laws.proofs.Bounds.{below-take, below-drop, below-append}
-use Rattle.file_rules.specs.Bytes.{little, number, bytesOf, wordsIn}
+use Rattle.rules_files.specs.Bytes.{little, number, bytesOf, wordsIn}
 
 -- ---- a number in bytes
 

@@ -13,8 +13,8 @@ use lib.Seq.{getD-set-same}
 use lib.Dec.{eqb, ltb}
 use borrow.Author.Tests.{eqb-true, eq-eqb, ltb-true, ltb-false}
 use Rattle.laws.proofs.Tests.{both-true, false-by}
-use Rattle.file_rules.specs.Bytes.{little, number, numberAt}
-use Rattle.file_rules.specs.Blocks.{sumFrom, check, checked, block, contentOf, zeros, sound, blockBytes, checkedBytes, contentRoom}
+use Rattle.rules_files.specs.Bytes.{little, number, numberAt}
+use Rattle.rules_files.specs.Blocks.{sumFrom, check, checked, block, contentOf, zeros, sound, blockBytes, checkedBytes, contentRoom}
 use Rattle.laws.specs.Bounds.{none, some, Bytes}
 use Rattle.laws.proofs.Bounds.{below-take, below-drop, below-append, below-set, below-zeros}
 use Rattle.theory_files.proofs.Numbers.{little-length, little-bytes}

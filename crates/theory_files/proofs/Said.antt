@@ -15,15 +15,15 @@ use Rattle.rules.specs.declared.Ending.the-variants.{None, Refused}
 use Rattle.rules.specs.declared.Table.{Table}
 use Rattle.rules.specs.Rows.{wellFormed, wordsPerRow}
 use Rattle.rules.specs.Refusals.{lexicalNumber}
-use Rattle.file_rules.specs.declared.Fault.the-variants.{BadBlock, WrongLength, OtherForm}
-use Rattle.file_rules.specs.declared.Loaded.{Loaded}
-use Rattle.file_rules.specs.declared.Loaded.the-variants as loaded
-use Rattle.file_rules.specs.Bytes.{wordsIn}
-use Rattle.file_rules.specs.Blocks.{contentOf, sound, blocksFor, fileLength, blockBytes}
-use Rattle.file_rules.specs.declared.EndingRead.the-variants.{Ends, Nothing}
-use Rattle.file_rules.specs.Files.{mostRows, rowBytes, formNumber, saidAt, endingSaid, reasons, readRefused, readEnding, endingIn}
-use Rattle.file_rules.specs.Files.{countSaid, lengthSaid, formSaid, rowWordsIn, soundIn, readTold, blocksTold, saidTold, loadTold}
-use Rattle.file_rules.specs.Files.{saidBytes}
+use Rattle.rules_files.specs.declared.Fault.the-variants.{BadBlock, WrongLength, OtherForm}
+use Rattle.rules_files.specs.declared.Loaded.{Loaded}
+use Rattle.rules_files.specs.declared.Loaded.the-variants as loaded
+use Rattle.rules_files.specs.Bytes.{wordsIn}
+use Rattle.rules_files.specs.Blocks.{contentOf, sound, blocksFor, fileLength, blockBytes}
+use Rattle.rules_files.specs.declared.EndingRead.the-variants.{Ends, Nothing}
+use Rattle.rules_files.specs.Files.{mostRows, rowBytes, formNumber, saidAt, endingSaid, reasons, readRefused, readEnding, endingIn}
+use Rattle.rules_files.specs.Files.{countSaid, lengthSaid, formSaid, rowWordsIn, soundIn, readTold, blocksTold, saidTold, loadTold}
+use Rattle.rules_files.specs.Files.{saidBytes}
 use Rattle.theory_files.specs.Whole.{Fits, Whole, soundOf, wholeTold}
 use Rattle.theory_files.proofs.Whole.{content-said, said-kept}
 use Rattle.theory_files.proofs.Told.{told-whole, whole-told, read-of}

@@ -13,15 +13,15 @@ use Rattle.rules.specs.declared.Ending.{Ending}
 use Rattle.rules.specs.declared.Outer.the-variants.{NoRowRoom}
 use Rattle.rules.specs.declared.Table.{Table}
 use Rattle.rules.specs.Rows.{wellFormed}
-use Rattle.file_rules.specs.declared.Fault.{Fault}
-use Rattle.file_rules.specs.declared.Fault.the-variants.{Outer, BadBlock, WrongLength, NoTable, OtherForm}
-use Rattle.file_rules.specs.declared.EndingRead.{EndingRead}
-use Rattle.file_rules.specs.declared.EndingRead.the-variants.{Ends, Nothing}
-use Rattle.file_rules.specs.declared.Loaded.{Loaded}
-use Rattle.file_rules.specs.declared.Loaded.the-variants as loaded
-use Rattle.file_rules.specs.Bytes.{wordBytes}
-use Rattle.file_rules.specs.Blocks.{blockBytes, sound, blocksFor, fileLength}
-use Rattle.file_rules.specs.Files.{mostRows, rowsTold, readTold}
+use Rattle.rules_files.specs.declared.Fault.{Fault}
+use Rattle.rules_files.specs.declared.Fault.the-variants.{Outer, BadBlock, WrongLength, NoTable, OtherForm}
+use Rattle.rules_files.specs.declared.EndingRead.{EndingRead}
+use Rattle.rules_files.specs.declared.EndingRead.the-variants.{Ends, Nothing}
+use Rattle.rules_files.specs.declared.Loaded.{Loaded}
+use Rattle.rules_files.specs.declared.Loaded.the-variants as loaded
+use Rattle.rules_files.specs.Bytes.{wordBytes}
+use Rattle.rules_files.specs.Blocks.{blockBytes, sound, blocksFor, fileLength}
+use Rattle.rules_files.specs.Files.{mostRows, rowsTold, readTold}
 use Rattle.laws.specs.Bounds.{Bytes}
 use Rattle.theory_files.specs.Whole.{Fits, Whole, soundOf, wholeTold}
 use Rattle.theory_files.proofs.Whole.{first-changed, others-changed, changed-inside}

@@ -9,10 +9,10 @@ use native.Mathlib.Nat.{not-suc-le-zero, le-of-suc-le-suc}
 use native.Mathlib.Omega.{arith}
 use lib.ListN.{length, take, drop, getD, set, length-append, length-take, length-drop, take-append-drop, drop-of-length-le}
 use lib.Seq.{take-at, drop-at, take-all, drop-drop, drop-cons, take-set-lt, drop-set-add, getD-take, getD-drop}
-use Rattle.file_rules.specs.Bytes.{number, numberAt, bytesOf, wordsIn, wordBytes}
-use Rattle.file_rules.specs.Blocks.{blockBytes, atContent, contentRoom, block, contentOf, sound, soundFrom, bodyFrom, blocksFor, blocksFrom}
-use Rattle.file_rules.specs.Blocks.{fileLength, fileOf}
-use Rattle.file_rules.specs.Files.{saidAt}
+use Rattle.rules_files.specs.Bytes.{number, numberAt, bytesOf, wordsIn, wordBytes}
+use Rattle.rules_files.specs.Blocks.{blockBytes, atContent, contentRoom, block, contentOf, sound, soundFrom, bodyFrom, blocksFor, blocksFrom}
+use Rattle.rules_files.specs.Blocks.{fileLength, fileOf}
+use Rattle.rules_files.specs.Files.{saidAt}
 use Rattle.laws.specs.Bounds.{Bytes, Words}
 use Rattle.theory_files.specs.Whole.{Fits, fileWith, saidFrom, wordsOf, soundOf, Whole, Holds}
 use Rattle.laws.proofs.Bounds.{below-take, below-drop, below-append}

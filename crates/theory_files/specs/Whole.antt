@@ -6,12 +6,12 @@ use mathlib.Core.List.{List, [], _∷_}
 use Prim.Native.Nat.{ℕ, zero, suc, _+_, _*_, _≤_, _<_}
 use lib.ListN.{length, take, drop}
 use lib.Dec.{eqb, ltb}
-use Rattle.file_rules.specs.declared.Fault.the-variants.{BadBlock, WrongLength, OtherForm}
-use Rattle.file_rules.specs.declared.Loaded.{Loaded}
-use Rattle.file_rules.specs.declared.Loaded.the-variants as loaded
-use Rattle.file_rules.specs.Bytes.{bytesOf, wordsIn, wordBytes}
-use Rattle.file_rules.specs.Blocks.{blockBytes, contentRoom, sound, blocksFor, fileLength, fileOf, soundFrom, bodyFrom}
-use Rattle.file_rules.specs.Files.{mostRows, saidAt}
+use Rattle.rules_files.specs.declared.Fault.the-variants.{BadBlock, WrongLength, OtherForm}
+use Rattle.rules_files.specs.declared.Loaded.{Loaded}
+use Rattle.rules_files.specs.declared.Loaded.the-variants as loaded
+use Rattle.rules_files.specs.Bytes.{bytesOf, wordsIn, wordBytes}
+use Rattle.rules_files.specs.Blocks.{blockBytes, contentRoom, sound, blocksFor, fileLength, fileOf, soundFrom, bodyFrom}
+use Rattle.rules_files.specs.Files.{mostRows, saidAt}
 use Rattle.laws.specs.Bounds.{Words}
 
 -- a block has room for a row, and block 0 for what it says

@@ -16,8 +16,8 @@ use Rattle.rules.specs.declared.Ending.{Ending}
 use Rattle.rules.specs.declared.Ending.the-variants.{None, Refused}
 use Rattle.rules.specs.Text.{lineAt, columnAt, placeAt}
 use Rattle.rules.specs.Rows.{rowIn, rowsIn, rowWords, rowPlace, every, wordsPerRow}
-use Rattle.form_rules.specs.Short.{shortRow, shortened, placedRow, placed, placedEnding, onOneLine}
-use Rattle.form_rules.specs.Forms.{isPlaceIn, endingAgrees}
+use Rattle.rules_forms.specs.Short.{shortRow, shortened, placedRow, placed, placedEnding, onOneLine}
+use Rattle.rules_forms.specs.Forms.{isPlaceIn, endingAgrees}
 
 -- a place with the line and column of its offset is the place of its offset
 pub place-of : (text : List ℕ) (p : Cursor) → isPlaceIn text p ≡ true → placeAt text (p .offset .0) ≡ p

@@ -8,15 +8,15 @@ use lib.Dec.{eqb}
 use borrow.Author.Tests.{eq-eqb, le-ltb}
 use Rattle.rules.specs.declared.Table.{Table}
 use Rattle.rules.specs.Scan.{roomOf}
-use Rattle.file_rules.specs.declared.Loaded.the-variants as loaded
-use Rattle.file_rules.specs.Blocks.{fileLength}
-use Rattle.file_rules.specs.Files.{formSaid, countSaid, formNumber}
+use Rattle.rules_files.specs.declared.Loaded.the-variants as loaded
+use Rattle.rules_files.specs.Blocks.{fileLength}
+use Rattle.rules_files.specs.Files.{formSaid, countSaid, formNumber}
 use Rattle.rules.specs.Rows.{wordsPerRow}
-use Rattle.form_rules.specs.declared.Beside.{Beside}
-use Rattle.form_rules.specs.declared.Beside.the-variants as beside
-use Rattle.form_rules.specs.declared.Moved.the-variants as moved
-use Rattle.form_rules.specs.Forms.{isForm, rowBytesIn, judged, rowsBeside, tableBeside, agreesBeside, besideJudged, besideTold}
-use Rattle.form_rules.specs.Forms.{besideLeaves, moveJudged, moveTold, movedFrom, moveLeaves, isShort}
+use Rattle.rules_forms.specs.declared.Beside.{Beside}
+use Rattle.rules_forms.specs.declared.Beside.the-variants as beside
+use Rattle.rules_forms.specs.declared.Moved.the-variants as moved
+use Rattle.rules_forms.specs.Forms.{isForm, rowBytesIn, judged, rowsBeside, tableBeside, agreesBeside, besideJudged, besideTold}
+use Rattle.rules_forms.specs.Forms.{besideLeaves, moveJudged, moveTold, movedFrom, moveLeaves, isShort}
 use Rattle.laws.specs.Bounds.{Bytes}
 use Rattle.theory_files.proofs.Said.{reads-of}
 use Rattle.theory_forms.proofs.Moves.{own-form, encoded-length}

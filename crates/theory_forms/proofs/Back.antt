@@ -14,11 +14,11 @@ use Rattle.laws.proofs.Places.{newlines-le}
 use Rattle.rules.specs.declared.Table.{Table}
 use Rattle.rules.specs.Text.{mostBytes, notNewline, lineAt, columnAt, placeAt}
 use Rattle.rules.specs.Rows.{rowsIn, rowPlace, every, rowsFit, wellFormed, wordsPerRow}
-use Rattle.file_rules.specs.declared.Loaded.the-variants as loaded
-use Rattle.file_rules.specs.Files.{mostRows, formSaid, countSaid, rowWordsIn, loadTold, encode, formNumber}
-use Rattle.form_rules.specs.Short.{placedRow, placed, onOneLine, shortened, shortEncode, shortWordsIn, shortJudged, shortWords, shortNumber}
-use Rattle.form_rules.specs.Forms.{isForm, judged, rowsBeside, tableBeside, isPlaceIn, endingAgrees, agrees, agreesBeside, encodeIn}
-use Rattle.form_rules.specs.Forms.{isShort}
+use Rattle.rules_files.specs.declared.Loaded.the-variants as loaded
+use Rattle.rules_files.specs.Files.{mostRows, formSaid, countSaid, rowWordsIn, loadTold, encode, formNumber}
+use Rattle.rules_forms.specs.Short.{placedRow, placed, onOneLine, shortened, shortEncode, shortWordsIn, shortJudged, shortWords, shortNumber}
+use Rattle.rules_forms.specs.Forms.{isForm, judged, rowsBeside, tableBeside, isPlaceIn, endingAgrees, agrees, agreesBeside, encodeIn}
+use Rattle.rules_forms.specs.Forms.{isShort}
 use Rattle.laws.specs.Bounds.{none, some, Bytes, Words}
 use Rattle.laws.proofs.Bounds.{below-drop, below-at, below-append}
 use Rattle.theory_files.specs.Whole.{wordsOf}

@@ -10,13 +10,13 @@ use lib.Dec.{eqb, ltb}
 use borrow.Author.Tests.{ltb-true, ltb-false}
 use Rattle.rules.specs.declared.Table.{Table}
 use Rattle.rules.specs.Rows.{wordsPerRow}
-use Rattle.file_rules.specs.declared.Fault.the-variants.{BadBlock}
-use Rattle.file_rules.specs.declared.Loaded.{Loaded}
-use Rattle.file_rules.specs.declared.Loaded.the-variants as loaded
-use Rattle.file_rules.specs.Blocks.{blockBytes}
-use Rattle.file_rules.specs.Files.{formNumber, formSaid, countSaid, saidAt}
-use Rattle.form_rules.specs.Short.{shortWords, shortTable}
-use Rattle.form_rules.specs.Forms.{isShort, judged}
+use Rattle.rules_files.specs.declared.Fault.the-variants.{BadBlock}
+use Rattle.rules_files.specs.declared.Loaded.{Loaded}
+use Rattle.rules_files.specs.declared.Loaded.the-variants as loaded
+use Rattle.rules_files.specs.Blocks.{blockBytes}
+use Rattle.rules_files.specs.Files.{formNumber, formSaid, countSaid, saidAt}
+use Rattle.rules_forms.specs.Short.{shortWords, shortTable}
+use Rattle.rules_forms.specs.Forms.{isShort, judged}
 use Rattle.laws.specs.Bounds.{Bytes}
 use Rattle.theory_files.specs.Whole.{Fits, Whole}
 use Rattle.theory_files.proofs.Told.{first-bad, changed-bad}

@@ -17,7 +17,7 @@ use Rattle.rules.specs.Text.{mostBytes, placeAt}
 use Rattle.rules.specs.Kinds.{isMade}
 use Rattle.rules.specs.Rows.{Row, rowIn, rowsIn, rowPlace, every, chained, valueBits, valueFits, spansFit, placeFits, linesFit, rowFits}
 use Rattle.rules.specs.Rows.{follows, gapFits, gapsFit, lastRow, endsBehind, isEof, eofLast, endingFits, rowsFit, wellFormed, wordsPerRow}
-use Rattle.form_rules.specs.Short.{shortRow, shortened, placedRow, placed, placedEnding, onOneLine}
+use Rattle.rules_forms.specs.Short.{shortRow, shortened, placedRow, placed, placedEnding, onOneLine}
 use Rattle.theory_edits.proofs.Lines.{place-fits, places-fit}
 use Rattle.theory_forms.proofs.Short.{placed-length, placedTable}
 

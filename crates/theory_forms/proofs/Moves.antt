@@ -12,20 +12,20 @@ use Rattle.rules.specs.declared.Outer.the-variants.{NoRowRoom}
 use Rattle.rules.specs.declared.Table.{Table}
 use Rattle.rules.specs.Text.{placeAt}
 use Rattle.rules.specs.Scan.{roomOf}
-use Rattle.file_rules.specs.declared.Fault.the-variants.{Outer, OtherForm}
-use Rattle.file_rules.specs.declared.Loaded.{Loaded}
-use Rattle.file_rules.specs.declared.Loaded.the-variants as loaded
-use Rattle.file_rules.specs.Bytes.{bytesOf}
-use Rattle.file_rules.specs.Blocks.{fileLength}
-use Rattle.file_rules.specs.Files.{formSaid, countSaid, loadTold, encode, rowBytes, formNumber}
-use Rattle.form_rules.specs.declared.Apart.{Apart}
-use Rattle.form_rules.specs.declared.Apart.the-variants.{File, OtherText}
-use Rattle.form_rules.specs.declared.Beside.the-variants as beside
-use Rattle.form_rules.specs.declared.Moved.{Moved}
-use Rattle.form_rules.specs.declared.Moved.the-variants as moved
-use Rattle.form_rules.specs.Short.{shortened, shortSaid, shortEncode, shortJudged, shortBytes, shortNumber}
-use Rattle.form_rules.specs.Forms.{isForm, rowBytesIn, judged, rowsBeside, tableBeside, agreesBeside, besideTold, besideLeaves, encodeIn}
-use Rattle.form_rules.specs.Forms.{moveJudged, moveTold, movedFrom, moveLeaves, isShort}
+use Rattle.rules_files.specs.declared.Fault.the-variants.{Outer, OtherForm}
+use Rattle.rules_files.specs.declared.Loaded.{Loaded}
+use Rattle.rules_files.specs.declared.Loaded.the-variants as loaded
+use Rattle.rules_files.specs.Bytes.{bytesOf}
+use Rattle.rules_files.specs.Blocks.{fileLength}
+use Rattle.rules_files.specs.Files.{formSaid, countSaid, loadTold, encode, rowBytes, formNumber}
+use Rattle.rules_forms.specs.declared.Apart.{Apart}
+use Rattle.rules_forms.specs.declared.Apart.the-variants.{File, OtherText}
+use Rattle.rules_forms.specs.declared.Beside.the-variants as beside
+use Rattle.rules_forms.specs.declared.Moved.{Moved}
+use Rattle.rules_forms.specs.declared.Moved.the-variants as moved
+use Rattle.rules_forms.specs.Short.{shortened, shortSaid, shortEncode, shortJudged, shortBytes, shortNumber}
+use Rattle.rules_forms.specs.Forms.{isForm, rowBytesIn, judged, rowsBeside, tableBeside, agreesBeside, besideTold, besideLeaves, encodeIn}
+use Rattle.rules_forms.specs.Forms.{moveJudged, moveTold, movedFrom, moveLeaves, isShort}
 use Rattle.laws.specs.Bounds.{Bytes}
 use Rattle.theory_files.proofs.Numbers.{bytes-length}
 use Rattle.theory_files.proofs.Whole.{file-length}

@@ -8,9 +8,9 @@ use lib.ListN.{take, drop}
 use lib.Seq.{drop-drop}
 use lib.Dec.{eqb}
 use Rattle.laws.proofs.Tests.{both-true}
-use Rattle.file_rules.specs.Blocks.{blockBytes, atContent, contentRoom, zeros, sound}
-use Rattle.file_rules.specs.Files.{saidBytes}
-use Rattle.form_rules.specs.Short.{shortSaidBytes}
+use Rattle.rules_files.specs.Blocks.{blockBytes, atContent, contentRoom, zeros, sound}
+use Rattle.rules_files.specs.Files.{saidBytes}
+use Rattle.rules_forms.specs.Short.{shortSaidBytes}
 use Rattle.theory_files.proofs.One.{sound-holds, holds-sound}
 use Rattle.theory_files.proofs.Said.{told-said, told-other}
 use Rattle.theory_files.proofs.Files.{drop-take}

@@ -15,14 +15,14 @@ use Rattle.rules.specs.declared.Ending.the-variants.{None, Refused}
 use Rattle.rules.specs.declared.Table.{Table}
 use Rattle.rules.specs.Text.{place}
 use Rattle.rules.specs.Rows.{rowIn, wellFormed, wordsPerRow}
-use Rattle.file_rules.specs.declared.EndingRead.the-variants.{Ends}
-use Rattle.file_rules.specs.declared.Loaded.the-variants as loaded
-use Rattle.file_rules.specs.Bytes.{wordsIn}
-use Rattle.file_rules.specs.Blocks.{contentOf, sound, blocksFor, fileLength, blockBytes}
-use Rattle.file_rules.specs.Files.{mostRows, endingSaid, saidAt, formSaid, countSaid, lengthSaid, reasons, readRefused, readEnding}
-use Rattle.form_rules.specs.Short.{shortRow, shortened, placedRow, placed, placedEnding, onOneLine, shortEndingSaid, shortSaid, shortEncode}
-use Rattle.form_rules.specs.Short.{shortEnding, shortWordsIn, shortSoundIn, shortTable, shortBlocks, shortJudged, shortBytes}
-use Rattle.form_rules.specs.Short.{shortSaidBytes, shortWords, shortNumber}
+use Rattle.rules_files.specs.declared.EndingRead.the-variants.{Ends}
+use Rattle.rules_files.specs.declared.Loaded.the-variants as loaded
+use Rattle.rules_files.specs.Bytes.{wordsIn}
+use Rattle.rules_files.specs.Blocks.{contentOf, sound, blocksFor, fileLength, blockBytes}
+use Rattle.rules_files.specs.Files.{mostRows, endingSaid, saidAt, formSaid, countSaid, lengthSaid, reasons, readRefused, readEnding}
+use Rattle.rules_forms.specs.Short.{shortRow, shortened, placedRow, placed, placedEnding, onOneLine, shortEndingSaid, shortSaid, shortEncode}
+use Rattle.rules_forms.specs.Short.{shortEnding, shortWordsIn, shortSoundIn, shortTable, shortBlocks, shortJudged, shortBytes}
+use Rattle.rules_forms.specs.Short.{shortSaidBytes, shortWords, shortNumber}
 use Rattle.laws.specs.Bounds.{Bytes}
 use Rattle.theory_files.specs.Whole.{Fits, Whole, saidFrom, wordsOf, soundOf, wholeTold}
 use Rattle.theory_forms.specs.Forms.{RefusedByName}

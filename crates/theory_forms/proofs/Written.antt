@@ -17,11 +17,11 @@ use Rattle.rules.specs.declared.Table.{Table}
 use Rattle.rules.specs.Text.{place}
 use Rattle.rules.specs.Rows.{rowIn, wellFormed, wordsPerRow}
 use Rattle.rules.specs.Refusals.{lexicalNumber}
-use Rattle.file_rules.specs.declared.EndingRead.the-variants.{Ends}
-use Rattle.file_rules.specs.declared.Loaded.the-variants as loaded
-use Rattle.file_rules.specs.Files.{formNumber, mostRows, endingSaid, saidAt, formSaid, countSaid, reasons, readRefused, readEnding}
-use Rattle.form_rules.specs.Short.{shortRow, shortened, placed, placedEnding, onOneLine, shortEndingSaid, shortSaid, shortEncode}
-use Rattle.form_rules.specs.Short.{shortEnding, shortWordsIn, shortTable, shortJudged, shortWords, shortNumber}
+use Rattle.rules_files.specs.declared.EndingRead.the-variants.{Ends}
+use Rattle.rules_files.specs.declared.Loaded.the-variants as loaded
+use Rattle.rules_files.specs.Files.{formNumber, mostRows, endingSaid, saidAt, formSaid, countSaid, reasons, readRefused, readEnding}
+use Rattle.rules_forms.specs.Short.{shortRow, shortened, placed, placedEnding, onOneLine, shortEndingSaid, shortSaid, shortEncode}
+use Rattle.rules_forms.specs.Short.{shortEnding, shortWordsIn, shortTable, shortJudged, shortWords, shortNumber}
 use Rattle.laws.specs.Bounds.{none, some, Words}
 use Rattle.theory_files.specs.Whole.{Whole, Holds, wordsOf}
 use Rattle.laws.proofs.Bounds.{below-append, below-at, below-drop}

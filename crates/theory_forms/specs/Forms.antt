@@ -4,13 +4,13 @@ use mathlib.Core.Bool.{true}
 use mathlib.Core.List.{List, _++_}
 use Prim.Native.Nat.{ℕ, _≤_}
 use lib.ListN.{length, take, drop}
-use Rattle.file_rules.specs.declared.Fault.the-variants.{OtherForm}
-use Rattle.file_rules.specs.declared.Loaded.the-variants as loaded
-use Rattle.file_rules.specs.Blocks.{blockBytes, sound}
-use Rattle.file_rules.specs.Files.{formSaid, loadTold}
-use Rattle.form_rules.specs.declared.Moved.the-variants as moved
-use Rattle.form_rules.specs.Short.{shortNumber, shortSaidBytes}
-use Rattle.form_rules.specs.Forms.{besideTold, besideLeaves, moveTold, moveLeaves}
+use Rattle.rules_files.specs.declared.Fault.the-variants.{OtherForm}
+use Rattle.rules_files.specs.declared.Loaded.the-variants as loaded
+use Rattle.rules_files.specs.Blocks.{blockBytes, sound}
+use Rattle.rules_files.specs.Files.{formSaid, loadTold}
+use Rattle.rules_forms.specs.declared.Moved.the-variants as moved
+use Rattle.rules_forms.specs.Short.{shortNumber, shortSaidBytes}
+use Rattle.rules_forms.specs.Forms.{besideTold, besideLeaves, moveTold, moveLeaves}
 
 -- "Older consoles must refuse 2 by name": in every room, whatever stands behind a sound block 0 of form 2
 pub record RefusedByName (file : List ℕ) : Type 0 where

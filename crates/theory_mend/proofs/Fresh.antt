@@ -16,12 +16,12 @@ use Rattle.rules.specs.declared.Table.{Table}
 use Rattle.rules.specs.Text.{placeAt, textJudged}
 use Rattle.rules.specs.Rows.{wordsPerRow, rowsIn, rowAt, eofRow, rowPlace, every, wellFormed}
 use Rattle.rules.specs.Scan.{Reading, readRows, readEnding, scan}
-use Rattle.file_rules.specs.declared.Loaded.the-variants as loaded
-use Rattle.file_rules.specs.Blocks.{blockBytes, blocksFor, fileLength}
-use Rattle.file_rules.specs.Files.{mostRows, formSaid, countSaid, encode}
-use Rattle.form_rules.specs.Short.{shortNumber, onOneLine, shortEncode}
-use Rattle.form_rules.specs.Forms.{isForm, isShort, rowBytesIn, judged, rowsBeside, tableBeside, isPlaceIn, endingAgrees, agrees, encodeIn}
-use Rattle.mend_rules.specs.Mend.{freshTable, freshWords, freshFile}
+use Rattle.rules_files.specs.declared.Loaded.the-variants as loaded
+use Rattle.rules_files.specs.Blocks.{blockBytes, blocksFor, fileLength}
+use Rattle.rules_files.specs.Files.{mostRows, formSaid, countSaid, encode}
+use Rattle.rules_forms.specs.Short.{shortNumber, onOneLine, shortEncode}
+use Rattle.rules_forms.specs.Forms.{isForm, isShort, rowBytesIn, judged, rowsBeside, tableBeside, isPlaceIn, endingAgrees, agrees, encodeIn}
+use Rattle.rules_mend.specs.Mend.{freshTable, freshWords, freshFile}
 use Rattle.theory_edits.specs.Scanned.{Scanned}
 use Rattle.theory_edits.proofs.Well.{Well, well-row, well-eof, well-stops, scan-well}
 use Rattle.theory_edits.proofs.WellFormed.{scanned-rows, scanned-well-formed}

@@ -12,8 +12,8 @@ use borrow.Author.Tests.{ltb-true, ltb-false, lt-ltb, le-ltb}
 use Rattle.laws.proofs.Tests.{false-by}
 use Rattle.laws.proofs.Spelled.{same-eq, same-self}
 use Rattle.rules.specs.Kinds.{sameBytes}
-use Rattle.file_rules.specs.Blocks.{blockBytes}
-use Rattle.mend_rules.specs.Mend.{differing, surplus, listed}
+use Rattle.rules_files.specs.Blocks.{blockBytes}
+use Rattle.rules_mend.specs.Mend.{differing, surplus, listed}
 use Rattle.theory_mend.specs.Mended.{blockAt, Member, here, there, BeginsTail, ListedExactly, Ascending, none, one, more}
 
 -- ---- members of two lists

@@ -19,16 +19,16 @@ use Rattle.rules.specs.declared.Told.the-variants as told
 use Rattle.rules.specs.Text.{startPlace, textJudged}
 use Rattle.rules.specs.Rows.{wordsPerRow}
 use Rattle.rules.specs.Scan.{readRows, readEnding, scan, roomOf, scanTold, scanLeaves}
-use Rattle.file_rules.specs.declared.Fault.{Fault}
-use Rattle.file_rules.specs.declared.Fault.the-variants.{Outer, TooManyRows, OtherForm}
-use Rattle.file_rules.specs.declared.Loaded.the-variants as loaded
-use Rattle.file_rules.specs.Blocks.{blockBytes}
-use Rattle.file_rules.specs.Files.{mostRows, formNumber, formSaid, loadTold, loadLeaves, encode}
-use Rattle.form_rules.specs.declared.Beside.the-variants as beside
-use Rattle.form_rules.specs.Forms.{isForm, besideJudged, besideTold, besideLeaves, encodeIn}
-use Rattle.mend_rules.specs.declared.Mended.{Mended}
-use Rattle.mend_rules.specs.declared.Mended.the-variants as mended
-use Rattle.mend_rules.specs.Mend.{freshTable, freshWords, freshFile, listed, tooSmall, freshTold, mendTold, mendLeaves, listLeaves}
+use Rattle.rules_files.specs.declared.Fault.{Fault}
+use Rattle.rules_files.specs.declared.Fault.the-variants.{Outer, TooManyRows, OtherForm}
+use Rattle.rules_files.specs.declared.Loaded.the-variants as loaded
+use Rattle.rules_files.specs.Blocks.{blockBytes}
+use Rattle.rules_files.specs.Files.{mostRows, formNumber, formSaid, loadTold, loadLeaves, encode}
+use Rattle.rules_forms.specs.declared.Beside.the-variants as beside
+use Rattle.rules_forms.specs.Forms.{isForm, besideJudged, besideTold, besideLeaves, encodeIn}
+use Rattle.rules_mend.specs.declared.Mended.{Mended}
+use Rattle.rules_mend.specs.declared.Mended.the-variants as mended
+use Rattle.rules_mend.specs.Mend.{freshTable, freshWords, freshFile, listed, tooSmall, freshTold, mendTold, mendLeaves, listLeaves}
 use Rattle.theory_files.proofs.Files.{stored-read, stored-words}
 use Rattle.theory_mend.specs.Mended.{IsMended, left, ReadsBack, IsRight, NothingAgain, Untouched, RestStays}
 use Rattle.theory_mend.specs.Mended.{blockAt, Member, ListTells}

@@ -9,11 +9,11 @@ use Rattle.rules.specs.declared.Judged.the-variants as verdict
 use Rattle.rules.specs.declared.Outer.{Outer}
 use Rattle.rules.specs.declared.Outer.the-variants.{NoRowRoom}
 use Rattle.rules.specs.Text.{startPlace, textJudged}
-use Rattle.file_rules.specs.declared.Fault.the-variants as fault
-use Rattle.file_rules.specs.Files.{mostRows}
-use Rattle.form_rules.specs.Forms.{isForm}
-use Rattle.mend_rules.specs.declared.Mended.the-variants as mended
-use Rattle.mend_rules.specs.Mend.{freshTable, freshFile, tooSmall, freshTold, mendTold}
+use Rattle.rules_files.specs.declared.Fault.the-variants as fault
+use Rattle.rules_files.specs.Files.{mostRows}
+use Rattle.rules_forms.specs.Forms.{isForm}
+use Rattle.rules_mend.specs.declared.Mended.the-variants as mended
+use Rattle.rules_mend.specs.Mend.{freshTable, freshFile, tooSmall, freshTold, mendTold}
 
 module _ (text : List ℕ) (form : ℕ) (memory : List ℕ) (n : ℕ) (list : List ℕ) where
   -- 44, whatever the text

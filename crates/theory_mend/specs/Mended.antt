@@ -8,13 +8,13 @@ use Rattle.rules.specs.declared.Judged.the-variants as verdict
 use Rattle.rules.specs.declared.Told.the-variants as told
 use Rattle.rules.specs.Text.{textJudged}
 use Rattle.rules.specs.Scan.{roomOf, scanTold, scanLeaves}
-use Rattle.file_rules.specs.declared.Loaded.the-variants as loaded
-use Rattle.file_rules.specs.Blocks.{blockBytes}
-use Rattle.file_rules.specs.Files.{mostRows, formNumber, formSaid, loadTold, loadLeaves}
-use Rattle.form_rules.specs.declared.Beside.the-variants as beside
-use Rattle.form_rules.specs.Forms.{isForm, besideTold, besideLeaves}
-use Rattle.mend_rules.specs.declared.Mended.the-variants as mended
-use Rattle.mend_rules.specs.Mend.{freshTable, freshFile, listed, mendTold, mendLeaves, listLeaves}
+use Rattle.rules_files.specs.declared.Loaded.the-variants as loaded
+use Rattle.rules_files.specs.Blocks.{blockBytes}
+use Rattle.rules_files.specs.Files.{mostRows, formNumber, formSaid, loadTold, loadLeaves}
+use Rattle.rules_forms.specs.declared.Beside.the-variants as beside
+use Rattle.rules_forms.specs.Forms.{isForm, besideTold, besideLeaves}
+use Rattle.rules_mend.specs.declared.Mended.the-variants as mended
+use Rattle.rules_mend.specs.Mend.{freshTable, freshFile, listed, mendTold, mendLeaves, listLeaves}
 
 -- A file was mended: n bytes of memory were the file, size are now, and count blocks are listed.
 pub record IsMended (text : List ℕ) (form : ℕ) (memory : List ℕ) (n : ℕ) (list : List ℕ) (size count : ℕ) : Type 0 where

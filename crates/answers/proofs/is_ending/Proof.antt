@@ -1,4 +1,4 @@
--- `answers::is_ending` meets its contract: each test is the definition's.
+-- `is_ending` meets its contract: each test is the definition's.
 use borrow.Author.Tests.{ne-eqb, lt-leb, le-leb}
 use Rattle.answers.specs.Layout.{isEnding}
 use Rattle.answers.proofs.is_ending.Statement.{statement}

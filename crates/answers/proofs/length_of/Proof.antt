@@ -1,4 +1,4 @@
--- `answers::length_of` meets its contract: the test is the definition's.
+-- `length_of` meets its contract: the test is the definition's.
 use mathlib.Core.Path.{sym, _∙_}
 use Rattle.answers.specs.Layout.{lengthOf}
 use borrow.Author.Needs.{needs}

@@ -1,4 +1,4 @@
--- `answers::lexical_of` meets its contract: the arms are the cases of the definition.
+-- `lexical_of` meets its contract: the arms are the cases of the definition.
 use borrow.Author.Tests.{ne-eqb}
 use Rattle.answers.specs.Layout.{lexicalOf}
 use Rattle.answers.proofs.lexical_of.Statement.{statement}

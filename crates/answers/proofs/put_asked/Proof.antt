@@ -1,4 +1,4 @@
--- `answers::put_asked` meets its contract: the arms are the cases of the definition.
+-- `put_asked` meets its contract: the arms are the cases of the definition.
 use mathlib.Core.Path.{_∙_}
 use borrow.Author.Needs.{needs}
 use Rattle.answers.proofs.put_asked.Statement.{statement}

@@ -1,4 +1,4 @@
--- `answers::put_outer` meets its contract: the words of the number at the start.
+-- `put_outer` meets its contract: the words of the number at the start.
 use mathlib.Core.Path.{_∙_}
 use borrow.Author.Needs.{needs}
 use Rattle.answers.proofs.put_outer.Statement.{statement}

@@ -1,4 +1,4 @@
--- `answers::put_restart` meets its contract: the arms are the cases of the definition.
+-- `put_restart` meets its contract: the arms are the cases of the definition.
 use borrow.Author.Needs.{needs}
 use Rattle.answers.proofs.put_restart.Statement.{statement}
 use Rattle.answers.proofs.put_restart.Tie as tie

@@ -1,4 +1,4 @@
--- `answers::put_syntax` meets its contract: the number and the two words told.
+-- `put_syntax` meets its contract: the number and the two words told.
 use mathlib.Core.Path.{_∙_}
 use borrow.Author.Needs.{needs}
 use Rattle.answers.proofs.put_syntax.Statement.{statement}

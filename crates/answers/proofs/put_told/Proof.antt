@@ -1,4 +1,4 @@
--- `answers::put_told` meets its contract: the arms are the cases of the definition.
+-- `put_told` meets its contract: the arms are the cases of the definition.
 use mathlib.Core.Path.{_∙_}
 use borrow.Author.Needs.{needs}
 use Rattle.answers.proofs.put_told.Statement.{statement}

@@ -1,4 +1,4 @@
--- `answers::table_of` meets its contract: number 0 is no ending.
+-- `table_of` meets its contract: number 0 is no ending.
 use borrow.Author.Tests.{ne-eqb}
 use borrow.Author.Needs.{needs}
 use Rattle.answers.proofs.table_of.Statement.{statement}

@@ -1,4 +1,4 @@
--- `edit::behind` meets its contract.
+-- `behind` meets its contract.
 use borrow.Author.Needs.{needs}
 use Rattle.edit.specs.Job.{behindOf, FewBehind}
 use Rattle.edit.proofs.behind.Statement.{statement}

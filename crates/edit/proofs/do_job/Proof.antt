@@ -1,4 +1,4 @@
--- `edit::do_job` meets its contract: the refusals behind 3 in their order, and then what the reading of the window gives.
+-- `do_job` meets its contract: the refusals behind 3 in their order, and then what the reading of the window gives.
 use mathlib.Core.Path.{_≡_, sym, _∙_}
 use mathlib.Core.Bool.{true}
 use Prim.Native.Nat.{_≤_}

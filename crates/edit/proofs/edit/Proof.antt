@@ -1,4 +1,4 @@
--- `edit::edit` meets its contract: 3, and then what the edit of a tested table gives.
+-- `edit` meets its contract: 3, and then what the edit of a tested table gives.
 use mathlib.Core.Path.{_≡_, sym, _∙_}
 use mathlib.Core.Bool.{true}
 use borrow.Author.Tests.{not-true, not-false}

@@ -1,4 +1,4 @@
--- `edit::edit_tested` meets its contract: the job is the table and the numbers.
+-- `edit_tested` meets its contract: the job is the table and the numbers.
 use borrow.Author.Needs.{needs}
 use Rattle.rules.specs.Scan.{roomOf}
 use Rattle.edit.proofs.Calls.{tested-by, edited-by}

@@ -1,4 +1,4 @@
--- `edit::fill` meets its contract: kept rows are laid, and the others behind them.
+-- `fill` meets its contract: kept rows are laid, and the others behind them.
 use mathlib.Core.Path.{ap, _∙_}
 use mathlib.Core.List.{List, _++_}
 use Prim.Native.Nat.{ℕ, _*_, _/_, _≤_, _<_}

@@ -1,4 +1,4 @@
--- `edit::fill_tail` meets its contract: the rows of the window, by how the walk stopped, and old rows behind them.
+-- `fill_tail` meets its contract: the rows of the window, by how the walk stopped, and old rows behind them.
 use mathlib.Core.Path.{_≡_, sym, ap, subst, _∙_}
 use mathlib.Core.List.{List}
 use Prim.Native.Nat.{ℕ, _≤_}

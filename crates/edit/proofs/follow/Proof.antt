@@ -1,4 +1,4 @@
--- `edit::follow` meets its contract: old rows are moved and laid, as far as there is room.
+-- `follow` meets its contract: old rows are moved and laid, as far as there is room.
 use mathlib.Core.Path.{_≡_, sym, ap, subst, _∙_}
 use mathlib.Core.List.{List, _++_, map}
 use Prim.Native.Nat.{ℕ, _+_, _-_, _*_, _/_}

@@ -1,4 +1,4 @@
--- `edit::is_short` meets its contract: a window that ends the text is not short, and of another the walk tells.
+-- `is_short` meets its contract: a window that ends the text is not short, and of another the walk tells.
 use mathlib.Core.Path.{_≡_, sym, ap, _∙_}
 use borrow.Author.Needs.{needs}
 use Rattle.rules.specs.Edit.{isShort}

@@ -1,4 +1,4 @@
--- `edit::job_of` meets its contract: the kept rows are counted, and the place behind them is the restart place.
+-- `job_of` meets its contract: the kept rows are counted, and the place behind them is the restart place.
 use mathlib.Core.Path.{_∙_}
 use borrow.Author.Needs.{needs}
 use Rattle.rows.proofs.Inside.{fine}

@@ -1,4 +1,4 @@
--- `edit::new_length` meets its contract.
+-- `new_length` meets its contract.
 use borrow.Author.Needs.{needs}
 use Rattle.rules.specs.Edit.{newLength}
 use Rattle.edit.proofs.new_length.Statement.{statement}

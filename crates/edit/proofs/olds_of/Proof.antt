@@ -1,4 +1,4 @@
--- `edit::olds_of` meets its contract.
+-- `olds_of` meets its contract.
 use borrow.Author.Needs.{needs}
 use Rattle.edit.proofs.olds_of.Statement.{statement}
 use Rattle.edit.proofs.olds_of.Tie as tie

@@ -1,4 +1,4 @@
--- `edit::reread` meets its contract: 7 by the window's end, 2, 7 by a walk over the window, and then the rows.
+-- `reread` meets its contract: 7 by the window's end, 2, 7 by a walk over the window, and then the rows.
 use mathlib.Core.Path.{_≡_, sym, ap, _∙_}
 use mathlib.Core.Bool.{Bool, true, false, not, _&&_}
 use Prim.Native.Nat.{ℕ, _+_, _^_, _≤_}

@@ -1,4 +1,4 @@
--- `edit::restart` meets its contract.
+-- `restart` meets its contract.
 use mathlib.Core.Path.{_≡_, sym, _∙_}
 use mathlib.Core.Bool.{true}
 use native.Mathlib.Omega.{arith}

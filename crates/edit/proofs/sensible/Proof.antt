@@ -1,4 +1,4 @@
--- `edit::sensible` meets its contract, test by test.
+-- `sensible` meets its contract, test by test.
 use Prim.Native.Nat.{_+_}
 use native.Mathlib.Omega.{arith}
 use borrow.Author.Tests.{le-leb, lt-leb, eq-eqb, ne-eqb}

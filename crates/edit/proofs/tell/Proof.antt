@@ -1,4 +1,4 @@
--- `edit::tell` meets its contract.
+-- `tell` meets its contract.
 use native.Mathlib.Omega.{arith}
 use borrow.Author.Needs.{needs}
 use Rattle.edit.specs.Job.{tellOf, TellsFit}

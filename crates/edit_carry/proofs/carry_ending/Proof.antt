@@ -1,4 +1,4 @@
--- `carry::carry_ending` meets its contract.
+-- `carry_ending` meets its contract.
 use borrow.Author.Needs.{needs}
 use Rattle.rules.specs.Edit.{carryEnding}
 use Rattle.edit_carry.proofs.Carried.{refused-moves}

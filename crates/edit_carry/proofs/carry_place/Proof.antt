@@ -1,4 +1,4 @@
--- `carry::carry_place` meets its contract: the column moves on the line of the meeting row alone.
+-- `carry_place` meets its contract: the column moves on the line of the meeting row alone.
 use borrow.Author.Needs.{needs}
 use Rattle.edit_carry.proofs.Carried.{carry-on, carry-off}
 use Rattle.edit_carry.proofs.carry_place.Statement.{statement}

@@ -1,4 +1,4 @@
--- `carry::carry_row` meets its contract.
+-- `carry_row` meets its contract.
 use borrow.Author.Needs.{needs}
 use Rattle.rules.specs.Edit.{carryRow, withComments}
 use Rattle.edit_carry.proofs.carry_row.Statement.{statement}

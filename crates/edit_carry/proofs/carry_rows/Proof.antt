@@ -1,4 +1,4 @@
--- `carry::carry_rows` meets its contract: the moved rows so far stand before what was there.
+-- `carry_rows` meets its contract: the moved rows so far stand before what was there.
 use mathlib.Core.Path.{_≡_, refl, sym, ap, _∙_}
 use mathlib.Core.List.{_++_}
 use Prim.Native.Nat.{_+_, _-_, _*_, _≤_}

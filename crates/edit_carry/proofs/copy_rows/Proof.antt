@@ -1,4 +1,4 @@
--- `carry::copy_rows` meets its contract: the words that are copied stand before what was there.
+-- `copy_rows` meets its contract: the words that are copied stand before what was there.
 use mathlib.Core.Path.{_≡_, refl, sym, ap, _∙_}
 use mathlib.Core.List.{List}
 use Prim.Native.Nat.{ℕ, _-_, _*_, _≤_}

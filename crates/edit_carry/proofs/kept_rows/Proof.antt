@@ -1,4 +1,4 @@
--- `carry::kept_rows` meets its contract: as many as are kept lie between low and high, which halving brings together.
+-- `kept_rows` meets its contract: as many as are kept lie between low and high, which halving brings together.
 use Prim.Native.Nat.{ℕ, _+_, _-_, _/_, _≤_, _<_}
 use native.Mathlib.Omega.{arith}
 use Rattle.laws.proofs.Rows.{end-word}

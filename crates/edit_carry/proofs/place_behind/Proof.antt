@@ -1,4 +1,4 @@
--- `carry::place_behind` meets its contract: the place behind rows is behind the last of them.
+-- `place_behind` meets its contract: the place behind rows is behind the last of them.
 use mathlib.Core.Path.{_≡_, sym, ap, _∙_}
 use Prim.Native.Nat.{ℕ, suc, _-_}
 use native.Mathlib.Omega.{arith}

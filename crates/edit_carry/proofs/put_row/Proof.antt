@@ -1,4 +1,4 @@
--- `carry::put_row` meets its contract: eight stores are the words of a row.
+-- `put_row` meets its contract: eight stores are the words of a row.
 use native.Mathlib.Omega.{arith}
 use lib.ListN.{length-set}
 use lib.Seq.{sets-eq}

@@ -1,4 +1,4 @@
--- `edit_change::change` meets its contract: 3, 6 by the text's length, and then what the edit of the tested table gives.
+-- `change` meets its contract: 3, 6 by the text's length, and then what the edit of the tested table gives.
 use mathlib.Core.Path.{_≡_, sym, _∙_}
 use mathlib.Core.Bool.{true}
 use Prim.Native.Nat.{_+_, _≤_}

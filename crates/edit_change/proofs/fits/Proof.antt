@@ -1,4 +1,4 @@
--- `edit_change::fits` meets its contract, test by test.
+-- `fits` meets its contract, test by test.
 use mathlib.Core.Path.{_≡_, refl, sym}
 use mathlib.Core.Bool.{Bool, true, false}
 use Prim.Native.Nat.{ℕ}

@@ -3,8 +3,8 @@ use mathlib.Core.Path.{_≡_, sym, _∙_}
 use Prim.Native.Nat.{ℕ}
 use borrow.Author.Needs.{needs}
 use Rattle.rules.specs.Scan.{roomOf}
-use Rattle.file_rules.specs.declared.Loaded.the-variants as loaded
-use Rattle.form_rules.specs.Forms.{judged}
+use Rattle.rules_files.specs.declared.Loaded.the-variants as loaded
+use Rattle.rules_forms.specs.Forms.{judged}
 use Rattle.file_beside.proofs.Answers.{told-by, told-refused, leaves-by}
 use Rattle.file_beside.proofs.load_beside.Statement.{statement}
 use Rattle.file_beside.proofs.load_beside.Tie as tie

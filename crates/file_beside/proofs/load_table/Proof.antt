@@ -9,8 +9,8 @@ use borrow.Author.Tests.{not-true, not-false}
 use Rattle.rules.specs.declared.Table.{Table}
 use Rattle.rules.specs.Rows.{wordsPerRow}
 use Rattle.rules.specs.Scan.{roomOf}
-use Rattle.form_rules.specs.declared.Beside.the-variants as beside
-use Rattle.form_rules.specs.Forms.{rowsBeside, tableBeside}
+use Rattle.rules_forms.specs.declared.Beside.the-variants as beside
+use Rattle.rules_forms.specs.Forms.{rowsBeside, tableBeside}
 use Rattle.file_beside.proofs.Answers.{told-full, told-other, told-rows}
 use Rattle.file_beside.proofs.load_table.Statement.{statement}
 use Rattle.file_beside.proofs.load_table.Tie as tie

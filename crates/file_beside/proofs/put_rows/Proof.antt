@@ -3,8 +3,8 @@ use mathlib.Core.Path.{_≡_, sym, ap, subst, _∙_}
 use Prim.Native.Nat.{ℕ, _+_, _-_}
 use native.Mathlib.Omega.{arith}
 use Rattle.rows.specs.Shape.{asRow}
-use Rattle.form_rules.specs.declared.Form.{Form}
-use Rattle.form_rules.specs.Shapes.{rowWordsOf}
+use Rattle.rules_forms.specs.declared.Form.{Form}
+use Rattle.rules_forms.specs.Shapes.{rowWordsOf}
 use Rattle.rules.specs.Rows.{rowNo}
 use Rattle.file_load.specs.Judged.{Framed}
 use Rattle.file_beside.specs.Counting.{placedAt}

@@ -6,7 +6,7 @@ use native.Mathlib.Omega.{arith}
 use lib.ListN.{drop}
 use borrow.Author.Needs.{needs}
 use Rattle.rules.specs.Rows.{wordsPerRow}
-use Rattle.form_rules.specs.declared.Form.{Form}
+use Rattle.rules_forms.specs.declared.Form.{Form}
 use Rattle.file_load.specs.Judged.{Framed}
 use Rattle.file_beside.specs.Counting.{lastPlace}
 use Rattle.file_beside.proofs.Known.{known}

@@ -2,7 +2,7 @@
 use mathlib.Core.Path.{_≡_, sym, _∙_}
 use Prim.Native.Nat.{_+_, _*_, _-_, _≤_}
 use native.Mathlib.Omega.{arith}
-use Rattle.file_rules.specs.Blocks.{check}
+use Rattle.rules_files.specs.Blocks.{check}
 use Rattle.file_blocks.proofs.Added.{Summed, summed-none, summed-more, summed-all, within-less}
 use Rattle.file_blocks.proofs.check_of.Statement.{statement}
 use Rattle.file_blocks.proofs.check_of.Tie as tie

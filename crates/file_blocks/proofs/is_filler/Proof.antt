@@ -5,7 +5,7 @@ use Prim.Native.Nat.{_+_, _-_, _≤_}
 use native.Mathlib.Omega.{arith}
 use lib.ListN.{length, take, drop}
 use lib.Dec.{eqb}
-use Rattle.file_rules.specs.Blocks.{zeros}
+use Rattle.rules_files.specs.Blocks.{zeros}
 use Rattle.file_blocks.proofs.Laws.{filler-more}
 use Rattle.file_blocks.proofs.is_filler.Statement.{statement}
 use Rattle.file_blocks.proofs.is_filler.Tie as tie

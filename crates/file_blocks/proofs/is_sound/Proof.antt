@@ -6,7 +6,7 @@ use native.Mathlib.Omega.{arith}
 use lib.ListN.{take, drop}
 use borrow.Author.Tests.{not-true, not-false}
 use Rattle.laws.proofs.Tests.{false-by}
-use Rattle.file_rules.specs.Blocks.{zeros, sound}
+use Rattle.rules_files.specs.Blocks.{zeros, sound}
 use Rattle.theory_files.proofs.One.{sound-holds}
 use Rattle.file_blocks.proofs.Laws.{sound-last}
 use borrow.Author.Needs.{needs}

@@ -5,8 +5,8 @@ use Prim.Native.Nat.{ℕ, _*_}
 use native.Mathlib.Omega.{arith}
 use lib.ListN.{length}
 use borrow.Author.Needs.{needs}
-use Rattle.file_rules.specs.Bytes.{bytesOf}
-use Rattle.file_rules.specs.Blocks.{block, contentOf}
+use Rattle.rules_files.specs.Bytes.{bytesOf}
+use Rattle.rules_files.specs.Blocks.{block, contentOf}
 use Rattle.theory_files.proofs.Numbers.{bytes-length}
 use Rattle.file_blocks.proofs.Laws.{content-put}
 use Rattle.file_blocks.proofs.put_block.Statement.{statement}

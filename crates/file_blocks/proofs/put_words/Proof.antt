@@ -5,7 +5,7 @@ use native.Mathlib.Omega.{arith}
 use mathlib.Core.List.{_++_}
 use lib.ListN.{length, take, drop, getD, take-append-drop}
 use lib.Seq.{take-all}
-use Rattle.file_rules.specs.Bytes.{little, bytesOf}
+use Rattle.rules_files.specs.Bytes.{little, bytesOf}
 use Rattle.theory_files.proofs.Numbers.{little-length}
 use Rattle.file_blocks.proofs.Laws.{put-length, words-more, words-none}
 use Rattle.file_blocks.proofs.put_words.Statement.{statement}

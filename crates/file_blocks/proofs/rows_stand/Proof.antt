@@ -5,7 +5,7 @@ use native.Mathlib.Omega.{arith}
 use lib.ListN.{length, drop}
 use borrow.Author.Tests.{not-true, not-false}
 use Rattle.rows.specs.Shape.{asRow}
-use Rattle.form_rules.specs.Shapes.{rowBytesOf}
+use Rattle.rules_forms.specs.Shapes.{rowBytesOf}
 use Rattle.file_blocks.specs.Standing.{rowsFrom, stand}
 use Rattle.file_blocks.proofs.Laws.{row-inside, rows-none, stand-not, stand-more}
 use Rattle.file_blocks.proofs.rows_stand.Statement.{statement}

@@ -4,7 +4,7 @@ use Prim.Native.Nat.{_+_, _*_, _-_, _≤_}
 use native.Mathlib.Omega.{arith}
 use mathlib.Core.List.{_++_}
 use lib.ListN.{length, drop, length-set}
-use Rattle.file_rules.specs.Bytes.{wordsIn}
+use Rattle.rules_files.specs.Bytes.{wordsIn}
 use Rattle.file_blocks.proofs.Laws.{taken-more}
 use Rattle.file_blocks.proofs.take_words.Statement.{statement}
 use Rattle.file_blocks.proofs.take_words.Tie as tie

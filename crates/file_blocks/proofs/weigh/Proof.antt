@@ -5,7 +5,7 @@ use native.Mathlib.Nat.{mul-le-mul}
 use native.Mathlib.Omega.{arith}
 use lib.ListN.{length, take, getD}
 use lib.Seq.{take-all}
-use Rattle.file_rules.specs.Blocks.{sumFrom, check}
+use Rattle.rules_files.specs.Blocks.{sumFrom, check}
 use Rattle.file_blocks.specs.Columns.{total}
 use Rattle.file_blocks.proofs.Laws.{check-more}
 use Rattle.file_blocks.proofs.Added.{total-more}

@@ -1,5 +1,5 @@
 -- `full_ending` meets its contract: the words of block 0 of form 1 are read.
-use Rattle.file_rules.specs.Files.{endingIn}
+use Rattle.rules_files.specs.Files.{endingIn}
 use borrow.Author.Needs.{needs}
 use Rattle.file_load.proofs.full_ending.Statement.{statement}
 use Rattle.file_load.proofs.full_ending.Tie as tie

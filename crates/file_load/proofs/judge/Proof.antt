@@ -1,6 +1,6 @@
 -- `judge` meets its contract, a law for each way out.
 use mathlib.Core.Path.{sym, ap, _∙_}
-use Rattle.file_rules.specs.Files.{loadTold}
+use Rattle.rules_files.specs.Files.{loadTold}
 use Rattle.file_load.proofs.Answers.{judged-under, judged-as-short, judged-as-full}
 use borrow.Author.Needs.{needs}
 use Rattle.file_load.proofs.judge.Statement.{statement}

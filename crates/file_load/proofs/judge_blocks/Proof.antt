@@ -6,7 +6,7 @@ use lib.ListN.{length, take, drop}
 use borrow.Author.Tests.{not-true, not-false}
 use Rattle.rows.specs.Shape.{asRow}
 use Rattle.rows.proofs.Lengths.{length-table}
-use Rattle.form_rules.specs.Shapes.{rowBytesOf}
+use Rattle.rules_forms.specs.Shapes.{rowBytesOf}
 use Rattle.file_sizes.proofs.Sizes.{some-rows, few-rows}
 use Rattle.file_load.proofs.Rows.{here-bytes}
 use Rattle.file_load.proofs.Judging.{Judging, judging-start, judging-end, judging-bad, judging-next}

@@ -6,7 +6,7 @@ use Rattle.rules.specs.Rows.{Row, rowFits}
 use Rattle.rows.specs.Shape.{asRow, fitsAfter}
 use Rattle.rows.proofs.Lengths.{length-table}
 use Rattle.rows.proofs.Tables.{closes-plain, closes-apart, closes-fit}
-use Rattle.form_rules.specs.Shapes.{rowWordsOf}
+use Rattle.rules_forms.specs.Shapes.{rowWordsOf}
 use borrow.Author.Needs.{needs}
 use Rattle.file_load.proofs.last_closes.Statement.{statement}
 use Rattle.file_load.proofs.last_closes.Tie as tie

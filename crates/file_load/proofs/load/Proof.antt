@@ -1,8 +1,8 @@
 -- `load` meets its contract: nothing is written unless the file is read.
 use mathlib.Core.Path.{_≡_, sym, _∙_}
 use Rattle.rules.specs.Scan.{roomOf}
-use Rattle.file_rules.specs.declared.Loaded.the-variants as loaded
-use Rattle.file_rules.specs.Files.{loadTold}
+use Rattle.rules_files.specs.declared.Loaded.the-variants as loaded
+use Rattle.rules_files.specs.Files.{loadTold}
 use Rattle.theory_files.proofs.Files.{load-untouched, load-written}
 use Rattle.file_load.proofs.Answers.{read-framed, read-room}
 use borrow.Author.Needs.{needs}

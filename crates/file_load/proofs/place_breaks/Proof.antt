@@ -2,7 +2,7 @@
 use mathlib.Core.Path.{sym, _∙_}
 use borrow.Author.Tests.{not-true, not-false}
 use Rattle.rows.proofs.Tables.{breaks-over, breaks-not, breaks-none, breaks-last}
-use Rattle.form_rules.specs.Shapes.{rowWordsOf}
+use Rattle.rules_forms.specs.Shapes.{rowWordsOf}
 use borrow.Author.Needs.{needs}
 use Rattle.file_load.proofs.place_breaks.Statement.{statement}
 use Rattle.file_load.proofs.place_breaks.Tie as tie

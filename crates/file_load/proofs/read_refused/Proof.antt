@@ -2,7 +2,7 @@
 use mathlib.Core.Path.{_≡_, sym, _∙_}
 use lib.ListN.{drop}
 use Rattle.rules.specs.declared.Lexical.the-variants.{NoRowBegins, LoneSign, NoHexDigit, OpenComment, OpenString, BadEscape, NumberTooLarge}
-use Rattle.file_rules.specs.Files.{reasons, readRefused}
+use Rattle.rules_files.specs.Files.{reasons, readRefused}
 use Rattle.file_load.proofs.Tests.{reason-is, reason-not, no-reason}
 use borrow.Author.Needs.{needs}
 use Rattle.file_load.proofs.read_refused.Statement.{statement}

@@ -1,7 +1,7 @@
 -- `row_before` meets its contract: the first row has a row of zeros before it.
 use mathlib.Core.Path.{sym, _∙_}
 use Rattle.rows.proofs.Tables.{before-first, before-next}
-use Rattle.form_rules.specs.Shapes.{rowWordsOf}
+use Rattle.rules_forms.specs.Shapes.{rowWordsOf}
 use borrow.Author.Needs.{needs}
 use Rattle.file_load.proofs.row_before.Statement.{statement}
 use Rattle.file_load.proofs.row_before.Tie as tie

@@ -1,11 +1,11 @@
 -- `short_told` meets its contract, a law for each way out.
 use mathlib.Core.Path.{_≡_, sym, ap, _∙_}
 use borrow.Author.Tests.{not-true, not-false}
-use Rattle.file_rules.specs.Blocks.{fileLength}
-use Rattle.file_rules.specs.Files.{countSaid}
-use Rattle.form_rules.specs.declared.Form.the-variants.{Short}
-use Rattle.form_rules.specs.Short.{shortBytes, shortBlocks, shortJudged}
-use Rattle.form_rules.specs.Shapes.{blocksIn}
+use Rattle.rules_files.specs.Blocks.{fileLength}
+use Rattle.rules_files.specs.Files.{countSaid}
+use Rattle.rules_forms.specs.declared.Form.the-variants.{Short}
+use Rattle.rules_forms.specs.Short.{shortBytes, shortBlocks, shortJudged}
+use Rattle.rules_forms.specs.Shapes.{blocksIn}
 use Rattle.file_load.proofs.Answers.{short-bad, short-said, short-cut, short-whole}
 use borrow.Author.Needs.{needs}
 use Rattle.file_load.proofs.short_told.Statement.{statement}

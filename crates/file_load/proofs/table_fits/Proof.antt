@@ -1,7 +1,7 @@
 -- `table_fits` meets its contract, a law for each way out.
 use mathlib.Core.Path.{sym, _∙_}
 use borrow.Author.Tests.{not-true, not-false}
-use Rattle.form_rules.specs.Shapes.{rowWordsOf}
+use Rattle.rules_forms.specs.Shapes.{rowWordsOf}
 use Rattle.rows.proofs.Tables.{well-long}
 use Rattle.file_load.proofs.Tests.{unfit, fits-empty, fits-none, fits-refused}
 use borrow.Author.Needs.{needs}

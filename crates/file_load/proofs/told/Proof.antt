@@ -1,8 +1,8 @@
 -- `told` meets its contract, a law for each way out.
 use mathlib.Core.Path.{_≡_, sym, ap, _∙_}
 use borrow.Author.Tests.{not-true, not-false}
-use Rattle.file_rules.specs.Blocks.{fileLength}
-use Rattle.file_rules.specs.Files.{rowBytes, countSaid, saidTold, loadTold}
+use Rattle.rules_files.specs.Blocks.{fileLength}
+use Rattle.rules_files.specs.Files.{rowBytes, countSaid, saidTold, loadTold}
 use Rattle.theory_files.proofs.Said.{told-short, told-bad, told-said, told-other, told-cut, told-blocks as blocks-told}
 use Rattle.file_load.proofs.Answers.{full-blocks}
 use borrow.Author.Needs.{needs}

@@ -3,11 +3,11 @@ use mathlib.Core.Path.{sym, ap, _∙_}
 use native.Mathlib.Omega.{arith}
 use mathlib.Core.List.{List}
 use Prim.Native.Nat.{ℕ}
-use Rattle.file_rules.specs.Files.{rowsTold}
-use Rattle.form_rules.specs.Shapes.{rowWordsOf}
+use Rattle.rules_files.specs.Files.{rowsTold}
+use Rattle.rules_forms.specs.Shapes.{rowWordsOf}
 use Rattle.file_load.specs.Judged.{standUpto, plainRows}
-use Rattle.file_rules.specs.declared.EndingRead.{EndingRead}
-use Rattle.file_rules.specs.declared.Loaded.{Loaded}
+use Rattle.rules_files.specs.declared.EndingRead.{EndingRead}
+use Rattle.rules_files.specs.declared.Loaded.{Loaded}
 use Rattle.file_load.proofs.Answers.{some-file, standing-is, judged-bad, AllSound, judged-sound, sound-nothing, sound-rows}
 use borrow.Author.Needs.{needs}
 use Rattle.file_load.proofs.told_blocks.Statement.{statement}

@@ -1,7 +1,7 @@
 -- `told_rows` meets its contract, a law for each way out.
 use mathlib.Core.Path.{sym, _∙_}
 use borrow.Author.Tests.{not-true, not-false}
-use Rattle.form_rules.specs.Shapes.{rowWordsOf}
+use Rattle.rules_forms.specs.Shapes.{rowWordsOf}
 use Rattle.theory_files.proofs.Said.{told-many, told-unformed, told-full, told-table}
 use borrow.Author.Needs.{needs}
 use Rattle.file_load.proofs.told_rows.Statement.{statement}

@@ -2,8 +2,8 @@
 use mathlib.Core.Path.{_≡_, _∙_}
 use native.Mathlib.Omega.{arith}
 use borrow.Author.Needs.{needs}
-use Rattle.file_rules.specs.Blocks.{perBlock}
-use Rattle.form_rules.specs.Shapes.{rowBytesOf}
+use Rattle.rules_files.specs.Blocks.{perBlock}
+use Rattle.rules_forms.specs.Shapes.{rowBytesOf}
 use Rattle.file_sizes.proofs.Sizes.{some-rows, few-rows}
 use Rattle.scan_part.specs.Part.{PartOf}
 use Rattle.scan_part.proofs.Onward.{count-most}

@@ -2,8 +2,8 @@
 use mathlib.Core.Path.{sym, ap, _∙_}
 use borrow.Author.Needs.{needs}
 use Rattle.rules.specs.declared.Cursor.{Cursor}
-use Rattle.file_rules.specs.declared.Fault.the-variants as fault
-use Rattle.mend_rules.specs.declared.Mended.the-variants as mended
+use Rattle.rules_files.specs.declared.Fault.the-variants as fault
+use Rattle.rules_mend.specs.declared.Mended.the-variants as mended
 use Rattle.theory_mend.proofs.Ways.{told-form}
 use Rattle.file_mend.proofs.Told.{by-number, refused, other-form}
 use Rattle.file_mend.proofs.mend.Statement.{statement}

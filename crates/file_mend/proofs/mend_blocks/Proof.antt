@@ -4,8 +4,8 @@ use Prim.Native.Nat.{ℕ, _/_, _<_}
 use native.Mathlib.Omega.{arith}
 use lib.ListN.{length, length-set}
 use borrow.Author.Needs.{needs}
-use Rattle.form_rules.specs.Shapes.{numberOf}
-use Rattle.mend_rules.specs.Mend.{freshTable, freshFile}
+use Rattle.rules_forms.specs.Shapes.{numberOf}
+use Rattle.rules_mend.specs.Mend.{freshTable, freshFile}
 use Rattle.file_mend.proofs.Files.{saidBlock}
 use Rattle.file_mend.proofs.Told.{length-is, length-small, first-fits, rows-fit, Left, rows-left}
 use Rattle.file_mend.proofs.mend_blocks.Statement.{statement}

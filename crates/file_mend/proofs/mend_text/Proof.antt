@@ -10,11 +10,11 @@ use borrow.Author.Needs.{needs}
 use Rattle.rules.specs.declared.Cursor.{Cursor}
 use Rattle.rules.specs.declared.Outer.the-variants.{NoRowRoom}
 use Rattle.rules.specs.declared.Table.{Table}
-use Rattle.file_rules.specs.declared.Fault.the-variants as fault
-use Rattle.file_rules.specs.Files.{mostRows}
-use Rattle.form_rules.specs.Shapes.{numberOf}
-use Rattle.mend_rules.specs.declared.Mended.the-variants as mended
-use Rattle.mend_rules.specs.Mend.{freshTable, freshFile, listed}
+use Rattle.rules_files.specs.declared.Fault.the-variants as fault
+use Rattle.rules_files.specs.Files.{mostRows}
+use Rattle.rules_forms.specs.Shapes.{numberOf}
+use Rattle.rules_mend.specs.declared.Mended.the-variants as mended
+use Rattle.rules_mend.specs.Mend.{freshTable, freshFile, listed}
 use Rattle.theory_mend.proofs.Mended.{MendOf}
 use Rattle.theory_mend.proofs.Ways.{told-many, told-small}
 use Rattle.file_mend.proofs.Told.{length-is, length-small, listed-small, shown-all, small-says, room-says}

@@ -4,8 +4,8 @@ use Prim.Native.Nat.{_+_, _≤_}
 use native.Mathlib.Omega.{arith}
 use lib.ListN.{length}
 use borrow.Author.Needs.{needs}
-use Rattle.form_rules.specs.Shapes.{numberOf}
-use Rattle.mend_rules.specs.Mend.{freshFile}
+use Rattle.rules_forms.specs.Shapes.{numberOf}
+use Rattle.rules_mend.specs.Mend.{freshFile}
 use Rattle.file_mend.proofs.Told.{length-is, survey-few, survey-long, survey-all}
 use Rattle.file_mend.proofs.survey.Statement.{statement}
 use Rattle.file_mend.proofs.survey.Tie as tie

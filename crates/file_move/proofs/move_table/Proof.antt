@@ -6,8 +6,8 @@ use native.Mathlib.Omega.{arith}
 use lib.ListN.{length}
 use borrow.Author.Needs.{needs}
 use borrow.Author.Tests.{not-true, not-false}
-use Rattle.form_rules.specs.declared.Moved.the-variants as moved
-use Rattle.form_rules.specs.Forms.{agreesBeside}
+use Rattle.rules_forms.specs.declared.Moved.the-variants as moved
+use Rattle.rules_forms.specs.Forms.{agreesBeside}
 use Rattle.file_sizes.proofs.Sizes.{short-file}
 use Rattle.file_move.proofs.Going.{size}
 use Rattle.file_move.proofs.Answers.{few-held, told-full, told-other, told-bytes}

@@ -3,9 +3,9 @@ use mathlib.Core.Path.{_≡_, sym, _∙_}
 use Prim.Native.Nat.{ℕ}
 use lib.ListN.{length}
 use borrow.Author.Needs.{needs}
-use Rattle.file_rules.specs.declared.Loaded.the-variants as loaded
-use Rattle.form_rules.specs.Forms.{judged}
-use Rattle.form_rules.specs.Shapes.{numberOf}
+use Rattle.rules_files.specs.declared.Loaded.the-variants as loaded
+use Rattle.rules_forms.specs.Forms.{judged}
+use Rattle.rules_forms.specs.Shapes.{numberOf}
 use Rattle.theory_forms.proofs.Moves.{move-untouched}
 use Rattle.file_move.proofs.Answers.{told-by, told-refused, leaves-by}
 use Rattle.file_move.proofs.move_to.Statement.{statement}

@@ -6,8 +6,8 @@ use native.Mathlib.Omega.{arith}
 use lib.ListN.{length, drop, length-take, length-drop}
 use borrow.Author.Needs.{needs}
 use Rattle.rules.specs.Rows.{wordsPerRow}
-use Rattle.file_rules.specs.Blocks.{blockBytes}
-use Rattle.form_rules.specs.Forms.{rowsBeside}
+use Rattle.rules_files.specs.Blocks.{blockBytes}
+use Rattle.rules_forms.specs.Forms.{rowsBeside}
 use Rattle.file_sizes.proofs.Sizes.{some-rows, few-rows}
 use Rattle.file_beside.proofs.Rows.{few-count, last-first}
 use Rattle.file_beside.proofs.Agreeing.{agrees-long}

@@ -6,10 +6,10 @@ use native.Mathlib.Omega.{arith}
 use borrow.Author.Needs.{needs}
 use borrow.Rule.Slice.PartMut.{putMid}
 use Rattle.rules.specs.declared.Table.{Table}
-use Rattle.file_rules.specs.Bytes.{bytesOf}
-use Rattle.file_rules.specs.Blocks.{blockBytes, block}
-use Rattle.form_rules.specs.Forms.{rowsBeside, tableBeside}
-use Rattle.form_rules.specs.Shapes.{numberOf, formOf, saidIn}
+use Rattle.rules_files.specs.Bytes.{bytesOf}
+use Rattle.rules_files.specs.Blocks.{blockBytes, block}
+use Rattle.rules_forms.specs.Forms.{rowsBeside, tableBeside}
+use Rattle.rules_forms.specs.Shapes.{numberOf, formOf, saidIn}
 use Rattle.laws.specs.Bounds.{Bytes}
 use Rattle.laws.proofs.Bounds.{below-from}
 use Rattle.file_sizes.proofs.Sizes.{some-length}

@@ -6,10 +6,10 @@ use native.Mathlib.Omega.{arith}
 use lib.ListN.{length, take, length-take}
 use borrow.Author.Needs.{needs}
 use Rattle.rules.specs.Rows.{wordsPerRow}
-use Rattle.file_rules.specs.Bytes.{bytesOf}
-use Rattle.file_rules.specs.Blocks.{block, contentOf, perBlock}
-use Rattle.file_rules.specs.Files.{rowBytes}
-use Rattle.form_rules.specs.Short.{shortBytes, shortened}
+use Rattle.rules_files.specs.Bytes.{bytesOf}
+use Rattle.rules_files.specs.Blocks.{block, contentOf, perBlock}
+use Rattle.rules_files.specs.Files.{rowBytes}
+use Rattle.rules_forms.specs.Short.{shortBytes, shortened}
 use Rattle.file_blocks.proofs.Laws.{content-put}
 use Rattle.file_parts.proofs.Parts.{full-few, short-few, rows-size}
 use Rattle.file_parts.proofs.put_part.Statement.{statement}

@@ -5,9 +5,9 @@ use native.Mathlib.Omega.{arith}
 use lib.ListN.{length, take, drop, length-take, length-drop}
 use Rattle.laws.proofs.Lists.{lent-tail}
 use Rattle.rules.specs.Rows.{rowIn, wordsPerRow}
-use Rattle.file_rules.specs.Bytes.{bytesOf}
-use Rattle.file_rules.specs.Blocks.{atContent}
-use Rattle.form_rules.specs.Short.{shortBytes, shortRow, shortened}
+use Rattle.rules_files.specs.Bytes.{bytesOf}
+use Rattle.rules_files.specs.Blocks.{atContent}
+use Rattle.rules_forms.specs.Short.{shortBytes, shortRow, shortened}
 use Rattle.file_blocks.proofs.Laws.{put-length}
 use Rattle.file_parts.proofs.Parts.{Put, row-size, rows-none, rows-more}
 use Rattle.file_parts.proofs.put_short_rows.Statement.{statement}

@@ -3,8 +3,8 @@ use mathlib.Core.Path.{_≡_, ap}
 use native.Mathlib.Omega.{arith}
 use Prim.Native.Nat.{ℕ, _+_, _-_, _*_, _/_}
 use borrow.Author.Needs.{needs}
-use Rattle.file_rules.specs.Blocks.{blockBytes, blocksFor, fileLength}
-use Rattle.form_rules.specs.Shapes.{rowBytesOf}
+use Rattle.rules_files.specs.Blocks.{blockBytes, blocksFor, fileLength}
+use Rattle.rules_forms.specs.Shapes.{rowBytesOf}
 use Rattle.file_sizes.proofs.Sizes.{some-rows, few-rows, few-blocks, blocks-by}
 use Rattle.file_sizes.proofs.length_for.Statement.{statement}
 use Rattle.file_sizes.proofs.length_for.Tie as tie

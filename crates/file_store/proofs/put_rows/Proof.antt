@@ -4,7 +4,7 @@ use mathlib.Core.Path.{_≡_, refl, sym, _∙_}
 use Prim.Native.Nat.{_+_, _*_, _-_, _≤_}
 use native.Mathlib.Omega.{arith}
 use lib.ListN.{length, take, drop, length-take, length-drop}
-use Rattle.file_rules.specs.Blocks.{fileLength}
+use Rattle.rules_files.specs.Blocks.{fileLength}
 use Rattle.file_store.proofs.Going.{Going, going-start, going-next, going-end, room-left, few-blocks, part-few}
 use Rattle.file_store.proofs.put_rows.Statement.{statement}
 use Rattle.file_store.proofs.put_rows.Tie as tie

@@ -7,9 +7,9 @@ use borrow.Author.Tests.{not-true, not-false}
 use Rattle.rows.proofs.Inside.{fine}
 use mathlib.Core.Bool.{true}
 use Rattle.rules.specs.Rows.{wellFormed}
-use Rattle.file_rules.specs.declared.Stored.the-variants as stored
-use Rattle.file_rules.specs.Blocks.{fileLength}
-use Rattle.file_rules.specs.Files.{rowBytes}
+use Rattle.rules_files.specs.declared.Stored.the-variants as stored
+use Rattle.rules_files.specs.Blocks.{fileLength}
+use Rattle.rules_files.specs.Files.{rowBytes}
 use Rattle.theory_files.proofs.Files.{store-untouched, store-written}
 use Rattle.file_store.proofs.Going.{most-length, store-unformed, store-many, store-full, store-fits}
 use borrow.Author.Needs.{needs}

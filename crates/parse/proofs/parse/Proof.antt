@@ -1,4 +1,4 @@
--- `parse::parse` meets its contract: 1, 2 and 3, the table's refused ending, 5, and then the reading.
+-- `parse` meets its contract: 1, 2 and 3, the table's refused ending, 5, and then the reading.
 use mathlib.Core.Path.{_≡_, sym, _∙_}
 use borrow.Author.Needs.{needs}
 use Rattle.rules.specs.declared.Judged.the-variants as verdict

@@ -1,4 +1,4 @@
--- `parse::program` meets its contract. At the loop's head the maps, units and events so far are read.
+-- `program` meets its contract. At the loop's head the maps, units and events so far are read.
 use mathlib.Core.Path.{_≡_, refl, sym, ap, _∙_}
 use mathlib.Core.Bool.{false}
 use mathlib.Core.List.{List}

@@ -1,4 +1,4 @@
--- `parse::program_passed` meets its contract. At the loop's head the maps, units and events so far are passed.
+-- `program_passed` meets its contract. At the loop's head the maps, units and events so far are passed.
 use mathlib.Core.Path.{_≡_, sym, _∙_}
 use mathlib.Core.List.{List}
 use Prim.Native.Nat.{ℕ, _-_}

@@ -1,4 +1,4 @@
--- `parse::top` meets its contract: the row's kind says which it is.
+-- `top` meets its contract: the row's kind says which it is.
 use mathlib.Core.Path.{_≡_, sym, _∙_}
 use mathlib.Core.List.{List}
 use borrow.Author.Needs.{needs}

@@ -1,4 +1,4 @@
--- `parse::top_passed` meets its contract: a unit whose kinds tell that it is one is what the parser gives; else `top` itself says it.
+-- `top_passed` meets its contract: a unit whose kinds tell that it is one is what the parser gives; else `top` itself says it.
 use mathlib.Core.Path.{refl, sym, _∙_}
 use mathlib.Core.List.{List}
 use native.Mathlib.Omega.{arith}

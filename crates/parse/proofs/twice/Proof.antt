@@ -1,4 +1,4 @@
--- `parse::twice` meets its contract: the first pass, into no memory, says whether the second will be refused.
+-- `twice` meets its contract: the first pass, into no memory, says whether the second will be refused.
 use mathlib.Core.Path.{_≡_, refl, sym, ap, subst, _∙_}
 use mathlib.Core.List.{List, _++_}
 use Prim.Native.Nat.{ℕ, _≤_}

@@ -1,4 +1,4 @@
--- `parse::written` meets its contract: a program that is accepted is not refused, and its nodes have room.
+-- `written` meets its contract: a program that is accepted is not refused, and its nodes have room.
 use mathlib.Core.Path.{_≡_}
 use Prim.Native.Nat.{ℕ}
 use native.Mathlib.Omega.{arith}

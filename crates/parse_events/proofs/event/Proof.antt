@@ -1,4 +1,4 @@
--- `events::event` meets its contract: the header, and then the fields.
+-- `event` meets its contract: the header, and then the fields.
 use mathlib.Core.Path.{refl, sym, ap, _∙_, subst}
 use mathlib.Core.List.{List}
 use Prim.Native.Nat.{ℕ, _+_}

@@ -1,4 +1,4 @@
--- `events::field` meets its contract: the node has the facts of what was read behind the colon.
+-- `field` meets its contract: the node has the facts of what was read behind the colon.
 use mathlib.Core.Path.{refl, sym, _∙_}
 use mathlib.Core.List.{List}
 use Prim.Native.Nat.{_+_}

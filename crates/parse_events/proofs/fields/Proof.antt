@@ -1,4 +1,4 @@
--- `events::fields` meets its contract. At the loop's head the fields so far are read, and the rest gives the event.
+-- `fields` meets its contract. At the loop's head the fields so far are read, and the rest gives the event.
 use mathlib.Core.Path.{_≡_, refl, sym, ap, _∙_}
 use mathlib.Core.Bool.{false}
 use mathlib.Core.List.{List}

@@ -1,4 +1,4 @@
--- `events::length_at` meets its contract: a number of one word, then `]` and `;`.
+-- `length_at` meets its contract: a number of one word, then `]` and `;`.
 use mathlib.Core.Path.{_≡_, refl, sym, _∙_}
 use mathlib.Core.List.{List}
 use Prim.Native.Nat.{ℕ, _+_, _*_, _^_, _<_}

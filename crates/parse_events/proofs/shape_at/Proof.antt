@@ -1,4 +1,4 @@
--- `events::shape_at` meets its contract: `bytes` with a length, a type, or neither.
+-- `shape_at` meets its contract: `bytes` with a length, a type, or neither.
 use mathlib.Core.Path.{_≡_, refl, sym, ap, _∙_}
 use mathlib.Core.List.{List}
 use Prim.Native.Nat.{_+_}

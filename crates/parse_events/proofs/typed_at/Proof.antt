@@ -1,4 +1,4 @@
--- `events::typed_at` meets its contract: a type with a length, or with none.
+-- `typed_at` meets its contract: a type with a length, or with none.
 use mathlib.Core.Path.{_≡_, refl, sym, _∙_, subst}
 use mathlib.Core.List.{List}
 use Prim.Native.Nat.{ℕ, _+_, _-_}

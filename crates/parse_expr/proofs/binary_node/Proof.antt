@@ -1,4 +1,4 @@
--- `parse_expr::binary_node` meets its contract: from `+` to `%` a row's kind and its node's kind are equally far from those of `+`.
+-- `binary_node` meets its contract: from `+` to `%` a row's kind and its node's kind are equally far from those of `+`.
 use mathlib.Core.Path.{_≡_, refl, ap, _∙_}
 use mathlib.Core.Bool.{Bool, true, false, _||_, true≢false}
 use Prim.Native.Nat.{ℕ, zero, suc, _+_, _-_, _≤_, _<_}

@@ -1,4 +1,4 @@
--- `parse_expr::call_end` meets its contract.
+-- `call_end` meets its contract.
 use mathlib.Core.Path.{refl}
 use borrow.Author.Needs.{needs}
 use Rattle.parse_expr.proofs.call_end.Statement.{statement}

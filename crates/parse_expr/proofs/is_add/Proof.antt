@@ -1,4 +1,4 @@
--- `parse_expr::is_add` meets its contract: what lies between the signs is one of them.
+-- `is_add` meets its contract: what lies between the signs is one of them.
 use Rattle.theory_grammar.proofs.Operators.{add-between}
 use Rattle.parse_expr.proofs.is_add.Statement.{statement}
 use Rattle.parse_expr.proofs.is_add.Tie as tie

@@ -1,4 +1,4 @@
--- `parse_expr::is_lone` meets its contract.
+-- `is_lone` meets its contract.
 use borrow.Author.Needs.{needs}
 use Rattle.parse_expr.specs.Lone.{isLone}
 use Rattle.parse_expr.proofs.is_lone.Statement.{statement}

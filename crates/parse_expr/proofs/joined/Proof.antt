@@ -1,4 +1,4 @@
--- `parse_expr::joined` meets its contract.
+-- `joined` meets its contract.
 use mathlib.Core.Path.{refl}
 use borrow.Author.Needs.{needs}
 use borrow.Author.Tests.{eq-eqb, ne-eqb}

@@ -1,4 +1,4 @@
--- `parse_expr::joins` meets its contract.
+-- `joins` meets its contract.
 use borrow.Author.Needs.{needs}
 use Rattle.parse_expr.proofs.joins.Statement.{statement}
 use Rattle.parse_expr.proofs.joins.Tie as tie

@@ -1,4 +1,4 @@
--- `parse_expr::leaf` meets its contract.
+-- `leaf` meets its contract.
 use mathlib.Core.Path.{refl, sym, _∙_}
 use Prim.Native.Nat.{_+_, _*_, _<_}
 use native.Mathlib.Omega.{arith}

@@ -1,4 +1,4 @@
--- `maps::bits_at` meets its contract: two words of 32 bits make 64.
+-- `bits_at` meets its contract: two words of 32 bits make 64.
 use Prim.Native.Nat.{ℕ, _+_, _*_}
 use native.Mathlib.Omega.{arith}
 use borrow.Author.Needs.{needs}

@@ -1,4 +1,4 @@
--- `maps::chain` meets its contract. At the loop's head the sum has the bits of what is read, and the rest gives the chain.
+-- `chain` meets its contract. At the loop's head the sum has the bits of what is read, and the rest gives the chain.
 use mathlib.Core.Path.{_≡_, refl, sym, ap, _∙_, subst}
 use mathlib.Core.Bool.{true}
 use mathlib.Core.List.{List}

@@ -1,4 +1,4 @@
--- `maps::field` meets its contract: the row's kind says which field it is.
+-- `field` meets its contract: the row's kind says which field it is.
 use mathlib.Core.Path.{sym, ap, _∙_}
 use Prim.Native.Nat.{ℕ}
 use borrow.Author.Needs.{needs}

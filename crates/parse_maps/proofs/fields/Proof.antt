@@ -1,4 +1,4 @@
--- `maps::fields` meets its contract. At the loop's head the facts are those of the fields so far, and the rest gives the list.
+-- `fields` meets its contract. At the loop's head the facts are those of the fields so far, and the rest gives the list.
 use mathlib.Core.Path.{_≡_, refl, sym, _∙_, subst}
 use mathlib.Core.Bool.{true, not}
 use mathlib.Core.List.{List}

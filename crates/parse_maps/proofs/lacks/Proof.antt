@@ -1,4 +1,4 @@
--- `maps::lacks` meets its contract, test by test.
+-- `lacks` meets its contract, test by test.
 use mathlib.Core.Path.{_≡_}
 use mathlib.Core.Bool.{false}
 use lib.Dec.{eqb}

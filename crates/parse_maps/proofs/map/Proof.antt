@@ -1,4 +1,4 @@
--- `maps::map` meets its contract: the header, then fields that lack nothing.
+-- `map` meets its contract: the header, then fields that lack nothing.
 use mathlib.Core.Path.{_≡_, refl, sym, ap, _∙_, subst}
 use mathlib.Core.List.{List}
 use Prim.Native.Nat.{ℕ, _+_, _≤_, _<_}

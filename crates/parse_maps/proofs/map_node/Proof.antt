@@ -1,4 +1,4 @@
--- `maps::map_node` meets its contract: the last fact is max.
+-- `map_node` meets its contract: the last fact is max.
 use native.Mathlib.Numerals.{sub-one}
 use borrow.Author.Needs.{needs}
 use Rattle.parse_maps.proofs.map_node.Statement.{statement}

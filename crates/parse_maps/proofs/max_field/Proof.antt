@@ -1,4 +1,4 @@
--- `maps::max_field` meets its contract: a chain whose value fits a word, and `;`.
+-- `max_field` meets its contract: a chain whose value fits a word, and `;`.
 use mathlib.Core.Path.{_≡_, refl, sym, ap, _∙_}
 use mathlib.Core.Bool.{false, not}
 use mathlib.Core.List.{List}

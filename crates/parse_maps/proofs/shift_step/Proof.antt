@@ -1,4 +1,4 @@
--- `maps::shift_step` meets its contract: a number up to 63 behind the sign.
+-- `shift_step` meets its contract: a number up to 63 behind the sign.
 use mathlib.Core.Path.{_≡_, refl, sym, _∙_, subst}
 use mathlib.Core.List.{List}
 use Prim.Native.Nat.{ℕ, _+_}

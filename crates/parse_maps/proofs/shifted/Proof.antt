@@ -1,4 +1,4 @@
--- `maps::shifted` meets its contract: a shift of 64 bits that drops the high ones, or keeps the sign.
+-- `shifted` meets its contract: a shift of 64 bits that drops the high ones, or keeps the sign.
 use Prim.Native.Nat.{_-_, _^_}
 use native.Mathlib.Omega.{arith}
 use native.Mathlib.Nat.{div-le-self}

@@ -1,4 +1,4 @@
--- `maps::type_field` meets its contract: a dot and a name that is a map type, and `;`.
+-- `type_field` meets its contract: a dot and a name that is a map type, and `;`.
 use mathlib.Core.Path.{_≡_, refl, sym, ap, _∙_}
 use mathlib.Core.List.{List}
 use Prim.Native.Nat.{ℕ, _+_, _*_, _<_}

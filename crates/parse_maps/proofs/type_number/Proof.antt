@@ -1,4 +1,4 @@
--- `maps::type_number` meets its contract: from the last spelling to the first, each gives the number by itself and those behind it.
+-- `type_number` meets its contract: from the last spelling to the first, each gives the number by itself and those behind it.
 use mathlib.Core.Path.{refl}
 use borrow.Author.Needs.{needs}
 use Rattle.rules.specs.Kinds.{kindIn}

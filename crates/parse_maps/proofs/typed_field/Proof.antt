@@ -1,4 +1,4 @@
--- `maps::typed_field` meets its contract: a type, and `;`, and the last key or value is this one.
+-- `typed_field` meets its contract: a type, and `;`, and the last key or value is this one.
 use mathlib.Core.Path.{_≡_, refl, sym, ap, _∙_}
 use mathlib.Core.Bool.{true}
 use mathlib.Core.List.{List}

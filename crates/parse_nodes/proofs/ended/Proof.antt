@@ -1,4 +1,4 @@
--- `nodes::ended` meets its contract.
+-- `ended` meets its contract.
 use mathlib.Core.Path.{ap}
 use Prim.Native.Nat.{_+_}
 use native.Mathlib.Omega.{arith}

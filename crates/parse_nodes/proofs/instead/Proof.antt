@@ -1,4 +1,4 @@
--- `nodes::instead` meets its contract: another set, exactly where the first row itself is refused with 21.
+-- `instead` meets its contract: another set, exactly where the first row itself is refused with 21.
 use mathlib.Core.Path.{_∙_}
 use borrow.Author.Tests.{eq-eqb, ne-eqb}
 use borrow.Author.Needs.{needs}

@@ -1,4 +1,4 @@
--- `nodes::is_dotted` meets its contract.
+-- `is_dotted` meets its contract.
 use mathlib.Core.Path.{refl}
 use borrow.Author.Needs.{needs}
 use Rattle.parse_nodes.specs.Fitting.{dottedWords}

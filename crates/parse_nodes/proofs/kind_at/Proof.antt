@@ -1,4 +1,4 @@
--- `nodes::kind_at` meets its contract.
+-- `kind_at` meets its contract.
 use borrow.Author.Tests.{lt-ltb, le-ltb}
 use Rattle.parse_nodes.specs.Post.{kindWord}
 use borrow.Author.Needs.{needs}

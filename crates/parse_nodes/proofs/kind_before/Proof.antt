@@ -1,4 +1,4 @@
--- `nodes::kind_before` meets its contract.
+-- `kind_before` meets its contract.
 use mathlib.Core.Path.{_≡_, ap, _∙_}
 use Prim.Native.Nat.{_-_}
 use native.Mathlib.Omega.{arith}

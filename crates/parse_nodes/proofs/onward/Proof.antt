@@ -1,4 +1,4 @@
--- `nodes::onward` meets its contract.
+-- `onward` meets its contract.
 use mathlib.Core.Path.{sym, _∙_}
 use borrow.Author.Needs.{needs}
 use Rattle.parse_nodes.specs.Fitting.{onwardWords}

@@ -1,4 +1,4 @@
--- `nodes::opened` meets its contract: a name and a brace, one after the other.
+-- `opened` meets its contract: a name and a brace, one after the other.
 use mathlib.Core.Path.{refl, sym, ap, _∙_}
 use Prim.Native.Nat.{_+_}
 use borrow.Author.Needs.{needs}

@@ -1,4 +1,4 @@
--- `nodes::put` meets its contract.
+-- `put` meets its contract.
 use mathlib.Core.Path.{sym}
 use lib.Seq.{set-out}
 use borrow.Author.Needs.{needs}

@@ -1,4 +1,4 @@
--- `nodes::retold` meets its contract: variant by variant.
+-- `retold` meets its contract: variant by variant.
 use borrow.Author.Needs.{needs}
 use Rattle.rules.specs.Fits.{retold}
 use Rattle.parse_nodes.proofs.retold.Statement.{statement}

@@ -1,4 +1,4 @@
--- `nodes::store` meets its contract: none of the words, some or all find room.
+-- `store` meets its contract: none of the words, some or all find room.
 use mathlib.Core.Path.{sym}
 use Rattle.rules.specs.Nodes.{factNode, nodeWords}
 use Rattle.theory_grammar.proofs.Laws.{sets-out}

@@ -1,4 +1,4 @@
--- `nodes::store_part` meets its contract.
+-- `store_part` meets its contract.
 use Rattle.theory_grammar.proofs.Laws.{sets-eight}
 use borrow.Author.Needs.{needs}
 use Rattle.parse_nodes.proofs.store_part.Statement.{statement}

@@ -1,4 +1,4 @@
--- `nodes::store_whole` meets its contract.
+-- `store_whole` meets its contract.
 use mathlib.Core.Path.{refl}
 use native.Mathlib.Omega.{arith}
 use lib.ListN.{length-set}

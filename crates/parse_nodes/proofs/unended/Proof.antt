@@ -1,4 +1,4 @@
--- `nodes::unended` meets its contract.
+-- `unended` meets its contract.
 use mathlib.Core.Path.{_∙_}
 use native.Mathlib.Omega.{arith}
 use borrow.Author.Needs.{needs}

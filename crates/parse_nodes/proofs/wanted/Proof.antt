@@ -1,4 +1,4 @@
--- `nodes::wanted` meets its contract.
+-- `wanted` meets its contract.
 use mathlib.Core.Path.{_≡_, ap, _∙_}
 use Prim.Native.Nat.{ℕ, _*_, _%_, _^_, _≤_}
 use native.Mathlib.Nat.{mod-eq-of-lt}

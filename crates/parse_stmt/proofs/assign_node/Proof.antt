@@ -1,4 +1,4 @@
--- `stmt::assign_node` meets its contract.
+-- `assign_node` meets its contract.
 use borrow.Author.Tests.{eq-eqb, ne-eqb}
 use Rattle.rules.specs.Nodes.{assignNode}
 use Rattle.parse_stmt.proofs.assign_node.Statement.{statement}

@@ -1,4 +1,4 @@
--- `stmt::assigned` meets its contract: behind a target and its sign, a value and `;`.
+-- `assigned` meets its contract: behind a target and its sign, a value and `;`.
 use Prim.Native.Nat.{ℕ, _+_}
 use mathlib.Core.Path.{_≡_, sym, ap, _∙_}
 use mathlib.Core.List.{List}

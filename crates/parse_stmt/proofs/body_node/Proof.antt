@@ -1,4 +1,4 @@
--- `parse_stmt::body_node` meets its contract.
+-- `body_node` meets its contract.
 use borrow.Author.Tests.{eq-eqb, ne-eqb}
 use Rattle.rules.specs.Kinds.{KeywordElse}
 use Rattle.parse_stmt.specs.Bodies.{bodyNode}

@@ -1,4 +1,4 @@
--- `stmt::decl_node` meets its contract.
+-- `decl_node` meets its contract.
 use borrow.Author.Tests.{eq-eqb, ne-eqb}
 use Rattle.rules.specs.Nodes.{declNode}
 use Rattle.parse_stmt.proofs.decl_node.Statement.{statement}

@@ -1,4 +1,4 @@
--- `stmt::declare` meets its contract: a name, `=`, an expression and `;`.
+-- `declare` meets its contract: a name, `=`, an expression and `;`.
 use Prim.Native.Nat.{ℕ, _+_}
 use mathlib.Core.Path.{_≡_, refl, sym, ap, _∙_}
 use mathlib.Core.List.{List}

@@ -1,4 +1,4 @@
--- `stmt::effect` meets its contract: an expression, and behind it an assignment's sign or `;`.
+-- `effect` meets its contract: an expression, and behind it an assignment's sign or `;`.
 use Prim.Native.Nat.{ℕ, _+_}
 use mathlib.Core.Path.{_≡_, refl, sym, ap, _∙_}
 use mathlib.Core.Bool.{Bool, true}

@@ -1,4 +1,4 @@
--- `stmt::give` meets its contract: an expression and `;`.
+-- `give` meets its contract: an expression and `;`.
 use Prim.Native.Nat.{ℕ, _+_}
 use mathlib.Core.Path.{_≡_, sym, ap, _∙_}
 use mathlib.Core.List.{List}

@@ -1,4 +1,4 @@
--- `stmt::hanging_if` meets its contract.
+-- `hanging_if` meets its contract.
 use mathlib.Core.Path.{ap}
 use borrow.Author.Needs.{needs}
 use Rattle.parse_nodes.specs.Post.{hangingAt}

@@ -1,4 +1,4 @@
--- `stmt::head` meets its contract: `guard`, `(`, a name, `)` and `{` behind `if`.
+-- `head` meets its contract: `guard`, `(`, a name, `)` and `{` behind `if`.
 use Prim.Native.Nat.{ℕ, _+_}
 use mathlib.Core.Path.{_≡_, refl, sym, ap, _∙_}
 use mathlib.Core.List.{List}

@@ -1,4 +1,4 @@
--- `units::first_kind` meets its contract.
+-- `first_kind` meets its contract.
 use borrow.Author.Needs.{needs}
 use borrow.Author.Tests.{eq-eqb, ne-eqb}
 use Rattle.parse_units.specs.Contents.{unset}

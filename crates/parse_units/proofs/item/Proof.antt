@@ -1,4 +1,4 @@
--- `units::item` meets its contract: a section or a licence by its word, and a statement otherwise.
+-- `item` meets its contract: a section or a licence by its word, and a statement otherwise.
 use mathlib.Core.Path.{_≡_, sym, ap, _∙_}
 use mathlib.Core.Bool.{false}
 use mathlib.Core.List.{List}

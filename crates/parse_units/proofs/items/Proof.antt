@@ -1,4 +1,4 @@
--- `units::items` meets its contract. At the loop's head the contents so far are read, with their kind and licence.
+-- `items` meets its contract. At the loop's head the contents so far are read, with their kind and licence.
 use mathlib.Core.Path.{_≡_, sym, ap, _∙_}
 use mathlib.Core.List.{List}
 use Prim.Native.Nat.{ℕ, _-_}

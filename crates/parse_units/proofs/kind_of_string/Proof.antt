@@ -1,4 +1,4 @@
--- `units::kind_of_string` meets its contract: nothing, what stands before a last quote, or all of what stands between the quotes.
+-- `kind_of_string` meets its contract: nothing, what stands before a last quote, or all of what stands between the quotes.
 use mathlib.Core.Path.{sym, ap, _∙_}
 use borrow.Author.Needs.{needs}
 use Rattle.rules.specs.Sets.{fromSection}

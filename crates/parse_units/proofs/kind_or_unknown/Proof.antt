@@ -1,4 +1,4 @@
--- `units::kind_or_unknown` meets its contract.
+-- `kind_or_unknown` meets its contract.
 use borrow.Author.Tests.{eq-eqb, ne-eqb}
 use Rattle.parse_units.specs.Contents.{unset}
 use Rattle.parse_units.proofs.kind_or_unknown.Statement.{statement}

@@ -1,4 +1,4 @@
--- `units::text_item` meets its contract: a string, and `;`.
+-- `text_item` meets its contract: a string, and `;`.
 use mathlib.Core.Path.{_≡_, refl, sym, ap, _∙_}
 use mathlib.Core.List.{List}
 use Prim.Native.Nat.{ℕ, _+_, _*_, _<_}

@@ -1,4 +1,4 @@
--- `units::unit` meets its contract: the header, the contents, and the unit's node.
+-- `unit` meets its contract: the header, the contents, and the unit's node.
 use mathlib.Core.Path.{_≡_, refl, sym, ap, _∙_, subst}
 use mathlib.Core.List.{List}
 use Prim.Native.Nat.{ℕ, _+_, _<_}

@@ -1,4 +1,4 @@
--- `units::unit_node` meets its contract.
+-- `unit_node` meets its contract.
 use mathlib.Core.Path.{refl}
 use borrow.Author.Needs.{needs}
 use Rattle.parse_units.proofs.unit_node.Statement.{statement}

@@ -1,4 +1,4 @@
--- `units::with_text` meets its contract: a licence holds over those before it, a section only where there was none.
+-- `with_text` meets its contract: a licence holds over those before it, a section only where there was none.
 use borrow.Author.Needs.{needs}
 use Rattle.parse_units.proofs.Answers.{with-licence, with-section}
 use Rattle.parse_units.proofs.with_text.Statement.{statement}

@@ -1,4 +1,4 @@
--- `scan::ending_of` meets its contract: the other arms are no endings.
+-- `ending_of` meets its contract: the other arms are no endings.
 use mathlib.Core.Path.{_≡_, sym, _∙_}
 use Prim.Native.Nat.{ℕ}
 use native.Mathlib.Omega.{arith}

@@ -1,4 +1,4 @@
--- `scan::told` meets its contract: the rows are told where there is room for all of them.
+-- `told` meets its contract: the rows are told where there is room for all of them.
 use mathlib.Core.Path.{ap}
 use native.Mathlib.Omega.{arith}
 use borrow.Author.Needs.{needs}

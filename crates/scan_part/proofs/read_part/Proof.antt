@@ -1,4 +1,4 @@
--- `scan_part::read_part` meets its contract: the loop's invariant is `Going`, and each way through a turn is one of its laws.
+-- `read_part` meets its contract: the loop's invariant is `Going`, and each way through a turn is one of its laws.
 use mathlib.Core.Path.{_≡_, refl, _∙_}
 use mathlib.Core.Bool.{true}
 use mathlib.Core.List.{List}

@@ -1,4 +1,4 @@
--- `place::highest` meets its contract: no byte that was passed is above the number.
+-- `highest` meets its contract: no byte that was passed is above the number.
 use Prim.Native.Nat.{ℕ, _-_, _≤_, _<_}
 use native.Mathlib.Omega.{arith}
 use lib.ListN.{length, getD}

@@ -1,4 +1,4 @@
--- `place::pass` meets its contract: the cursor stands behind the bytes that were passed, with room for those that are left.
+-- `pass` meets its contract: the cursor stands behind the bytes that were passed, with room for those that are left.
 use mathlib.Core.Path.{_≡_, refl, sym, ap, _∙_}
 use mathlib.Core.List.{List}
 use Prim.Native.Nat.{ℕ, suc, _+_, _-_, _≤_, _<_}

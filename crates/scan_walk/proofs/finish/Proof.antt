@@ -1,4 +1,4 @@
--- `scan_walk::finish` meets its contract.
+-- `finish` meets its contract.
 use mathlib.Core.Path.{_≡_, refl, sym, _∙_}
 use Prim.Native.Nat.{ℕ, _<_}
 use native.Mathlib.Omega.{arith}

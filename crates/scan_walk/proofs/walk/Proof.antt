@@ -1,4 +1,4 @@
--- `scan_walk::walk` meets its contract: the loop's invariant is `Walking`, and each way through a turn is one of its laws.
+-- `walk` meets its contract: the loop's invariant is `Walking`, and each way through a turn is one of its laws.
 use mathlib.Core.Path.{_≡_, refl, sym, subst, _∙_}
 use mathlib.Core.Bool.{Bool, true, false}
 use mathlib.Core.List.{List}

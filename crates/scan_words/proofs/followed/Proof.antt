@@ -1,4 +1,4 @@
--- `words::followed` meets its contract: the two branches are the two cases.
+-- `followed` meets its contract: the two branches are the two cases.
 use mathlib.Core.Path.{sym}
 use borrow.Author.Tests.{eq-eqb, ne-eqb}
 use Rattle.scan_words.proofs.followed.Statement.{statement}

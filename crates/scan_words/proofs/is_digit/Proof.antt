@@ -1,4 +1,4 @@
--- `words::is_digit` meets its contract by computing.
+-- `is_digit` meets its contract by computing.
 use mathlib.Core.Path.{refl}
 use Rattle.rules.specs.Lex.{isDigit}
 use Rattle.scan_words.proofs.is_digit.Statement.{statement}

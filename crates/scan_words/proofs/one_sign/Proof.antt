@@ -1,4 +1,4 @@
--- `words::one_sign` meets its contract: at each key by computing, and what is left is the last of the five.
+-- `one_sign` meets its contract: at each key by computing, and what is left is the last of the five.
 use mathlib.Core.Path.{_≡_, refl}
 use mathlib.Core.Bool.{Bool, true, false, _||_}
 use Prim.Native.Nat.{ℕ}

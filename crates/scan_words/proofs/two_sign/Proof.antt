@@ -1,4 +1,4 @@
--- `words::two_sign` meets its contract: behind a first byte the table has one second byte, and behind any other none.
+-- `two_sign` meets its contract: behind a first byte the table has one second byte, and behind any other none.
 use mathlib.Core.Bool.{Bool, true, false, cond, _&&_, and-false}
 use mathlib.Core.List.{List, [], _∷_}
 use mathlib.Core.Path.{_≡_, refl, sym, _∙_}

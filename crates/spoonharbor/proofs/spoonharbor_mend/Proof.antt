@@ -1,4 +1,4 @@
--- `spoonharbor::spoonharbor_mend` meets its contract: the answer's words and the file and the list are those of the call's.
+-- `spoonharbor_mend` meets its contract: the answer's words and the file and the list are those of the call's.
 use mathlib.Core.Path.{ap, _∙_}
 use Rattle.file_answers.specs.Layout.{mendedWords}
 use borrow.Author.Needs.{needs}

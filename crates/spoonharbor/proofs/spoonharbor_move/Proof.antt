@@ -1,4 +1,4 @@
--- `spoonharbor::spoonharbor_move` meets its contract: the answer's words and the moved file are those of the call's.
+-- `spoonharbor_move` meets its contract: the answer's words and the moved file are those of the call's.
 use mathlib.Core.Path.{ap, _∙_}
 use Rattle.file_answers.specs.Layout.{movedWords}
 use borrow.Author.Needs.{needs}

@@ -1,4 +1,4 @@
--- `spoonharbor::spoonharbor_parse` meets its contract: the answer's words and the nodes are those of the call's.
+-- `spoonharbor_parse` meets its contract: the answer's words and the nodes are those of the call's.
 use mathlib.Core.Path.{ap, _∙_}
 use Rattle.answers.specs.Layout.{parsedWords}
 use borrow.Author.Needs.{needs}

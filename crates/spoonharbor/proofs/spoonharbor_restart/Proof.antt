@@ -1,4 +1,4 @@
--- `spoonharbor::spoonharbor_restart` meets its contract: the answer's words are those of the call's.
+-- `spoonharbor_restart` meets its contract: the answer's words are those of the call's.
 use mathlib.Core.Path.{ap, _∙_}
 use borrow.Author.Needs.{needs}
 use Rattle.answers.specs.Layout.{restartWords}

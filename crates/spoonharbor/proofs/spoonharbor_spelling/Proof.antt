@@ -1,4 +1,4 @@
--- `spoonharbor::spoonharbor_spelling` meets its contract: where the row is judged fine, its start and end are read.
+-- `spoonharbor_spelling` meets its contract: where the row is judged fine, its start and end are read.
 use mathlib.Core.Path.{sym, _∙_}
 use native.Mathlib.Omega.{arith}
 use Rattle.rows.proofs.Judging.{told}

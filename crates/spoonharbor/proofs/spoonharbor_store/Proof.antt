@@ -1,4 +1,4 @@
--- `spoonharbor::spoonharbor_store` meets its contract: the answer's words and the file are those of the call's, on the table that the words tell.
+-- `spoonharbor_store` meets its contract: the answer's words and the file are those of the call's, on the table that the words tell.
 use mathlib.Core.Path.{ap, _∙_}
 use Rattle.file_answers.specs.Layout.{storedWords}
 use borrow.Author.Needs.{needs}

@@ -1,4 +1,4 @@
--- `spoonharbor::spoonharbor_well_formed` meets its contract: the two tests are the definition's.
+-- `spoonharbor_well_formed` meets its contract: the two tests are the definition's.
 use borrow.Author.Needs.{needs}
 use Rattle.spoonharbor.proofs.spoonharbor_well_formed.Statement.{statement}
 use Rattle.spoonharbor.proofs.spoonharbor_well_formed.Tie as tie

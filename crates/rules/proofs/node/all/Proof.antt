@@ -1,4 +1,4 @@
--- `rules::node::all` meets its contract: the words at its indices are those of the definition, whatever they hold.
+-- `node::all` meets its contract: the words at its indices are those of the definition, whatever they hold.
 use mathlib.Core.Path.{refl}
 use Rattle.rules.specs.Nodes.{nodeWords}
 use Rattle.rules.specs.Names.{wordsAt}

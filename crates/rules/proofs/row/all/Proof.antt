@@ -1,4 +1,4 @@
--- `rules::row::all` meets its contract: the words at its indices are those of the definition, whatever they hold.
+-- `row::all` meets its contract: the words at its indices are those of the definition, whatever they hold.
 use mathlib.Core.Path.{refl}
 use Rattle.rules.specs.Rows.{rowWords}
 use Rattle.rules.specs.Names.{wordsAt}

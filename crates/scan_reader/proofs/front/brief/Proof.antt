@@ -1,4 +1,4 @@
--- `reader::front::brief` meets its contract: by the class of the byte, the reader of its piece.
+-- `front::brief` meets its contract: by the class of the byte, the reader of its piece.
 use mathlib.Core.Path.{_≡_, refl, sym, _∙_}
 use Prim.Native.Nat.{ℕ, _<_}
 use native.Mathlib.Omega.{arith}

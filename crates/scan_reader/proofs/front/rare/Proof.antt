@@ -1,4 +1,4 @@
--- `reader::front::rare` meets its contract: by the class of the byte, the piece that it begins.
+-- `front::rare` meets its contract: by the class of the byte, the piece that it begins.
 use mathlib.Core.Path.{_≡_, refl, sym, _∙_}
 use Prim.Native.Nat.{ℕ, _<_}
 use lib.ListN.{getD}

@@ -1,4 +1,4 @@
--- `reader::front::reason` meets its contract: each code is one reason's.
+-- `front::reason` meets its contract: each code is one reason's.
 use Rattle.rules.specs.declared.Lexical.the-variants.{NoRowBegins, LoneSign, NoHexDigit, OpenComment, OpenString, BadEscape}
 use Rattle.scan_reader.specs.Brief.{refusalCode}
 use Rattle.scan_reader.proofs.Reasons.{code-is, code-rest}

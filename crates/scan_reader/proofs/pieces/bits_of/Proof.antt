@@ -1,4 +1,4 @@
--- `reader::pieces::bits_of` meets its contract: two's complement, by cases.
+-- `pieces::bits_of` meets its contract: two's complement, by cases.
 use native.Mathlib.Omega.{arith}
 use borrow.Author.Needs.{needs}
 use Rattle.rules.specs.Rows.{bitsOf}

@@ -1,4 +1,4 @@
--- `reader::pieces::block_comment` meets its contract: closed by its two bytes, or open.
+-- `pieces::block_comment` meets its contract: closed by its two bytes, or open.
 use mathlib.Core.Path.{sym, _∙_}
 use Rattle.scan_reader.specs.Brief.{refusalCode}
 use Rattle.scan_reader.proofs.Settled.{block-closed, block-open, block-short}

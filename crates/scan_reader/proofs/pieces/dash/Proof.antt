@@ -1,4 +1,4 @@
--- `reader::pieces::dash` meets its contract: by the byte behind the dash.
+-- `pieces::dash` meets its contract: by the byte behind the dash.
 use mathlib.Core.Path.{_≡_, sym, ap, _∙_}
 use Prim.Native.Nat.{_+_}
 use lib.ListN.{getD}

@@ -1,4 +1,4 @@
--- `reader::pieces::line_comment` meets its contract: closed by its newline, or by the end of the text.
+-- `pieces::line_comment` meets its contract: closed by its newline, or by the end of the text.
 use mathlib.Core.Path.{sym, _∙_}
 use Rattle.scan_reader.proofs.Settled.{line-closed, line-last, line-short}
 use borrow.Author.Needs.{needs}

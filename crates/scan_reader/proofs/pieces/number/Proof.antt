@@ -1,4 +1,4 @@
--- `reader::pieces::number` meets its contract: the digits behind a sign and `0x`.
+-- `pieces::number` meets its contract: the digits behind a sign and `0x`.
 use mathlib.Core.Path.{_≡_, sym, ap, _∙_}
 use mathlib.Core.Bool.{Bool, _&&_}
 use mathlib.Core.Logic.{⊎-elim}

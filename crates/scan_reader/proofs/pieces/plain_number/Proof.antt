@@ -1,4 +1,4 @@
--- `reader::pieces::plain_number` meets its contract: a number of which no byte is behind the index.
+-- `pieces::plain_number` meets its contract: a number of which no byte is behind the index.
 use native.Mathlib.Nat.{add-zero}
 use borrow.Author.Needs.{needs}
 use Rattle.scan_reader.proofs.pieces.plain_number.Statement.{statement}

@@ -1,4 +1,4 @@
--- `reader::pieces::sign` meets its contract: two bytes first, and then one.
+-- `pieces::sign` meets its contract: two bytes first, and then one.
 use mathlib.Core.Path.{_≡_, sym, ap, _∙_}
 use mathlib.Core.Bool.{true, _||_}
 use mathlib.Core.List.{[], _∷_}

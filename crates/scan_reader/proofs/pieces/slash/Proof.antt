@@ -1,4 +1,4 @@
--- `reader::pieces::slash` meets its contract: by the byte behind the slash.
+-- `pieces::slash` meets its contract: by the byte behind the slash.
 use mathlib.Core.Path.{_≡_, sym, ap, _∙_}
 use Prim.Native.Nat.{_+_}
 use native.Mathlib.Omega.{arith}

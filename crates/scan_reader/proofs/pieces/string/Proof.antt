@@ -1,4 +1,4 @@
--- `reader::pieces::string` meets its contract: by what its bytes behind the opening quote come to.
+-- `pieces::string` meets its contract: by what its bytes behind the opening quote come to.
 use mathlib.Core.Path.{_≡_, sym, _∙_}
 use Prim.Native.Nat.{_+_, _≤_}
 use native.Mathlib.Omega.{arith}

@@ -1,4 +1,4 @@
--- `reader::pieces::word` meets its contract: the run of word bytes, and its kind.
+-- `pieces::word` meets its contract: the run of word bytes, and its kind.
 use mathlib.Core.Path.{sym, ap, _∙_}
 use Prim.Native.Nat.{ℕ, _-_}
 use native.Mathlib.Omega.{arith}

@@ -1,4 +1,4 @@
--- `scan_walk::meeting::find` meets its contract: the pointer stops at the first old row that can meet here or later.
+-- `meeting::find` meets its contract: the pointer stops at the first old row that can meet here or later.
 use mathlib.Core.Path.{_≡_, sym, ap, subst, _∙_}
 use mathlib.Core.Bool.{_&&_}
 use Prim.Native.Nat.{ℕ, _+_, _-_, _≤_, _<_}

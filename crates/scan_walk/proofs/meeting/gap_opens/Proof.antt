@@ -1,4 +1,4 @@
--- `scan_walk::meeting::gap_opens` meets its contract.
+-- `meeting::gap_opens` meets its contract.
 use mathlib.Core.Path.{_∙_}
 use borrow.Author.Needs.{needs}
 use Rattle.scan_walk.proofs.Gaps.{opens-two, opens-last, opens-other}

@@ -1,4 +1,4 @@
--- `scan_walk::meeting::seek` meets its contract: the rows that are passed start below the offset.
+-- `meeting::seek` meets its contract: the rows that are passed start below the offset.
 use Prim.Native.Nat.{ℕ, _-_, _≤_, _<_}
 use native.Mathlib.Omega.{arith}
 use Rattle.rows.specs.Shape.{rowNo}

@@ -1,4 +1,4 @@
--- `scan_walk::meeting::starts` meets its contract.
+-- `meeting::starts` meets its contract.
 use borrow.Author.Tests.{lt-ltb, le-ltb}
 use borrow.Author.Needs.{needs}
 use Rattle.laws.proofs.Rows.{start-word}

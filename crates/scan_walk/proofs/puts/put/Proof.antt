@@ -1,4 +1,4 @@
--- `scan_walk::puts::put` meets its contract: eight stores are the words of a row.
+-- `puts::put` meets its contract: eight stores are the words of a row.
 use native.Mathlib.Omega.{arith}
 use lib.ListN.{length-set}
 use lib.Seq.{sets-eq}

@@ -1,4 +1,4 @@
--- `scan_walk::puts::put_behind` meets its contract: the tail behind n rows is lent to `put`, where a row has room in it.
+-- `puts::put_behind` meets its contract: the tail behind n rows is lent to `put`, where a row has room in it.
 use native.Mathlib.Omega.{arith}
 use borrow.Author.Tests.{le-ltb, lt-ltb}
 use Rattle.rules.specs.Scan.{roomOf}

@@ -1,4 +1,4 @@
--- `scan_walk::spots::behind` meets its contract: in a line the cursor is moved at once, at a line's end its last byte is looked at, and else every byte.
+-- `spots::behind` meets its contract: in a line the cursor is moved at once, at a line's end its last byte is looked at, and else every byte.
 use mathlib.Core.Path.{_≡_, sym, ap, _∙_}
 use Prim.Native.Nat.{ℕ, _-_}
 use native.Mathlib.Omega.{arith}

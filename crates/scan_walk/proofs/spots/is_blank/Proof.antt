@@ -1,4 +1,4 @@
--- `scan_walk::spots::is_blank` meets its contract by computing.
+-- `spots::is_blank` meets its contract by computing.
 use mathlib.Core.Path.{refl}
 use Rattle.rules.specs.Text.{isBlank}
 use Rattle.scan_walk.proofs.spots.is_blank.Statement.{statement}

@@ -1,4 +1,4 @@
--- `scan_walk::spots::past_blanks` meets its contract: each turn passes at least one blank, and where the loop stops no blank is left.
+-- `spots::past_blanks` meets its contract: each turn passes at least one blank, and where the loop stops no blank is left.
 use mathlib.Core.Path.{sym, _∙_}
 use Prim.Native.Nat.{_+_, _-_}
 use native.Mathlib.Omega.{arith}

@@ -1,4 +1,4 @@
--- `scan_walk::spots::past_indent` meets its contract: each turn passes four bytes, each of them a blank and no newline by a test of the
+-- `spots::past_indent` meets its contract: each turn passes four bytes, each of them a blank and no newline by a test of the
 -- number that the code holds them against.
 use mathlib.Core.Path.{refl}
 use Prim.Native.Nat.{_-_}

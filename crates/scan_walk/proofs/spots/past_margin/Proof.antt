@@ -1,4 +1,4 @@
--- `scan_walk::spots::past_margin` meets its contract: behind the newlines stand blanks still.
+-- `spots::past_margin` meets its contract: behind the newlines stand blanks still.
 use borrow.Author.Needs.{needs}
 use Rattle.scan_walk.proofs.Blanks.{blanked-then}
 use Rattle.scan_walk.proofs.spots.past_margin.Statement.{statement}

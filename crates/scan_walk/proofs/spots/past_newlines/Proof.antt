@@ -1,4 +1,4 @@
--- `scan_walk::spots::past_newlines` meets its contract: each turn passes one newline, which is a blank.
+-- `spots::past_newlines` meets its contract: each turn passes one newline, which is a blank.
 use mathlib.Core.Path.{refl}
 use Prim.Native.Nat.{_-_}
 use native.Mathlib.Omega.{arith}

@@ -1,4 +1,4 @@
--- `words::slots::entry` meets its contract: at each key by computing, and at any other number no word stands.
+-- `slots::entry` meets its contract: at each key by computing, and at any other number no word stands.
 use mathlib.Core.Path.{_≡_, refl, sym}
 use mathlib.Core.Bool.{false}
 use mathlib.Core.List.{List, [], _∷_}

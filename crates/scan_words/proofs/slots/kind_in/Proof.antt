@@ -1,4 +1,4 @@
--- `words::slots::kind_in` meets its contract: the word that stands in its slot, or none.
+-- `slots::kind_in` meets its contract: the word that stands in its slot, or none.
 use borrow.Author.Needs.{needs}
 use Rattle.scan_words.proofs.Packed.{there, not-there}
 use Rattle.scan_words.proofs.slots.kind_in.Statement.{statement}

@@ -1,4 +1,4 @@
--- `scan_words::words::lengths` meets its contract by computing.
+-- `words::lengths` meets its contract by computing.
 use mathlib.Core.Path.{refl}
 use Rattle.rules.specs.Kinds.{reserved}
 use Rattle.scan_words.proofs.words.lengths.Statement.{statement}

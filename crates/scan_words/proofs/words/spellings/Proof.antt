@@ -1,4 +1,4 @@
--- `scan_words::words::spellings` meets its contract by computing.
+-- `words::spellings` meets its contract by computing.
 use mathlib.Core.Path.{refl}
 use Rattle.rules.specs.Kinds.{reserved}
 use Rattle.scan_words.proofs.words.spellings.Statement.{statement}

@@ -1,9 +1,0 @@
-// The plain data that the definitions and the code of mending share: what a mending tells.
-use file_rules::Fault;
-use rules::Cursor;
-
-// So many bytes are the file now and so many blocks are listed, or why nothing is done, and where.
-pub enum Mended {
-    Blocks(u32, u32),
-    Refused(Fault, Cursor),
-}
