@@ -5,8 +5,8 @@
 
 use crate::ffi;
 pub use crate::words::{
-    Words, COLUMN, COUNT, FIRST, LENGTH, LINE, MISSING, NODE_WORDS, NUMBER, OFFSET, ROW_WORDS,
-    SECOND,
+    Words, COLUMN, COUNT, FIRST, LENGTH, LINE, MISSING, NODE_WORDS, NUMBER, OFFSET, ROW_END,
+    ROW_WORDS, SECOND,
 };
 
 // Every unsafe block below is sound for the same reasons. Each pointer is that of a reference, which stays valid through the
@@ -94,6 +94,10 @@ pub struct Change {
 
 /// Writes the new table behind a change, by all of the new text: that of a fresh scan. It is never 7, and 6 also where the text
 /// is not as long as the change makes it.
+///
+/// The text must be the old one but for the change. The call does not look at what stands in front of the restart place.
+/// Of what follows a meeting place it judges the UTF-8 alone. If either is another text, the arguments still determine
+/// the answer, but it is no scan's. [`front_holds`] finds another front.
 pub fn change(old: &[u32], table: &Words, change: Change, text: &[u8], new: &mut [u32]) -> Words {
     let mut answer = [0; 8];
     // SAFETY: `old`, `table` and `text` are lent for reading, `new` and `answer` for writing, with their own lengths.
@@ -153,6 +157,28 @@ pub fn restart(old: &[u32], table: &Words, a: u32) -> Words {
     // SAFETY: `old`, with its own length, and `table` are lent for reading, `answer` for writing.
     unsafe { ffi::spoonharbor_restart(old.as_ptr(), old.len(), table, a, &mut answer) };
     answer
+}
+
+/// For a `debug_assert!` before [`change`] or [`edit`] at `a`: whether a scan of the new text begins with the rows that
+/// are kept, so that its front is what the old table was made of. It writes scratch memory, which may be that of the
+/// new rows. If there is less room than kept rows, it compares as many as there is room for. If the call itself refuses
+/// the old table, `a` or the text behind the front, the front is not held against it.
+pub fn front_holds(old: &[u32], table: &Words, a: u32, text: &[u8], scratch: &mut [u32]) -> bool {
+    let restart = restart(old, table, a);
+    if restart[NUMBER] != 0 {
+        return true;
+    }
+    let ends = old.iter().skip(ROW_END).step_by(ROW_WORDS);
+    let rows = ends.take(table[COUNT] as usize);
+    let kept = rows.take_while(|&&end| end < a).count();
+    let compared = kept.min(scratch.len() / ROW_WORDS);
+    let words = compared * ROW_WORDS;
+    let told = scan(text, &mut scratch[..words]);
+    match told[NUMBER] {
+        1 => true,
+        2 => told[OFFSET] >= restart[OFFSET],
+        _ => told[COUNT] as usize == compared && scratch[..words] == old[..words],
+    }
 }
 
 /// Stores a table as a file: at [`LENGTH`] how many bytes of it are written, at [`COUNT`] how many blocks. Refusals 3, 40, 4 leave the

@@ -25,6 +25,9 @@ pub const LENGTH: usize = 7;
 /// The words of a row: kind, start, end, line, column, value low, value high, comments in the gap before it.
 pub const ROW_WORDS: usize = 8;
 
+/// The word of a row that tells where it ends.
+pub const ROW_END: usize = 2;
+
 /// The words of a node: kind, place row, name row, children, four facts.
 pub const NODE_WORDS: usize = 8;
 
