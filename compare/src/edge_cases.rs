@@ -3,12 +3,12 @@
 //! The expectations are those papers' words, not output of the original. The
 //! edit is no part of the original: its example is here as the edited text only.
 
-use crate::answer::{Answer, Parsed, Refusal, Row};
 use crate::chart::grammar::kind_of;
 use crate::chart::Set;
 use crate::generate::nesting::Construct::{Group, Star, Then};
 use crate::generate::nesting::{nested, opened, repeated};
 use crate::nodes::{Word, MISSING};
+use crate::terms::{Answer, Parsed, Refusal, Row};
 
 /// What a paper says about a text.
 #[derive(Debug)]

@@ -94,7 +94,7 @@ fn random_size(random: &mut Random) -> usize {
 #[cfg(test)]
 mod tests {
     use super::*;
-    use crate::answer::LONGEST_TEXT;
+    use crate::terms::LONGEST_TEXT;
 
     #[test]
     fn a_seed_fixes_the_texts() {

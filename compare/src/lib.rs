@@ -1,8 +1,8 @@
 //! The original Rust (docs/src, built unchanged) asked about a text, with its
 //! answer given in the terms of LANGUAGE.md.
 //!
-//! `answer` is the way in; `generate` makes texts to ask about; `edge_cases`
-//! has the texts whose answers LANGUAGE.md and DECISIONS.md state; `sample` and
+//! `answer` is the way in, and `terms` has what it answers; `generate` makes
+//! texts to ask about; `edge_cases` has the texts whose answers LANGUAGE.md and DECISIONS.md state; `sample` and
 //! `edits` write answers down for programs that cannot run Rust. `model` is
 //! LANGUAGE.md written down a second time, for what the original does not say, and
 //! `chart` has the kinds that fit behind some rows, which it does not say either.
@@ -36,4 +36,5 @@ pub mod search;
 pub mod show;
 #[cfg(feature = "library")]
 pub mod side;
+pub mod terms;
 pub mod told_sets;

@@ -12,7 +12,7 @@ pub mod scan;
 pub mod table;
 pub mod text;
 
-use crate::answer::{Place, Refusal, Row};
+use crate::terms::{Place, Refusal, Row};
 
 /// Before the first byte.
 pub const START: Place = Place {

@@ -22,7 +22,6 @@ use crate::ast::{
     AssignmentOp, BinOp, EventDecl, EventField, EventType, Expr, ExprKind, IfGuard, MapDecl,
     MapType, MethodCall, PrimitiveType, Program, Stmt, StmtKind, Type, Unit, VarType,
 };
-use crate::parse::row_at;
 use crate::parser::{SourceLoc, Token, TokenKind};
 
 /// A missing row.
@@ -115,6 +114,13 @@ pub fn tree_of(program: &Program, tokens: &[Token]) -> Tree {
         program: Node::new(29, Some(eof)).with_children(runs.len()),
         declarations: runs.into_iter().map(|(_, nodes)| nodes).collect(),
     }
+}
+
+/// The row that starts at `offset`.
+pub fn row_at(tokens: &[Token], offset: usize) -> usize {
+    tokens
+        .binary_search_by_key(&offset, |token| token.loc.offset)
+        .expect("the original's places are starts of rows")
 }
 
 fn run_of(tokens: &[Token], write: impl FnOnce(&mut Run)) -> Vec<Node> {

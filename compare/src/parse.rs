@@ -11,15 +11,15 @@
 //! The kinds that would have fitted are the chart's. The row that the original
 //! refuses must be none of them, and the kind that it wants one.
 
-use crate::answer::{Parsed, Refusal, Row};
 use crate::ast::Program;
 use crate::chart::{fitting, has, Set};
 use crate::differences::first_named_difference;
 use crate::kinds::{number_of, KINDS};
-use crate::nodes::tree_of;
+use crate::nodes::{row_at, tree_of};
 use crate::parser::{parse_program, ParseError, Parser, Token, TokenKind};
 use crate::quiet::caught;
 use crate::search::least;
+use crate::terms::{Parsed, Refusal, Row};
 
 /// The original's own outcome. `decided_at` is the row that it was reading when
 /// it refused, which is behind the refusal's place for 31.
@@ -99,13 +99,6 @@ fn fitting_in_place_of(lost: usize, tokens: &[Token]) -> Set {
         "what the original refuses fits"
     );
     set
-}
-
-/// The row that starts at `offset`.
-pub fn row_at(tokens: &[Token], offset: usize) -> usize {
-    tokens
-        .binary_search_by_key(&offset, |token| token.loc.offset)
-        .expect("the original's places are starts of rows")
 }
 
 /// The number that a message stands for, and the field that a map lacks.

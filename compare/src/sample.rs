@@ -1,9 +1,15 @@
 //! Answers written down for a simple program to read: whitespace separated
 //! decimal numbers behind letters. README.md describes the form.
 
-use crate::answer::{Answer, Parsed, Refusal, Row};
 use crate::nodes::Tree;
 use crate::show::node_words;
+use crate::terms::{Answer, Parsed, Refusal, Row};
+
+/// Where the sample stands.
+pub const FILE: &str = concat!(env!("CARGO_MANIFEST_DIR"), "/../crates/replay_texts/stdin");
+
+/// Where it stands what the program writes of it.
+pub const REPORT: &str = concat!(env!("CARGO_MANIFEST_DIR"), "/../crates/replay_texts/stdout");
 
 /// The whole file for these texts; each must be one that the original is asked about.
 pub fn sample_file<'a>(cases: impl ExactSizeIterator<Item = (&'a [u8], &'a Answer)>) -> String {

@@ -1,12 +1,12 @@
 //! The original's scanner asked for the rows of a text and for its ending.
 
-use crate::answer::{Place, Refusal, Row};
 use crate::differences::first_character_outside;
 use crate::kinds::number_of;
 use crate::lexer::{LexError, Lexer};
 use crate::parser::{SourceLoc, Token, TokenKind};
 use crate::quiet::caught;
 use crate::search::least;
+use crate::terms::{Place, Refusal, Row};
 
 /// The original's tokens, the row of each, and the refusal if there is one.
 /// Without a refusal the last token is Eof.

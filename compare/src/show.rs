@@ -1,8 +1,8 @@
 //! Answers as text: LANGUAGE.md's lister form, and a short form on one line.
 
-use crate::answer::{Answer, Parsed, Refusal, Row};
 use crate::chart::kinds;
 use crate::nodes::{Node, Tree, Word};
+use crate::terms::{Answer, Parsed, Refusal, Row};
 
 /// The rows and nodes, or the refusal, as the lister prints them; `?` where the
 /// original does not say a word.

@@ -1,11 +1,12 @@
 //! The chart against the sets as they are written down, and against what the original reads.
 
-use compare::answer::{answer, Answer, Parsed};
+use compare::answer::answer;
 use compare::chart::{fitting, has, kinds, Chart};
 use compare::deep::on_deep_stack;
 use compare::generate::random::Random;
 use compare::generate::{programs, sample_texts};
 use compare::model::scan::scan;
+use compare::terms::{Answer, Parsed};
 use compare::told_sets::TOLD_SETS;
 use std::collections::BTreeSet;
 

@@ -1,7 +1,7 @@
 //! The model of LANGUAGE.md against the original, and the model's edit against its scan.
 
 use compare::agree::agree;
-use compare::answer::{answer, Answer, Parsed};
+use compare::answer::answer;
 use compare::deep::on_deep_stack;
 use compare::edits::worked;
 use compare::generate::change::new_characters;
@@ -12,6 +12,7 @@ use compare::model::edit::{change as changed, edit, restart, Change};
 use compare::model::parse::{parse, section_kind};
 use compare::model::table::Lent;
 use compare::model::{row_words, scan::scan, Told};
+use compare::terms::{Answer, Parsed};
 
 /// A table as it is lent.
 fn lent_words(told: &Told) -> (Vec<u32>, [u32; 8]) {

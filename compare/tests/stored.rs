@@ -1,12 +1,13 @@
 //! The stored samples are what their writers write, and the programs of the gate are run on them.
 
-use compare::answer::{answer, Answer};
+use compare::answer::answer;
 use compare::deep::on_deep_stack;
 use compare::edits::{file::edits_file, report::report as edits_report, stored, FILE, REPORT};
 use compare::files;
 use compare::forms;
 use compare::generate::sample_texts;
-use compare::sample::{report, sample_file};
+use compare::sample::{self, sample_file};
+use compare::terms::Answer;
 
 fn read(file: &str) -> Vec<u8> {
     std::fs::read(file).unwrap_or_else(|error| panic!("{file}: {error}"))
@@ -67,19 +68,12 @@ fn the_sample_is_as_written() {
     let texts = sample_texts(4000, 1);
     let answers: Vec<Answer> = on_deep_stack(|| texts.iter().map(|text| answer(text)).collect());
     let written = sample_file(texts.iter().map(Vec::as_slice).zip(&answers));
-    let here = concat!(env!("CARGO_MANIFEST_DIR"), "/sample.txt");
-    let replayed = concat!(env!("CARGO_MANIFEST_DIR"), "/../crates/replay_texts/stdin");
     assert!(
-        written.as_bytes() == read(here),
+        written.as_bytes() == read(sample::FILE),
         "write it again with `sample 4000 1`"
     );
     assert!(
-        read(here) == read(replayed),
-        "write it again with `sample 4000 1`"
-    );
-    let counted = concat!(env!("CARGO_MANIFEST_DIR"), "/../crates/replay_texts/stdout");
-    assert!(
-        report(&answers).as_bytes() == read(counted),
+        sample::report(&answers).as_bytes() == read(sample::REPORT),
         "write it again with `sample 4000 1`"
     );
 }

@@ -1,11 +1,12 @@
 //! What LANGUAGE.md says of every table and every tree holds for the original's
 //! answers about generated texts.
 
-use compare::answer::{answer, Answer, Parsed, Place, Row};
+use compare::answer::answer;
 use compare::deep::on_deep_stack;
 use compare::generate::{lengths, sample_texts, short};
 use compare::nodes::Tree;
 use compare::scan::counted_place;
+use compare::terms::{Answer, Parsed, Place, Row};
 
 const EOF: u32 = 52;
 const NUMBER: u32 = 50;

@@ -1,9 +1,10 @@
 //! Chains of random edits: after every step a document is what a freshly opened one is and, of ASCII, what the original reads.
 
-use compare::answer::{answer, Answer};
+use compare::answer::answer;
 use compare::deep::on_deep_stack;
 use compare::generate::random::Random;
 use compare::generate::{damage, random_text, short, spelling};
+use compare::terms::Answer;
 use spoonharbor::lent;
 use spoonharbor::{Document, Reason, Refusal, Row, LONGEST_TEXT};
 
@@ -49,7 +50,7 @@ fn numbers(row: Row) -> [i64; 6] {
     ]
 }
 
-fn original_numbers(row: compare::answer::Row) -> [i64; 6] {
+fn original_numbers(row: compare::terms::Row) -> [i64; 6] {
     [
         row.kind.into(),
         row.start.into(),

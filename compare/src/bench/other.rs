@@ -2,6 +2,7 @@
 
 #[cfg(before)]
 use spoonharbor::lent::Change;
+#[cfg(any(before, re2c))]
 use spoonharbor::lent::Words;
 
 #[cfg(re2c)]

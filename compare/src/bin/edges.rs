@@ -2,7 +2,7 @@
 //! texts of limit length with the original's answers. The exit status is 1 if any
 //! answer is not the expected one.
 
-use compare::answer::{answer, Answer, LONGEST_TEXT};
+use compare::answer::answer;
 use compare::deep::on_deep_stack;
 use compare::edge_cases::{
     edge_cases, EdgeCase, LISTER_LINES, LISTER_TEXT, METHOD_SETS, SECTION_KINDS,
@@ -10,6 +10,7 @@ use compare::edge_cases::{
 use compare::generate::lengths;
 use compare::method_sets::{kind_of_section, mask_of, PROGRAM_KINDS};
 use compare::show::{lister_lines, one_line};
+use compare::terms::{Answer, LONGEST_TEXT};
 use std::process::ExitCode;
 
 fn main() -> ExitCode {

@@ -1,21 +1,16 @@
-//! Writes compare/sample.txt: `sample COUNT SEED`. The file holds COUNT ASCII texts
+//! Writes the stored texts, crates/replay_texts/stdin: `sample COUNT SEED`. The file holds COUNT ASCII texts
 //! and a tenth as many with characters of two bytes and more, with the original's
 //! answers in the form that README.md describes; the same numbers give the same file.
-//! Writes the copy that crates/replay_texts reads, and the counts that it must write.
+//! Writes the counts that the program must write, too.
 //! Prints how many texts had which outcome.
 
-use compare::answer::{answer, Answer, Parsed};
+use compare::answer::answer;
 use compare::deep::on_deep_stack;
 use compare::generate::sample_texts;
-use compare::sample::{report, sample_file};
+use compare::sample::{report, sample_file, FILE, REPORT};
+use compare::terms::{Answer, Parsed};
 use std::collections::BTreeMap;
 use std::process::ExitCode;
-
-const FILE: &str = concat!(env!("CARGO_MANIFEST_DIR"), "/sample.txt");
-
-/// The program that reads the sample: a copy of it, and the counts that it must write.
-const REPLAYED: &str = concat!(env!("CARGO_MANIFEST_DIR"), "/../crates/replay_texts/stdin");
-const REPORT: &str = concat!(env!("CARGO_MANIFEST_DIR"), "/../crates/replay_texts/stdout");
 
 fn main() -> ExitCode {
     let arguments: Vec<String> = std::env::args().skip(1).collect();
@@ -46,7 +41,6 @@ fn write_sample(count: usize, seed: u64) -> std::io::Result<()> {
     let file = sample_file(cases);
     print_counts(&answers);
     println!("{} bytes", file.len());
-    std::fs::write(REPLAYED, &file)?;
     std::fs::write(REPORT, report(&answers))?;
     std::fs::write(FILE, file)
 }

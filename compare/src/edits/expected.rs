@@ -5,10 +5,11 @@
 //! model and the original both answer, they must agree.
 
 use super::{Call, Edit};
-use crate::answer::{answer, Answer, Place, Row};
+use crate::answer::answer;
 use crate::model::edit::{edit, restart, Change};
 use crate::model::table::Lent;
 use crate::model::{refusal_words, row_words, Told, START};
+use crate::terms::{Answer, Place, Row};
 
 /// The most bytes that a text or window reaches to; behind a new text the program has zeros up to there.
 pub const MOST_BYTES: usize = 600;

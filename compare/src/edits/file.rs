@@ -2,7 +2,7 @@
 
 use super::expected::Asked;
 use super::{Call, Edits};
-use crate::answer::Row;
+use crate::terms::Row;
 
 /// Where the expectations come from; it stands at the file's head.
 const HEADING: &str = "

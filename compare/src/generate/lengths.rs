@@ -1,7 +1,7 @@
 //! Texts of 65,535, 65,536 and 65,537 bytes. The last are not compared:
 //! LANGUAGE.md answers 1.
 
-use crate::answer::LONGEST_TEXT;
+use crate::terms::LONGEST_TEXT;
 
 /// What stands first, what is repeated to fill the length, and what stands last.
 struct Filling {

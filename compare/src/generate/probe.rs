@@ -258,7 +258,8 @@ mod tests {
         assert!(matches!(parsed, Parsed::Accepted(_)));
     }
 
-    use crate::answer::{answer, Answer, Parsed};
+    use crate::answer::answer;
+    use crate::terms::{Answer, Parsed};
 
     #[test]
     fn probes_are_programs_of_their_length() {

@@ -5,7 +5,7 @@ use super::scan::{eof, row};
 use super::table::Lent;
 use super::text::{shown_bytes, valid_bytes};
 use super::{behind, refusal, Told, START};
-use crate::answer::{Place, Refusal, Row, LONGEST_TEXT};
+use crate::terms::{Place, Refusal, Row, LONGEST_TEXT};
 
 /// Old bytes a to b (b not included) became n new ones.
 #[derive(Debug, Clone, Copy, PartialEq, Eq)]

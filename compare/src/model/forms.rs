@@ -4,7 +4,7 @@ use super::file::{load, seal, Fault, Read, BLOCK};
 use super::scan::scan;
 use super::table::Lent;
 use super::{row_words, START};
-use crate::answer::Place;
+use crate::terms::Place;
 
 /// The forms, their rows' words, how many rows a block has, and which words of a row stand there.
 const FULL: u32 = 1;

@@ -2,9 +2,9 @@
 
 use super::table::Lent;
 use super::{refusal, START};
-use crate::answer::{Refusal, Row};
 use crate::chart::fitting;
 use crate::nodes::MISSING;
+use crate::terms::{Refusal, Row};
 
 /// A node's eight words.
 pub type NodeWords = [u32; 8];

@@ -3,7 +3,7 @@
 use super::lex::{piece, Piece, Shown};
 use super::text::valid_bytes;
 use super::{behind, refusal, Told, START};
-use crate::answer::{Place, Refusal, Row, LONGEST_TEXT};
+use crate::terms::{Place, Refusal, Row, LONGEST_TEXT};
 
 /// What a scan with this room answers and writes.
 pub fn scan(text: &[u8], room: usize) -> Told {

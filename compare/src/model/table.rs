@@ -2,7 +2,7 @@
 
 use super::text::valid_bytes;
 use super::{behind, refusal, row_of, START};
-use crate::answer::{Place, Refusal, Row, LONGEST_TEXT};
+use crate::terms::{Place, Refusal, Row, LONGEST_TEXT};
 
 /// A table as it is lent: row words, and the eight words beside them.
 #[derive(Debug, Clone, Copy)]

@@ -2,11 +2,12 @@
 //! An edit after which the document does not scan is mostly undone by the next, so that documents stay long.
 
 use super::{same, shown, Compared, Counts, Difference};
-use crate::answer::{answer, Answer, Refusal};
+use crate::answer::answer;
 use crate::generate::characters::character;
 use crate::generate::probe::{half_greek, probe_text};
 use crate::generate::random::Random;
 use crate::generate::{short, spelling};
+use crate::terms::{Answer, Refusal};
 use spoonharbor::Document;
 
 /// How many edits one document lives through.

@@ -1,7 +1,7 @@
 //! The library's edit against the model's at every window length, and its change, against a fresh scan by the library, and by the original.
 
 use super::{memory_with, same, shown, Compared, Counts, Difference, Memory};
-use crate::answer::{answer, Answer};
+use crate::answer::answer;
 use crate::generate::change::{new_bytes, new_characters};
 use crate::generate::characters::{put_over, valid_with_characters};
 use crate::generate::random::Random;
@@ -9,6 +9,7 @@ use crate::generate::{damage, random_text, short};
 use crate::model::edit::{change as changed, edit, restart, Change};
 use crate::model::table::Lent;
 use crate::model::{refusal_words, Told};
+use crate::terms::Answer;
 use spoonharbor::lent::{self, Words};
 
 /// Bytes with which short texts show every rule: a letter, a digit and `0x`, a string and its escapes, comments, signs that

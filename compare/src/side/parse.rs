@@ -2,13 +2,14 @@
 
 use super::{same, shown, Compared, Counts, Difference, Memory, CANARY};
 use crate::agree::agree;
-use crate::answer::{answer, Answer, Parsed, Refusal};
+use crate::answer::answer;
 use crate::generate::characters::with_characters;
 use crate::generate::random::Random;
 use crate::generate::{damage, fixed_texts, lengths, nesting, programs, random_text, soup};
 use crate::model::parse::{parse, NodeWords};
 use crate::model::refusal_words;
 use crate::model::table::Lent;
+use crate::terms::{Answer, Parsed, Refusal};
 use spoonharbor::lent::{self, Words};
 
 /// Every fixed text, the texts of limit length, and random programs, whole and damaged, up to `count`; then as many with characters of

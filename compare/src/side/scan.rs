@@ -1,12 +1,13 @@
 //! The library's scan against the original's and the model's: rows, values, refusals, and every lent word.
 
 use super::{memory_with, same, shown, Compared, Counts, Difference, Memory};
-use crate::answer::{answer, Answer};
+use crate::answer::answer;
 use crate::differences::first_character_outside;
 use crate::generate::characters::with_characters;
 use crate::generate::random::Random;
 use crate::generate::{fixed_texts, lengths, random_text};
 use crate::model::{refusal_words, scan::scan, Told};
+use crate::terms::Answer;
 use spoonharbor::lent;
 
 /// Every fixed text, the texts of limit length, and random ones up to `count`; then as many with characters of two bytes and more.
