@@ -20,7 +20,7 @@ use Rattle.laws.proofs.Tests.{both-true}
 use Rattle.rows.proofs.Inside
 use Rattle.rows.proofs.Inside.{Fine, Ends, Broken, clean, broken, row-sound, in-order}
 use Rattle.edit_carry.specs.Moves.{EndsRise, MovesPlace, MovesRow, MovesEnding, none, refused, Ended}
-use Rattle.scan_walk.specs.Meeting.{Rising}
+use Rattle.scan_meet.specs.Meeting.{Rising}
 
 -- ---- lines
 

@@ -19,10 +19,10 @@ use Rattle.rows.specs.Shape.{rowNo}
 use Rattle.rows.proofs.Inside
 use Rattle.rows.proofs.Inside.{Fine, fine, row-sound, few-rows}
 use Rattle.edit_carry.proofs.Kept.{keptCount, kept-inside, kept-rows, kept-below, behind-rows}
-use Rattle.scan_walk.specs.declared.Olds.{Olds}
+use Rattle.scan_meet.specs.declared.Olds.{Olds}
 use Rattle.scan_walk.specs.declared.Stop.the-variants.{Met, Over}
 use Rattle.scan_walk.specs.declared.Walked.{Walked}
-use Rattle.scan_walk.specs.Meeting.{meetsAt}
+use Rattle.scan_meet.specs.Meeting.{meetsAt}
 use Rattle.scan_walk.specs.Walk.{Walkable, placeIn, rowsSeen, seenFrom, walkSeen, walkRows, walkOf}
 use Rattle.edit.specs.declared.Job.{Job}
 use Rattle.edit.specs.declared.Tail.the-variants.{Full}

@@ -21,7 +21,7 @@ use Rattle.scan_walk.specs.declared.Stop.{Stop}
 use Rattle.scan_walk.specs.declared.Stop.the-variants.{Met, Over, Short}
 use Rattle.edit_carry.proofs.Carried.{recounted-length}
 use Rattle.edit.specs.declared.Job.{Job}
-use Rattle.scan_walk.specs.Meeting.{meetsAt}
+use Rattle.scan_meet.specs.Meeting.{meetsAt}
 use Rattle.scan_walk.specs.Walk.{startOf, rowsSeen, stopSeen}
 use Rattle.edit.specs.Job.{oldRows}
 

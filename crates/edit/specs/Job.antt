@@ -19,7 +19,7 @@ use Rattle.rules.specs.Edit.{ends, unjudged, windowBytes, windowValid, windowSh
 use Rattle.rules.specs.Scan.{told, laid}
 use Rattle.rows.specs.Shape.{rowNo}
 use Rattle.edit_carry.specs.Moves.{MovesRow, MovesEnding}
-use Rattle.scan_walk.specs.declared.Olds.{Olds}
+use Rattle.scan_meet.specs.declared.Olds.{Olds}
 use Rattle.edit.specs.declared.Job.{Job}
 use Rattle.edit.specs.declared.Tail.{Tail}
 use Rattle.edit.specs.declared.Tail.the-variants.{Rows, Full}

@@ -1,13 +1,13 @@
 // The rows of a text, so many at a time: a scan that stops behind so many rows and goes on later, so that its rows take room for one part.
 use rules::Ending;
+use scan_blanks::past_blanks;
+use scan_puts::put_behind;
 use scan_reader::Spot;
 use scan_reader::codes;
 use scan_reader::front::brief;
 use scan_walk::Stop;
 use scan_walk::finish;
-use scan_walk::puts::put_behind;
 use scan_walk::spots::behind;
-use scan_walk::spots::past_blanks;
 ghost use mathlib.Core.Path.{_≡_};
 ghost use mathlib.Core.List.{_++_};
 ghost use Prim.Native.Nat.{_*_, _≤_};

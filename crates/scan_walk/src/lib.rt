@@ -1,21 +1,20 @@
 // The walk over bytes that begin at a place of a text: their rows are written as far as there is room, up to the text's end, a refusal,
 // a spot where an old row meets, or where more bytes must be shown. A scan meets no old rows; an edit looks at its window by a walk with no room.
-mod meeting;
-pub mod puts;
 pub mod spots;
 
-use meeting::find;
-use puts::put_behind;
 use rules::Cursor;
 use rules::Ending;
 use rules::kind;
+use scan_blanks::past_blanks;
+use scan_meet::Olds;
+use scan_meet::find;
+use scan_puts::put_behind;
 use scan_reader::Brief;
 use scan_reader::Spot;
 use scan_reader::codes;
 use scan_reader::front::brief;
 use scan_reader::front::reason;
 use spots::behind;
-use spots::past_blanks;
 ghost use mathlib.Core.Path.{_≡_};
 ghost use Prim.Native.Nat.{_+_, _≤_, _<_, _^_};
 ghost use lib.ListN.{length, drop};
@@ -23,20 +22,6 @@ ghost use Rattle.rules.specs.Lex.{item};
 ghost use Rattle.rules.specs.Scan.{laid};
 ghost use Rattle.scan_reader.specs.Read.{Ahead};
 ghost use Rattle.scan_walk.specs.Walk.{Walkable, walkOf, walkRows, Last, Finished};
-
-// The old rows that a walk may meet: so many, those before the first are passed, and what stood at x stands at x + least - b, from least on.
-pub struct Olds {
-    pub count: usize,
-    pub first: usize,
-    pub least: u64,
-    pub b: u32,
-}
-
-// So many old rows are passed, and whether the next one meets.
-pub struct Found {
-    pub row: usize,
-    pub met: bool,
-}
 
 // How a walk stops: at a place where an old row, by its number, meets, with so many comments in the gap before it; the text is over, with
 // its ending; or more bytes must be shown.

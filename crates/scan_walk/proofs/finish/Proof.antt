@@ -6,7 +6,7 @@ use borrow.Author.Needs.{needs}
 use native.Mathlib.Nat.{add-zero}
 use Rattle.rules.specs.Rows.{eofRow}
 use Rattle.scan_reader.proofs.Reasons.{code-least}
-use Rattle.scan_walk.specs.Walk.{rowOf}
+use Rattle.scan_puts.specs.Put.{rowOf}
 use Rattle.scan_walk.proofs.finish.Statement.{statement}
 use Rattle.scan_walk.proofs.finish.Tie as tie
 
