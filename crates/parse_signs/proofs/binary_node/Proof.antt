@@ -8,8 +8,8 @@ use borrow.Author.Needs.{needs}
 use borrow.Author.Tests.{ne-eqb, ltb-true, ltb-false, leb-true, leb-false}
 use Rattle.rules.specs.Kinds.{Plus, Minus, Star, Slash, Percent, Shl}
 use Rattle.rules.specs.Nodes.{binaryNode, NodeAdd}
-use Rattle.parse_expr.proofs.binary_node.Statement.{statement}
-use Rattle.parse_expr.proofs.binary_node.Tie as tie
+use Rattle.parse_signs.proofs.binary_node.Statement.{statement}
+use Rattle.parse_signs.proofs.binary_node.Tie as tie
 
 -- what a test tells that is met below `+` and from a kind `top` on
 module _ (k : ℕ) {top : ℕ} where

@@ -3,8 +3,8 @@ use mathlib.Core.Path.{refl}
 use borrow.Author.Needs.{needs}
 use borrow.Author.Tests.{eq-eqb, ne-eqb}
 use Rattle.rules.specs.Kinds.{Eof}
-use Rattle.parse_expr.proofs.joined.Statement.{statement}
-use Rattle.parse_expr.proofs.joined.Tie as tie
+use Rattle.parse_signs.proofs.joined.Statement.{statement}
+use Rattle.parse_signs.proofs.joined.Tie as tie
 
 -- there is an operator, as it is seen from behind its node
 abbrev on-operator : tie.After-close → tie.Else1

@@ -1,7 +1,7 @@
 -- `joins` meets its contract.
 use borrow.Author.Needs.{needs}
-use Rattle.parse_expr.proofs.joins.Statement.{statement}
-use Rattle.parse_expr.proofs.joins.Tie as tie
+use Rattle.parse_signs.proofs.joins.Statement.{statement}
+use Rattle.parse_signs.proofs.joins.Tie as tie
 
 is-add-requires : tie.Need-is-add-requires
 is-add-requires c κs = search needs
