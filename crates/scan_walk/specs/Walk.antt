@@ -16,12 +16,11 @@ use Rattle.scan_reader.specs.declared.Spot.{Spot}
 use Rattle.scan_reader.specs.Read.{onward, Ahead}
 use Rattle.scan_reader.specs.declared.Brief.{Brief}
 use Rattle.scan_reader.specs.Brief.{Blank, Line, End, Unknown, refusalCode}
-use Rattle.scan_puts.specs.Put.{placed}
 use Rattle.scan_meet.specs.declared.Olds.{Olds}
 use Rattle.scan_meet.specs.Meeting.{Rising, Passed, meetsAt}
-use Rattle.scan_walk.specs.declared.Stop.{Stop}
-use Rattle.scan_walk.specs.declared.Stop.the-variants.{Met, Over, Short}
-use Rattle.scan_walk.specs.declared.Walked.{Walked}
+use Rattle.scan_stop.specs.declared.Stop.{Stop}
+use Rattle.scan_stop.specs.declared.Stop.the-variants.{Met, Over, Short}
+use Rattle.scan_stop.specs.declared.Walked.{Walked}
 
 abbrev pub startOf : Cursor → Spot
 startOf p = record { at = 0; cursor = p }
@@ -78,14 +77,3 @@ pub record Passable (t : List ℕ) (here : Spot) (r : Brief) : Type 0 where
   pub inside : here .at + r .size ≤ length t
   pub row : r .kind < Blank → r .size ≤ front notNewline (drop (here .at) t)
   pub line : r .kind ≤ Line → r .size - 1 ≤ front notNewline (drop (here .at) t)
-
--- what was told last, behind n rows: the text's end, that more bytes must be shown, or a refusal
-pub record Last (n : ℕ) (at : Cursor) (r : Brief) : Type 0 where
-  pub few : n + 1 < 2 ^ 64
-  pub roomy : Roomy (r .size) at
-
--- and what is then answered, behind c comments: ws are the lent words, us what stands in them afterwards
-pub record Finished (n : ℕ) (at : Cursor) (c : ℕ) (r : Brief) (x : Walked) (ws us : List ℕ) : Type 0 where
-  pub end : r .kind ≡ End → (x ≡ record { count = n + 1; stop = Over ending.None }) × (us ≡ placed n (eofRow at c) ws)
-  pub unknown : r .kind ≡ Unknown → (x ≡ record { count = n; stop = Short }) × (us ≡ ws)
-  pub refused : (why : Lexical) → r .kind ≡ refusalCode why → (x ≡ record { count = n; stop = Over (ending.Refused why (along at (r .size))) }) × (us ≡ ws)

@@ -20,8 +20,8 @@ use Rattle.scan_reader.specs.declared.Spot.{Spot}
 use Rattle.scan_reader.specs.declared.Brief.{Brief}
 use Rattle.scan_reader.specs.Brief.{End, told}
 use Rattle.scan_meet.specs.declared.Olds.{Olds}
-use Rattle.scan_walk.specs.declared.Stop.the-variants.{Met}
-use Rattle.scan_walk.specs.declared.Walked.{Walked}
+use Rattle.scan_stop.specs.declared.Stop.the-variants.{Met}
+use Rattle.scan_stop.specs.declared.Walked.{Walked}
 use Rattle.scan_meet.specs.Meeting.{Passed, stopsAt}
 use Rattle.scan_blanks.specs.Blanks.{blanks}
 use Rattle.scan_walk.specs.Walk.{Passable}
