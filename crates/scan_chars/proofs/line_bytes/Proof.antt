@@ -1,8 +1,8 @@
 -- `line_bytes` meets its contract: the tests part the bytes as the table's lines do.
 use mathlib.Core.Path.{sym}
-use Rattle.scan_place.proofs.Lines.{size-one, size-none, size-two, size-three, size-four, size-above}
-use Rattle.scan_place.proofs.chars.line_bytes.Statement.{statement}
-use Rattle.scan_place.proofs.chars.line_bytes.Tie as tie
+use Rattle.scan_chars.proofs.Lines.{size-one, size-none, size-two, size-three, size-four, size-above}
+use Rattle.scan_chars.proofs.line_bytes.Statement.{statement}
+use Rattle.scan_chars.proofs.line_bytes.Tie as tie
 
 returns : tie.Need-returns
 returns c = let s = c .before in sym (size-one (s .args .b) (s .fits .b .fits) (c .if1 .taken))

@@ -2,9 +2,9 @@
 use mathlib.Core.Path.{sym, _∙_}
 use borrow.Author.Needs.{needs}
 use native.Mathlib.Omega.{arith}
-use Rattle.scan_place.proofs.Lines.{char-yes, char-no}
-use Rattle.scan_place.proofs.chars.char_at.Statement.{statement}
-use Rattle.scan_place.proofs.chars.char_at.Tie as tie
+use Rattle.scan_chars.proofs.Lines.{char-yes, char-no}
+use Rattle.scan_chars.proofs.char_at.Statement.{statement}
+use Rattle.scan_chars.proofs.char_at.Tie as tie
 
 shared-slice-read-line-bytes : tie.Need-shared-slice-read-line-bytes
 shared-slice-read-line-bytes c = omega arith

@@ -1,9 +1,9 @@
 -- `second_high` meets its contract, by a test of all bytes.
 use mathlib.Core.Path.{sym, _∙_}
 use borrow.Author.Tests.{eq-eqb, ne-eqb}
-use Rattle.scan_place.proofs.Lines.{high-is}
-use Rattle.scan_place.proofs.chars.second_high.Statement.{statement}
-use Rattle.scan_place.proofs.chars.second_high.Tie as tie
+use Rattle.scan_chars.proofs.Lines.{high-is}
+use Rattle.scan_chars.proofs.second_high.Statement.{statement}
+use Rattle.scan_chars.proofs.second_high.Tie as tie
 
 returns : tie.Need-returns
 returns c = let b = c .before .args .b in sym (high-is b (c .before .fits .b .fits) ∙ rw (eq-eqb b 0xED (c .if1 .taken)))

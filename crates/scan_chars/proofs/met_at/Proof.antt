@@ -5,9 +5,9 @@ use native.Mathlib.Omega.{arith}
 use lib.ListN.{length, getD}
 use Rattle.rules.specs.Text.{lineOf}
 use Rattle.laws.proofs.Chars.{line-four}
-use Rattle.scan_place.proofs.Lines.{met-one, met-end, met-out, met-in, below-range, above-range, in-range}
-use Rattle.scan_place.proofs.chars.met_at.Statement.{statement}
-use Rattle.scan_place.proofs.chars.met_at.Tie as tie
+use Rattle.scan_chars.proofs.Lines.{met-one, met-end, met-out, met-in, below-range, above-range, in-range}
+use Rattle.scan_chars.proofs.met_at.Statement.{statement}
+use Rattle.scan_chars.proofs.met_at.Tie as tie
 
 returns : tie.Need-returns
 returns c =

@@ -15,7 +15,7 @@ use Rattle.laws.specs.Tests.{allBelow}
 use Rattle.laws.proofs.Tests.{below, both-true, true-both, false-by}
 use Rattle.laws.proofs.Fronts.{front-in, front-out}
 use Rattle.laws.proofs.Chars.{each, line-each, front-char, front-none, cut-nil}
-use Rattle.scan_place.specs.Lines.{second}
+use Rattle.scan_chars.specs.Lines.{second}
 
 -- ---- each byte
 

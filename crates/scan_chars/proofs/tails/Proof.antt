@@ -8,8 +8,8 @@ use lib.Seq.{drop-drop}
 use borrow.Author.Tests.{not-true, not-false}
 use Rattle.rules.specs.Text.{front, isTail}
 use Rattle.laws.proofs.Fronts.{front-drop, front-more, front-off, front-end}
-use Rattle.scan_place.proofs.chars.tails.Statement.{statement}
-use Rattle.scan_place.proofs.chars.tails.Tie as tie
+use Rattle.scan_chars.proofs.tails.Statement.{statement}
+use Rattle.scan_chars.proofs.tails.Tie as tie
 
 abbrev Inv-loop : tie.InvT-loop
 Inv-loop text from n k₀ k = (k ≤ n) × (k ≤ front isTail (drop from text))

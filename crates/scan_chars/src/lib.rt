@@ -3,7 +3,7 @@ ghost use mathlib.Core.Path.{_≡_};
 ghost use Prim.Native.Nat.{min, _≤_, _<_};
 ghost use lib.ListN.{length, getD, drop};
 ghost use Rattle.rules.specs.Text.{front, isTail, met, lineOf, charAt, isCut};
-ghost use Rattle.scan_place.specs.Lines.{second};
+ghost use Rattle.scan_chars.specs.Lines.{second};
 
 // The first byte that is no character by itself.
 pub const FIRST_HIGH: u8 = 0x80;

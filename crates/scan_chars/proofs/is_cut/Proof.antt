@@ -1,9 +1,9 @@
 -- `is_cut` meets its contract: nothing is left, or all that is left lies in a longer line.
 use native.Mathlib.Omega.{arith}
 use borrow.Author.Needs.{needs}
-use Rattle.scan_place.proofs.Lines.{cut-end, cut-no, cut-by}
-use Rattle.scan_place.proofs.chars.is_cut.Statement.{statement}
-use Rattle.scan_place.proofs.chars.is_cut.Tie as tie
+use Rattle.scan_chars.proofs.Lines.{cut-end, cut-no, cut-by}
+use Rattle.scan_chars.proofs.is_cut.Statement.{statement}
+use Rattle.scan_chars.proofs.is_cut.Tie as tie
 
 sub-left : tie.Need-sub-left
 sub-left c = omega arith
