@@ -20,10 +20,11 @@ use Rattle.laws.proofs.Tests.{both-true}
 use Rattle.rows.specs.Shape.{rowNo}
 use Rattle.rows.proofs.Inside.{fine}
 use Rattle.laws.proofs.Valid.{is-window-valid, is-window-bad}
-use Rattle.edit_carry.specs.Moves.{Ended}
-use Rattle.edit_carry.proofs.Kept.{kept-inside, kept-rows}
+use Rattle.edit_kept.specs.Kept.{Ended}
+use Rattle.edit_kept.proofs.Kept.{kept-inside, kept-rows}
 use Rattle.edit.specs.declared.Job.{Job}
-use Rattle.edit.specs.Job.{sensibleAt, jobOf, oldRows, sizeAfter, Tested, Ready, jobSeen, jobRows, jobEnding, rereadTold, rereadLeaves}
+use Rattle.edit_parts.specs.Parts.{sensibleAt}
+use Rattle.edit.specs.Job.{jobOf, oldRows, sizeAfter, Tested, Ready, jobSeen, jobRows, jobEnding, rereadTold, rereadLeaves}
 use Rattle.edit.proofs.Facts.{ended}
 
 -- ---- 7, and then the rows

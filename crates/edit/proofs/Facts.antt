@@ -19,8 +19,9 @@ use Rattle.rows.specs.Shape.{rowNo, behind}
 use Rattle.laws.proofs.Tests.{both-true}
 use Rattle.rows.proofs.Inside
 use Rattle.rows.proofs.Inside.{Fine, Ends, Broken, clean, broken, row-sound, in-order}
-use Rattle.edit_carry.specs.Moves.{EndsRise, MovesPlace, MovesRow, MovesEnding, none, refused, Ended}
-use Rattle.scan_walk.specs.Meeting.{Rising}
+use Rattle.edit_kept.specs.Kept.{EndsRise, Ended}
+use Rattle.edit_carry.specs.Moves.{MovesPlace, MovesRow, MovesEnding, none, refused}
+use Rattle.scan_meet.specs.Meeting.{Rising}
 
 -- ---- lines
 

@@ -18,18 +18,19 @@ use Rattle.scan_reader.specs.Read.{onward}
 use Rattle.rows.specs.Shape.{rowNo}
 use Rattle.rows.proofs.Inside
 use Rattle.rows.proofs.Inside.{Fine, fine, row-sound, few-rows}
-use Rattle.edit_carry.proofs.Kept.{keptCount, kept-inside, kept-rows, kept-below, behind-rows}
-use Rattle.scan_walk.specs.declared.Olds.{Olds}
-use Rattle.scan_walk.specs.declared.Stop.the-variants.{Met, Over}
-use Rattle.scan_walk.specs.declared.Walked.{Walked}
-use Rattle.scan_walk.specs.Meeting.{meetsAt}
+use Rattle.edit_kept.proofs.Kept.{keptCount, kept-inside, kept-rows, kept-below, behind-rows}
+use Rattle.scan_meet.specs.declared.Olds.{Olds}
+use Rattle.scan_stop.specs.declared.Stop.the-variants.{Met, Over}
+use Rattle.scan_stop.specs.declared.Walked.{Walked}
+use Rattle.scan_meet.specs.Meeting.{meetsAt}
 use Rattle.scan_walk.specs.Walk.{Walkable, placeIn, rowsSeen, seenFrom, walkSeen, walkRows, walkOf}
 use Rattle.edit.specs.declared.Job.{Job}
-use Rattle.edit.specs.declared.Tail.the-variants.{Full}
+use Rattle.edit_parts.specs.declared.Tail.the-variants.{Full}
 use Rattle.edit.specs.Job.{Ready, Follows, oldRows, oldsOf, jobSeen, jobRows, jobEnding, tailTold, rowsBehind, endingBehind}
 use Rattle.edit.proofs.Facts.{rising, moves-row, moves-ending}
 use Rattle.edit.proofs.Tails.{full-before}
-use Rattle.edit.proofs.Seens.{Shown, shown, shown-few, shown-whole, isLacking, meetsOf, stopOf, seen-few, begins, by-lacking, by-over, Meeting, by-met}
+use Rattle.scan_stop.specs.Stop.{isLacking}
+use Rattle.edit.proofs.Seens.{Shown, shown, shown-few, shown-whole, meetsOf, stopOf, seen-few, begins, by-lacking, by-over, Meeting, by-met}
 
 -- a place whose counters are small has room
 roomy : (n : ℕ) (c : Cursor) → n ≤ 2 ^ 31 + mostBytes → c .offset .0 ≤ mostBytes + 1 → c .line .0 ≤ mostBytes + 1 → c .column .0 ≤ mostBytes + 1 → Roomy n c

@@ -17,11 +17,12 @@ use Rattle.rules.specs.Edit.{Seen, sees, over′, met, short, isShort, look, op
 use Rattle.rules.specs.Edit.{oldOffset, restart, windowPlace, seenRows, seenEnding}
 use Rattle.laws.proofs.Tests.{both-true}
 use Rattle.scan_reader.specs.Read.{onward}
-use Rattle.scan_walk.specs.declared.Stop.{Stop}
-use Rattle.scan_walk.specs.declared.Stop.the-variants.{Met, Over, Short}
+use Rattle.scan_stop.specs.declared.Stop.{Stop}
+use Rattle.scan_stop.specs.Stop.{isLacking}
+use Rattle.scan_stop.specs.declared.Stop.the-variants.{Met, Over, Short}
 use Rattle.edit_carry.proofs.Carried.{recounted-length}
 use Rattle.edit.specs.declared.Job.{Job}
-use Rattle.scan_walk.specs.Meeting.{meetsAt}
+use Rattle.scan_meet.specs.Meeting.{meetsAt}
 use Rattle.scan_walk.specs.Walk.{startOf, rowsSeen, stopSeen}
 use Rattle.edit.specs.Job.{oldRows}
 
@@ -142,12 +143,6 @@ module _ (pos : ℕ → Cursor) (meet : ℕ → Bool) (whole : Bool) where
       pick false f r = rw (look, f) (by (item whole (b ∷ s)) refl r)
 
 -- ---- the rows and the ending, by how a walk stops
-
--- it stopped for want of bytes
-unfoldable pub isLacking : Stop → Bool
-isLacking (Met p r c) = false
-isLacking (Over e) = false
-isLacking Short = true
 
 module _ (ws : List ℕ) (j : Job) (w : List ℕ) where
   abbrev olds : List Row

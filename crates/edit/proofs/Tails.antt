@@ -1,5 +1,4 @@
 -- What is written behind the kept rows: the window's rows, and old rows behind them.
--- x more behind s, within m
 use mathlib.Core.Path.{_≡_, refl, sym, ap, subst, _∙_}
 use mathlib.Core.Bool.{Bool, true, false, cond}
 use mathlib.Core.List.{List, [], _∷_, _++_, map}
@@ -11,6 +10,7 @@ use lib.Dec.{leb}
 use lib.Seq.{take-at, drop-at}
 use borrow.Rule.Slice.PartMut.{putMid}
 use borrow.Author.Tests.{le-leb, lt-leb, leb-false}
+use Rattle.edit_parts.proofs.Room.{leb-behind}
 use Rattle.rules.specs.declared.Cursor.{Cursor}
 use Rattle.rules.specs.declared.Ending.{Ending}
 use Rattle.rules.specs.declared.Outer.the-variants.{NoRowRoom}
@@ -25,16 +25,10 @@ use Rattle.rows.specs.Shape.{rowNo}
 use Rattle.laws.proofs.Lists.{lent-tail, back-tail}
 use Rattle.laws.proofs.Rows.{rows-length, words-length, take-rows, drop-rows, told-full, room-behind, laid-append, laid-front, laid-part, laid-all}
 use Rattle.edit_carry.proofs.Carried.{recounted-length}
-use Rattle.edit.specs.declared.Tail.{Tail}
-use Rattle.edit.specs.declared.Tail.the-variants.{Rows, Full}
-use Rattle.edit.specs.Job.{tailTold, rowsBehind, endingBehind, behindOf, FewBehind, tellOf, TellsFit}
-
-pub leb-behind : (s x m : ℕ) → s ≤ m → leb x (m - s) ≡ leb (s + x) m
-leb-behind s x m h = pick (decLe (s + x) m)
-  where
-    pick : Dec (s + x ≤ m) → leb x (m - s) ≡ leb (s + x) m
-    pick (yes p) = rw (le-leb (s + x) m p, le-leb x (m - s) (omega arith))
-    pick (no p) = rw (lt-leb (s + x) m (omega arith), lt-leb x (m - s) (omega arith))
+use Rattle.edit_parts.specs.declared.Tail.{Tail}
+use Rattle.edit_parts.specs.declared.Tail.the-variants.{Rows, Full}
+use Rattle.edit_parts.specs.Parts.{behindOf, FewBehind, tellOf, TellsFit}
+use Rattle.edit.specs.Job.{tailTold, rowsBehind, endingBehind}
 
 -- all find room
 pub tail-all : (m : ℕ) (rows : List Row) (e : Ending) → length rows ≤ m → Rows (length rows) e ≡ tailTold m rows e

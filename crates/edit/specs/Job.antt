@@ -19,13 +19,10 @@ use Rattle.rules.specs.Edit.{ends, unjudged, windowBytes, windowValid, windowSh
 use Rattle.rules.specs.Scan.{told, laid}
 use Rattle.rows.specs.Shape.{rowNo}
 use Rattle.edit_carry.specs.Moves.{MovesRow, MovesEnding}
-use Rattle.scan_walk.specs.declared.Olds.{Olds}
+use Rattle.scan_meet.specs.declared.Olds.{Olds}
 use Rattle.edit.specs.declared.Job.{Job}
-use Rattle.edit.specs.declared.Tail.{Tail}
-use Rattle.edit.specs.declared.Tail.the-variants.{Rows, Full}
-
-unfoldable pub sensibleAt : (len a b n begin start size : ℕ) → Bool
-sensibleAt len a b n begin start size = (leb a b && leb b len) && (eqb start begin && leb (start + size) (newLength len a b n))
+use Rattle.edit_parts.specs.declared.Tail.{Tail}
+use Rattle.edit_parts.specs.declared.Tail.the-variants.{Rows, Full}
 
 -- an edit's kept rows, and the place behind them
 abbrev pub jobOf : List ℕ → Table → (a b n : ℕ) → Job
@@ -95,25 +92,7 @@ pub record Follows (ws : List ℕ) (t : Table) (row : ℕ) (p : Cursor) : Type 0
   pub rows : (i : ℕ) → row ≤ i → i < t .count → MovesRow (rowPlace (rowNo ws row)) p (rowNo ws i)
   pub ending : MovesEnding (rowPlace (rowNo ws row)) p (t .ending)
 
--- n rows more in front
-unfoldable pub behindOf : ℕ → Tail → Tail
-behindOf n (Rows m e) = Rows (n + m) e
-behindOf n Full = Full
-
-unfoldable pub FewBehind : ℕ → Tail → Type 0
-FewBehind n (Rows m e) = n + m < 2 ^ 64
-FewBehind n Full = Unit
-
 -- ---- what is told
-
--- so many kept rows, and what stands behind them
-unfoldable pub tellOf : ℕ → Tail → ℕ → ℕ → Told
-tellOf k (Rows n e) size m = tells.Rows (record { count = k + n; length = size; ending = e })
-tellOf k Full size m = tells.Refused NoRowRoom startPlace m
-
-unfoldable pub TellsFit : ℕ → Tail → ℕ → Type 0
-TellsFit k (Rows n e) m = k + n < 2 ^ 32
-TellsFit k Full m = m < 2 ^ 32
 
 -- 7, 2, 7, and then 4 against lexical refusals: the rest of the edit's order
 unfoldable pub rereadTold : List ℕ → Job → List ℕ → ℕ → Told

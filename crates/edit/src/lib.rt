@@ -1,37 +1,41 @@
 // The edit call: from the old rows, the numbers of an edit and a window of the new text, the new rows; and where a window starts.
 use edit_carry::carry_ending;
 use edit_carry::carry_rows;
-use edit_carry::copy_rows;
-use edit_carry::kept_rows;
-use edit_carry::place_behind;
+use edit_kept::copy_rows;
+use edit_kept::kept_rows;
+use edit_kept::place_behind;
+use edit_parts::Tail;
+use edit_parts::behind;
+use edit_parts::new_length;
+use edit_parts::refused;
+use edit_parts::sensible;
+use edit_parts::tell;
 use rows::shape::row_at;
 use rows::shape::row_place;
 use rows::shape::wide;
 use rows::well_formed;
 use rules::Cursor;
-use rules::Ending;
 use rules::Outer;
 use rules::Restart;
 use rules::Table;
 use rules::Told;
 use rules::limit;
 use rules::row;
+use scan_meet::Olds;
 use scan_place::pass;
 use scan_place::window_bytes;
-use scan_walk::Olds;
-use scan_walk::Stop;
+use scan_stop::Stop;
+use scan_stop::lacks;
 use scan_walk::walk;
 ghost use mathlib.Core.Path.{_≡_};
 ghost use mathlib.Core.Bool.{true};
 ghost use mathlib.Core.List.{_++_};
 ghost use Prim.Native.Nat.{_+_, _*_, _≤_};
 ghost use lib.ListN.{length};
-ghost use Rattle.rules.specs.Text.{startPlace};
-ghost use Rattle.rules.specs.declared.Told.the-variants as tells;
 ghost use Rattle.rules.specs.Rows.{wellFormed};
 ghost use Rattle.rules.specs.Scan.{roomOf, laid, told};
-ghost use Rattle.rules.specs.Edit.{newLength, kept, isShort, editTold, editLeaves, restartTold};
-ghost use Rattle.edit.specs.Job.{sensibleAt, jobOf, oldRows, oldsOf, Tested, Ready, Showing, jobSeen, jobRows, jobEnding, tailTold, rowsBehind, endingBehind, FewBehind, behindOf, Follows, TellsFit, tellOf, rereadTold, rereadLeaves};
+ghost use Rattle.rules.specs.Edit.{kept, isShort, editTold, editLeaves, restartTold};
+ghost use Rattle.edit.specs.Job.{jobOf, oldRows, oldsOf, Tested, Ready, Showing, jobSeen, jobRows, jobEnding, tailTold, rowsBehind, endingBehind, Follows, rereadTold, rereadLeaves};
 
 // An edit of a table: old bytes a to b become n new ones, so many rows are kept, and reading restarts at a place.
 pub struct Job {
@@ -41,48 +45,6 @@ pub struct Job {
     pub n: u32,
     pub kept: usize,
     pub begin: Cursor,
-}
-
-// What stands behind the kept rows: so many rows and the ending; or there was no room for all of them.
-pub enum Tail {
-    Rows(usize, Ending),
-    Full,
-}
-
-// A refusal that wrote nothing.
-pub fn refused(why: Outer) -> Told
-    ensures { λ r. ⌜ r ≡ tells.Refused why startPlace 0 ⌝ }
-{
-    Told::Refused(why, Cursor::start(), 0)
-}
-
-// How long the new text is.
-pub fn new_length(length: u32, a: u32, b: u32, n: u32) -> u64
-    requires { ⌜ (a ≤ b) × (b ≤ length) ⌝ }
-    ensures { λ r. ⌜ r ≡ newLength length a b n ⌝ }
-{
-    wide(length - (b - a)) + wide(n)
-}
-
-// Whether an edit is sensible, where its window of so many bytes must start at `begin`.
-fn sensible(length: u32, a: u32, b: u32, n: u32, begin: u32, start: u32, size: usize) -> bool
-    ensures { λ r. ⌜ r ≡ sensibleAt length a b n begin start size ⌝ }
-{
-    if b < a {
-        return false;
-    }
-    if length < b {
-        return false;
-    }
-    if start != begin {
-        return false;
-    }
-    let most = new_length(length, a, b, n);
-    let from = wide(start);
-    if most < from {
-        return false;
-    }
-    size as u64 <= most - from
 }
 
 // The old rows that the window of an edit may meet, and how they are moved.
@@ -110,11 +72,7 @@ fn is_short(old: &[u32], job: Job, window: &[u8], whole: bool) -> bool
     let mut none: [u32; 1] = [0];
     let begin = job.begin;
     let stop = walk(old, olds_of(job), window, begin, whole, &mut none).stop;
-    match stop {
-        Stop::Met(_, _, _) => false,
-        Stop::Over(_) => false,
-        Stop::Short => true,
-    }
+    lacks(stop)
 }
 
 // The old rows from one on, moved: what stood at that row's start stands at p, with so many comments in the gap before it.
@@ -133,17 +91,6 @@ fn follow(old: &[u32], table: Table, row: usize, p: Cursor, comments: u32, tail:
     carry_rows(old, row, left, o, p, comments, tail);
     let ending = table.ending;
     Tail::Rows(left, carry_ending(ending, o, p))
-}
-
-// What stands behind n rows more.
-fn behind(n: usize, tail: Tail) -> Tail
-    requires { ⌜ FewBehind n tail ⌝ }
-    ensures { λ r. ⌜ r ≡ behindOf n tail ⌝ }
-{
-    match tail {
-        Tail::Rows(m, ending) => Tail::Rows(n + m, ending),
-        Tail::Full => Tail::Full,
-    }
 }
 
 // The rows behind the kept ones: those of the window, and from a meeting on the old rows, moved.
@@ -169,21 +116,6 @@ fn fill_tail(old: &[u32], job: Job, window: &[u8], whole: bool, tail: &mut [u32]
         }
         Stop::Over(ending) => Tail::Rows(count, ending),
         Stop::Short => Tail::Full,
-    }
-}
-
-// What an edit tells of so many kept rows, and of what stands behind them, where there is room for so many rows.
-fn tell(kept: usize, tail: Tail, size: u32, room: usize) -> Told
-    requires { ⌜ TellsFit kept tail room ⌝ }
-    ensures { λ r. ⌜ r ≡ tellOf kept tail size room ⌝ }
-{
-    match tail {
-        Tail::Rows(n, ending) => Told::Rows(Table {
-            count: (kept + n) as u32,
-            length: size,
-            ending,
-        }),
-        Tail::Full => Told::Refused(Outer::NoRowRoom, Cursor::start(), room as u32),
     }
 }
 

@@ -1,3 +1,2 @@
--- What the proofs of this crate use: the kept rows, and rows moved.
-pub mod Kept
+-- What the proofs of this crate use: rows moved.
 pub mod Carried

@@ -1,17 +1,11 @@
--- When rows can be found by their ends; when a place, a row and an ending can be moved: what stood at o stands at p, and nothing wraps.
+-- When a place, a row and an ending can be moved: what stood at o stands at p, and nothing wraps.
 use mathlib.Core.Path.{_≡_}
-use mathlib.Core.List.{List}
 use Prim.Native.Nat.{ℕ, _+_, _-_, _^_, _≤_, _<_}
 use Rattle.rules.specs.declared.Cursor.{Cursor}
 use Rattle.rules.specs.declared.Lexical.{Lexical}
 use Rattle.rules.specs.declared.Ending.{Ending}
 use Rattle.rules.specs.declared.Ending.the-variants.{None, Refused}
 use Rattle.rules.specs.Rows.{Row, rowPlace}
-use Rattle.rows.specs.Shape.{rowNo}
-
--- the ends of rows do not fall
-pub record EndsRise (ws : List ℕ) (count : ℕ) : Type 0 where
-  pub rises : (i j : ℕ) → i ≤ j → j < count → rowNo ws i .end ≤ rowNo ws j .end
 
 -- a counter x moves from o to p
 pub record Moves (o p x : ℕ) : Type 0 where
@@ -30,8 +24,3 @@ pub record MovesRow (o p : Cursor) (r : Row) : Type 0 where
 pub data MovesEnding (o p : Cursor) : Ending → Type 0 where
   none : MovesEnding o p None
   refused : {why : Lexical} {q : Cursor} → MovesPlace o p q → MovesEnding o p (Refused why q)
-
--- the last of n rows ends behind its start, and the column behind it fits
-pub record Ended (r : Row) : Type 0 where
-  pub ordered : r .start ≤ r .end
-  pub room : r .column + (r .end - r .start) < 2 ^ 32

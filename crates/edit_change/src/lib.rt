@@ -1,8 +1,8 @@
 // The change call: the edit by the whole new text, which finds its restart place itself.
 use edit::edit_tested;
 use edit::job_of;
-use edit::new_length;
-use edit::refused;
+use edit_parts::new_length;
+use edit_parts::refused;
 use rows::well_formed;
 use rules::Outer;
 use rules::Table;

@@ -29,7 +29,8 @@ use Rattle.rules.specs.Scan.{roomOf, told, scanTold, scanLeaves, scan, readRows
 use Rattle.rules.specs.Refusals.{outerNumber, reasonNumber}
 use Rattle.rules.specs.Calls.{nodeRoom, judged, reading, outTold, outLeaves, endingTold, endingLeaves, parseTold, parseLeaves}
 use Rattle.theory_grammar.proofs.Laws.{tree-length}
-use Rattle.lister_lines.specs.Lines.{room, mostLines, refusalLine, listedRows, listedNodes, listedParse, listedTree, listedScan, listedText, mostText, listed}
+use Rattle.lister_parts.specs.Parts.{mostLines, refusalLine, listedRows, listedNodes}
+use Rattle.lister_lines.specs.Lines.{room, listedParse, listedTree, listedScan, listedText, mostText, listed}
 
 pub room-length : length room ≡ mostLines * 8
 unfolding room

@@ -1,4 +1,3 @@
--- What the lister writes, worked cases of it, and what the contracts of the functions below it cite.
+-- What the lister writes of a text, and worked cases of it.
 pub mod Lines
 pub mod Cases
-pub mod Adds

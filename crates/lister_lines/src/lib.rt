@@ -1,10 +1,7 @@
 // The listing: a text's rows, then its nodes or its refusal, as bytes.
-use line::bytes;
-use line::number;
-use line::put;
-use line::value;
-use line::word;
-use line::words;
+use lister_parts::list_nodes;
+use lister_parts::list_rows;
+use lister_parts::refusal_line;
 use refusals::outer_number;
 use refusals::reason_number;
 use rules::Cursor;
@@ -13,114 +10,17 @@ use rules::Table;
 use rules::Told;
 ghost use mathlib.Core.Path.{_≡_};
 ghost use mathlib.Core.List.{_++_};
-ghost use Prim.Native.Nat.{_*_, _≤_};
+ghost use Prim.Native.Nat.{_≤_};
 ghost use lib.ListN.{length, drop};
 ghost use Rattle.io.specs.Counts.{Counts};
-ghost use Rattle.lister_lines.specs.Adds.{Adds, mostOfRows, mostOfNodes, mostOfRefusal, mostListing};
-ghost use Rattle.lister_lines.specs.Lines.{rowLine, nodeLine, refusalLine, lines, mostLines, listedRows, listedNodes, listedTree, listedText, listed};
-ghost use Rattle.lister_lines.specs.Lines.{heading as Lines·heading};
-
-mod line;
+ghost use Rattle.lister_parts.specs.Adds.{Adds, mostOfNodes, mostListing};
+ghost use Rattle.lister_lines.specs.Lines.{listedTree, listedText, listed};
 
 // The longest text that is listed.
 const MOST_TEXT: usize = 16384;
 
 // As many bytes as a listing may have.
 pub const MOST_LISTING: usize = 350000;
-
-// A name, and how many lines follow.
-fn heading(out: &mut [u8], at: usize, name: &[u8], count: u32) -> usize
-    ensures { λ r. ⌜ Adds (Lines·heading (now (name .entry)) count) (now (out .entry)) at (now (out .exit)) r ⌝ }
-{
-    let named = bytes(out, at, name);
-    let counted = word(out, named, count);
-    put(out, counted, b'\n')
-}
-
-// A refusal: its number, offset, line and column.
-fn refusal_line(out: &mut [u8], at: usize, number: u32, place: Cursor) -> usize
-    ensures { λ r. ⌜ Adds (refusalLine number place) (now (out .entry)) at (now (out .exit)) r ⌝ }
-    ensures { λ _. ⌜ length (refusalLine number place) ≤ mostOfRefusal ⌝ }
-{
-    let named = bytes(out, at, b"refused");
-    let told = [number, place.offset.0, place.line.0, place.column.0];
-    let placed = words(out, named, &told);
-    put(out, placed, b'\n')
-}
-
-// A row: its number, kind, start, end, line, column and value.
-fn row_line(out: &mut [u8], at: usize, i: usize, row: &[u32]) -> usize
-    requires { ⌜ length (now row) ≡ 8 ⌝ }
-    ensures { λ r. ⌜ Adds (rowLine i (now (row .entry))) (now (out .entry)) at (now (out .exit)) r ⌝ }
-{
-    let numbered = number(out, at, i as u64);
-    let placed = words(out, numbered, &row[..5]);
-    let valued = value(out, placed, row[5], row[6]);
-    put(out, valued, b'\n')
-}
-
-// A node: its number and its words.
-fn node_line(out: &mut [u8], at: usize, i: usize, node: &[u32]) -> usize
-    ensures { λ r. ⌜ Adds (nodeLine i (now (node .entry))) (now (out .entry)) at (now (out .exit)) r ⌝ }
-{
-    let numbered = number(out, at, i as u64);
-    let told = words(out, numbered, node);
-    put(out, told, b'\n')
-}
-
-// The lines of the first rows.
-fn row_lines(out: &mut [u8], at: usize, rows: &[u32], count: usize) -> usize
-    requires { ⌜ count * 8 ≤ length (now rows) ⌝ }
-    ensures { λ r. ⌜ Adds (lines rowLine 0 count (now (rows .entry))) (now (out .entry)) at (now (out .exit)) r ⌝ }
-{
-    let mut at = at;
-    let mut i = 0;
-    while i < count {
-        let from = i * 8;
-        let end = from + 8;
-        at = row_line(out, at, i, &rows[from..end]);
-        i += 1;
-    }
-    at
-}
-
-// The lines of the first nodes.
-fn node_lines(out: &mut [u8], at: usize, nodes: &[u32], count: usize) -> usize
-    requires { ⌜ count * 8 ≤ length (now nodes) ⌝ }
-    ensures { λ r. ⌜ Adds (lines nodeLine 0 count (now (nodes .entry))) (now (out .entry)) at (now (out .exit)) r ⌝ }
-{
-    let mut at = at;
-    let mut i = 0;
-    while i < count {
-        let from = i * 8;
-        let end = from + 8;
-        at = node_line(out, at, i, &nodes[from..end]);
-        i += 1;
-    }
-    at
-}
-
-// The rows, headed.
-fn list_rows(out: &mut [u8], at: usize, rows: &[u32], count: u32) -> usize
-    requires { ⌜ count * 8 ≤ length (now rows) ⌝ }
-    requires { ⌜ count ≤ mostLines ⌝ }
-    ensures { λ r. ⌜ Adds (listedRows count (now (rows .entry))) (now (out .entry)) at (now (out .exit)) r ⌝ }
-    ensures { λ _. ⌜ length (listedRows count (now (rows .entry))) ≤ mostOfRows ⌝ }
-{
-    let headed = heading(out, at, b"rows", count);
-    row_lines(out, headed, rows, count as usize)
-}
-
-// The nodes, headed.
-fn list_nodes(out: &mut [u8], at: usize, nodes: &[u32], count: u32) -> usize
-    requires { ⌜ count * 8 ≤ length (now nodes) ⌝ }
-    requires { ⌜ count ≤ mostLines ⌝ }
-    ensures { λ r. ⌜ Adds (listedNodes count (now (nodes .entry))) (now (out .entry)) at (now (out .exit)) r ⌝ }
-    ensures { λ _. ⌜ length (listedNodes count (now (nodes .entry))) ≤ mostOfNodes ⌝ }
-{
-    let headed = heading(out, at, b"nodes", count);
-    node_lines(out, headed, nodes, count as usize)
-}
 
 // The nodes, headed, or why there are none.
 fn list_tree(out: &mut [u8], at: usize, text: &[u8], rows: &[u32], table: Table) -> usize

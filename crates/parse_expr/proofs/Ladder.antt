@@ -23,7 +23,7 @@ use Rattle.parse_nodes.specs.declared.At.{At}
 use Rattle.parse_nodes.specs.declared.Got.{Got}
 use Rattle.parse_nodes.specs.declared.Got.the-variants.{Done, Refused}
 use Rattle.parse_nodes.proofs.Turn.{Any, Came, met-ok, met-no, Turn, start, ends, fails, again}
-use Rattle.parse_expr.specs.Written.{Joint, Joined}
+use Rattle.parse_signs.specs.Joined.{Joint, Joined}
 use Rattle.parse_expr.proofs.Trees.{stands-bin}
 use Rattle.parse_expr.proofs.Given.{refusal, Fit, turn-fit}
 

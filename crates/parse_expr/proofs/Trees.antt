@@ -20,7 +20,8 @@ use Rattle.parse_nodes.specs.declared.Got.{Got}
 use Rattle.parse_nodes.proofs.Rows.{tells-value, word-at, word-here, low-word, high-word}
 use Rattle.parse_nodes.proofs.Turn.{met-ok}
 use Rattle.parse_nodes.proofs.Steps.{stands-at, mem-over, mem-both, mem-join}
-use Rattle.parse_expr.specs.Written.{CallEnd, FieldEnd, Joint}
+use Rattle.parse_signs.specs.Joined.{Joint}
+use Rattle.parse_expr.specs.Written.{CallEnd, FieldEnd}
 
 -- the state behind a group, from the one in front of its `)`
 abbrev pub groupAt : At → At

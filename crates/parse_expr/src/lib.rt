@@ -3,6 +3,9 @@
 // unary = '*' unary | prim, prim = (Number | Identifier | '(' add ')') ('.' Identifier ['(' [add (',' add)*] ')'])*.
 use parse_nodes::At;
 use parse_nodes::Got;
+use parse_signs::is_mul;
+use parse_signs::joined;
+use parse_signs::joins;
 use rules::Syntax;
 use rules::fits;
 use rules::kind::COMMA;
@@ -10,66 +13,20 @@ use rules::kind::DOT;
 use rules::kind::EOF;
 use rules::kind::IDENTIFIER;
 use rules::kind::LPAREN;
-use rules::kind::MINUS;
 use rules::kind::NUMBER;
-use rules::kind::PERCENT;
-use rules::kind::PLUS;
 use rules::kind::RPAREN;
-use rules::kind::SHL;
-use rules::kind::SHR;
-use rules::kind::SLASH;
 use rules::kind::STAR;
-use rules::node::MISSING;
 use rules::node_kind;
 use rules::row::HIGH;
 use rules::row::LOW;
 use rules::row::WORDS;
 ghost use mathlib.Core.Path.{_≡_};
-ghost use mathlib.Core.Bool.{not, _&&_, _||_};
 ghost use Prim.Native.Nat.{_+_, _*_, _≤_, _<_};
-ghost use lib.Dec.{eqb};
 ghost use lib.ListN.{length};
-ghost use Rattle.rules.specs.Kinds.{Eof};
-ghost use Rattle.rules.specs.Nodes.{binaryNode};
-ghost use Rattle.rules.specs.Parse.{isAdd, isShift, isMul, inner, atom, prim, unary, mul, add, args, post};
+ghost use Rattle.rules.specs.Parse.{inner, atom, prim, unary, mul, add, args, post};
 ghost use Rattle.parse_nodes.specs.Post.{kindWord, stateAt, Answers, Onward, Asks, AsksAt, AsksOpen};
-ghost use Rattle.parse_expr.specs.Written.{CallEnd, FieldEnd, Joined};
+ghost use Rattle.parse_expr.specs.Written.{CallEnd, FieldEnd};
 ghost use Rattle.parse_expr.specs.Lone.{isLone, Leaf};
-
-// Whether a row's kind is `+` or `-`, which stand side by side among the kinds.
-fn is_add(k: u32) -> bool
-    ensures { λ r. ⌜ r ≡ isAdd k ⌝ }
-{
-    (PLUS <= k) & (k <= MINUS)
-}
-
-// Whether a row's kind is `<<` or `>>`.
-fn is_shift(k: u32) -> bool
-    ensures { λ r. ⌜ r ≡ isShift k ⌝ }
-{
-    (k == SHL) | (k == SHR)
-}
-
-// Whether a row's kind is `*`, `/` or `%`.
-fn is_mul(k: u32) -> bool
-    ensures { λ r. ⌜ r ≡ isMul k ⌝ }
-{
-    ((k == STAR) | (k == SLASH)) | (k == PERCENT)
-}
-
-// The node kind of an operator's row kind. From `+` to `%` the row kinds and their node kinds stand in the same order, and of the two
-// shifts the order is the other way round, so that the compiler makes no branch of it.
-fn binary_node(k: u32) -> u32
-    ensures { λ r. ⌜ r ≡ binaryNode k ⌝ }
-{
-    if k == SHL {
-        return node_kind::SHL;
-    }
-    if (k < PLUS) | (SHR <= k) {
-        return node_kind::SHR;
-    }
-    k - PLUS + node_kind::ADD
-}
 
 // The end of a call: s stands behind the receiver, at the dot; m is the next node, and next the row behind the call.
 fn call_end(nodes: &mut [u32], s: At, m: u32, count: u32, next: u32) -> Got
@@ -138,13 +95,6 @@ fn leaf(rows: &[u32], count: u32, nodes: &mut [u32], row: u32, node: u32) -> At
     parse_nodes::variable(nodes, row, node)
 }
 
-// Whether a row of a kind goes on with an expression: a sign, or a shift where no sign was read.
-fn joins(k: u32, summed: bool) -> bool
-    ensures { λ r. ⌜ r ≡ isAdd k || (isShift k && not summed) ⌝ }
-{
-    is_add(k) | (is_shift(k) & !summed)
-}
-
 // The state before an operand that is read at a row, its first node the next.
 fn unread(row: u32, node: u32) -> At
     ensures { λ r. ⌜ r ≡ stateAt row node row ⌝ }
@@ -156,27 +106,6 @@ fn unread(row: u32, node: u32) -> At
         things: 0,
         variable: false,
         summed: false,
-        hanging: false,
-    }
-}
-
-// The state behind the operator k with its operands: the first ends at s, the second at t. No operator, Eof, has t alone.
-fn joined(nodes: &mut [u32], s: At, t: At, k: u32) -> At
-    requires { ⌜ t .node ≤ 65537 ⌝ }
-    ensures { λ r. ⌜ Joined (eqb k Eof) s t k (now (nodes .entry)) (now (nodes .exit)) r ⌝ }
-{
-    if k == EOF {
-        return t;
-    }
-    let n = t.node;
-    parse_nodes::close(nodes, n, binary_node(k), s.place, MISSING, 2);
-    At {
-        row: t.row,
-        node: n + 1,
-        place: s.place,
-        things: 0,
-        variable: false,
-        summed: is_add(k),
         hanging: false,
     }
 }

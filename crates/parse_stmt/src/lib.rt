@@ -1,6 +1,7 @@
 // Statements. `stmt`, `branch`, `otherwise` and `body` call each other in a circle, the rest of the nesting limit falling with each body.
 use parse_nodes::At;
 use parse_nodes::Got;
+use parse_things::body_things;
 use rules::Syntax;
 use rules::fits;
 use rules::kind::ELSE;
@@ -20,11 +21,8 @@ use rules::kind::RPAREN;
 use rules::kind::SEMICOLON;
 use rules::node_kind;
 ghost use mathlib.Core.Path.{_≡_};
-ghost use mathlib.Core.Bool.{cond};
 ghost use Prim.Native.Nat.{_+_, _*_, _≤_, _<_};
 ghost use lib.ListN.{length};
-ghost use Rattle.rules.specs.Kinds.{KeywordElse};
-ghost use Rattle.rules.specs.Fits.{only, bodyThings};
 ghost use Rattle.rules.specs.Nodes.{declNode, assignNode};
 ghost use Rattle.rules.specs.Parse.{isDeclaring, isAssign, declaring, returning, branching, expression, stmt, body};
 ghost use Rattle.parse_nodes.specs.Post.{Answers, Onward, Asks, AsksAt, AsksOpen};
@@ -291,16 +289,6 @@ fn otherwise(rows: &[u32], count: u32, nodes: &mut [u32], t: At, guard: u32, lef
     }
 }
 
-// What would have fitted in place of a statement's first row, behind an `if` without `else` or not.
-fn things(hanging: bool) -> u64
-    ensures { λ r. ⌜ r ≡ bodyThings + cond hanging (only KeywordElse) 0 ⌝ }
-{
-    if hanging {
-        return fits::BODY_THINGS + fits::ELSE;
-    }
-    fits::BODY_THINGS
-}
-
 // The node kind of a body, by the kind of the row in front of its brace: `else`, or the `)` of a guard.
 fn body_node(k: u32) -> u32
     ensures { λ r. ⌜ r ≡ bodyNode k ⌝ }
@@ -340,7 +328,7 @@ fn body(rows: &[u32], count: u32, nodes: &mut [u32], row: u32, node: u32, left: 
                 s = parse_nodes::counted(t, s.place, s.things + 1);
             }
             Got::Refused(why, r) => {
-                return Got::Refused(parse_nodes::instead(why, r, at, things(s.hanging)), r);
+                return Got::Refused(parse_nodes::instead(why, r, at, body_things(s.hanging)), r);
             }
         }
     }

@@ -31,12 +31,13 @@ use Rattle.parse_nodes.proofs.Steps.{stands-at, Listing, list-start, list-ends,
 use Rattle.parse_nodes.proofs.Seen.{seen, want-unmet}
 use Rattle.parse_nodes.proofs.Rows.{word-here}
 use Rattle.parse_nodes.proofs.Fitting.{Opens}
-use Rattle.parse_units.specs.Contents.{unset, kindFrom, firstOf, lastRow, spelt, overAt, over, textAt, Adds, Texted, AsksItems}
+use Rattle.parse_sections.specs.Sections.{unset, kindFrom, firstOf, lastRow, spelt}
+use Rattle.parse_units.specs.Contents.{overAt, over, textAt, Adds, Texted, AsksItems}
 use Rattle.parse_units.specs.Contents.{thingsFrom, contentsOf, Holds}
 use Rattle.parse_units.specs.declared.Contents.{Contents}
 use Rattle.parse_units.specs.declared.Went.{Went}
 use Rattle.parse_units.specs.declared.Went.the-variants.{Done, Refused}
-use Rattle.parse_units.proofs.Sections.{kind-append, kind-known, first-unset, last-here}
+use Rattle.parse_sections.proofs.Sections.{kind-append, kind-known, first-unset, last-here}
 
 -- ---- what the code sees in a string's row
 

@@ -1,3 +1,2 @@
--- What the proofs of a unit's functions use: sections and their kinds, and the answers over contents.
-pub mod Sections
+-- What the proofs of a unit's functions use: the answers over contents.
 pub mod Answers

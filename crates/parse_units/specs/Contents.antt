@@ -18,33 +18,10 @@ use Rattle.parse_nodes.specs.Post.{kindWord, stateAt, behind, Asks, Met}
 use Rattle.parse_nodes.specs.declared.At.{At}
 use Rattle.parse_nodes.specs.Names.{Names, Spans}
 use Rattle.parse_nodes.specs.declared.Got.{Got}
+use Rattle.parse_sections.specs.Sections.{unset, kindFrom, firstOf, lastRow, spelt, AsksString}
 use Rattle.parse_units.specs.declared.Contents.{Contents}
 use Rattle.parse_units.specs.declared.Went.{Went}
 use Rattle.parse_units.specs.declared.Went.the-variants.{Done, Refused}
-
--- ---- the kind and the licence so far
-
--- no section yet
-abbrev pub unset : ℕ
-unset = 11
-
--- the first section's kind
-unfoldable pub kindFrom : List (List ℕ) → ℕ
-kindFrom [] = unset
-kindFrom (w ∷ ws) = fromSection (sectionText w)
-
--- the first of two kinds
-abbrev pub firstOf : ℕ → ℕ → ℕ
-firstOf x y = cond (eqb x unset) y x
-
--- the last of two rows
-abbrev pub lastRow : ℕ → ℕ → ℕ
-lastRow x y = cond (eqb y missing) x y
-
--- the spelling of row i
-abbrev pub spelt : List ℕ → List ℕ → ℕ → List ℕ
-spelt t ws i =
-    take (getD ws (i * wordsPerRow + atEnd) 0 - getD ws (i * wordsPerRow + atStart) 0) (drop (getD ws (i * wordsPerRow + atStart) 0) t)
 
 -- ---- one thing more
 
@@ -99,12 +76,6 @@ pub record AsksItems (t ws : List ℕ) (n : ℕ) (s : At) : Type 0 where
   pub at : Asks ws n (s .row) (s .node) 64
   pub first : s ≡ stateAt (s .row) (s .node) (s .row)
   pub spans : Spans t ws n
-
--- row i is a string's
-pub record AsksString (t ws : List ℕ) (i : ℕ) : Type 0 where
-  pub lent : i * 8 + 8 ≤ length ws
-  pub order : getD ws (i * wordsPerRow + atStart) 0 + 2 ≤ getD ws (i * wordsPerRow + atEnd) 0
-  pub inside : getD ws (i * wordsPerRow + atEnd) 0 ≤ length t
 
 -- the contents' row has the kind k, a section's or a licence's
 pub record AsksText (t ws : List ℕ) (n : ℕ) (u : Contents) (k : ℕ) : Type 0 where

@@ -2,9 +2,11 @@
 use parse_nodes::At;
 use parse_nodes::Got;
 use parse_nodes::Words;
+use parse_sections::NO_SECTION;
+use parse_sections::first_kind;
+use parse_sections::kind_or_unknown;
+use parse_things::unit_things;
 use rules::Syntax;
-use rules::fact;
-use rules::fits;
 use rules::kind::LICENSE;
 use rules::kind::RBRACE;
 use rules::kind::SECTION;
@@ -13,26 +15,18 @@ use rules::kind::STRING;
 use rules::limit;
 use rules::node;
 use rules::node_kind;
-use rules::row;
 ghost use mathlib.Core.Path.{_≡_};
 ghost use mathlib.Core.Bool.{cond};
 ghost use Prim.Native.Nat.{_+_, _-_, _*_, _≤_, _<_};
 ghost use lib.Dec.{eqb};
 ghost use lib.ListN.{length, take, drop};
 ghost use lib.Seq.{sets};
-ghost use Rattle.rules.specs.Kinds.{KeywordElse};
-ghost use Rattle.rules.specs.Fits.{only, unitThings};
-ghost use Rattle.rules.specs.Sets.{fromSection};
-ghost use Rattle.rules.specs.Tree.{sectionText};
 ghost use Rattle.rules.specs.Nodes.{NodeUnit, factNode, nodeWords};
 ghost use Rattle.parse_nodes.specs.Post.{stateAt, AsksOpen};
 ghost use Rattle.parse_nodes.specs.Names.{Spans};
-ghost use Rattle.parse_units.specs.Contents.{unset, firstOf, spelt, Texted, ItemMet, ItemsMet, UnitMet};
-ghost use Rattle.parse_units.specs.Contents.{AsksItem, AsksItems, AsksString, AsksText, AsksQuoted};
-
-const QUOTE: u8 = b'"';
-
-const NO_SECTION: u32 = fact::PROGRAM_UNKNOWN + 1;
+ghost use Rattle.parse_sections.specs.Sections.{unset};
+ghost use Rattle.parse_units.specs.Contents.{Texted, ItemMet, ItemsMet, UnitMet};
+ghost use Rattle.parse_units.specs.Contents.{AsksItem, AsksItems, AsksText, AsksQuoted};
 
 // Where the parser stands in a unit's contents, the kind that the first section gives (NO_SECTION while there is none), and the row of the
 // last licence's string.
@@ -46,37 +40,6 @@ pub struct Contents {
 pub enum Went {
     Done(Contents),
     Refused(Syntax, usize),
-}
-
-// The kind of the section whose string is the text from a to e, its quotes with it.
-fn kind_of_string(text: &[u8], a: usize, e: usize) -> u32
-    requires { ⌜ (a + 2 ≤ e) × (e ≤ length (now text)) ⌝ }
-    ensures { λ r. ⌜ r ≡ fromSection (sectionText (take (e - a) (drop a (now (text .entry))))) ⌝ }
-{
-    let from = a + 1;
-    let to = e - 1;
-    if to <= from {
-        return methods::section_kind(&text[from..to]);
-    }
-    let last = to - 1;
-    if text[last] == QUOTE {
-        return methods::section_kind(&text[from..last]);
-    }
-    methods::section_kind(&text[from..to])
-}
-
-// The kind, if there is one, or that of the section whose string is at the row.
-fn first_kind(text: &[u8], rows: &[u32], row: u32, kind: u32) -> u32
-    requires { ⌜ AsksString (now text) (now rows) row ⌝ }
-    ensures { λ r. ⌜ r ≡ firstOf kind (fromSection (sectionText (spelt (now (text .entry)) (now (rows .entry)) row))) ⌝ }
-{
-    if kind != NO_SECTION {
-        return kind;
-    }
-    let at = (row as usize) * row::WORDS;
-    let a = rows[at + row::START] as usize;
-    let e = rows[at + row::END] as usize;
-    kind_of_string(text, a, e)
 }
 
 // The contents with the section or the licence, which the word says, at their row.
@@ -160,16 +123,6 @@ fn item(text: &[u8], rows: &[u32], count: u32, nodes: &mut [u32], u: Contents) -
     }
 }
 
-// What would have fitted in place of a thing's first row, behind an `if` without `else` or not.
-fn things(hanging: bool) -> u64
-    ensures { λ r. ⌜ r ≡ unitThings + cond hanging (only KeywordElse) 0 ⌝ }
-{
-    if hanging {
-        return fits::UNIT_THINGS + fits::ELSE;
-    }
-    fits::UNIT_THINGS
-}
-
 // The contents from the first thing on, up to `}`, which is not taken.
 fn items(text: &[u8], rows: &[u32], count: u32, nodes: &mut [u32], start: At) -> Went
     requires { ⌜ AsksItems (now text) (now rows) count start ⌝ }
@@ -190,21 +143,11 @@ fn items(text: &[u8], rows: &[u32], count: u32, nodes: &mut [u32], start: At) ->
                 u = v;
             }
             Went::Refused(why, r) => {
-                let told = parse_nodes::instead(why, r, here.row, things(here.hanging));
+                let told = parse_nodes::instead(why, r, here.row, unit_things(here.hanging));
                 return Went::Refused(told, r);
             }
         }
     }
-}
-
-// The kind of a unit, Unknown if it has no section.
-fn kind_or_unknown(kind: u32) -> u32
-    ensures { λ r. ⌜ r ≡ cond (eqb kind unset) 10 kind ⌝ }
-{
-    if kind == NO_SECTION {
-        return fact::PROGRAM_UNKNOWN;
-    }
-    kind
 }
 
 // The node of the unit whose word is at a row, over its contents, and the state behind it.

@@ -8,8 +8,6 @@ use crate::report::CHANGES;
 use crate::report::KINDS;
 use crate::report::RESTARTS;
 use crate::report::ROWS;
-use crate::report::memory_line;
-use crate::report::word_line;
 use crate::words::told_words;
 use replay_input::input::LOST;
 use replay_input::input::count;
@@ -21,9 +19,10 @@ use replay_input::memory::lent_words;
 use replay_input::part::Part;
 use replay_input::part::bytes_of;
 use replay_input::part::number;
+use replay_input::tally;
 use replay_input::tally::Tally;
 use replay_input::tally::counter;
-use replay_input::words::first_other;
+use replay_input::tally::difference;
 use replay_input::words::words_read;
 use rules::Table;
 use rules::row;
@@ -72,21 +71,18 @@ fn writes(number: u32) -> bool {
     11 <= number
 }
 
-// Six words that were told against those that are expected: what differs is written.
+// Six words that were told against those that are expected: what differs is written. Call 0 of an edit is the question where its window
+// starts.
 pub fn words_compared(tally: Tally, ours: &[u32; 6], theirs: &[u32; 6]) -> Tally {
-    let i = first_other(ours, theirs);
-    if i < 6 {
-        word_line(tally, i, ours[i], theirs[i]);
-        return tally.differs();
-    }
-    tally
+    tally::words_compared(tally, b"edit ", ours, theirs)
 }
 
 // Memory behind a call against so many rows and what was there: what differs is written.
 fn memory_compared(tally: Tally, memory: &[u32; WORDS], rows: &[u32; WORDS], count: u32) -> Tally {
     let i = first_changed(memory, rows, count);
     if i < WORDS {
-        memory_line(tally, i, memory[i], expected(rows, count, i));
+        let theirs = expected(rows, count, i);
+        difference(tally, b"edit ", b": word of memory ", i, memory[i], theirs);
     }
     tally.up_to(ROWS, count, i / row::WORDS, i < WORDS)
 }

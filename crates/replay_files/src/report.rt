@@ -3,6 +3,7 @@ use replay_input::lines::one;
 use replay_input::tally;
 use replay_input::tally::Tally;
 use replay_input::tally::line;
+use replay_input::tally::numbers;
 
 // What is counted: calls by the number that is expected of them, 0 where nothing is refused; loads by what happened to the file; and all
 // of a thing.
@@ -40,24 +41,6 @@ fn damages(tally: Tally) {
     );
 }
 
-// The calls by what is expected of them.
-fn answers(tally: Tally) {
-    line(b"expected 0: ", tally, 0);
-    line(b"expected 3: ", tally, 3);
-    line(b"expected 4: ", tally, 4);
-    line(b"expected 11: ", tally, 11);
-    line(b"expected 12: ", tally, 12);
-    line(b"expected 13: ", tally, 13);
-    line(b"expected 14: ", tally, 14);
-    line(b"expected 15: ", tally, 15);
-    line(b"expected 16: ", tally, 16);
-    line(b"expected 17: ", tally, 17);
-    line(b"expected 41: ", tally, 41);
-    line(b"expected 42: ", tally, 42);
-    line(b"expected 43: ", tally, 43);
-    line(b"expected 44: ", tally, 44);
-}
-
 // All counts.
 pub fn counts(tally: Tally) {
     line(b"stores ", tally, STORES);
@@ -65,6 +48,6 @@ pub fn counts(tally: Tally) {
     line(b"blocks ", tally, BLOCKS);
     line(b"rows ", tally, ROWS);
     damages(tally);
-    answers(tally);
+    numbers(tally, 0, DAMAGES);
     one(b"differences ", tally.differences);
 }

@@ -121,8 +121,27 @@ pub fn line(name: &[u8], tally: Tally, what: usize) {
     }
 }
 
+// How many calls of which number i is expected were held against the sample, and how many agree; nothing where there are none.
+fn number_line(tally: Tally, i: usize) {
+    if i < COUNTERS {
+        if 0 < tally.seen[i] {
+            told(b"expected ", i as u64);
+            line(b": ", tally, i);
+        }
+    }
+}
+
+// The calls by the number that is expected of them, from a first one on.
+pub fn numbers(tally: Tally, first: usize, most: usize) {
+    let mut i = first;
+    while i < most {
+        number_line(tally, i);
+        i += 1;
+    }
+}
+
 // Whether the next difference is written: the first few are.
-pub fn is_written(tally: Tally) -> bool {
+fn is_written(tally: Tally) -> bool {
     tally.differences < WRITTEN
 }
 

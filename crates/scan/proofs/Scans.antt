@@ -21,9 +21,9 @@ use Rattle.theory_machine.proofs.Spans.{Spans, refused-spans}
 use Rattle.theory_machine.proofs.Same.{piece-spans}
 use Rattle.laws.proofs.Places.{over-start}
 use Rattle.laws.proofs.Rows.{scan-told-refused, scan-leaves-refused, scan-told, scan-leaves, few-rows}
-use Rattle.scan_walk.specs.declared.Olds.{Olds}
-use Rattle.scan_walk.specs.declared.Stop.the-variants.{Over}
-use Rattle.scan_walk.specs.Meeting.{meetsAt}
+use Rattle.scan_meet.specs.declared.Olds.{Olds}
+use Rattle.scan_stop.specs.declared.Stop.the-variants.{Over}
+use Rattle.scan_meet.specs.Meeting.{meetsAt}
 use Rattle.scan_walk.specs.Walk.{placeIn, rowsSeen, stopSeen, seenFrom, walkRows, walkOf, Walkable}
 
 -- ---- a reading as what is seen

@@ -7,10 +7,10 @@ use rules::Table;
 use rules::Told;
 use rules::limit;
 use rules::row;
+use scan_meet::Olds;
 use scan_place::judge_text;
-use scan_walk::Olds;
-use scan_walk::Stop;
-use scan_walk::Walked;
+use scan_stop::Stop;
+use scan_stop::Walked;
 use scan_walk::walk;
 ghost use mathlib.Core.Path.{_≡_};
 ghost use mathlib.Core.List.{List};
@@ -19,7 +19,7 @@ ghost use lib.ListN.{length};
 ghost use Rattle.rules.specs.declared.Ending.{Ending as Endings};
 ghost use Rattle.rules.specs.Rows.{Row};
 ghost use Rattle.rules.specs.Scan.{told as toldOf, roomOf, scanTold, scanLeaves};
-ghost use Rattle.scan_walk.specs.declared.Stop.the-variants.{Over};
+ghost use Rattle.scan_stop.specs.declared.Stop.the-variants.{Over};
 
 // The ending at which a walk stopped.
 fn ending_of(stop: Stop) -> Ending

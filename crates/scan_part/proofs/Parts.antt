@@ -23,10 +23,13 @@ use Rattle.scan_reader.specs.Read.{onward, Ahead}
 use Rattle.scan_reader.specs.declared.Brief.{Brief}
 use Rattle.scan_reader.specs.Brief.{Blank, Line, End, Unknown, told}
 use Rattle.scan_reader.proofs.Told.{CommentTold, by-row, by-blank, by-comment, by-end, by-unknown, by-refused}
-use Rattle.scan_walk.specs.declared.Stop.the-variants as stop
-use Rattle.scan_walk.specs.declared.Walked.{Walked}
-use Rattle.scan_walk.specs.Walk.{rowOf, placed, blanks, Passable, Last, Finished}
-use Rattle.scan_walk.proofs.Laid.{laid-more}
+use Rattle.scan_stop.specs.declared.Stop.the-variants as stop
+use Rattle.scan_stop.specs.declared.Walked.{Walked}
+use Rattle.scan_blanks.specs.Blanks.{blanks}
+use Rattle.scan_puts.specs.Put.{rowOf, placed}
+use Rattle.scan_stop.specs.Stop.{Last, Finished}
+use Rattle.scan_walk.specs.Walk.{Passable}
+use Rattle.scan_puts.proofs.Laid.{laid-more}
 use Rattle.scan_part.specs.declared.Next.{Next}
 use Rattle.scan_part.specs.declared.Next.the-variants.{On, Over}
 use Rattle.scan_part.specs.declared.Part.{Part}

@@ -1,20 +1,20 @@
 // The rows of a text, so many at a time: a scan that stops behind so many rows and goes on later, so that its rows take room for one part.
 use rules::Ending;
+use scan_blanks::past_blanks;
+use scan_puts::put_behind;
 use scan_reader::Spot;
 use scan_reader::codes;
 use scan_reader::front::brief;
-use scan_walk::Stop;
-use scan_walk::finish;
-use scan_walk::puts::put_behind;
+use scan_stop::Stop;
+use scan_stop::finish;
 use scan_walk::spots::behind;
-use scan_walk::spots::past_blanks;
 ghost use mathlib.Core.Path.{_≡_};
 ghost use mathlib.Core.List.{_++_};
 ghost use Prim.Native.Nat.{_*_, _≤_};
 ghost use lib.ListN.{length, drop};
 ghost use Rattle.rules.specs.declared.Ending.{Ending as Endings};
 ghost use Rattle.rules.specs.Rows.{wordsOf, wordsPerRow};
-ghost use Rattle.scan_walk.specs.declared.Stop.the-variants as stops;
+ghost use Rattle.scan_stop.specs.declared.Stop.the-variants as stops;
 ghost use Rattle.scan_part.specs.Part.{Begun, PartOf, partRows};
 
 // Where the reading goes on behind a part, or the ending that the text has.

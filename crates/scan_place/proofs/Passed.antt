@@ -9,7 +9,7 @@ use lib.Seq.{length-take-le, drop-drop}
 use Rattle.rules.specs.Text.{charAt, validBytes, valid}
 use Rattle.laws.proofs.Chars.{char-le}
 use Rattle.laws.proofs.Valid.{valid-none, is-valid, valid-end, valid-low, valid-char, all-low, valid-join}
-use Rattle.scan_place.specs.Lines.{Passed}
+use Rattle.scan_place.specs.Passed.{Passed}
 
 module _ (t : List ℕ) where
   pub passed-none : (i : ℕ) → i ≤ length t → Passed t i i

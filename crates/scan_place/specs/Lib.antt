@@ -1,2 +1,2 @@
--- What the code asks of a line of RFC 3629's table, and of what it has passed.
-pub mod Lines
+-- What the code asks of what it has passed.
+pub mod Passed

@@ -1,18 +1,17 @@
 // Places in a text: how far its bytes are valid, the cursor behind some of them, and what a text is told before it is read.
-mod chars;
-
-use crate::chars::char_at;
-use crate::chars::is_cut;
 use rules::Cursor;
 use rules::Judged;
 use rules::Outer;
 use rules::limit;
+use scan_chars::FIRST_HIGH;
+use scan_chars::char_at;
+use scan_chars::is_cut;
 ghost use mathlib.Core.Path.{_≡_};
 ghost use Prim.Native.Nat.{ℕ, _≤_, _<_};
 ghost use lib.ListN.{length, getD, take};
 ghost use Rattle.rules.specs.Text.{validBytes, over, textJudged, Roomy};
 ghost use Rattle.rules.specs.Edit.{windowBytes};
-ghost use Rattle.scan_place.specs.Lines.{Passed};
+ghost use Rattle.scan_place.specs.Passed.{Passed};
 
 // The larger of two bytes.
 fn larger(a: u8, b: u8) -> u8
@@ -44,11 +43,11 @@ fn low_blocks(text: &[u8], from: usize) -> usize
 {
     let mut i = from;
     while BLOCK <= text.len() - i {
-        if chars::FIRST_HIGH <= text[i] {
+        if FIRST_HIGH <= text[i] {
             return i;
         }
         let next = i + BLOCK;
-        if chars::FIRST_HIGH <= highest(&text[i..next]) {
+        if FIRST_HIGH <= highest(&text[i..next]) {
             return i;
         }
         i = next;
@@ -63,7 +62,7 @@ fn low_end(text: &[u8], from: usize) -> usize
 {
     let mut i = low_blocks(text, from);
     while i < text.len() {
-        if chars::FIRST_HIGH <= text[i] {
+        if FIRST_HIGH <= text[i] {
             return i;
         }
         i += 1;
@@ -75,12 +74,12 @@ fn low_end(text: &[u8], from: usize) -> usize
 pub fn valid_bytes(text: &[u8]) -> usize
     ensures { λ r. ⌜ r ≡ validBytes (now (text .entry)) ⌝ }
 {
-    if highest(text) < chars::FIRST_HIGH {
+    if highest(text) < FIRST_HIGH {
         return text.len();
     }
     let mut i = 0;
     while i < text.len() {
-        if text[i] < chars::FIRST_HIGH {
+        if text[i] < FIRST_HIGH {
             i = low_end(text, i + 1);
         } else {
             let n = char_at(text, i);

@@ -24,14 +24,17 @@ use Rattle.scan_reader.proofs.Moves.{onward-more}
 use Rattle.scan_reader.specs.declared.Brief.{Brief}
 use Rattle.scan_reader.specs.Brief.{Blank, Line, End, Unknown, told}
 use Rattle.scan_reader.proofs.Told.{CommentTold, by-row, by-blank, by-comment, by-end, by-unknown, by-refused}
-use Rattle.scan_walk.specs.declared.Found.{Found}
-use Rattle.scan_walk.specs.declared.Olds.{Olds}
-use Rattle.scan_walk.specs.declared.Stop.{Stop}
-use Rattle.scan_walk.specs.declared.Stop.the-variants.{Met, Over, Short}
-use Rattle.scan_walk.specs.declared.Walked.{Walked}
-use Rattle.scan_walk.specs.Meeting.{Passed, Finds, meetsAt, stopsAt}
-use Rattle.scan_walk.specs.Walk.{startOf, placeIn, rowsSeen, stopSeen, seenFrom, walkSeen, walkRows, walkOf, Walkable, rowOf, placed, blanks, Passable, Last, Finished}
-use Rattle.scan_walk.proofs.Laid.{laid-more}
+use Rattle.scan_meet.specs.declared.Found.{Found}
+use Rattle.scan_meet.specs.declared.Olds.{Olds}
+use Rattle.scan_stop.specs.declared.Stop.{Stop}
+use Rattle.scan_stop.specs.declared.Stop.the-variants.{Met, Over, Short}
+use Rattle.scan_stop.specs.declared.Walked.{Walked}
+use Rattle.scan_meet.specs.Meeting.{Passed, Finds, meetsAt, stopsAt}
+use Rattle.scan_blanks.specs.Blanks.{blanks}
+use Rattle.scan_puts.specs.Put.{rowOf, placed}
+use Rattle.scan_stop.specs.Stop.{Last, Finished}
+use Rattle.scan_walk.specs.Walk.{startOf, placeIn, rowsSeen, stopSeen, seenFrom, walkSeen, walkRows, walkOf, Walkable, Passable}
+use Rattle.scan_puts.proofs.Laid.{laid-more}
 use Rattle.scan_walk.proofs.Looks.{lookBy, look-met, look-by, look-blanks}
 
 module _ (ws : List ℕ) (o : Olds) (t : List ℕ) (p : Cursor) (whole : Bool) (lent : List ℕ) where

@@ -16,11 +16,11 @@ use Rattle.scan_reader.specs.declared.Spot.{Spot}
 use Rattle.scan_reader.specs.Read.{onward, Ahead}
 use Rattle.scan_reader.specs.declared.Brief.{Brief}
 use Rattle.scan_reader.specs.Brief.{Blank, Line, End, Unknown, refusalCode}
-use Rattle.scan_walk.specs.declared.Olds.{Olds}
-use Rattle.scan_walk.specs.declared.Stop.{Stop}
-use Rattle.scan_walk.specs.declared.Stop.the-variants.{Met, Over, Short}
-use Rattle.scan_walk.specs.declared.Walked.{Walked}
-use Rattle.scan_walk.specs.Meeting.{Rising, Passed, meetsAt}
+use Rattle.scan_meet.specs.declared.Olds.{Olds}
+use Rattle.scan_meet.specs.Meeting.{Rising, Passed, meetsAt}
+use Rattle.scan_stop.specs.declared.Stop.{Stop}
+use Rattle.scan_stop.specs.declared.Stop.the-variants.{Met, Over, Short}
+use Rattle.scan_stop.specs.declared.Walked.{Walked}
 
 abbrev pub startOf : Cursor → Spot
 startOf p = record { at = 0; cursor = p }
@@ -70,30 +70,6 @@ pub record Walkable (ws : List ℕ) (o : Olds) (t : List ℕ) (p : Cursor) : Typ
 
 -- ---- its parts
 
--- the row that was told at a place, behind so many comments
-unfoldable pub rowOf : Cursor → ℕ → Brief → Row
-rowOf at c r = rowAt at c (r .kind) (at .offset .0 + r .size) (r .bits)
-
--- a row's words behind n rows, where there is room
-unfoldable pub placed : ℕ → Row → List ℕ → List ℕ
-placed n r ws =
-    cond (ltb n (roomOf ws)) (take (n * wordsPerRow) ws ++ (rowWords r ++ drop (n * wordsPerRow + wordsPerRow) ws)) ws
-
--- how many blanks stand at the front
-unfoldable pub blanks : List ℕ → ℕ
-blanks s = front isBlank s
-
--- a spot among blanks: the blanks from there on lead to where those from the first spot on lead
-pub record Blanked (t : List ℕ) (from here : Spot) : Type 0 where
-  pub ahead : Ahead t here
-  pub behind : from .at ≤ here .at
-  pub ends : onward t here (blanks (drop (here .at) t)) ≡ onward t from (blanks (drop (from .at) t))
-
--- the number of four bytes, the first of them the least
-pub record Four (t : List ℕ) (at n : ℕ) : Type 0 where
-  pub sum : n ≡ (getD t at 0 + getD t (at + 1) 0 * 256) + (getD t (at + 2) 0 * 65536 + getD t (at + 3) 0 * 16777216)
-  pub bytes : (getD t at 0 ≤ 255) × (getD t (at + 1) 0 ≤ 255) × (getD t (at + 2) 0 ≤ 255) × (getD t (at + 3) 0 ≤ 255)
-
 -- what was told at a spot can be passed
 pub record Passable (t : List ℕ) (here : Spot) (r : Brief) : Type 0 where
   pub ahead : Ahead t here
@@ -101,14 +77,3 @@ pub record Passable (t : List ℕ) (here : Spot) (r : Brief) : Type 0 where
   pub inside : here .at + r .size ≤ length t
   pub row : r .kind < Blank → r .size ≤ front notNewline (drop (here .at) t)
   pub line : r .kind ≤ Line → r .size - 1 ≤ front notNewline (drop (here .at) t)
-
--- what was told last, behind n rows: the text's end, that more bytes must be shown, or a refusal
-pub record Last (n : ℕ) (at : Cursor) (r : Brief) : Type 0 where
-  pub few : n + 1 < 2 ^ 64
-  pub roomy : Roomy (r .size) at
-
--- and what is then answered, behind c comments: ws are the lent words, us what stands in them afterwards
-pub record Finished (n : ℕ) (at : Cursor) (c : ℕ) (r : Brief) (x : Walked) (ws us : List ℕ) : Type 0 where
-  pub end : r .kind ≡ End → (x ≡ record { count = n + 1; stop = Over ending.None }) × (us ≡ placed n (eofRow at c) ws)
-  pub unknown : r .kind ≡ Unknown → (x ≡ record { count = n; stop = Short }) × (us ≡ ws)
-  pub refused : (why : Lexical) → r .kind ≡ refusalCode why → (x ≡ record { count = n; stop = Over (ending.Refused why (along at (r .size))) }) × (us ≡ ws)

@@ -1,88 +1,26 @@
 // The walk over bytes that begin at a place of a text: their rows are written as far as there is room, up to the text's end, a refusal,
 // a spot where an old row meets, or where more bytes must be shown. A scan meets no old rows; an edit looks at its window by a walk with no room.
-mod meeting;
-pub mod puts;
 pub mod spots;
 
-use meeting::find;
-use puts::put_behind;
 use rules::Cursor;
-use rules::Ending;
-use rules::kind;
-use scan_reader::Brief;
+use scan_blanks::past_blanks;
+use scan_meet::Olds;
+use scan_meet::find;
+use scan_puts::put_behind;
 use scan_reader::Spot;
 use scan_reader::codes;
 use scan_reader::front::brief;
-use scan_reader::front::reason;
+use scan_stop::Stop;
+use scan_stop::Walked;
+use scan_stop::finish;
 use spots::behind;
-use spots::past_blanks;
 ghost use mathlib.Core.Path.{_≡_};
 ghost use Prim.Native.Nat.{_+_, _≤_, _<_, _^_};
 ghost use lib.ListN.{length, drop};
 ghost use Rattle.rules.specs.Lex.{item};
 ghost use Rattle.rules.specs.Scan.{laid};
 ghost use Rattle.scan_reader.specs.Read.{Ahead};
-ghost use Rattle.scan_walk.specs.Walk.{Walkable, walkOf, walkRows, Last, Finished};
-
-// The old rows that a walk may meet: so many, those before the first are passed, and what stood at x stands at x + least - b, from least on.
-pub struct Olds {
-    pub count: usize,
-    pub first: usize,
-    pub least: u64,
-    pub b: u32,
-}
-
-// So many old rows are passed, and whether the next one meets.
-pub struct Found {
-    pub row: usize,
-    pub met: bool,
-}
-
-// How a walk stops: at a place where an old row, by its number, meets, with so many comments in the gap before it; the text is over, with
-// its ending; or more bytes must be shown.
-pub enum Stop {
-    Met(Cursor, usize, u32),
-    Over(Ending),
-    Short,
-}
-
-// How many rows were passed, and how the walk stopped.
-pub struct Walked {
-    pub count: usize,
-    pub stop: Stop,
-}
-
-// The walk stops behind n rows, and so many comments, at what was told there: the text's end, which has a row, a refusal, or that more
-// bytes must be shown.
-pub fn finish(rows: &mut [u32], n: usize, at: Cursor, comments: u32, told: Brief) -> Walked
-    requires { ⌜ Last n at told ⌝ }
-    ensures { λ r. ⌜ Finished n at comments told r (now (rows .entry)) (now (rows .exit)) ⌝ }
-{
-    let kind = told.kind;
-    if kind == codes::END {
-        let end = Brief {
-            size: 0,
-            kind: kind::EOF,
-            bits: 0,
-        };
-        put_behind(rows, n, at, comments, end);
-        return Walked {
-            count: n + 1,
-            stop: Stop::Over(Ending::None),
-        };
-    }
-    if kind == codes::UNKNOWN {
-        return Walked {
-            count: n,
-            stop: Stop::Short,
-        };
-    }
-    let place = at.onward(told.size as u32);
-    Walked {
-        count: n,
-        stop: Stop::Over(Ending::Refused(reason(kind), place)),
-    }
-}
+ghost use Rattle.scan_walk.specs.Walk.{Walkable, walkOf, walkRows};
 
 // The walk over bytes that begin at a place. whole: they end the text. What stands behind blanks is a row, a comment or the last.
 pub fn walk(

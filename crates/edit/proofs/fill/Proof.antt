@@ -7,7 +7,8 @@ use lib.ListN.{length, drop}
 use borrow.Author.Needs.{needs}
 use Rattle.rules.specs.Scan.{roomOf}
 use Rattle.rules.specs.Edit.{kept}
-use Rattle.edit.specs.Job.{oldRows, jobRows, jobEnding, TellsFit}
+use Rattle.edit_parts.specs.Parts.{TellsFit}
+use Rattle.edit.specs.Job.{oldRows, jobRows, jobEnding}
 use Rattle.edit.proofs.Tails.{kept-all, kept-fits, kept-full}
 use Rattle.edit.proofs.Jobs.{few-kept, lent-old, copied, copied-part, few-all}
 use Rattle.edit.proofs.fill.Statement.{statement}

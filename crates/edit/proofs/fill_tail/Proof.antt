@@ -8,10 +8,11 @@ use borrow.Author.Needs.{needs}
 use Rattle.rules.specs.Rows.{Row}
 use Rattle.rules.specs.Scan.{roomOf, laid}
 use Rattle.laws.proofs.Rows.{laid-length}
-use Rattle.edit.specs.declared.Tail.the-variants.{Rows}
+use Rattle.edit_parts.specs.declared.Tail.the-variants.{Rows}
 use Rattle.scan_walk.specs.Walk.{walkOf}
-use Rattle.edit.specs.Job.{oldsOf, rowsBehind, endingBehind, FewBehind}
-use Rattle.edit.proofs.Seens.{isLacking}
+use Rattle.edit_parts.specs.Parts.{FewBehind}
+use Rattle.edit.specs.Job.{oldsOf, rowsBehind, endingBehind}
+use Rattle.scan_stop.specs.Stop.{isLacking}
 use Rattle.edit.proofs.Tails.{tail-all, count-behind, few-behind, met-all}
 use Rattle.edit.proofs.Jobs.{lent-old, walkable, ours, walked-by, counted, short-by, full-by, over-by, met-rows, met-ending, met-follows}
 use Rattle.edit.proofs.fill_tail.Statement.{statement}

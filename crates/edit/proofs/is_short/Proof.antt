@@ -3,7 +3,7 @@ use mathlib.Core.Path.{_≡_, sym, ap, _∙_}
 use borrow.Author.Needs.{needs}
 use Rattle.rules.specs.Edit.{isShort}
 use Rattle.edit.specs.Job.{jobSeen}
-use Rattle.edit.proofs.Seens.{isLacking}
+use Rattle.scan_stop.specs.Stop.{isLacking}
 use Rattle.edit.proofs.Jobs.{walkable, whole-long, walked-by, short-by}
 use Rattle.edit.proofs.is_short.Statement.{statement}
 use Rattle.edit.proofs.is_short.Tie as tie
@@ -35,26 +35,11 @@ walk-requires c κs =
     let k = c .before in
     walkable (start k .pre) (k .olds-of .result) (k .olds-of .ensures)
 
-enum-told : tie.Need-enum-told
-enum-told c = search needs
-
-enum-told-2 : tie.Need-enum-told-2
-enum-told-2 c = search needs
-
-enum-told-3 : tie.Need-enum-told-3
-enum-told-3 c = search needs
+lacks-requires : tie.Need-lacks-requires
+lacks-requires c κs = search needs
 
 returns-2 : tie.Need-returns-2
-unfolding isLacking
-returns-2 c = sym (tells (c .before .before .before) ∙ ap isLacking (c .enum-told .given .1))
-
-returns-3 : tie.Need-returns-3
-unfolding isLacking
-returns-3 c = sym (tells (c .before .before .before) ∙ ap isLacking (c .enum-told2 .given .1))
-
-returns-4 : tie.Need-returns-4
-unfolding isLacking
-returns-4 c = sym (tells (c .before .before .before) ∙ ap isLacking (c .enum-told3 .given .1))
+returns-2 c = c .lacks .ensures ∙ sym (tells (c .before .before))
 
 pub is-short-spec : {M : Type 1} → statement M
 is-short-spec =
@@ -64,9 +49,5 @@ is-short-spec =
     olds-of-requires
     slice-aggregate-walk
     walk-requires
-    enum-told
-    enum-told-2
-    enum-told-3
-    returns-2
-    returns-3
-    returns-4)
+    lacks-requires
+    returns-2)

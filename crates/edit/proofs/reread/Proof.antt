@@ -13,7 +13,7 @@ use Rattle.rules.specs.Text.{over}
 use Rattle.rules.specs.Scan.{roomOf}
 use Rattle.rules.specs.Edit.{newLength, windowBytes}
 use Rattle.laws.proofs.Places.{roomy-less}
-use Rattle.scan_walk.specs.declared.Olds.{Olds}
+use Rattle.scan_meet.specs.declared.Olds.{Olds}
 use Rattle.edit.proofs.Jobs.{room-begin}
 use Rattle.edit.proofs.Calls.{wholeOf, whole-by, early, early-by, reread-early, reread-bad, reread-short, reread-rows}
 use Rattle.edit.proofs.reread.Statement.{statement}

@@ -5,8 +5,9 @@ use mathlib.Core.List.{_++_}
 use native.Mathlib.Omega.{arith}
 use lib.ListN.{length, length-append}
 use borrow.Author.Needs.{needs}
-use Rattle.lister_lines.specs.Lines.{room, refusalLine, listedRows}
-use Rattle.lister_lines.proofs.Adding.{adds-then, adds-same}
+use Rattle.lister_parts.specs.Parts.{refusalLine, listedRows}
+use Rattle.lister_lines.specs.Lines.{room}
+use Rattle.lister_parts.proofs.Adding.{adds-then, adds-same}
 use Rattle.lister_lines.proofs.Rooms.{room-length, text-rows, text-refused}
 use Rattle.lister_lines.proofs.list_text.Statement.{statement}
 use Rattle.lister_lines.proofs.list_text.Tie as tie

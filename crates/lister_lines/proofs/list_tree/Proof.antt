@@ -4,8 +4,9 @@ use native.Mathlib.Omega.{arith}
 use lib.ListN.{length}
 use Prim.Native.Nat.{ℕ}
 use borrow.Author.Needs.{needs}
-use Rattle.lister_lines.specs.Lines.{room, refusalLine}
-use Rattle.lister_lines.proofs.Adding.{adds-same}
+use Rattle.lister_parts.specs.Parts.{refusalLine}
+use Rattle.lister_lines.specs.Lines.{room}
+use Rattle.lister_parts.proofs.Adding.{adds-same}
 use Rattle.lister_lines.proofs.Rooms.{room-length, tree-nodes, tree-refused, tree-few}
 use Rattle.lister_lines.proofs.list_tree.Statement.{statement}
 use Rattle.lister_lines.proofs.list_tree.Tie as tie

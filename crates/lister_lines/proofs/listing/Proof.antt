@@ -4,8 +4,8 @@ use native.Mathlib.Omega.{arith}
 use lib.ListN.{length}
 use Rattle.rules.specs.declared.Cursor.{Cursor}
 use borrow.Author.Needs.{needs}
-use Rattle.lister_lines.specs.Lines.{refusalLine}
-use Rattle.lister_lines.proofs.Adding.{adds-same, adds-all}
+use Rattle.lister_parts.specs.Parts.{refusalLine}
+use Rattle.lister_parts.proofs.Adding.{adds-same, adds-all}
 use Rattle.lister_lines.proofs.Rooms.{listed-long, listed-short}
 use Rattle.lister_lines.proofs.listing.Statement.{statement}
 use Rattle.lister_lines.proofs.listing.Tie as tie

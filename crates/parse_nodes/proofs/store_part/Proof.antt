@@ -52,10 +52,20 @@ put-requires-8 c κs = search needs
 same-length : tie.Need-same-length
 same-length c = search needs
 
+-- from a word that is written back to the one in front of it there are four places
 returns : tie.Need-returns
 returns c =
-    let a = c .before .before .before .before .before .before .before .before .before .before .before .before .before .before .before .before .before .before .before .before .before .before .before .before .before .before .before .before .before .before .before .before .before .args in
-    sets-eight (a .nodes .now) _ _ _ _ _ _ _ _ (a .at) (a .w .kind) _ _ _ _ _ _ _ (c .before .before .before .before .before .before .before .before .before .before .before .before .before .before .before .before .before .before .before .before .before .before .before .before .before .before .before .before .before .before .put .ensures) (c .before .before .before .before .before .before .before .before .before .before .before .before .before .before .before .before .before .before .before .before .before .before .before .before .before .before .put2 .ensures) (c .before .before .before .before .before .before .before .before .before .before .before .before .before .before .before .before .before .before .before .before .before .before .put3 .ensures) (c .before .before .before .before .before .before .before .before .before .before .before .before .before .before .before .before .before .before .put4 .ensures) (c .before .before .before .before .before .before .before .before .before .before .before .before .before .before .put5 .ensures) (c .before .before .before .before .before .before .before .before .before .before .put6 .ensures) (c .before .before .before .before .before .before .put7 .ensures) (c .before .before .put8 .ensures)
+    let p8 = c .before .before in
+    let p7 = p8 .before .before .before .before in
+    let p6 = p7 .before .before .before .before in
+    let p5 = p6 .before .before .before .before in
+    let p4 = p5 .before .before .before .before in
+    let p3 = p4 .before .before .before .before in
+    let p2 = p3 .before .before .before .before in
+    let p1 = p2 .before .before .before .before in
+    let a = p1 .before .before .before .args in
+    sets-eight (a .nodes .now) _ _ _ _ _ _ _ _ (a .at) (a .w .kind) _ _ _ _ _ _ _ (p1 .put .ensures) (p2 .put2 .ensures)
+    (p3 .put3 .ensures) (p4 .put4 .ensures) (p5 .put5 .ensures) (p6 .put6 .ensures) (p7 .put7 .ensures) (p8 .put8 .ensures)
 
 pub store-part-spec : {M : Type 1} → statement M
 store-part-spec =

@@ -28,7 +28,7 @@ pub +body+branch+otherwise+stmt-spec : {M : Type 1} → statement M
     (b.returns t) (b.add-t16 t) (b.add-t17 t) (b.loop-holds t) (b.kind-at-requires t) (b.sub-kind-at t)
     (b.kind-at-requires-2 t) (b.body-node-requires t) (b.ended-requires t) (b.same-length t) (b.returns-2 t)
     (b.sub-stmt t) (b.stmt-requires t) (b.enum-known-t t) (b.add-counted t) (b.counted-requires t) (b.loop-less t)
-    (b.loop-again t) (b.enum-known-why t) (b.things-requires t) (b.instead-requires t) (b.same-length-2 t) (b.returns-3 t))
+    (b.loop-again t) (b.enum-known-why t) (b.body-things-requires t) (b.instead-requires t) (b.same-length-2 t) (b.returns-3 t))
     (λ t. branch-lts.spec (g.cs t) (branch-at t) branch.Post
     (g.head-requires t) (g.enum-known-brace t) (g.add-name t) (g.close-requires t) (g.add-body t) (g.body-requires t)
     (g.enum-known-t t) (g.add-otherwise t) (g.otherwise-requires t) (g.enum-known-why t) (g.enum-known-why-2 t) (g.cast-t27 t)

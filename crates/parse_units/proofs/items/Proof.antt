@@ -143,8 +143,8 @@ loop-again c ts h =
 enum-known-why : tie.Need-enum-known-why Inv-loop μ-loop
 enum-known-why c = search needs
 
-things-requires : tie.Need-things-requires Inv-loop μ-loop
-things-requires c κs = search needs
+unit-things-requires : tie.Need-unit-things-requires Inv-loop μ-loop
+unit-things-requires c κs = search needs
 
 instead-requires : tie.Need-instead-requires Inv-loop μ-loop
 instead-requires c κs = search needs
@@ -159,7 +159,7 @@ returns-2 c ts h =
     let a = entry (turn f) .args in
     let y = c .before .before .before .why .given in
     let p : ℕ = y .0 .1 .0 in
-    let told = c .instead .ensures ∙ ap (λ (x : ℕ). retoldAt x (l .u .at .row) (y .0 .0) p) (c .before .things .ensures) in
+    let told = c .instead .ensures ∙ ap (λ (x : ℕ). retoldAt x (l .u .at .row) (y .0 .0) p) (c .before .unit-things .ensures) in
     items-fail ts (a .start .row) (a .start .node) (a .nodes .now) (l .u) (l .nodes) (l .inv ts h) (goes-on (at-thing f) ts h) (y .0 .0) p
     (f .item .last .1 .1 .1 .0) (add-refused (l .u) _ _ _ _ _ _ (f .item .ensures ts h) (y .1)) _ told
 
@@ -178,7 +178,7 @@ items-spec =
     loop-less
     loop-again
     enum-known-why
-    things-requires
+    unit-things-requires
     instead-requires
     same-length-2
     returns-2)

@@ -3,7 +3,7 @@ use mathlib.Core.Path.{ap}
 use native.Mathlib.Omega.{arith}
 use borrow.Author.Needs.{needs}
 use Rattle.laws.proofs.Rows.{told-all, told-full}
-use Rattle.scan_walk.specs.declared.Walked.{Walked}
+use Rattle.scan_stop.specs.declared.Walked.{Walked}
 use Rattle.scan.proofs.told.Statement.{statement}
 use Rattle.scan.proofs.told.Tie as tie
 

@@ -17,7 +17,8 @@ use Rattle.scan_words.proofs.Tables.{right, all-right}
 use Rattle.scan_reader.specs.declared.Spot.{Spot}
 use Rattle.scan_reader.specs.declared.Brief.{Brief}
 use Rattle.scan_reader.specs.Brief.{End, told}
-use Rattle.scan_walk.specs.Walk.{blanks, Passable}
+use Rattle.scan_blanks.specs.Blanks.{blanks}
+use Rattle.scan_walk.specs.Walk.{Passable}
 use Rattle.scan_part.specs.declared.Part.{Part}
 use Rattle.scan_part.specs.declared.Next.the-variants.{On}
 use Rattle.scan_part.proofs.Parts.{Going, Answer, answer-length, begun-ahead, going-start, blanks-more, blanks-none, going-blanks}

@@ -3,7 +3,7 @@ use Prim.Native.Nat.{_+_, _-_}
 use native.Mathlib.Omega.{arith}
 use lib.ListN.{length}
 use borrow.Author.Needs.{needs}
-use Rattle.scan_place.specs.Lines.{Passed}
+use Rattle.scan_place.specs.Passed.{Passed}
 use Rattle.scan_place.proofs.Passed.{passed-none, passed-on, passed-run}
 use Rattle.scan_place.proofs.low_blocks.Statement.{statement}
 use Rattle.scan_place.proofs.low_blocks.Tie as tie

@@ -2,7 +2,7 @@
 use Prim.Native.Nat.{_-_}
 use native.Mathlib.Omega.{arith}
 use lib.ListN.{length}
-use Rattle.scan_place.specs.Lines.{Passed}
+use Rattle.scan_place.specs.Passed.{Passed}
 use Rattle.scan_place.proofs.Passed.{passed-on, passed-low}
 use Rattle.scan_place.proofs.low_end.Statement.{statement}
 use Rattle.scan_place.proofs.low_end.Tie as tie

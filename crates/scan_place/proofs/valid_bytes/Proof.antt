@@ -4,7 +4,7 @@ use Prim.Native.Nat.{_+_, _-_}
 use native.Mathlib.Omega.{arith}
 use lib.ListN.{length}
 use Rattle.laws.proofs.Valid.{all-low}
-use Rattle.scan_place.specs.Lines.{Passed}
+use Rattle.scan_place.specs.Passed.{Passed}
 use Rattle.scan_place.proofs.Passed.{passed-none, passed-on, passed-low, passed-char, told-none, told-end}
 use Rattle.scan_place.proofs.valid_bytes.Statement.{statement}
 use Rattle.scan_place.proofs.valid_bytes.Tie as tie

@@ -19,11 +19,12 @@ use Rattle.scan_words.proofs.Tables.{right, all-right}
 use Rattle.scan_reader.specs.declared.Spot.{Spot}
 use Rattle.scan_reader.specs.declared.Brief.{Brief}
 use Rattle.scan_reader.specs.Brief.{End, told}
-use Rattle.scan_walk.specs.declared.Olds.{Olds}
-use Rattle.scan_walk.specs.declared.Stop.the-variants.{Met}
-use Rattle.scan_walk.specs.declared.Walked.{Walked}
-use Rattle.scan_walk.specs.Meeting.{Passed, stopsAt}
-use Rattle.scan_walk.specs.Walk.{blanks, Passable}
+use Rattle.scan_meet.specs.declared.Olds.{Olds}
+use Rattle.scan_stop.specs.declared.Stop.the-variants.{Met}
+use Rattle.scan_stop.specs.declared.Walked.{Walked}
+use Rattle.scan_meet.specs.Meeting.{Passed, stopsAt}
+use Rattle.scan_blanks.specs.Blanks.{blanks}
+use Rattle.scan_walk.specs.Walk.{Passable}
 use Rattle.scan_walk.proofs.Walks.{Walking, Answer, walking-start, at-offset, ahead, blanks-more, blanks-none, walking-blanks}
 use Rattle.scan_walk.proofs.Walks.{tells, walking-found, walking-met, last, walking-last, passable}
 use Rattle.scan_walk.proofs.Walks.{walking-comment, walking-row, walking-less}

@@ -22,8 +22,8 @@ use Rattle.parse_expr.proofs.Ladder.{Room, next-room, first, further, j
 use Rattle.parse_expr.proofs.Ladder.{Terms, terms-fail, terms-read}
 use Rattle.parse_expr.proofs.add.Reads as add
 use Rattle.parse_expr.proofs.mul.Reads as mul
-use Rattle.parse_expr.proofs.joined.Reads as joined-reads
-use Rattle.parse_expr.proofs.joins.Reads as joins-reads
+use Rattle.parse_signs.proofs.joined.Reads as joined-reads
+use Rattle.parse_signs.proofs.joins.Reads as joins-reads
 use Rattle.parse_expr.proofs.unread.Reads as unread-reads
 use Rattle.parse_nodes.proofs.kind_at.Reads as kind-at-reads
 use Rattle.parse_expr.proofs.+add+args+atom+mul+post+prim+unary.Lts-add as lts

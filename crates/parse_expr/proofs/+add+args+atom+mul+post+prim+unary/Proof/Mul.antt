@@ -24,9 +24,9 @@ use Rattle.parse_expr.proofs.Ladder.{Factors, factors-fail, factors-rea
 use Rattle.parse_expr.proofs.mul.Reads as mul
 use Rattle.parse_expr.proofs.unary.Reads as unary
 use Rattle.parse_expr.proofs.is_lone.Reads as is-lone-reads
-use Rattle.parse_expr.proofs.is_mul.Reads as is-mul-reads
+use Rattle.parse_signs.proofs.is_mul.Reads as is-mul-reads
 use Rattle.parse_expr.proofs.leaf.Reads as leaf-reads
-use Rattle.parse_expr.proofs.joined.Reads as joined-reads
+use Rattle.parse_signs.proofs.joined.Reads as joined-reads
 use Rattle.parse_expr.proofs.unread.Reads as unread-reads
 use Rattle.parse_nodes.proofs.kind_at.Reads as kind-at-reads
 use Rattle.parse_expr.proofs.+add+args+atom+mul+post+prim+unary.Lts-mul as lts

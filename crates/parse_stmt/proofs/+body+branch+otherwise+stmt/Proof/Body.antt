@@ -31,7 +31,7 @@ use Rattle.parse_nodes.proofs.counted.Reads as counted-reads
 use Rattle.parse_nodes.proofs.ended.Reads as ended-reads
 use Rattle.parse_nodes.proofs.instead.Reads as instead-reads
 use Rattle.parse_nodes.proofs.kind_at.Reads as kind-at-reads
-use Rattle.parse_stmt.proofs.things.Reads as things-reads
+use Rattle.parse_things.proofs.body_things.Reads as body-things-reads
 use Rattle.parse_stmt.proofs.body_node.Reads as body-node-reads
 use Rattle.parse_stmt.proofs.+body+branch+otherwise+stmt.Proof.Measures.{body-at, stmt-below}
 
@@ -47,8 +47,8 @@ cs t = (
   stmt.Post,
   counted-reads.Asked,
   counted-reads.Learnt,
-  things-reads.Asked,
-  things-reads.Learnt,
+  body-things-reads.Asked,
+  body-things-reads.Learnt,
   instead-reads.Asked,
   instead-reads.Learnt,
 )
@@ -277,8 +277,8 @@ module _ (t : ℕ) where
   pub enum-known-why : lts.Need-enum-known-why (cs t) (body-at t) body.Post Inv-loop μ-loop
   enum-known-why c = search needs
 
-  pub things-requires : lts.Need-things-requires (cs t) (body-at t) body.Post Inv-loop μ-loop
-  things-requires c κs = search needs
+  pub body-things-requires : lts.Need-body-things-requires (cs t) (body-at t) body.Post Inv-loop μ-loop
+  body-things-requires c κs = search needs
 
   pub instead-requires : lts.Need-instead-requires (cs t) (body-at t) body.Post Inv-loop μ-loop
   instead-requires c κs = search needs
@@ -301,4 +301,4 @@ module _ (t : ℕ) where
       (a .nodes .now) (l .s) (l .nodes) (l .inv ts h) (goes-on f ts h) (y .0 .0) (y .0 .1 .0) m e in
       body-no (whole ts (entry d)) (kind (entry d)) (a .row) (a .node) _ _ _ (a .nodes .now) m
       (body-some ts (a .row) (a .left) (d .before .if1 .left) ∙ then-no _ _ _ _ (refused _ _ _ _ _ _ _ _ q refl))
-      (c .instead .ensures ∙ ap (λ (z : ℕ). retoldAt z (l .s .row) (y .0 .0) (y .0 .1 .0)) (c .before .things .ensures))
+      (c .instead .ensures ∙ ap (λ (z : ℕ). retoldAt z (l .s .row) (y .0 .0) (y .0 .1 .0)) (c .before .body-things .ensures))

@@ -7,7 +7,7 @@ use borrow.Author.Needs.{needs}
 use Rattle.laws.proofs.Lists.{lent-tail}
 use Rattle.laws.proofs.Places.{roomy-less}
 use Rattle.scan_reader.specs.Read.{onward}
-use Rattle.scan_walk.proofs.Passing.{over-line, over-last, roomy-last}
+use Rattle.scan_blanks.proofs.Passing.{over-line, over-last, roomy-last}
 use Rattle.scan_walk.proofs.spots.behind.Statement.{statement}
 use Rattle.scan_walk.proofs.spots.behind.Tie as tie
 

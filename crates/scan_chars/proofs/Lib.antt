@@ -1,0 +1,2 @@
+-- What is known of a line of RFC 3629's table.
+pub mod Lines
