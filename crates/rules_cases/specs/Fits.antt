@@ -1,5 +1,5 @@
--- Sets of kinds that would have fitted: of each of the 42 sets the smallest texts that are refused with it, and texts with 64 constructs open.
--- One table under one theorem.
+-- Sets of kinds that would have fitted: of each of the 42 sets the smallest texts that are refused with it, and texts
+-- with 64 constructs open. One table under one theorem.
 use mathlib.Core.Path.{_≡_, refl}
 use mathlib.Core.List.{List, [], _∷_, _++_, map}
 use Prim.Native.Nat.{ℕ, zero, suc}
@@ -197,7 +197,8 @@ cases =
     ∷ of (bytes "unit u{x.f(a,b+c:") 21 0x3E00D0000000
     -- and behind a name behind a dot
     ∷ of (bytes "unit u{x.f(a+b.c:") 21 0x3E00D8000000
-    -- With 64 constructs open the sets are the same, since what would have fitted is asked of programs of any nesting: `(`, `*` and `{` are told.
+    -- With 64 constructs open the sets are the same, since what would have fitted is asked of programs of any nesting:
+    -- `(`, `*` and `{` are told.
     ∷ of (nested 64 (bytes "(") (bytes ":")) 21 0x5080008000000
     ∷ of (nested 64 (bytes "*") (bytes ":")) 21 0x5080008000000
     ∷ of (nested 64 (bytes "if guard(x){") (bytes "if guard(x):")) 21 0x2000000
