@@ -23,7 +23,6 @@ number-back NoHexDigit = refl
 
 -- Its number is one of 11 to 17.
 pub number-lexical : (why : Lexical) → isLexical (lexicalNumber why) ≡ true
-unfolding isLexical
 number-lexical NoRowBegins = refl
 number-lexical OpenComment = refl
 number-lexical OpenString = refl
@@ -33,7 +32,6 @@ number-lexical LoneSign = refl
 number-lexical NoHexDigit = refl
 
 pub number-most : (why : Lexical) → lexicalNumber why ≤ 17
-unfolding isLexical
 number-most why = leb-true (lexicalNumber why) 17 (and-eq-true-iff (leb 11 (lexicalNumber why)) _ .0 (number-lexical why) .1)
 
 -- So it is not 0, the number of no refusal.
@@ -48,7 +46,7 @@ number-some NoHexDigit = refl
 
 -- Each number of 11 to 17 is that of the refusal read from it, so that nothing else is taken for one.
 pub reason-again : (number : ℕ) → isLexical number ≡ true → lexicalNumber (lexicalOf number) ≡ number
-unfolding isLexical lexicalOf
+unfolding lexicalOf
 reason-again number h =
     let b = and-eq-true-iff (leb 11 number) (leb number 17) .0 h in
     let lo : 11 ≤ number = leb-true 11 number (b .0) in

@@ -1,4 +1,5 @@
--- "Refusal numbers", backwards: the lexical refusal that has a number, as an ending's first word has it where a table is lent or stored.
+-- "Refusal numbers", backwards: the lexical refusal that has a number, as an ending's first word has it where a table is
+-- lent or stored.
 use mathlib.Core.Bool.{Bool, cond, _&&_}
 use Prim.Native.Nat.{ℕ}
 use lib.Dec.{eqb, leb}
@@ -6,7 +7,7 @@ use Rattle.rules.specs.declared.Lexical.{Lexical}
 use Rattle.rules.specs.declared.Lexical.the-variants.{NoRowBegins, LoneSign, NoHexDigit, OpenComment, OpenString, BadEscape, NumberTooLarge}
 
 -- 11 to 17
-unfoldable pub isLexical : ℕ → Bool
+abbrev pub isLexical : ℕ → Bool
 isLexical number = leb 11 number && leb number 17
 
 -- the refusal whose number it is

@@ -5,7 +5,6 @@ use Prim.Native.Nat.{ℕ, _≤_, _<_}
 use native.Mathlib.Omega.{arith}
 use lib.Dec.{leb}
 use borrow.Author.Tests.{le-leb, lt-leb, leb-true, leb-false, ltb-true, ltb-false}
-use Rattle.refusals.specs.Back.{isLexical}
 use Rattle.refusals.proofs.is_lexical.Statement.{statement}
 use Rattle.refusals.proofs.is_lexical.Tie as tie
 
@@ -15,11 +14,9 @@ most-by true m n f g = sym (le-leb m n (f refl))
 most-by false m n f g = sym (lt-leb m n (g refl))
 
 returns : tie.Need-returns
-unfolding isLexical
 returns c = rw (lt-leb 11 (c .before .args .number) (omega (arith, c .if1 .taken)))
 
 returns-2 : tie.Need-returns-2
-unfolding isLexical
 returns-2 c =
     let n = c .before .args .number in
     rw (le-leb 11 n (omega (arith, c .if1 .left)))
