@@ -1,53 +1,30 @@
 -- A table lent in the words in which it was told is that table, and words that tell none are refused by every call.
-use Prim.Native.Nat.{ℕ, zero, suc, _+_, _-_, _*_, _≤_}
-use native.Mathlib.Omega.{arith}
+use Prim.Native.Nat.{ℕ, _*_}
 use mathlib.Core.Bool.{Bool, true, false, _&&_}
 use mathlib.Core.List.{List}
 use mathlib.Core.Path.{_≡_, refl, ap, _∙_}
 use lib.Dec.{leb}
 use lib.ListN.{length, getD}
-use Rattle.rules.specs.declared.Lexical.the-variants.{NoRowBegins, LoneSign, NoHexDigit, OpenComment, OpenString, BadEscape, NumberTooLarge}
 use Rattle.rules.specs.declared.Ending.{Ending}
 use Rattle.rules.specs.declared.Ending.the-variants.{None, Refused}
 use Rattle.rules.specs.declared.Table.{Table}
 use Rattle.rules.specs.declared.Told.the-variants.{Rows}
-use Rattle.rules.specs.Refusals.{lexicalNumber}
 use Rattle.rules.specs.Rows.{wellFormed}
-use Rattle.answers.specs.Layout.{endingWords, toldWords, isEnding, lexicalOf, lengthOf, tableOf}
+use Rattle.refusals.proofs.Back.{number-back, number-lexical, number-some}
+use Rattle.answers.specs.Layout.{endingWords, toldWords, isEnding, lengthOf, tableOf}
 
 -- The table read from a table's words is that table: each reason is read back from its number.
 pub told-table : (table : Table) → tableOf (toldWords (Rows table)) ≡ table
-unfolding isEnding lexicalOf lengthOf
+unfolding isEnding lengthOf
 told-table table = by (table .count) (table .length) (table .ending)
   where
     by : (k n : ℕ) (e : Ending) → tableOf (endingWords k n e) ≡ record { count = k; length = n; ending = e }
     by k n None = refl
-    by k n (Refused NoRowBegins p) = refl
-    by k n (Refused OpenComment p) = refl
-    by k n (Refused OpenString p) = refl
-    by k n (Refused BadEscape p) = refl
-    by k n (Refused NumberTooLarge p) = refl
-    by k n (Refused LoneSign p) = refl
-    by k n (Refused NoHexDigit p) = refl
+    by k n (Refused why p) = rw (number-some why, number-lexical why, number-back why)
 
 -- So it is for words that are known to be the table's.
 pub lent-table : (table : Table) {answer : List ℕ} → answer ≡ toldWords (Rows table) → tableOf answer ≡ table
 lent-table table e = ap (λ (ws : List ℕ). tableOf ws) e ∙ told-table table
-
--- And each number of 11 to 17 is that of the reason read from it, so that nothing else is taken for an ending.
-pub reason-again : (number : ℕ) → 11 ≤ number → number ≤ 17 → lexicalNumber (lexicalOf number) ≡ number
-unfolding lexicalOf
-reason-again number lo hi = let e : 11 + (number - 11) ≡ number = omega arith in rw (← e) (by (number - 11) (omega arith))
-  where
-    by : (k : ℕ) → k ≤ 6 → lexicalNumber (lexicalOf (11 + k)) ≡ 11 + k
-    by zero h = refl
-    by (suc zero) h = refl
-    by (suc (suc zero)) h = refl
-    by (suc (suc (suc zero))) h = refl
-    by (suc (suc (suc (suc zero)))) h = refl
-    by (suc (suc (suc (suc (suc zero))))) h = refl
-    by (suc (suc (suc (suc (suc (suc zero)))))) h = refl
-    by (suc (suc (suc (suc (suc (suc (suc k))))))) h = omega arith
 
 -- The table read from words whose first is no ending is not well formed, whatever rows are lent: every call answers 3.
 pub no-table : (ws answer : List ℕ) → isEnding (getD answer 0 0) ≡ false → wellFormed ws (tableOf answer) ≡ false

@@ -1,14 +1,12 @@
 -- The one layout of eight words in which every answer of the outer face is given, and in which a table is lent:
 -- refusal number (0 if none), its offset, line and column, two words that it tells, a count, a length.
-use mathlib.Core.Bool.{Bool, true, cond, _&&_}
+use mathlib.Core.Bool.{Bool, true, cond}
 use mathlib.Core.List.{List, [], _∷_}
 use Prim.Native.Nat.{ℕ, _+_, _*_}
 use lib.ListN.{getD}
-use lib.Dec.{eqb, leb}
+use lib.Dec.{eqb}
 use Rattle.rules.specs.Rows.{atEnd, atStart, wordsPerRow}
 use Rattle.rules.specs.declared.Cursor.{Cursor}
-use Rattle.rules.specs.declared.Lexical.{Lexical}
-use Rattle.rules.specs.declared.Lexical.the-variants.{NoRowBegins, LoneSign, NoHexDigit, OpenComment, OpenString, BadEscape, NumberTooLarge}
 use Rattle.rules.specs.declared.Ending.{Ending}
 use Rattle.rules.specs.declared.Ending.the-variants as ending
 use Rattle.rules.specs.declared.Outer.{Outer}
@@ -29,6 +27,7 @@ use Rattle.rules.specs.declared.Parsed.the-variants as parsed
 use Rattle.rules.specs.Text.{place, startPlace}
 use Rattle.rules.specs.Refusals.{outerNumber, lexicalNumber, syntaxNumber, firstTold, secondTold}
 use Rattle.rules.specs.Calls.{spellingJudged}
+use Rattle.refusals.specs.Back.{isLexical, lexicalOf}
 
 -- number, place, two words told, count, length
 abbrev pub words : ℕ → Cursor → ℕ → ℕ → ℕ → ℕ → List ℕ
@@ -82,15 +81,7 @@ parsedWords (parsed.Refused why p found) = reasonWords why p found
 
 -- 0, or 11 to 17
 unfoldable pub isEnding : ℕ → Bool
-isEnding number = cond (eqb number 0) true (leb 11 number && leb number 17)
-
--- the reason whose number it is
-unfoldable pub lexicalOf : ℕ → Lexical
-lexicalOf number =
-    cond (eqb number 12) OpenComment
-    (cond (eqb number 13) OpenString
-    (cond (eqb number 14) BadEscape
-    (cond (eqb number 15) NumberTooLarge (cond (eqb number 16) LoneSign (cond (eqb number 17) NoHexDigit NoRowBegins)))))
+isEnding number = cond (eqb number 0) true (isLexical number)
 
 abbrev pub endingOf : List ℕ → Ending
 endingOf ws =

@@ -1,6 +1,8 @@
 // What the calls tell, in eight words of one layout (specs/Layout.antt, include/spoonharbor.h), and the table that such words tell.
 use refusals::first_told;
+use refusals::is_lexical;
 use refusals::lexical_number;
+use refusals::lexical_of;
 use refusals::outer_number;
 use refusals::second_told;
 use refusals::syntax_number;
@@ -8,7 +10,6 @@ use rules::Asked;
 use rules::Column;
 use rules::Cursor;
 use rules::Ending;
-use rules::Lexical;
 use rules::Line;
 use rules::Offset;
 use rules::Outer;
@@ -19,24 +20,9 @@ use rules::Syntax;
 use rules::Table;
 use rules::Told;
 ghost use mathlib.Core.Path.{_≡_};
-ghost use Rattle.answers.specs.Layout.{words, nowhere, syntaxWords, toldWords, outerWords, askedWords, restartWords, parsedWords, isEnding, lexicalOf, lengthOf, tableOf};
+ghost use Rattle.answers.specs.Layout.{words, nowhere, syntaxWords, toldWords, outerWords, askedWords, restartWords, parsedWords, isEnding, lengthOf, tableOf};
 
 // ---- numbers
-
-// The lexical refusal of a number, as a table's first word has it.
-fn lexical_of(number: u32) -> Lexical
-    ensures { λ r. ⌜ r ≡ lexicalOf number ⌝ }
-{
-    match number {
-        12 => Lexical::OpenComment,
-        13 => Lexical::OpenString,
-        14 => Lexical::BadEscape,
-        15 => Lexical::NumberTooLarge,
-        16 => Lexical::LoneSign,
-        17 => Lexical::NoHexDigit,
-        _ => Lexical::NoRowBegins,
-    }
-}
 
 // Whether a number is that of an ending: 0, or a lexical refusal's.
 fn is_ending(number: u32) -> bool
@@ -45,10 +31,7 @@ fn is_ending(number: u32) -> bool
     if number == 0 {
         return true;
     }
-    if number < 11 {
-        return false;
-    }
-    number <= 17
+    is_lexical(number)
 }
 
 // ---- answers into eight words

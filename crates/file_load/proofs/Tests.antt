@@ -1,7 +1,7 @@
 -- Laws of the reader's tests: the ending that is read, row i of the file, and a table that fits or does not.
 use mathlib.Core.Path.{_≡_, refl, sym, ap, _∙_}
 use mathlib.Core.Bool.{true, false}
-use mathlib.Core.List.{List, [], _∷_}
+use mathlib.Core.List.{List}
 use Prim.Native.Nat.{ℕ, zero, suc, _+_, _-_, _*_, _/_, _%_, _≤_, _<_, min}
 use native.Mathlib.Omega.{arith}
 use lib.ListN.{length, take, drop, length-take, length-drop}
@@ -14,13 +14,12 @@ use Rattle.rules.specs.declared.Ending.the-variants.{None, Refused}
 use Rattle.rules.specs.declared.Table.{Table}
 use Rattle.rules.specs.Text.{mostBytes, place}
 use Rattle.rules.specs.Rows.{rowNo, wellFormed}
-use Rattle.rules.specs.Refusals.{lexicalNumber}
 use Rattle.laws.specs.Tests.{allBelow}
 use Rattle.rows.specs.Shape.{stands, closes, breaks}
 use Rattle.rows.proofs.Tables.{well-empty, well-none, well-refused}
 use Rattle.rules_files.specs.declared.EndingRead.the-variants.{Ends, Nothing}
 use Rattle.rules_files.specs.Blocks.{blocksFor, fileLength, bodyFrom}
-use Rattle.rules_files.specs.Files.{reasons, readRefused, readEnding, saidAt}
+use Rattle.rules_files.specs.Files.{readRefused, readEnding, saidAt}
 use Rattle.rules_forms.specs.declared.Form.{Form}
 use Rattle.rules_forms.specs.declared.Form.the-variants.{Full, Short}
 use Rattle.rules_forms.specs.Short.{onOneLine, shortEnding}
@@ -31,21 +30,8 @@ use Rattle.file_load.proofs.Rows.{most, by-length, words-file, row-word
 
 -- ---- the ending
 
-module _ (w : Lexical) (rs : List Lexical) (n : ℕ) (p : Cursor) where
-  pub reason-is : n ≡ lexicalNumber w → readRefused (w ∷ rs) n p ≡ Ends (Refused w p)
-  unfolding readRefused
-  reason-is e = rw (eq-eqb n (lexicalNumber w) e)
-
-  pub reason-not : (n ≡ lexicalNumber w → ⊥) → readRefused (w ∷ rs) n p ≡ readRefused rs n p
-  unfolding readRefused
-  reason-not e = rw (ne-eqb n (lexicalNumber w) e)
-
-pub no-reason : (n : ℕ) (p : Cursor) → readRefused [] n p ≡ Nothing
-unfolding readRefused
-no-reason n p = refl
-
 module _ (n : ℕ) (p : Cursor) where
-  pub ending-refused : (n ≡ 0 → ⊥) → readEnding n p ≡ readRefused reasons n p
+  pub ending-refused : (n ≡ 0 → ⊥) → readEnding n p ≡ readRefused n p
   unfolding readEnding
   ending-refused e = rw (ne-eqb n 0 e)
 
@@ -69,7 +55,7 @@ module _ (n : ℕ) (p : Cursor) where
 -- the ending of form 2, from the two words of which it is read
 module _ (file : List ℕ) (n k : ℕ) (word : n ≡ saidAt 3 file) (offset : k ≡ saidAt 4 file) where
   pub short-refused : (n ≡ 0 → ⊥) → (column : ℕ) → column ≡ 1 + min k mostBytes
-      → shortEnding onOneLine file ≡ readRefused reasons n (place k 1 column)
+      → shortEnding onOneLine file ≡ readRefused n (place k 1 column)
   unfolding shortEnding onOneLine
   short-refused e column c = rw (← word, ← offset, ne-eqb n 0 e, c)
 

@@ -5,14 +5,13 @@ use mathlib.Core.List.{List, [], _∷_}
 use Prim.Native.Nat.{ℕ, _+_, _-_}
 use lib.ListN.{length}
 use lib.Dec.{ltb}
-use Rattle.rules.specs.declared.Cursor.{Cursor}
 use Rattle.rules.specs.declared.Ending.{Ending}
 use Rattle.rules.specs.declared.Ending.the-variants as ending
 use Rattle.rules.specs.Rows.{Row, rowIn, rowsIn}
 use Rattle.rules_files.specs.declared.EndingRead.{EndingRead}
 use Rattle.rules_files.specs.declared.EndingRead.the-variants.{Ends, Nothing}
 use Rattle.rules_files.specs.Blocks.{blocksFor, fileLength}
-use Rattle.rules_files.specs.Files.{reasons, readRefused, countSaid}
+use Rattle.rules_files.specs.Files.{countSaid}
 use Rattle.rules_forms.specs.declared.Form.{Form}
 use Rattle.rules_forms.specs.Shapes.{rowBytesOf, rowWordsOf, soundOf}
 use Rattle.file_blocks.specs.Standing.{stand}
@@ -23,9 +22,6 @@ use Rattle.file_load.specs.declared.Blocks.the-variants.{Bad, Sound}
 pub record Framed (form : Form) (count : ℕ) (file : List ℕ) : Type 0 where
   pub count-is : count ≡ countSaid file
   pub whole : length file ≡ fileLength (rowBytesOf form) count
-
-abbrev pub refusedRead : ℕ → Cursor → EndingRead
-refusedRead number p = readRefused reasons number p
 
 -- the last of some rows, or the row before them
 unfoldable pub lastOf : Row → List Row → Row

@@ -9,13 +9,13 @@ use file_sizes::block_rows;
 use file_sizes::length_for;
 use file_sizes::row_bytes;
 use file_sizes::rows_here;
-use refusals::lexical_number;
+use refusals::is_lexical;
+use refusals::lexical_of;
 use rows::shape;
 use rows::shape::Row;
 use rules::Column;
 use rules::Cursor;
 use rules::Ending;
-use rules::Lexical;
 use rules::Line;
 use rules::Offset;
 use rules::Outer;
@@ -38,13 +38,13 @@ ghost use Rattle.rules.specs.Rows.{wellFormed};
 ghost use Rattle.rules.specs.Scan.{roomOf};
 ghost use Rattle.rows.specs.Shape.{asRow, rowNo, rowBefore, closes, breaks};
 ghost use Rattle.rules_files.specs.Blocks.{fileLength};
-ghost use Rattle.rules_files.specs.Files.{readEnding, endingIn, rowWordsIn, rowsTold, loadTold, loadLeaves};
+ghost use Rattle.rules_files.specs.Files.{readRefused, readEnding, endingIn, rowWordsIn, rowsTold, loadTold, loadLeaves};
 ghost use Rattle.rules_forms.specs.declared.Form.the-variants.{Full};
 ghost use Rattle.rules_forms.specs.Short.{onOneLine, shortEnding, shortJudged};
 ghost use Rattle.rules_forms.specs.Forms.{judged};
 ghost use Rattle.rules_forms.specs.Shapes.{rowBytesOf, formOf, rowWordsOf, endingOf, blocksIn};
 ghost use Rattle.file_blocks.specs.Standing.{rowsFrom};
-ghost use Rattle.file_load.specs.Judged.{Framed, lastOf, plainRows, blocksJudged, refusedRead, standing};
+ghost use Rattle.file_load.specs.Judged.{Framed, lastOf, plainRows, blocksJudged, standing};
 
 // Where block 0 says each of its words.
 const FORM_AT: usize = form::CONTENT;
@@ -69,30 +69,12 @@ pub enum Blocks {
 
 // ---- block 0
 
-// The ending of a number that is not 0, at a place.
+// The ending of a lexical refusal's number, at a place.
 fn read_refused(number: u32, p: Cursor) -> EndingRead
-    ensures { λ r. ⌜ r ≡ refusedRead number p ⌝ }
+    ensures { λ r. ⌜ r ≡ readRefused number p ⌝ }
 {
-    if number == lexical_number(Lexical::NoRowBegins) {
-        return EndingRead::Ends(Ending::Refused(Lexical::NoRowBegins, p));
-    }
-    if number == lexical_number(Lexical::LoneSign) {
-        return EndingRead::Ends(Ending::Refused(Lexical::LoneSign, p));
-    }
-    if number == lexical_number(Lexical::NoHexDigit) {
-        return EndingRead::Ends(Ending::Refused(Lexical::NoHexDigit, p));
-    }
-    if number == lexical_number(Lexical::OpenComment) {
-        return EndingRead::Ends(Ending::Refused(Lexical::OpenComment, p));
-    }
-    if number == lexical_number(Lexical::OpenString) {
-        return EndingRead::Ends(Ending::Refused(Lexical::OpenString, p));
-    }
-    if number == lexical_number(Lexical::BadEscape) {
-        return EndingRead::Ends(Ending::Refused(Lexical::BadEscape, p));
-    }
-    if number == lexical_number(Lexical::NumberTooLarge) {
-        return EndingRead::Ends(Ending::Refused(Lexical::NumberTooLarge, p));
+    if is_lexical(number) {
+        return EndingRead::Ends(Ending::Refused(lexical_of(number), p));
     }
     EndingRead::Nothing
 }

@@ -1,4 +1,4 @@
-// The number of each refusal, and what it tells besides.
+// The number of each refusal, and what it tells besides; and the lexical refusal that has a number.
 use rules::Lexical;
 use rules::Outer;
 use rules::Reason;
@@ -8,6 +8,7 @@ use rules::limit;
 ghost use mathlib.Core.Path.{_≡_};
 ghost use Prim.Native.Nat.{_/_, _%_, _^_};
 ghost use Rattle.rules.specs.Refusals.{outerNumber, lexicalNumber, syntaxNumber, reasonNumber, firstTold, secondTold, foundTold};
+ghost use Rattle.refusals.specs.Back.{isLexical, lexicalOf};
 
 // The number of a refusal of the call itself, 1 to 7.
 pub fn outer_number(why: Outer) -> u32
@@ -36,6 +37,31 @@ pub fn lexical_number(why: Lexical) -> u32
         Lexical::NumberTooLarge => 15,
         Lexical::LoneSign => 16,
         Lexical::NoHexDigit => 17,
+    }
+}
+
+// Whether a number is that of a lexical refusal.
+pub fn is_lexical(number: u32) -> bool
+    ensures { λ r. ⌜ r ≡ isLexical number ⌝ }
+{
+    if number < 11 {
+        return false;
+    }
+    number <= 17
+}
+
+// The lexical refusal of a number.
+pub fn lexical_of(number: u32) -> Lexical
+    ensures { λ r. ⌜ r ≡ lexicalOf number ⌝ }
+{
+    match number {
+        12 => Lexical::OpenComment,
+        13 => Lexical::OpenString,
+        14 => Lexical::BadEscape,
+        15 => Lexical::NumberTooLarge,
+        16 => Lexical::LoneSign,
+        17 => Lexical::NoHexDigit,
+        _ => Lexical::NoRowBegins,
     }
 }
 

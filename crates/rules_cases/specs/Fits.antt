@@ -1,7 +1,8 @@
--- Sets of kinds that would have fitted: of each of the 42 sets the smallest texts that are refused with it. One table under one theorem.
+-- Sets of kinds that would have fitted: of each of the 42 sets the smallest texts that are refused with it, and texts
+-- with 64 constructs open. One table under one theorem.
 use mathlib.Core.Path.{_≡_, refl}
-use mathlib.Core.List.{List, [], _∷_, map}
-use Prim.Native.Nat.{ℕ}
+use mathlib.Core.List.{List, [], _∷_, _++_, map}
+use Prim.Native.Nat.{ℕ, zero, suc}
 use Rattle.rules.specs.Text
 use Rattle.rules.specs.Text.{bytes}
 use Rattle.rules.specs.Kinds
@@ -33,6 +34,14 @@ answer t = told t (parse (tokens t (readRows (scan t))))
 
 abbrev of : List ℕ → ℕ → ℕ → Case
 of t n s = record { text = t; number = n; set = s }
+
+-- bytes so many times, and then others, in a unit
+abbrev times : ℕ → List ℕ → List ℕ → List ℕ
+times zero s t = t
+times (suc n) s t = s ++ times n s t
+
+abbrev nested : ℕ → List ℕ → List ℕ → List ℕ
+nested n s t = bytes "unit u{" ++ times n s t
 
 abbrev pub cases : List Case
 cases =
@@ -188,6 +197,14 @@ cases =
     ∷ of (bytes "unit u{x.f(a,b+c:") 21 0x3E00D0000000
     -- and behind a name behind a dot
     ∷ of (bytes "unit u{x.f(a+b.c:") 21 0x3E00D8000000
+    -- With 64 constructs open the sets are the same, since what would have fitted is asked of programs of any nesting:
+    -- `(`, `*` and `{` are told.
+    ∷ of (nested 64 (bytes "(") (bytes ":")) 21 0x5080008000000
+    ∷ of (nested 64 (bytes "*") (bytes ":")) 21 0x5080008000000
+    ∷ of (nested 64 (bytes "if guard(x){") (bytes "if guard(x):")) 21 0x2000000
+    -- A `(` or a `{` there is refused with 32 all the same.
+    ∷ of (nested 64 (bytes "(") (bytes "(")) 32 0
+    ∷ of (nested 64 (bytes "if guard(x){") (bytes "if guard(x){")) 32 0
     ∷ []
 
 pub right : map (λ (c : Case). answer (c .text)) cases ≡ cases

@@ -13,6 +13,7 @@ use Rattle.rules.specs.Text.{place}
 use Rattle.rules.specs.Kinds
 use Rattle.rules.specs.Rows
 use Rattle.rules.specs.Scan
+use Rattle.refusals.specs.Back
 use Rattle.rules_files.specs.declared.Fault.the-variants.{Outer, TooManyRows, BadBlock, WrongLength, NoTable, OtherForm}
 use Rattle.rules_files.specs.declared.Stored.{Stored}
 use Rattle.rules_files.specs.declared.Stored.the-variants as stored
@@ -134,5 +135,5 @@ cases =
     ∷ []
 
 pub right : map (λ c. loadTold (fileOf c) (c .room)) cases ≡ map (λ c. c .told) cases
-unfolding fileOf sealed Bytes.little Bytes.number Bytes.numberAt Bytes.wordsIn Blocks.sumFrom Blocks.check Blocks.contentOf Blocks.zeros Blocks.sound Blocks.blocksFor Blocks.fileLength Blocks.soundFrom Blocks.bodyFrom Files.readRefused Files.readEnding Files.endingIn Files.rowWordsIn Files.soundIn Files.rowsTold Files.readTold Files.blocksTold Files.saidTold Files.loadTold Rows.rowIn Rows.rowsIn Rows.valueBits Rows.rowPlace Rows.every Rows.chained Rows.lengthFits Rows.spansFit Rows.valueFits Rows.placeFits Rows.linesFit Rows.rowFits Rows.follows Rows.gapFits Rows.gapsFit Rows.lastRow Rows.endsBehind Rows.isEof Rows.eofLast Rows.endingFits Rows.rowsFit Rows.wellFormed Kinds.isMade Kinds.lengthIn
+unfolding fileOf sealed Bytes.little Bytes.number Bytes.numberAt Bytes.wordsIn Blocks.sumFrom Blocks.check Blocks.contentOf Blocks.zeros Blocks.sound Blocks.blocksFor Blocks.fileLength Blocks.soundFrom Blocks.bodyFrom Back.lexicalOf Files.readRefused Files.readEnding Files.endingIn Files.rowWordsIn Files.soundIn Files.rowsTold Files.readTold Files.blocksTold Files.saidTold Files.loadTold Rows.rowIn Rows.rowsIn Rows.valueBits Rows.rowPlace Rows.every Rows.chained Rows.lengthFits Rows.spansFit Rows.valueFits Rows.placeFits Rows.linesFit Rows.rowFits Rows.follows Rows.gapFits Rows.gapsFit Rows.lastRow Rows.endsBehind Rows.isEof Rows.eofLast Rows.endingFits Rows.rowsFit Rows.wellFormed Kinds.isMade Kinds.lengthIn
 right = refl

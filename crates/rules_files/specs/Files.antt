@@ -5,8 +5,6 @@ use Prim.Native.Nat.{ℕ, _+_, _*_, _/_}
 use lib.ListN.{length, take, drop}
 use lib.Dec.{eqb, leb, ltb}
 use Rattle.rules.specs.declared.Cursor.{Cursor}
-use Rattle.rules.specs.declared.Lexical.{Lexical}
-use Rattle.rules.specs.declared.Lexical.the-variants.{NoRowBegins, LoneSign, NoHexDigit, OpenComment, OpenString, BadEscape, NumberTooLarge}
 use Rattle.rules.specs.declared.Ending.{Ending}
 use Rattle.rules.specs.declared.Ending.the-variants as ending
 use Rattle.rules.specs.declared.Outer.the-variants.{NotWellFormed, NoRowRoom}
@@ -15,6 +13,7 @@ use Rattle.rules.specs.Text.{place}
 use Rattle.rules.specs.Rows.{wordsPerRow, wellFormed}
 use Rattle.rules.specs.Scan.{roomOf}
 use Rattle.rules.specs.Refusals.{outerNumber, lexicalNumber}
+use Rattle.refusals.specs.Back.{isLexical, lexicalOf}
 use Rattle.rules_files.specs.declared.Fault.{Fault}
 use Rattle.rules_files.specs.declared.Fault.the-variants.{Outer, TooManyRows, BadBlock, WrongLength, NoTable, OtherForm}
 use Rattle.rules_files.specs.declared.EndingRead.{EndingRead}
@@ -94,20 +93,16 @@ storeLeaves ws t file =
 
 -- ---- a file into a table
 
--- the reasons for which a text is not read on, and the first of them that has a number
-abbrev pub reasons : List Lexical
-reasons = NoRowBegins ∷ LoneSign ∷ NoHexDigit ∷ OpenComment ∷ OpenString ∷ BadEscape ∷ NumberTooLarge ∷ []
-
-unfoldable pub readRefused : List Lexical → ℕ → Cursor → EndingRead
-readRefused [] number p = Nothing
-readRefused (why ∷ more) number p = cond (eqb number (lexicalNumber why)) (Ends (ending.Refused why p)) (readRefused more number p)
+-- the ending of a lexical refusal's number
+unfoldable pub readRefused : ℕ → Cursor → EndingRead
+readRefused number p = cond (isLexical number) (Ends (ending.Refused (lexicalOf number) p)) Nothing
 
 -- none has number 0, and then offset, line and column are 0
 unfoldable pub readEnding : ℕ → Cursor → EndingRead
 readEnding number p =
     cond (eqb number 0)
     (cond (eqb (p .offset .0) 0 && (eqb (p .line .0) 0 && eqb (p .column .0) 0)) (Ends ending.None) Nothing)
-    (readRefused reasons number p)
+    (readRefused number p)
 
 -- word i of what block 0 says
 abbrev pub saidAt : ℕ → List ℕ → ℕ

@@ -14,6 +14,7 @@ use Rattle.rules.specs.Text
 use Rattle.rules.specs.Text.{bytes, place}
 use Rattle.rules.specs.Kinds
 use Rattle.rules.specs.Rows
+use Rattle.refusals.specs.Back
 use Rattle.rules_files.specs.declared.Fault.{Fault}
 use Rattle.rules_files.specs.declared.Fault.the-variants.{Outer, BadBlock, WrongLength, NoTable, OtherForm}
 use Rattle.rules_files.specs.Bytes
@@ -88,7 +89,7 @@ files = refl
 -- 1 to 2 and back, 2 to 1 and back, and to the form it has
 pub moves : (movedFile text longFile 2 ∷ movedFile text shortFile 1 ∷ movedFile text longFile 1 ∷ movedFile text shortFile 2 ∷ [])
     ≡ (shortFile ∷ longFile ∷ longFile ∷ shortFile ∷ [])
-unfolding Cases.sealed Bytes.little Bytes.number Bytes.numberAt Bytes.bytesOf Bytes.wordsIn Blocks.sumFrom Blocks.check Blocks.checked Blocks.block Blocks.contentOf Blocks.zeros Blocks.sound Blocks.blocksFor Blocks.blocksFrom Blocks.fileOf Blocks.fileLength Blocks.soundFrom Blocks.bodyFrom Files.encode Files.readRefused Files.readEnding Files.endingIn Files.rowWordsIn Files.soundIn Files.rowsTold Files.readTold Files.blocksTold Files.saidTold Files.loadTold Text.front Text.newlines Text.lineAt Text.columnAt Text.placeAt Rows.rowIn Rows.rowsIn Rows.valueBits Rows.rowPlace Rows.every Rows.chained Rows.lengthFits Rows.spansFit Rows.valueFits Rows.placeFits Rows.linesFit Rows.rowFits Rows.follows Rows.gapFits Rows.gapsFit Rows.lastRow Rows.endsBehind Rows.isEof Rows.eofLast Rows.endingFits Rows.rowsFit Rows.wellFormed Kinds.isMade Kinds.lengthIn Short.shortRow Short.shortened Short.placedRow Short.placed Short.onOneLine Short.shortEncode Short.shortEnding Short.shortWordsIn Short.shortSoundIn Short.shortTable Short.shortBlocks Short.shortJudged Forms.judged Forms.rowsBeside Forms.tableBeside Forms.isPlaceIn Forms.endingAgrees Forms.agrees Forms.besideJudged Forms.besideTold Forms.encodeIn Forms.moveJudged Forms.moveTold Forms.movedFrom
+unfolding Cases.sealed Bytes.little Bytes.number Bytes.numberAt Bytes.bytesOf Bytes.wordsIn Blocks.sumFrom Blocks.check Blocks.checked Blocks.block Blocks.contentOf Blocks.zeros Blocks.sound Blocks.blocksFor Blocks.blocksFrom Blocks.fileOf Blocks.fileLength Blocks.soundFrom Blocks.bodyFrom Files.encode Back.lexicalOf Files.readRefused Files.readEnding Files.endingIn Files.rowWordsIn Files.soundIn Files.rowsTold Files.readTold Files.blocksTold Files.saidTold Files.loadTold Text.front Text.newlines Text.lineAt Text.columnAt Text.placeAt Rows.rowIn Rows.rowsIn Rows.valueBits Rows.rowPlace Rows.every Rows.chained Rows.lengthFits Rows.spansFit Rows.valueFits Rows.placeFits Rows.linesFit Rows.rowFits Rows.follows Rows.gapFits Rows.gapsFit Rows.lastRow Rows.endsBehind Rows.isEof Rows.eofLast Rows.endingFits Rows.rowsFit Rows.wellFormed Kinds.isMade Kinds.lengthIn Short.shortRow Short.shortened Short.placedRow Short.placed Short.onOneLine Short.shortEncode Short.shortEnding Short.shortWordsIn Short.shortSoundIn Short.shortTable Short.shortBlocks Short.shortJudged Forms.judged Forms.rowsBeside Forms.tableBeside Forms.isPlaceIn Forms.endingAgrees Forms.agrees Forms.besideJudged Forms.besideTold Forms.encodeIn Forms.moveJudged Forms.moveTold Forms.movedFrom
 moves = refl
 
 -- A file with some bytes changed, the checks of both blocks made anew or not, and cut at a length, and a text.
@@ -161,7 +162,7 @@ cases =
     ∷ []
 
 pub right : map (λ c. moveTold (c .of .beside) (fileOf (c .of)) (c .form) (c .room)) cases ≡ map (λ c. c .told) cases
-unfolding fileOf Cases.sealed Bytes.little Bytes.number Bytes.numberAt Bytes.bytesOf Bytes.wordsIn Blocks.sumFrom Blocks.check Blocks.checked Blocks.block Blocks.contentOf Blocks.zeros Blocks.sound Blocks.blocksFor Blocks.blocksFrom Blocks.fileOf Blocks.fileLength Blocks.soundFrom Blocks.bodyFrom Files.encode Files.readRefused Files.readEnding Files.endingIn Files.rowWordsIn Files.soundIn Files.rowsTold Files.readTold Files.blocksTold Files.saidTold Files.loadTold Text.front Text.newlines Text.lineAt Text.columnAt Text.placeAt Rows.rowIn Rows.rowsIn Rows.valueBits Rows.rowPlace Rows.every Rows.chained Rows.lengthFits Rows.spansFit Rows.valueFits Rows.placeFits Rows.linesFit Rows.rowFits Rows.follows Rows.gapFits Rows.gapsFit Rows.lastRow Rows.endsBehind Rows.isEof Rows.eofLast Rows.endingFits Rows.rowsFit Rows.wellFormed Kinds.isMade Kinds.lengthIn Short.shortRow Short.shortened Short.placedRow Short.placed Short.onOneLine Short.shortEncode Short.shortEnding Short.shortWordsIn Short.shortSoundIn Short.shortTable Short.shortBlocks Short.shortJudged Forms.judged Forms.rowsBeside Forms.tableBeside Forms.isPlaceIn Forms.endingAgrees Forms.agrees Forms.besideJudged Forms.besideTold Forms.encodeIn Forms.moveJudged Forms.moveTold Forms.movedFrom
+unfolding fileOf Cases.sealed Bytes.little Bytes.number Bytes.numberAt Bytes.bytesOf Bytes.wordsIn Blocks.sumFrom Blocks.check Blocks.checked Blocks.block Blocks.contentOf Blocks.zeros Blocks.sound Blocks.blocksFor Blocks.blocksFrom Blocks.fileOf Blocks.fileLength Blocks.soundFrom Blocks.bodyFrom Files.encode Back.lexicalOf Files.readRefused Files.readEnding Files.endingIn Files.rowWordsIn Files.soundIn Files.rowsTold Files.readTold Files.blocksTold Files.saidTold Files.loadTold Text.front Text.newlines Text.lineAt Text.columnAt Text.placeAt Rows.rowIn Rows.rowsIn Rows.valueBits Rows.rowPlace Rows.every Rows.chained Rows.lengthFits Rows.spansFit Rows.valueFits Rows.placeFits Rows.linesFit Rows.rowFits Rows.follows Rows.gapFits Rows.gapsFit Rows.lastRow Rows.endsBehind Rows.isEof Rows.eofLast Rows.endingFits Rows.rowsFit Rows.wellFormed Kinds.isMade Kinds.lengthIn Short.shortRow Short.shortened Short.placedRow Short.placed Short.onOneLine Short.shortEncode Short.shortEnding Short.shortWordsIn Short.shortSoundIn Short.shortTable Short.shortBlocks Short.shortJudged Forms.judged Forms.rowsBeside Forms.tableBeside Forms.isPlaceIn Forms.endingAgrees Forms.agrees Forms.besideJudged Forms.besideTold Forms.encodeIn Forms.moveJudged Forms.moveTold Forms.movedFrom
 right = refl
 
 -- ---- what a reading beside the text tells
@@ -172,11 +173,11 @@ pub readings : (besideTold text longFile 1 ∷ besideTold text shortFile 1 ∷ b
     ≡ (beside.Rows table ∷ beside.Rows table ∷ beside.Refused (File (Outer NoRowRoom))
     ∷ beside.Rows (record { count = 1; length = 3; ending = ending.Refused NoRowBegins (place 2 2 1) })
     ∷ beside.Refused OtherText ∷ beside.Refused OtherText ∷ beside.Refused (File (Outer NoRowRoom)) ∷ [])
-unfolding Cases.sealed Bytes.little Bytes.number Bytes.numberAt Bytes.bytesOf Bytes.wordsIn Blocks.sumFrom Blocks.check Blocks.checked Blocks.block Blocks.contentOf Blocks.zeros Blocks.sound Blocks.blocksFor Blocks.blocksFrom Blocks.fileOf Blocks.fileLength Blocks.soundFrom Blocks.bodyFrom Files.encode Files.readRefused Files.readEnding Files.endingIn Files.rowWordsIn Files.soundIn Files.rowsTold Files.readTold Files.blocksTold Files.saidTold Files.loadTold Text.front Text.newlines Text.lineAt Text.columnAt Text.placeAt Rows.rowIn Rows.rowsIn Rows.valueBits Rows.rowPlace Rows.every Rows.chained Rows.lengthFits Rows.spansFit Rows.valueFits Rows.placeFits Rows.linesFit Rows.rowFits Rows.follows Rows.gapFits Rows.gapsFit Rows.lastRow Rows.endsBehind Rows.isEof Rows.eofLast Rows.endingFits Rows.rowsFit Rows.wellFormed Kinds.isMade Kinds.lengthIn Short.shortRow Short.shortened Short.placedRow Short.placed Short.onOneLine Short.shortEncode Short.shortEnding Short.shortWordsIn Short.shortSoundIn Short.shortTable Short.shortBlocks Short.shortJudged Forms.judged Forms.rowsBeside Forms.tableBeside Forms.isPlaceIn Forms.endingAgrees Forms.agrees Forms.besideJudged Forms.besideTold Forms.encodeIn Forms.moveJudged Forms.moveTold Forms.movedFrom
+unfolding Cases.sealed Bytes.little Bytes.number Bytes.numberAt Bytes.bytesOf Bytes.wordsIn Blocks.sumFrom Blocks.check Blocks.checked Blocks.block Blocks.contentOf Blocks.zeros Blocks.sound Blocks.blocksFor Blocks.blocksFrom Blocks.fileOf Blocks.fileLength Blocks.soundFrom Blocks.bodyFrom Files.encode Back.lexicalOf Files.readRefused Files.readEnding Files.endingIn Files.rowWordsIn Files.soundIn Files.rowsTold Files.readTold Files.blocksTold Files.saidTold Files.loadTold Text.front Text.newlines Text.lineAt Text.columnAt Text.placeAt Rows.rowIn Rows.rowsIn Rows.valueBits Rows.rowPlace Rows.every Rows.chained Rows.lengthFits Rows.spansFit Rows.valueFits Rows.placeFits Rows.linesFit Rows.rowFits Rows.follows Rows.gapFits Rows.gapsFit Rows.lastRow Rows.endsBehind Rows.isEof Rows.eofLast Rows.endingFits Rows.rowsFit Rows.wellFormed Kinds.isMade Kinds.lengthIn Short.shortRow Short.shortened Short.placedRow Short.placed Short.onOneLine Short.shortEncode Short.shortEnding Short.shortWordsIn Short.shortSoundIn Short.shortTable Short.shortBlocks Short.shortJudged Forms.judged Forms.rowsBeside Forms.tableBeside Forms.isPlaceIn Forms.endingAgrees Forms.agrees Forms.besideJudged Forms.besideTold Forms.encodeIn Forms.moveJudged Forms.moveTold Forms.movedFrom
 readings = refl
 
 -- A reading without the text refuses form 2 by name, even where its block 0 is bad by form 2's filler.
 pub older : (loadTold shortFile 1 ∷ loadTold (fileOf (but shortFile 24 1)) 1 ∷ loadTold (fileOf (but shortFile 32 1)) 1 ∷ [])
     ≡ (loaded.Refused OtherForm ∷ loaded.Refused OtherForm ∷ loaded.Refused (BadBlock 0) ∷ [])
-unfolding fileOf Cases.sealed Bytes.little Bytes.number Bytes.numberAt Bytes.bytesOf Bytes.wordsIn Blocks.sumFrom Blocks.check Blocks.checked Blocks.block Blocks.contentOf Blocks.zeros Blocks.sound Blocks.blocksFor Blocks.blocksFrom Blocks.fileOf Blocks.fileLength Blocks.soundFrom Blocks.bodyFrom Files.encode Files.readRefused Files.readEnding Files.endingIn Files.rowWordsIn Files.soundIn Files.rowsTold Files.readTold Files.blocksTold Files.saidTold Files.loadTold Text.front Text.newlines Text.lineAt Text.columnAt Text.placeAt Rows.rowIn Rows.rowsIn Rows.valueBits Rows.rowPlace Rows.every Rows.chained Rows.lengthFits Rows.spansFit Rows.valueFits Rows.placeFits Rows.linesFit Rows.rowFits Rows.follows Rows.gapFits Rows.gapsFit Rows.lastRow Rows.endsBehind Rows.isEof Rows.eofLast Rows.endingFits Rows.rowsFit Rows.wellFormed Kinds.isMade Kinds.lengthIn Short.shortRow Short.shortened Short.placedRow Short.placed Short.onOneLine Short.shortEncode Short.shortEnding Short.shortWordsIn Short.shortSoundIn Short.shortTable Short.shortBlocks Short.shortJudged Forms.judged Forms.rowsBeside Forms.tableBeside Forms.isPlaceIn Forms.endingAgrees Forms.agrees Forms.besideJudged Forms.besideTold Forms.encodeIn Forms.moveJudged Forms.moveTold Forms.movedFrom
+unfolding fileOf Cases.sealed Bytes.little Bytes.number Bytes.numberAt Bytes.bytesOf Bytes.wordsIn Blocks.sumFrom Blocks.check Blocks.checked Blocks.block Blocks.contentOf Blocks.zeros Blocks.sound Blocks.blocksFor Blocks.blocksFrom Blocks.fileOf Blocks.fileLength Blocks.soundFrom Blocks.bodyFrom Files.encode Back.lexicalOf Files.readRefused Files.readEnding Files.endingIn Files.rowWordsIn Files.soundIn Files.rowsTold Files.readTold Files.blocksTold Files.saidTold Files.loadTold Text.front Text.newlines Text.lineAt Text.columnAt Text.placeAt Rows.rowIn Rows.rowsIn Rows.valueBits Rows.rowPlace Rows.every Rows.chained Rows.lengthFits Rows.spansFit Rows.valueFits Rows.placeFits Rows.linesFit Rows.rowFits Rows.follows Rows.gapFits Rows.gapsFit Rows.lastRow Rows.endsBehind Rows.isEof Rows.eofLast Rows.endingFits Rows.rowsFit Rows.wellFormed Kinds.isMade Kinds.lengthIn Short.shortRow Short.shortened Short.placedRow Short.placed Short.onOneLine Short.shortEncode Short.shortEnding Short.shortWordsIn Short.shortSoundIn Short.shortTable Short.shortBlocks Short.shortJudged Forms.judged Forms.rowsBeside Forms.tableBeside Forms.isPlaceIn Forms.endingAgrees Forms.agrees Forms.besideJudged Forms.besideTold Forms.encodeIn Forms.moveJudged Forms.moveTold Forms.movedFrom
 older = refl

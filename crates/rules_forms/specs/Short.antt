@@ -17,7 +17,7 @@ use Rattle.rules_files.specs.declared.Loaded.{Loaded}
 use Rattle.rules_files.specs.declared.Loaded.the-variants as loaded
 use Rattle.rules_files.specs.Bytes.{bytesOf, wordsIn, wordBytes}
 use Rattle.rules_files.specs.Blocks.{blockBytes, perBlock, blocksFor, fileLength, fileOf, sound, soundFrom, bodyFrom}
-use Rattle.rules_files.specs.Files.{saidAt, countSaid, lengthSaid, reasons, readRefused, readEnding, readTold}
+use Rattle.rules_files.specs.Files.{saidAt, countSaid, lengthSaid, readRefused, readEnding, readTold}
 
 -- ---- numbers
 
@@ -87,7 +87,7 @@ shortEncode ws t = fileOf shortBytes (bytesOf (shortSaid t)) (t .count) (bytesOf
 -- the ending that block 0 tells, at the place that its offset has; none has number 0 and offset 0
 unfoldable pub shortEnding : (ℕ → Cursor) → List ℕ → EndingRead
 shortEnding at file =
-    cond (eqb (saidAt 3 file) 0) (readEnding 0 (place (saidAt 4 file) 0 0)) (readRefused reasons (saidAt 3 file) (at (saidAt 4 file)))
+    cond (eqb (saidAt 3 file) 0) (readEnding 0 (place (saidAt 4 file) 0 0)) (readRefused (saidAt 3 file) (at (saidAt 4 file)))
 
 -- what stands behind block 0: the words of all rows, and how many blocks are sound before one is not
 unfoldable pub shortWordsIn : List ℕ → List ℕ

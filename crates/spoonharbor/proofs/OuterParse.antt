@@ -95,8 +95,9 @@ module _ (t lent ws table new : List ℕ) (g : OuterLent t lent ws table) where
 -- 5. The text scans fully, and there is room for fewer nodes than it has rows. They are 5's, at 0, line 1, column 1.
 -- 6. There is room, and a tree of the grammar, within the checks and with at most 64 constructs open, has the scan's tokens for its own: one
 --    tree and no other. They are number 0 and how many nodes the tree has; the nodes are written, and the words behind them are left.
--- 7. There is room, and no such tree. They are those of a refusal of 21 to 32, at the row to which reading order leads: of 21, 22, 23, 25
---    and 30 with exactly the kinds that would have fitted, and of 21 with the kind of that row.
+-- 7. There is room, and no such tree. They are those of a refusal of 21 to 32, at the row to which reading order leads.
+--    The refusal is about the first row with which no program goes on (`First`). 21, 22, 23, 25 and 30 come with exactly
+--    the kinds that would have fitted, and 21 with the kind of the row that is told.
 --
 -- But for the sixth case every lent word is left.
 pub outer-parse : (t lent ws table new : List ℕ) → OuterLent t lent ws table

@@ -35,6 +35,7 @@ use Rattle.theory_edits.specs.Scanned.{Scanned}
 use Rattle.theory_edits.proofs.WellFormed.{scanned-rows, scanned-well-formed}
 use Rattle.theory_grammar.specs.Tokens.{Whole}
 use Rattle.theory_grammar.proofs.Refused.{refused-inside}
+use Rattle.theory_grammar.proofs.Place.{refused-first}
 use Rattle.theory_grammar.proofs.Fitting.{told-exactly}
 use Rattle.theory_grammar.proofs.Same.{accepts-exactly, unambiguous, refused-sound}
 use Rattle.theory_grammar.proofs.Sound.{parse-whole}
@@ -175,6 +176,7 @@ module _ (t ws : List ℕ) (table : Table) (new : List ℕ) where
             behind = x .behind;
             reads = q;
             stands = x .stands;
+            first = refused-first (tokensOf t) why k (whole .proper) q;
             exactly = λ m. told-exactly (tokensOf t) why k (whole .proper) q m;
           })
           (refused why k q)
@@ -199,8 +201,10 @@ module _ (t ws : List ℕ) (table : Table) (new : List ℕ) where
 -- 4. The text scans fully, and there is room for fewer nodes than it has rows. It tells 5, at 0.
 -- 5. There is room, and a tree of the grammar, within the checks and with at most 64 constructs open, has the scan's tokens for its own: one
 --    tree and no other. It tells how many nodes the tree has, writes them, and leaves the words behind them.
--- 6. There is room, and no such tree. It tells a refusal of 21 to 32, at the row to which reading order leads: 21, 22, 23, 25 and 30 with
---    exactly the kinds that would have fitted, and 21 with the kind of that row.
+-- 6. There is room, and no such tree. It tells a refusal of 21 to 32, at the row to which reading order leads. The
+--    refusal is about the first row with which no program goes on: `First` says what a program is there, and how that
+--    row stands to the one that is told. 21, 22, 23, 25 and 30 come with exactly the kinds that would have fitted, and 21
+--    with the kind of the row that is told.
 --
 -- But for the fifth case it leaves every word.
 pub demand-2 : (t ws : List ℕ) (table : Table) (new : List ℕ) → Lent t ws table

@@ -24,7 +24,7 @@ use Rattle.rules.specs.Grammar.{Program, Is}
 use Rattle.rules.specs.Parse.{no, parse}
 use Rattle.rules.specs.Calls.{tokens, nodeRoom}
 use Rattle.theory_edits.specs.Scanned.{Scanned}
-use Rattle.theory_grammar.specs.Lost.{isMisfit}
+use Rattle.theory_grammar.specs.Lost.{isMisfit, First}
 use Rattle.theory_grammar.specs.Fitting.{ToldExactly}
 
 -- ---- texts and their programs
@@ -66,6 +66,9 @@ pub record RefusedRow (t : List ℕ) (why : Syntax) (row : Row) : Type 0 where
   pub stands : drop before (rowsOf t) ≡ row ∷ behind
   -- and it is there that reading order leads to the refusal
   pub reads : parse (tokensOf t) ≡ no why before
+  -- The row that the refusal is about is the first with which no program goes on. It is this row, or stands to it as
+  -- `lost` says.
+  pub first : First (tokensOf t) why before
   -- of 21, 22, 23, 25 and 30 the set that is told is exactly the kinds that would have fitted
   pub exactly : isMisfit why ≡ true → ToldExactly (tokensOf t) why before
 

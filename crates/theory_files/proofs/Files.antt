@@ -12,8 +12,6 @@ use lib.Dec.{eqb, leb, ltb}
 use borrow.Author.Tests.{leb-true, le-leb, ltb-false, not-false}
 use Rattle.laws.proofs.Tests.{both-true}
 use Rattle.rules.specs.declared.Cursor.{Cursor}
-use Rattle.rules.specs.declared.Lexical.{Lexical}
-use Rattle.rules.specs.declared.Lexical.the-variants.{NoRowBegins, LoneSign, NoHexDigit, OpenComment, OpenString, BadEscape, NumberTooLarge}
 use Rattle.rules.specs.declared.Ending.{Ending}
 use Rattle.rules.specs.declared.Ending.the-variants.{None, Refused}
 use Rattle.rules.specs.declared.Table.{Table}
@@ -22,6 +20,7 @@ use Rattle.rules.specs.Rows.{Row, rowsIn, every, isEof, placeFits, endsBehind, 
 use Rattle.rules.specs.Rows.{gapsFit, rowFits, wellFormed, wordsPerRow}
 use Rattle.rules.specs.Scan.{roomOf}
 use Rattle.rules.specs.Refusals.{lexicalNumber}
+use Rattle.refusals.proofs.Back.{number-some, number-most}
 use Rattle.rules_files.specs.declared.Fault.{Fault}
 use Rattle.rules_files.specs.declared.Fault.the-variants.{Outer, TooManyRows, BadBlock}
 use Rattle.rules.specs.declared.Outer.the-variants.{NotWellFormed, NoRowRoom}
@@ -30,7 +29,7 @@ use Rattle.rules_files.specs.declared.Stored.the-variants as stored
 use Rattle.rules_files.specs.declared.Loaded.the-variants as loaded
 use Rattle.rules_files.specs.Blocks.{fileLength, blockBytes}
 use Rattle.rules_files.specs.declared.EndingRead.the-variants.{Ends}
-use Rattle.rules_files.specs.Files.{mostRows, rowBytes, formNumber, saidAt, said, endingSaid, readRefused, readEnding, endingIn, countSaid}
+use Rattle.rules_files.specs.Files.{mostRows, rowBytes, formNumber, saidAt, said, endingSaid, readEnding, endingIn, countSaid}
 use Rattle.rules_files.specs.Files.{lengthSaid, formSaid, rowWordsIn, rowsTold, loadTold, loadLeaves, storeTold, storeLeaves, encode}
 use Rattle.rules_files.specs.Bytes.{bytesOf}
 use Rattle.laws.specs.Bounds.{none, some, Bytes, Words}
@@ -39,7 +38,7 @@ use Rattle.theory_files.specs.Whole.{Holds, saidFrom, wordsOf}
 use Rattle.theory_files.proofs.Whole.{words-size, held-bytes, held-said, held-whole, held-words, whole-file, file-length}
 use Rattle.theory_files.proofs.Told.{told-rows, told-table, told-full, changed-bad}
 use Rattle.theory_files.proofs.Said.{long-fits, Framed, framed-whole, whole-framed, framed-told, load-tests, Reads, reads-of}
-use Rattle.theory_files.proofs.Said.{saidWords, said-front, ending-said}
+use Rattle.theory_files.proofs.Said.{saidWords, said-front, refused-back, ending-said}
 use Rattle.theory_files.proofs.Numbers.{bytes-length}
 
 -- ---- the rows of a table are its first words
@@ -112,16 +111,8 @@ ending-words n rs (Refused why p) h f =
     let x : p .offset .0 < 2 ^ 32 = omega arith in
     let y : p .line .0 < 2 ^ 32 = omega arith in
     let z : p .column .0 < 2 ^ 32 = omega arith in
-    some (small why) (some x (some y (some z none)))
-  where
-    small : (w : Lexical) → lexicalNumber w < 2 ^ 32
-    small NoRowBegins = omega arith
-    small LoneSign = omega arith
-    small NoHexDigit = omega arith
-    small OpenComment = omega arith
-    small OpenString = omega arith
-    small BadEscape = omega arith
-    small NumberTooLarge = omega arith
+    let s : lexicalNumber why < 2 ^ 32 = omega (arith, number-most why) in
+    some s (some x (some y (some z none)))
 
 -- an ending is said in four words
 pub ending-four : (e : Ending) → length (endingSaid e) ≡ 4
@@ -198,21 +189,11 @@ module _ (ws : List ℕ) (t : Table) (well : wellFormed ws t ≡ true) (few : t 
         ∙ rw (rows-are, count-is, said-is 1 (omega arith))
 
 -- the words that say an ending are read as that ending, since each reason has a number of its own
-refused-back : (why : Lexical) (p : Cursor) → readEnding (lexicalNumber why) p ≡ Ends (Refused why p)
-unfolding readEnding readRefused
-refused-back NoRowBegins p = refl
-refused-back LoneSign p = refl
-refused-back NoHexDigit p = refl
-refused-back OpenComment p = refl
-refused-back OpenString p = refl
-refused-back BadEscape p = refl
-refused-back NumberTooLarge p = refl
-
 pub ending-back : (e : Ending)
     → readEnding (getD (endingSaid e) 0 0) (place (getD (endingSaid e) 1 0) (getD (endingSaid e) 2 0) (getD (endingSaid e) 3 0)) ≡ Ends e
 unfolding readEnding
 ending-back None = refl
-ending-back (Refused why p) = refused-back why p
+ending-back (Refused why p) = rw (number-some why) (refused-back why p)
 
 -- Reading what was written gives back exactly the table, in room for its rows, and every row's words.
 module _ (ws : List ℕ) (t : Table) (well : wellFormed ws t ≡ true) (few : t .count ≤ mostRows) (words : Words ws) where

@@ -15,13 +15,15 @@ use Rattle.rules.specs.declared.Ending.the-variants.{None, Refused}
 use Rattle.rules.specs.declared.Table.{Table}
 use Rattle.rules.specs.Rows.{wellFormed, wordsPerRow}
 use Rattle.rules.specs.Refusals.{lexicalNumber}
+use Rattle.refusals.specs.Back.{isLexical, lexicalOf}
+use Rattle.refusals.proofs.Back.{number-back, number-lexical, reason-again}
 use Rattle.rules_files.specs.declared.Fault.the-variants.{BadBlock, WrongLength, OtherForm}
 use Rattle.rules_files.specs.declared.Loaded.{Loaded}
 use Rattle.rules_files.specs.declared.Loaded.the-variants as loaded
 use Rattle.rules_files.specs.Bytes.{wordsIn}
 use Rattle.rules_files.specs.Blocks.{contentOf, sound, blocksFor, fileLength, blockBytes}
 use Rattle.rules_files.specs.declared.EndingRead.the-variants.{Ends, Nothing}
-use Rattle.rules_files.specs.Files.{mostRows, rowBytes, formNumber, saidAt, endingSaid, reasons, readRefused, readEnding, endingIn}
+use Rattle.rules_files.specs.Files.{mostRows, rowBytes, formNumber, saidAt, endingSaid, readRefused, readEnding, endingIn}
 use Rattle.rules_files.specs.Files.{countSaid, lengthSaid, formSaid, rowWordsIn, soundIn, readTold, blocksTold, saidTold, loadTold}
 use Rattle.rules_files.specs.Files.{saidBytes}
 use Rattle.theory_files.specs.Whole.{Fits, Whole, soundOf, wholeTold}
@@ -52,19 +54,22 @@ said-front = said-kept long-fits
 
 -- ---- the ending that is told
 
-pub refused-said : (rs : List Lexical) (n : ℕ) (p : Cursor) (e : Ending) → readRefused rs n p ≡ Ends e
+-- a refusal's number is read as that refusal
+pub refused-back : (why : Lexical) (p : Cursor) → readRefused (lexicalNumber why) p ≡ Ends (Refused why p)
+unfolding readRefused
+refused-back why p = rw (number-lexical why, number-back why)
+
+pub refused-said : (n : ℕ) (p : Cursor) (e : Ending) → readRefused n p ≡ Ends e
     → endingSaid e ≡ n ∷ p .offset .0 ∷ p .line .0 ∷ p .column .0 ∷ []
 unfolding readRefused
-refused-said [] n p e q = absurd (let z : _≡_ {A = ℕ} 0 1 = cc in omega arith)
-refused-said (why ∷ rs) n p e q = go (eqb n (lexicalNumber why)) refl q (refused-said rs n p e)
+refused-said n p e q = go (isLexical n) refl q
   where
-    go : (b : Bool) → eqb n (lexicalNumber why) ≡ b → cond b (Ends (Refused why p)) (readRefused rs n p) ≡ Ends e
-        → (readRefused rs n p ≡ Ends e → endingSaid e ≡ n ∷ p .offset .0 ∷ p .line .0 ∷ p .column .0 ∷ [])
+    go : (b : Bool) → isLexical n ≡ b → cond b (Ends (Refused (lexicalOf n) p)) Nothing ≡ Ends e
         → endingSaid e ≡ n ∷ p .offset .0 ∷ p .line .0 ∷ p .column .0 ∷ []
-    go true f q r =
-        let g : Refused why p ≡ e = cc in
-        rw (← g, eqb-true n (lexicalNumber why) f)
-    go false f q r = r q
+    go true f q =
+        let g : Refused (lexicalOf n) p ≡ e = cc in
+        rw (← g, reason-again n f)
+    go false f q = absurd (let z : _≡_ {A = ℕ} 0 1 = cc in omega arith)
 
 -- an ending that is read says the words that it was read from
 pub ending-said : (n : ℕ) (p : Cursor) (e : Ending) → readEnding n p ≡ Ends e
@@ -84,10 +89,10 @@ ending-said n p e q = go (eqb n 0) refl q
         rw (← g, z, eqb-true (p .offset .0) 0 (x .0), eqb-true (p .line .0) 0 (y .0), eqb-true (p .column .0) 0 (y .1))
     bare z false f q = absurd (let z : _≡_ {A = ℕ} 0 1 = cc in omega arith)
 
-    go : (b : Bool) → eqb n 0 ≡ b → cond b (cond zero-place (Ends None) Nothing) (readRefused reasons n p) ≡ Ends e
+    go : (b : Bool) → eqb n 0 ≡ b → cond b (cond zero-place (Ends None) Nothing) (readRefused n p) ≡ Ends e
         → endingSaid e ≡ n ∷ p .offset .0 ∷ p .line .0 ∷ p .column .0 ∷ []
     go true f q = bare (eqb-true n 0 f) zero-place refl q
-    go false f q = refused-said reasons n p e q
+    go false f q = refused-said n p e q
 
 -- ---- a file that is read
 

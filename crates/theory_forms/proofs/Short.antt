@@ -19,7 +19,7 @@ use Rattle.rules_files.specs.declared.EndingRead.the-variants.{Ends}
 use Rattle.rules_files.specs.declared.Loaded.the-variants as loaded
 use Rattle.rules_files.specs.Bytes.{wordsIn}
 use Rattle.rules_files.specs.Blocks.{contentOf, sound, blocksFor, fileLength, blockBytes}
-use Rattle.rules_files.specs.Files.{mostRows, endingSaid, saidAt, formSaid, countSaid, lengthSaid, reasons, readRefused, readEnding}
+use Rattle.rules_files.specs.Files.{mostRows, endingSaid, saidAt, formSaid, countSaid, lengthSaid, readRefused, readEnding}
 use Rattle.rules_forms.specs.Short.{shortRow, shortened, placedRow, placed, placedEnding, onOneLine, shortEndingSaid, shortSaid, shortEncode}
 use Rattle.rules_forms.specs.Short.{shortEnding, shortWordsIn, shortSoundIn, shortTable, shortBlocks, shortJudged, shortBytes}
 use Rattle.rules_forms.specs.Short.{shortSaidBytes, shortWords, shortNumber}
@@ -92,10 +92,10 @@ unfolding shortEnding
 ending-short at o file e q = go (eqb (saidAt 3 file) 0) refl q
   where
     go : (b : Bool) → eqb (saidAt 3 file) 0 ≡ b
-        → cond b (readEnding 0 (place (saidAt 4 file) 0 0)) (readRefused reasons (saidAt 3 file) (at (saidAt 4 file))) ≡ Ends e
+        → cond b (readEnding 0 (place (saidAt 4 file) 0 0)) (readRefused (saidAt 3 file) (at (saidAt 4 file))) ≡ Ends e
         → shortEndingSaid e ≡ saidAt 3 file ∷ saidAt 4 file ∷ []
     go true f q = front-said e ∙ ap (take 2) (ending-said 0 (place (saidAt 4 file) 0 0) e q) ∙ rw (eqb-true (saidAt 3 file) 0 f)
-    go false f q = front-said e ∙ ap (take 2) (refused-said reasons (saidAt 3 file) (at (saidAt 4 file)) e q) ∙ rw (o (saidAt 4 file))
+    go false f q = front-said e ∙ ap (take 2) (refused-said (saidAt 3 file) (at (saidAt 4 file)) e q) ∙ rw (o (saidAt 4 file))
 
 -- ---- a file that is judged to hold a table
 

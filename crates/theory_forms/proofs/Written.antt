@@ -10,16 +10,16 @@ use lib.Seq.{take-all}
 use lib.Dec.{eqb}
 use Rattle.rules.specs.declared.Cursor.{Cursor}
 use Rattle.rules.specs.declared.Lexical.{Lexical}
-use Rattle.rules.specs.declared.Lexical.the-variants.{NoRowBegins, LoneSign, NoHexDigit, OpenComment, OpenString, BadEscape, NumberTooLarge}
 use Rattle.rules.specs.declared.Ending.{Ending}
 use Rattle.rules.specs.declared.Ending.the-variants.{None, Refused}
 use Rattle.rules.specs.declared.Table.{Table}
 use Rattle.rules.specs.Text.{place}
 use Rattle.rules.specs.Rows.{rowIn, wellFormed, wordsPerRow}
 use Rattle.rules.specs.Refusals.{lexicalNumber}
+use Rattle.refusals.proofs.Back.{number-some}
 use Rattle.rules_files.specs.declared.EndingRead.the-variants.{Ends}
 use Rattle.rules_files.specs.declared.Loaded.the-variants as loaded
-use Rattle.rules_files.specs.Files.{formNumber, mostRows, endingSaid, saidAt, formSaid, countSaid, reasons, readRefused, readEnding}
+use Rattle.rules_files.specs.Files.{formNumber, mostRows, endingSaid, saidAt, formSaid, countSaid, readRefused, readEnding}
 use Rattle.rules_forms.specs.Short.{shortRow, shortened, placed, placedEnding, onOneLine, shortEndingSaid, shortSaid, shortEncode}
 use Rattle.rules_forms.specs.Short.{shortEnding, shortWordsIn, shortTable, shortJudged, shortWords, shortNumber}
 use Rattle.laws.specs.Bounds.{none, some, Words}
@@ -27,6 +27,7 @@ use Rattle.theory_files.specs.Whole.{Whole, Holds, wordsOf}
 use Rattle.laws.proofs.Bounds.{below-append, below-at, below-drop}
 use Rattle.theory_files.proofs.Whole.{held-said, held-whole, held-words}
 use Rattle.theory_files.proofs.Told.{whole-told, told-rows, told-table}
+use Rattle.theory_files.proofs.Said.{refused-back}
 use Rattle.theory_files.proofs.Files.{said-words}
 use Rattle.theory_forms.proofs.Short.{short-fits, short-tests, placedTable, shortSaidWords}
 use Rattle.theory_forms.proofs.Lines.{one-lined, well-few, well-placed}
@@ -60,16 +61,9 @@ ending-two (Refused why p) = refl
 
 -- the words that say an ending are read as that ending, on one line
 refused-one : (why : Lexical) (p : Cursor)
-    → cond (eqb (lexicalNumber why) 0) (readEnding 0 p) (readRefused reasons (lexicalNumber why) (onOneLine (p .offset .0)))
+    → cond (eqb (lexicalNumber why) 0) (readEnding 0 p) (readRefused (lexicalNumber why) (onOneLine (p .offset .0)))
     ≡ Ends (Refused why (onOneLine (p .offset .0)))
-unfolding readRefused
-refused-one NoRowBegins p = refl
-refused-one LoneSign p = refl
-refused-one NoHexDigit p = refl
-refused-one OpenComment p = refl
-refused-one OpenString p = refl
-refused-one BadEscape p = refl
-refused-one NumberTooLarge p = refl
+refused-one why p = rw (number-some why) (refused-back why (onOneLine (p .offset .0)))
 
 none-one : readEnding 0 (place 0 0 0) ≡ Ends None
 unfolding readEnding
@@ -124,7 +118,7 @@ module _ (ws : List ℕ) (t : Table) (well : wellFormed ws t ≡ true) (few : t 
   ending-is = rw (said-is 3 (omega arith), said-is 4 (omega arith)) (go (t .ending))
     where
       go : (e : Ending) → cond (eqb (getD (shortEndingSaid e) 0 0) 0) (readEnding 0 (place (getD (shortEndingSaid e) 1 0) 0 0))
-          (readRefused reasons (getD (shortEndingSaid e) 0 0) (onOneLine (getD (shortEndingSaid e) 1 0))) ≡ Ends (placedEnding onOneLine e)
+          (readRefused (getD (shortEndingSaid e) 0 0) (onOneLine (getD (shortEndingSaid e) 1 0))) ≡ Ends (placedEnding onOneLine e)
       go None = none-one
       go (Refused why p) = refused-one why (place (p .offset .0) 0 0)
 

@@ -53,7 +53,7 @@ program-fits {strict} n t h m =
 module _ (ts : List Tok) (why : Syntax) (r : ℕ) (refused : Parse.parse ts ≡ no why r) (misfit : isMisfit why ≡ true) where
   -- no program has at the lost row a kind that is spared
   none-spared : (k : ℕ) (f : Fitting ts (lost ts why r) k) → Spared ts (yield (f .tree)) (lost ts why r) (setTold why) → ⊥
-  none-spared k f x = program-fits (f .nested) (f .tree) (f .is) (go (alike ts (yield (f .tree)) (lost ts why r) (f .begins)))
+  none-spared k f x = program-fits _ (f .tree) (f .is) (go (alike ts (yield (f .tree)) (lost ts why r) (f .begins)))
     where
       go : Alike ts (yield (f .tree)) (lost ts why r) ⊎ (yield (f .tree) ≡ ts) → Misfit (Parse.parse (yield (f .tree)))
       go (inl a) = misfit-again a why r refused misfit refl x

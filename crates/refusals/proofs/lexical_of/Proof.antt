@@ -1,8 +1,8 @@
 -- `lexical_of` meets its contract: the arms are the cases of the definition.
 use borrow.Author.Tests.{ne-eqb}
-use Rattle.answers.specs.Layout.{lexicalOf}
-use Rattle.answers.proofs.lexical_of.Statement.{statement}
-use Rattle.answers.proofs.lexical_of.Tie as tie
+use Rattle.refusals.specs.Back.{lexicalOf}
+use Rattle.refusals.proofs.lexical_of.Statement.{statement}
+use Rattle.refusals.proofs.lexical_of.Tie as tie
 
 returns : tie.Need-returns
 unfolding lexicalOf

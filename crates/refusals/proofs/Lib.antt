@@ -1,0 +1,2 @@
+-- Each lexical refusal is read back from its number.
+pub mod Back

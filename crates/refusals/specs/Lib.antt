@@ -1,0 +1,2 @@
+-- Refusals by their numbers.
+pub mod Back
