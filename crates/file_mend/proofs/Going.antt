@@ -21,12 +21,13 @@ use Rattle.scan_part.specs.declared.Next.the-variants.{On, Over}
 use Rattle.scan_part.specs.Part.{readFrom, partRows, Begun}
 use Rattle.scan_part.proofs.Readings.{from-start}
 use Rattle.file_sizes.proofs.Sizes.{some-rows}
-use Rattle.file_mend.specs.declared.Step.{Step}
-use Rattle.file_mend.specs.Mending.{blocksOf, rowsDiffering, rowsOf, rowsAt, PartFits, PartMended, Fresh, RowsMended}
-use Rattle.file_mend.proofs.Parts.{blocks-size, blocks-part, blocks-then, rows-part, blocks-of-one, rows-length}
-use Rattle.file_mend.proofs.One.{drop-front}
-use Rattle.file_mend.proofs.Files.{fresh-blocks}
-use Rattle.file_mend.proofs.Holding.{rowsFrom, part-within, on-rows, on-full, begins}
+use Rattle.file_patch.proofs.One.{drop-front}
+use Rattle.file_survey.specs.declared.Step.{Step}
+use Rattle.file_survey.specs.Survey.{blocksOf, rowsDiffering, rowsOf, rowsAt}
+use Rattle.file_survey.proofs.Parts.{blocks-size, blocks-part, blocks-then, rows-part, blocks-of-one, rows-length}
+use Rattle.file_survey.proofs.Files.{fresh-blocks}
+use Rattle.file_survey.proofs.Holding.{rowsFrom, part-within, on-rows, on-full, begins}
+use Rattle.file_mend.specs.Mending.{PartFits, PartMended, Fresh, RowsMended}
 
 -- ---- a part written into a list
 

@@ -1,4 +1,4 @@
--- What the first reading tells of a file, what is left where all blocks are mended, and what the call tells and leaves.
+-- What is left where all blocks are mended, and what the call tells and leaves.
 use mathlib.Core.Path.{_≡_, refl, sym, ap, _∙_}
 use mathlib.Core.Bool.{Bool, true, false, _||_}
 use mathlib.Core.List.{List, [], _∷_, _++_, append-assoc, append-nil}
@@ -27,66 +27,13 @@ use Rattle.rules_mend.specs.Mend.{freshTable, freshFile, surplus, listed, tooSm
 use Rattle.theory_mend.proofs.Fresh.{fresh-whole}
 use Rattle.theory_mend.proofs.Listed.{none-right}
 use Rattle.theory_mend.proofs.Mended.{MendOf, told-of}
-use Rattle.file_sizes.proofs.Sizes.{few-blocks}
-use Rattle.scan_part.proofs.Readings.{from-start}
-use Rattle.file_mend.specs.Mending.{entry, entryHere, blocksOf, rowsDiffering, rowsOf, Fresh, RowsMended, fileLeft, listLeft}
-use Rattle.file_mend.proofs.Files.{saidBlock, said-length, fresh-parts, fresh-length, fresh-blocks}
-use Rattle.file_mend.proofs.Files.{listed-parts, tail-entry, no-tail, tail-most, rows-most, entry-most}
-use Rattle.file_mend.proofs.Holding.{few-from}
+use Rattle.file_patch.specs.Block.{entry, entryHere}
+use Rattle.file_patch.proofs.One.{entry-most}
+use Rattle.file_survey.specs.Survey.{blocksOf, rowsDiffering, rowsOf}
+use Rattle.file_survey.proofs.Files.{saidBlock, said-length, fresh-parts, fresh-blocks, listed-parts, tail-entry, no-tail, rows-most}
+use Rattle.file_survey.proofs.Surveyed.{rows-small}
+use Rattle.file_mend.specs.Mending.{Fresh, RowsMended, fileLeft, listLeft}
 use Rattle.file_mend.proofs.Going.{differing-behind}
-
--- ---- lengths
-
--- the length that is computed is the fresh file's
-pub length-is : (form : Form) (text : List ℕ) (t : Table) (n : ℕ) → t ≡ freshTable text → n ≡ fileLength (rowBytesOf form) (t .count)
-    → n ≡ length (freshFile (numberOf form) text)
-length-is form text t n e f = f ∙ ap (λ (x : Table). fileLength (rowBytesOf form) (x .count)) e ∙ sym (fresh-length form text)
-
-rows-small : (text : List ℕ) → textJudged text ≡ Fine → length (rowsOf text) ≤ 65537
-rows-small text fine = omega (arith, few-from text 0, ap length (ap readRows (from-start text)), fine-text text fine .0)
-
--- it is no longer than block 0 and a block for each row
-pub length-small : (form : Form) (text : List ℕ) → textJudged text ≡ Fine → length (freshFile (numberOf form) text) ≤ 512 * 65538
-length-small form text fine = omega (arith, fresh-blocks form text, few-blocks form (length (rowsOf text)), rows-small text fine)
-
--- ---- the first reading
-
-module _ (form : Form) (text file : List ℕ) (t : Table) (b : List ℕ) (h m : ℕ) (te : t ≡ freshTable text) (be : b ≡ saidBlock form t)
-    (he : h ≡ length (rowsDiffering form 1 (rowsOf text) file)) (me : m ≡ length (entry 0 b file)) where
-  parts : length (listed (freshFile (numberOf form) text) file) ≡ m + (h + length (surplus (freshFile (numberOf form) text) file))
-  parts =
-      let e = entry 0 (saidBlock form (freshTable text)) file in
-      let d = rowsDiffering form 1 (rowsOf text) file in
-      let s = surplus (freshFile (numberOf form) text) file in
-      let q : length (entry 0 b file) ≡ length e = rw (be, te) in
-      ap length (listed-parts form text file) ∙ length-append e (d ++ s) ∙ omega (arith, length-append d s)
-
-  -- The sum of both counts is small.
-  pub survey-few : textJudged text ≡ Fine → h + m ≤ 65538
-  survey-few fine = omega (arith, rows-most form 1 (rowsOf text) file, rows-small text fine, entry-most 0 b file)
-
-  -- With a tail's entry it is how many are listed,
-  pub survey-long : length (freshFile (numberOf form) text) < length file
-      → h + m + 1 ≡ length (listed (freshFile (numberOf form) text) file)
-  survey-long l = omega (arith, parts, ap length (tail-entry form text file l))
-
-  -- and without a tail as it is.
-  pub survey-all : length file ≤ length (freshFile (numberOf form) text) → h + m ≡ length (listed (freshFile (numberOf form) text) file)
-  survey-all l = omega (arith, parts, ap length (no-tail form text file l))
-
--- how many are listed at most
-pub listed-small : (form : Form) (text file : List ℕ) → textJudged text ≡ Fine
-    → length (listed (freshFile (numberOf form) text) file) ≤ 65539
-listed-small form text file fine =
-    let b = saidBlock form (freshTable text) in
-    omega (
-      arith,
-      parts form text file (freshTable text) b _ _ refl refl refl refl,
-      tail-most form text file,
-      rows-most form 1 (rowsOf text) file,
-      rows-small text fine,
-      entry-most 0 b file,
-    )
 
 -- ---- the second reading
 
@@ -217,7 +164,7 @@ module _ (form : Form) (text : List ℕ) (n : ℕ) (memory list : List ℕ) (roo
             first-is,
             rows-most form 1 (rowsOf text) (take n memory),
             rows-small text fine,
-            entry-most 0 b (take n memory),
+            entry-most b (take n memory) 0,
           )
 
       file-size : length (take n memory) ≡ n

@@ -1,153 +1,34 @@
 // A file mended in place: the text is read in the order of blocks, once to hold each block against what it should be, and once more, where one differs, to write.
-use check::same;
-use file_parts::put_part;
 use file_parts::put_said;
-use file_sizes::block_rows;
+use file_patch::mend_block;
 use file_sizes::length_for;
+use file_survey::Step;
+use file_survey::begin;
+use file_survey::fresh_part;
+use file_survey::survey;
 use rules::Cursor;
-use rules::Ending;
 use rules::Judged;
 use rules::Outer;
 use rules::Table;
-use rules::row;
 use rules_files::Fault;
 use rules_files::form;
 use rules_forms::Form;
 use rules_forms::short;
 use rules_mend::Mended;
 use scan_part::Next;
-use scan_part::Part;
-use scan_part::read_part;
 use scan_place::judge_text;
 use scan_reader::Spot;
 ghost use mathlib.Core.Path.{_≡_};
-ghost use mathlib.Core.Bool.{true, false};
-ghost use mathlib.Core.List.{_++_};
-ghost use Prim.Native.Nat.{_+_, _*_, _≤_};
-ghost use lib.ListN.{length, take, drop};
+ghost use Prim.Native.Nat.{_≤_};
+ghost use lib.ListN.{length, take};
 ghost use Rattle.rules.specs.declared.Judged.the-variants.{Fine};
-ghost use Rattle.rules.specs.Text.{startPlace, textJudged};
-ghost use Rattle.rules.specs.Kinds.{sameBytes};
-ghost use Rattle.rules_files.specs.Blocks.{perBlock};
-ghost use Rattle.rules_forms.specs.Shapes.{numberOf, rowBytesOf};
-ghost use Rattle.scan_part.specs.Part.{Begun, PartOf};
+ghost use Rattle.rules.specs.Text.{textJudged};
+ghost use Rattle.rules_forms.specs.Shapes.{numberOf};
+ghost use Rattle.scan_part.specs.Part.{Begun};
 ghost use Rattle.rules_mend.specs.Mend.{freshTable, freshFile, listed, mendTold, mendLeaves, listLeaves};
-ghost use Rattle.file_mend.specs.Mending.{blockOf, entry, entryHere, rowsBlock, rowsAt, PartHeld, PartFits, PartMended};
-ghost use Rattle.file_mend.specs.Mending.{Fresh, RowsHeld, RowsMended, fileLeft, listLeft};
+ghost use Rattle.file_mend.specs.Mending.{PartFits, PartMended, Fresh, RowsMended, fileLeft, listLeft};
 
-// The most words that the rows of one block have.
-const PART_WORDS: usize = short::ROWS * row::WORDS;
-
-// What a first reading tells: the table of the text, and how many blocks are to be listed.
-pub struct Seen {
-    pub table: Table,
-    pub listed: usize,
-}
-
-// What is told of a part of the rows: what was read, and how many entries there are.
-pub struct Step {
-    pub part: Part,
-    pub listed: usize,
-}
-
-// The text's start.
-fn begin() -> Spot
-    ensures { λ r. ⌜ (r .at ≡ 0) × (r .cursor ≡ startPlace) ⌝ }
-{
-    Spot {
-        at: 0,
-        cursor: Cursor::start(),
-    }
-}
-
-// ---- one block
-
-// Whether block k of a file is there and is this one.
-fn is_right(file: &[u8], k: u32, fresh: &[u8]) -> bool
-    requires { ⌜ length (now fresh) ≡ 512 ⌝ }
-    ensures { λ r. ⌜ r ≡ sameBytes (now (fresh .entry)) (blockOf k (now (file .entry))) ⌝ }
-{
-    let at = form::BLOCK * (k as usize);
-    let end = at + form::BLOCK;
-    if file.len() < end {
-        return false;
-    }
-    same(&file[at..end], fresh)
-}
-
-// How many entries block k has in the list: one if it differs.
-fn count_block(file: &[u8], k: u32, fresh: &[u8]) -> usize
-    requires { ⌜ length (now fresh) ≡ 512 ⌝ }
-    ensures { λ r. ⌜ r ≡ length (entry k (now (fresh .entry)) (now (file .entry))) ⌝ }
-{
-    if is_right(file, k, fresh) {
-        return 0;
-    }
-    1
-}
-
-// Block k in place of what stands there. Nothing else writes into a file, and no call is made for a block that is right.
-fn write_block(file: &mut [u8], n: usize, k: u32, fresh: &[u8])
-    requires { ⌜ ((length (now fresh) ≡ 512) × (512 * k + 512 ≤ length (now file))) × (sameBytes (now fresh) (blockOf k (take n (now file))) ≡ false) ⌝ }
-    ensures { λ _. ⌜ now (file .exit) ≡ take (512 * k) (now (file .entry)) ++ (now (fresh .entry) ++ drop (512 * k + 512) (now (file .entry))) ⌝ }
-{
-    let at = form::BLOCK * (k as usize);
-    let mut i = 0;
-    while i < form::BLOCK {
-        file[at + i] = fresh[i];
-        i += 1;
-    }
-}
-
-// Block k, behind so many entries of the list: if it differs it is written and listed. How many entries there are then is told.
-fn mend_block(
-    file: &mut [u8],
-    n: usize,
-    k: u32,
-    fresh: &[u8],
-    list: &mut [u32],
-    listed: usize,
-) -> usize
-    requires { ⌜ ((length (now fresh) ≡ 512) × (512 * k + 512 ≤ length (now file))) × ((n ≤ length (now file)) × (listed + length (entryHere n k (now fresh) (now file)) ≤ length (now list))) ⌝ }
-    ensures { λ r. ⌜ (r ≡ listed + length (entryHere n k (now (fresh .entry)) (now (file .entry)))) × ((now (file .exit) ≡ take (512 * k) (now (file .entry)) ++ (now (fresh .entry) ++ drop (512 * k + 512) (now (file .entry)))) × (now (list .exit) ≡ take listed (now (list .entry)) ++ (entryHere n k (now (fresh .entry)) (now (file .entry)) ++ drop r (now (list .entry))))) ⌝ }
-{
-    if is_right(&file[..n], k, fresh) {
-        return listed;
-    }
-    write_block(file, n, k, fresh);
-    list[listed] = k;
-    listed + 1
-}
-
-// ---- one part
-
-// The next rows of a text as block k.
-fn fresh_part(form: Form, text: &[u8], spot: Spot, k: u32, fresh: &mut [u8]) -> Part
-    requires { ⌜ Begun (now text) spot × (length (now fresh) ≡ 512) ⌝ }
-    ensures { λ r. ⌜ PartOf (now (text .entry)) (spot .at) (perBlock (rowBytesOf form)) r × (now (fresh .exit) ≡ rowsBlock form k (rowsAt form (now (text .entry)) (spot .at))) ⌝ }
-{
-    let mut words = [0u32; PART_WORDS];
-    let part = read_part(text, spot, block_rows(form), &mut words);
-    let n = part.count;
-    put_part(form, fresh, k, n, &words);
-    part
-}
-
-// The next rows of a text held against block k of a file. A part that has no rows has no block.
-fn hold_part(form: Form, text: &[u8], spot: Spot, k: u32, file: &[u8]) -> Step
-    requires { ⌜ Begun (now text) spot ⌝ }
-    ensures { λ r. ⌜ PartHeld form (now (text .entry)) (spot .at) k (now (file .entry)) r ⌝ }
-{
-    let mut fresh = [0u8; form::BLOCK];
-    let part = fresh_part(form, text, spot, k, &mut fresh);
-    if part.count == 0 {
-        return Step { part, listed: 0 };
-    }
-    Step {
-        part,
-        listed: count_block(file, k, &fresh),
-    }
-}
+// ---- the second reading
 
 // The next rows of a text mended as block k, behind so many entries of the list.
 fn mend_part(
@@ -173,63 +54,6 @@ fn mend_part(
         listed: mend_block(file, n, k, &fresh, list, listed),
     }
 }
-
-// ---- the first reading
-
-// The rows of a text, block by block, held against those of a file. Its table is told, and how many blocks behind block 0 differ.
-fn survey_rows(form: Form, text: &[u8], file: &[u8]) -> Seen
-    requires { ⌜ textJudged (now text) ≡ Fine ⌝ }
-    ensures { λ r. ⌜ RowsHeld form (now (text .entry)) (now (file .entry)) r ⌝ }
-{
-    let mut spot = begin();
-    let mut count = 0;
-    let mut listed = 0;
-    let mut k: u32 = 1;
-    loop {
-        let step = hold_part(form, text, spot, k, file);
-        let part = step.part;
-        let next = part.next;
-        count += part.count;
-        listed += step.listed;
-        match next {
-            Next::On(at) => {
-                spot = at;
-            }
-            Next::Over(ending) => {
-                return Seen {
-                    table: Table {
-                        count: count as u32,
-                        length: text.len() as u32,
-                        ending,
-                    },
-                    listed,
-                };
-            }
-        }
-        k += 1;
-    }
-}
-
-// The table of a text, and how many blocks of a file are to be listed: those that differ, and the first of a surplus tail.
-fn survey(form: Form, text: &[u8], file: &[u8]) -> Seen
-    requires { ⌜ textJudged (now text) ≡ Fine ⌝ }
-    ensures { λ r. ⌜ (r .table ≡ freshTable (now (text .entry))) × (r .listed ≡ length (listed (freshFile (numberOf form) (now (text .entry))) (now (file .entry)))) ⌝ }
-{
-    let held = survey_rows(form, text, file);
-    let table = held.table;
-    let mut fresh = [0u8; form::BLOCK];
-    put_said(form, &mut fresh, table);
-    let listed = held.listed + count_block(file, 0, &fresh);
-    if length_for(form, table.count) < file.len() {
-        return Seen {
-            table,
-            listed: listed + 1,
-        };
-    }
-    Seen { table, listed }
-}
-
-// ---- the second reading
 
 // The blocks of a text's rows, behind so many entries of the list: each that differs is written and listed. How many entries there are then is told.
 fn mend_rows(

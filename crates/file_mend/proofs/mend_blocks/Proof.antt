@@ -6,8 +6,9 @@ use lib.ListN.{length, length-set}
 use borrow.Author.Needs.{needs}
 use Rattle.rules_forms.specs.Shapes.{numberOf}
 use Rattle.rules_mend.specs.Mend.{freshTable, freshFile}
-use Rattle.file_mend.proofs.Files.{saidBlock}
-use Rattle.file_mend.proofs.Told.{length-is, length-small, first-fits, rows-fit, Left, rows-left}
+use Rattle.file_survey.proofs.Files.{saidBlock}
+use Rattle.file_survey.proofs.Surveyed.{length-is, length-small}
+use Rattle.file_mend.proofs.Told.{first-fits, rows-fit, Left, rows-left}
 use Rattle.file_mend.proofs.mend_blocks.Statement.{statement}
 use Rattle.file_mend.proofs.mend_blocks.Tie as tie
 

@@ -17,7 +17,8 @@ use Rattle.rules_mend.specs.declared.Mended.the-variants as mended
 use Rattle.rules_mend.specs.Mend.{freshTable, freshFile, listed}
 use Rattle.theory_mend.proofs.Mended.{MendOf}
 use Rattle.theory_mend.proofs.Ways.{told-many, told-small}
-use Rattle.file_mend.proofs.Told.{length-is, length-small, listed-small, shown-all, small-says, room-says}
+use Rattle.file_survey.proofs.Surveyed.{length-is, length-small, listed-small}
+use Rattle.file_mend.proofs.Told.{shown-all, small-says, room-says}
 use Rattle.file_mend.proofs.Told.{known, refused, blocks, nothing}
 use Rattle.file_mend.proofs.mend_text.Statement.{statement}
 use Rattle.file_mend.proofs.mend_text.Tie as tie

@@ -30,8 +30,9 @@ use Rattle.theory_files.proofs.One.{block-length}
 use Rattle.theory_forms.proofs.Moves.{encoded-length}
 use Rattle.theory_mend.proofs.Listed.{listed-first}
 use Rattle.file_sizes.proofs.Sizes.{few-blocks}
-use Rattle.file_mend.specs.Mending.{blockOf, entry, blocksOf, rowsDiffering, rowsOf}
-use Rattle.file_mend.proofs.Parts.{blocks-size}
+use Rattle.file_patch.specs.Block.{entry}
+use Rattle.file_survey.specs.Survey.{blocksOf, rowsDiffering, rowsOf}
+use Rattle.file_survey.proofs.Parts.{blocks-size}
 
 -- ---- block 0
 
@@ -146,11 +147,3 @@ unfolding rowsDiffering
 rows-most form k rs file =
     let m = blocksFor (rowBytesOf form) (length rs) in
     omega (arith, few-blocks form (length rs), differing-most m k (blocksOf form k rs) (drop (512 * k) file))
-
--- A block has one entry at most.
-pub entry-most : (k : ℕ) (fresh file : List ℕ) → length (entry k fresh file) ≤ 1
-entry-most k fresh file = go (sameBytes fresh (blockOf k file))
-  where
-    go : (b : Bool) → length (cond b [] (k ∷ [])) ≤ 1
-    go true = omega arith
-    go false = omega arith

@@ -1,6 +1,6 @@
 -- Rows in the blocks of either form: their bytes, and the blocks and the entries of a part and of the rows behind it.
 use mathlib.Core.Path.{_≡_, sym, ap, _∙_}
-use mathlib.Core.Bool.{Bool, true, false, cond}
+use mathlib.Core.Bool.{cond}
 use mathlib.Core.List.{List, [], _∷_, _++_, append-nil}
 use Prim.Native.Nat.{ℕ, suc, _+_, _-_, _*_, _≤_, _<_, min}
 use native.Mathlib.Omega.{arith}
@@ -21,7 +21,9 @@ use Rattle.theory_files.proofs.One.{block-length}
 use Rattle.theory_files.proofs.Many.{blocks-none, blocks-more, blocks-length}
 use Rattle.file_parts.proofs.Parts.{rows-size}
 use Rattle.file_sizes.proofs.Sizes.{some-bytes, few-bytes, some-rows}
-use Rattle.file_mend.specs.Mending.{blockOf, entry, blocksOf, rowsDiffering, rowsBlock}
+use Rattle.file_patch.specs.Block.{entry}
+use Rattle.file_patch.proofs.One.{entry-most}
+use Rattle.file_survey.specs.Survey.{blocksOf, rowsDiffering, rowsBlock}
 
 -- ---- the words of rows in a form
 
@@ -179,8 +181,4 @@ module _ (form : Form) (k : ℕ) (file : List ℕ) where
   -- one entry at most
   pub rows-few : (rs : List Row) → length rs ≤ perBlock (rowBytesOf form) → length (rowsDiffering form k rs file) ≤ 1
   rows-few [] h = rw rows-none (omega arith)
-  rows-few (r ∷ rs) h = rw (rows-one (r ∷ rs) (omega arith) h) (go (sameBytes (rowsBlock form k (r ∷ rs)) (blockOf k file)))
-    where
-      go : (b : Bool) → length (cond b [] (k ∷ [])) ≤ 1
-      go true = omega arith
-      go false = omega arith
+  rows-few (r ∷ rs) h = rw (rows-one (r ∷ rs) (omega arith) h) (entry-most (rowsBlock form k (r ∷ rs)) file k)

@@ -6,9 +6,9 @@ use lib.ListN.{length}
 use borrow.Author.Needs.{needs}
 use Rattle.rules_forms.specs.Shapes.{numberOf}
 use Rattle.rules_mend.specs.Mend.{freshFile}
-use Rattle.file_mend.proofs.Told.{length-is, survey-few, survey-long, survey-all}
-use Rattle.file_mend.proofs.survey.Statement.{statement}
-use Rattle.file_mend.proofs.survey.Tie as tie
+use Rattle.file_survey.proofs.Surveyed.{length-is, survey-few, survey-long, survey-all}
+use Rattle.file_survey.proofs.survey.Statement.{statement}
+use Rattle.file_survey.proofs.survey.Tie as tie
 
 -- ---- the places on the way
 

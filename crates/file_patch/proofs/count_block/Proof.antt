@@ -2,9 +2,9 @@
 use mathlib.Core.Path.{sym, ap, _∙_}
 use lib.ListN.{length}
 use borrow.Author.Needs.{needs}
-use Rattle.file_mend.proofs.One.{entry-right, entry-wrong}
-use Rattle.file_mend.proofs.count_block.Statement.{statement}
-use Rattle.file_mend.proofs.count_block.Tie as tie
+use Rattle.file_patch.proofs.One.{entry-right, entry-wrong}
+use Rattle.file_patch.proofs.count_block.Statement.{statement}
+use Rattle.file_patch.proofs.count_block.Tie as tie
 
 -- ---- the function's entry, as it is seen from both ends
 

@@ -1,6 +1,6 @@
 -- One block: what is known of it where it is held against a file, and what memory and list are where it is written and listed.
-use mathlib.Core.Path.{_≡_, sym, ap, _∙_}
-use mathlib.Core.Bool.{true, false}
+use mathlib.Core.Path.{_≡_, refl, sym, ap, _∙_}
+use mathlib.Core.Bool.{Bool, true, false, cond}
 use mathlib.Core.List.{List, [], _∷_, _++_, append-assoc}
 use Prim.Native.Nat.{ℕ, zero, suc, _+_, _-_, _*_, _≤_, _<_}
 use native.Mathlib.Numerals.{add-one}
@@ -10,7 +10,7 @@ use lib.Seq.{take-all, take-nil, drop-drop, set-split, paste}
 use Rattle.laws.proofs.Spelled.{same-eq, differs}
 use Rattle.laws.proofs.Lists.{part-front}
 use Rattle.rules.specs.Kinds.{sameBytes}
-use Rattle.file_mend.specs.Mending.{blockOf, entry}
+use Rattle.file_patch.specs.Block.{blockOf, entry}
 
 -- ---- parts of parts
 
@@ -38,6 +38,30 @@ module _ (fresh file : List ℕ) (k : ℕ) where
   pub entry-wrong : sameBytes fresh (blockOf k file) ≡ false → entry k fresh file ≡ k ∷ []
   entry-wrong e = rw e
 
+  -- A block has one entry at most.
+  pub entry-most : length (entry k fresh file) ≤ 1
+  entry-most = go (sameBytes fresh (blockOf k file))
+    where
+      go : (b : Bool) → length (cond b [] (k ∷ [])) ≤ 1
+      go true = omega arith
+      go false = omega arith
+
+  -- A block that has no entry is right,
+  pub none-right : length (entry k fresh file) ≡ 0 → sameBytes fresh (blockOf k file) ≡ true
+  none-right = go (sameBytes fresh (blockOf k file))
+    where
+      go : (b : Bool) → length (cond b [] (k ∷ [])) ≡ 0 → b ≡ true
+      go true e = refl
+      go false e = absurd (let z : ⊥ = omega arith in z)
+
+  -- and one that has an entry differs.
+  pub some-wrong : 0 < length (entry k fresh file) → sameBytes fresh (blockOf k file) ≡ false
+  some-wrong = go (sameBytes fresh (blockOf k file))
+    where
+      go : (b : Bool) → 0 < length (cond b [] (k ∷ [])) → b ≡ false
+      go true h = absurd (let z : ⊥ = omega arith in z)
+      go false h = refl
+
 -- ---- a block written
 
 -- all 512 bytes were copied
@@ -50,20 +74,23 @@ over-itself : (a b : ℕ) (s : List ℕ) → s ≡ take b s ++ (take a (drop b s
 over-itself a b s =
     sym (take-append-drop b s) ∙ ap (λ (l : List ℕ). take b s ++ l) (sym (take-append-drop a (drop b s)) ∙ rw drop-drop)
 
-module _ (fresh memory : List ℕ) (n k : ℕ) (l : length fresh ≡ 512) (e : sameBytes fresh (blockOf k (take n memory)) ≡ true) where
-  is-block : fresh ≡ take 512 (drop (512 * k) memory)
-  is-block =
+module _ (fresh memory : List ℕ) (k : ℕ) where
+  -- memory is as if a block that is right were written
+  pub right-stays : sameBytes fresh (blockOf k memory) ≡ true
+      → memory ≡ take (512 * k) memory ++ (fresh ++ drop (512 * k + 512) memory)
+  right-stays e =
+      over-itself 512 (512 * k) memory
+      ∙ ap (λ (x : List ℕ). take (512 * k) memory ++ (x ++ drop (512 * k + 512) memory)) (sym (same-eq fresh (blockOf k memory) e))
+
+  -- A block that is right in the first n bytes is right in memory.
+  pub right-inside : (n : ℕ) → length fresh ≡ 512 → sameBytes fresh (blockOf k (take n memory)) ≡ true
+      → sameBytes fresh (blockOf k memory) ≡ true
+  right-inside n l e =
       let b = 512 * k in
       let f = same-eq fresh (blockOf k (take n memory)) e in
       let h : b + 512 ≤ n =
       omega (arith, ap length f, length-take 512 (drop b (take n memory)), length-drop b (take n memory), length-take n memory) in
-      f ∙ part-front 512 b n memory h
-
-  -- memory is as if a block that is right were written
-  pub right-stays : memory ≡ take (512 * k) memory ++ (fresh ++ drop (512 * k + 512) memory)
-  right-stays =
-      over-itself 512 (512 * k) memory
-      ∙ ap (λ (x : List ℕ). take (512 * k) memory ++ (x ++ drop (512 * k + 512) memory)) (sym is-block)
+      ap (sameBytes fresh) (sym (part-front 512 b n memory h)) ∙ e
 
 -- ---- a list written
 

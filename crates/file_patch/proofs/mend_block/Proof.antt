@@ -1,4 +1,4 @@
--- `mend_block` meets its contract: a right block stays as it is, and one that differs is written and listed.
+-- `mend_block` meets its contract: a right block stays as it is, and one that differs is put in place and listed.
 use mathlib.Core.Path.{_≡_, sym, ap, _∙_}
 use mathlib.Core.Bool.{false}
 use mathlib.Core.List.{[], _∷_}
@@ -8,10 +8,10 @@ use lib.ListN.{length, take}
 use lib.Seq.{length-take-le}
 use borrow.Author.Needs.{needs}
 use Rattle.rules.specs.Kinds.{sameBytes}
-use Rattle.file_mend.specs.Mending.{blockOf, entryHere}
-use Rattle.file_mend.proofs.One.{entry-right, entry-wrong, right-stays, list-stays, list-more}
-use Rattle.file_mend.proofs.mend_block.Statement.{statement}
-use Rattle.file_mend.proofs.mend_block.Tie as tie
+use Rattle.file_patch.specs.Block.{blockOf, entryHere}
+use Rattle.file_patch.proofs.One.{entry-right, entry-wrong, right-stays, right-inside, list-stays, list-more}
+use Rattle.file_patch.proofs.mend_block.Statement.{statement}
+use Rattle.file_patch.proofs.mend_block.Tie as tie
 
 -- ---- the places on the way: the function's entry, and where the block was held
 
@@ -21,23 +21,23 @@ at-right c = c .before .before .before .before .before .before
 abbrev at-wrong : tie.Else1 → tie.Start
 at-wrong c = c .before .before .before .before .before .before
 
-abbrev differing : tie.After-write-block → tie.Else1
+abbrev differing : tie.After-put-block → tie.Else1
 differing c = c .before .before
 
-abbrev written : tie.After-slice-known3 → tie.After-write-block
+abbrev written : tie.After-slice-known3 → tie.After-put-block
 written c = c .before .before
 
 -- the entry, where the block is right and where it differs
-none : (c : tie.Then1) → let a = at-right c .args in entryHere (a .n) (a .k) (a .fresh .now) (a .file .now) ≡ []
+none : (c : tie.Then1) → let a = at-right c .args in entryHere (a .n) (a .k) (a .fresh .now) (a .memory .now) ≡ []
 none c =
     let a = at-right c .args in
-    entry-right (a .fresh .now) (take (a .n) (a .file .now)) (a .k) (sym (c .before .is-right .ensures) ∙ c .if1 .taken)
+    entry-right (a .fresh .now) (take (a .n) (a .memory .now)) (a .k) (sym (c .before .is-right .ensures) ∙ c .if1 .taken)
 
-wrong : (c : tie.Else1) → let a = at-wrong c .args in sameBytes (a .fresh .now) (blockOf (a .k) (take (a .n) (a .file .now))) ≡ false
+wrong : (c : tie.Else1) → let a = at-wrong c .args in sameBytes (a .fresh .now) (blockOf (a .k) (take (a .n) (a .memory .now))) ≡ false
 wrong c = sym (c .before .is-right .ensures) ∙ c .if1 .left
 
-one : (c : tie.Else1) → let a = at-wrong c .args in entryHere (a .n) (a .k) (a .fresh .now) (a .file .now) ≡ a .k ∷ []
-one c = let a = at-wrong c .args in entry-wrong (a .fresh .now) (take (a .n) (a .file .now)) (a .k) (wrong c)
+one : (c : tie.Else1) → let a = at-wrong c .args in entryHere (a .n) (a .k) (a .fresh .now) (a .memory .now) ≡ a .k ∷ []
+one c = let a = at-wrong c .args in entry-wrong (a .fresh .now) (take (a .n) (a .memory .now)) (a .k) (wrong c)
 
 room : (c : tie.Else1) → let a = at-wrong c .args in a .listed < length (a .list .now)
 room c = omega (arith, at-wrong c .pre .1 .1, ap length (one c))
@@ -48,7 +48,7 @@ slice-reshare-prefix-is-right c = search needs
 slice-aggregate-is-right : tie.Need-slice-aggregate-is-right
 slice-aggregate-is-right c =
     let s = c .before .before .before .before in
-    sym (length-take-le (s .args .n) (s .args .file .now) (s .pre .1 .0))
+    sym (length-take-le (s .args .n) (s .args .memory .now) (s .pre .1 .0))
 
 is-right-requires : tie.Need-is-right-requires
 is-right-requires c κs = search needs
@@ -62,14 +62,11 @@ returns c =
     let a = s .args in
     let e = sym (c .before .is-right .ensures) ∙ c .if1 .taken in
     let z = none c in
-    let r = right-stays (a .fresh .now) (a .file .now) (a .n) (a .k) (s .pre .0 .0) e in
+    let r = right-stays (a .fresh .now) (a .memory .now) (a .k) (right-inside (a .fresh .now) (a .memory .now) (a .k) (a .n) (s .pre .0 .0) e) in
     (omega (arith, ap length z), (r, list-stays (a .list .now) (a .listed) _ z))
 
-write-block-requires : tie.Need-write-block-requires
-write-block-requires c κs =
-    let d = c .before in
-    let s = at-wrong d in
-    (s .pre .0, wrong d)
+put-block-requires : tie.Need-put-block-requires
+put-block-requires c κs = at-wrong (c .before) .pre .0
 
 mul-list : tie.Need-mul-list
 mul-list c = search needs
@@ -92,7 +89,7 @@ returns-2 c =
     let d = differing w in
     let a = at-wrong d .args in
     let z = one d in
-    (omega (arith, ap length z), (w .write-block .ensures, list-more (a .list .now) (a .listed) (a .k) _ z (room d)))
+    (omega (arith, ap length z), (w .put-block .ensures, list-more (a .list .now) (a .listed) (a .k) _ z (room d)))
 
 pub mend-block-spec : {M : Type 1} → statement M
 mend-block-spec =
@@ -103,7 +100,7 @@ mend-block-spec =
     is-right-requires
     same-length
     returns
-    write-block-requires
+    put-block-requires
     mul-list
     slice-write-list
     add-result

@@ -5,36 +5,36 @@ use native.Mathlib.Numerals.{add-one}
 use native.Mathlib.Omega.{arith}
 use lib.ListN.{length}
 use lib.Seq.{paste, paste-zero, paste-suc, length-paste}
-use Rattle.file_mend.proofs.One.{copied}
-use Rattle.file_mend.proofs.write_block.Statement.{statement}
-use Rattle.file_mend.proofs.write_block.Tie as tie
+use Rattle.file_patch.proofs.One.{copied}
+use Rattle.file_patch.proofs.write_block.Statement.{statement}
+use Rattle.file_patch.proofs.write_block.Tie as tie
 
 abbrev Inv-loop : tie.InvT-loop
-Inv-loop file₀ n k fresh at i₀ file i = (i ≤ 512) × (file ≡ paste file₀ at fresh i)
+Inv-loop memory₀ k fresh at i₀ memory i = (i ≤ 512) × (memory ≡ paste memory₀ at fresh i)
 
 abbrev μ-loop : tie.MeasureT-loop
-μ-loop file₀ n k fresh at i₀ file i = 512 - i
+μ-loop memory₀ k fresh at i₀ memory i = 512 - i
 
--- the file keeps its length
-same-size : (l : tie.At-loop Inv-loop μ-loop) → length (l .loop .file) ≡ length (l .before .args .file .now)
+-- memory keeps its length
+same-size : (l : tie.At-loop Inv-loop μ-loop) → length (l .loop .memory) ≡ length (l .before .args .memory .now)
 same-size l =
     let a = l .before .args in
-    ap length (l .loop .inv .1) ∙ length-paste (a .file .now) (512 * a .k) (a .fresh .now) (l .loop .i) (omega arith) (omega arith)
+    ap length (l .loop .inv .1) ∙ length-paste (a .memory .now) (512 * a .k) (a .fresh .now) (l .loop .i) (omega arith) (omega arith)
 
 mul-at : tie.Need-mul-at Inv-loop μ-loop
 mul-at c = omega arith
 
 loop-holds : tie.Need-loop-holds Inv-loop μ-loop
-loop-holds c = let a = c .args in (omega arith, paste-zero (a .file .now) (512 * a .k) (a .fresh .now))
+loop-holds c = let a = c .args in (omega arith, paste-zero (a .memory .now) (512 * a .k) (a .fresh .now))
 
-shared-slice-read-file : tie.Need-shared-slice-read-file Inv-loop μ-loop
-shared-slice-read-file c = omega arith
+shared-slice-read-memory : tie.Need-shared-slice-read-memory Inv-loop μ-loop
+shared-slice-read-memory c = omega arith
 
-add-file : tie.Need-add-file Inv-loop μ-loop
-add-file c = omega arith
+add-memory : tie.Need-add-memory Inv-loop μ-loop
+add-memory c = omega arith
 
-slice-write-file : tie.Need-slice-write-file Inv-loop μ-loop
-slice-write-file c =
+slice-write-memory : tie.Need-slice-write-memory Inv-loop μ-loop
+slice-write-memory c =
     let l = c .before .before in
     omega (arith, same-size l)
 
@@ -49,7 +49,7 @@ loop-again c =
     let l = c .before .before in
     let a = l .before .args in
     let i = l .loop .i in
-    (omega arith, rw (l .loop .inv .1, add-one i) (paste-suc (a .file .now) (512 * a .k) (a .fresh .now) i 0 (omega arith) (omega arith)))
+    (omega arith, rw (l .loop .inv .1, add-one i) (paste-suc (a .memory .now) (512 * a .k) (a .fresh .now) i 0 (omega arith) (omega arith)))
 
 same-length : tie.Need-same-length Inv-loop μ-loop
 same-length c = same-size (c .before)
@@ -59,7 +59,7 @@ returns c =
     let l = c .before in
     let a = l .before .args in
     let e : l .loop .i ≡ 512 = omega arith in
-    (rw e at (l .loop .inv .1)) ∙ copied (a .file .now) (a .fresh .now) (512 * a .k) (l .before .pre .0 .0)
+    (rw e at (l .loop .inv .1)) ∙ copied (a .memory .now) (a .fresh .now) (512 * a .k) (l .before .pre .0 .0)
 
 pub write-block-spec : {M : Type 1} → statement M
 write-block-spec =
@@ -69,9 +69,9 @@ write-block-spec =
     μ-loop
     mul-at
     loop-holds
-    shared-slice-read-file
-    add-file
-    slice-write-file
+    shared-slice-read-memory
+    add-memory
+    slice-write-memory
     add-i
     loop-less
     loop-again

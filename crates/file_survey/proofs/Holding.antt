@@ -22,9 +22,9 @@ use Rattle.scan_part.specs.declared.Next.the-variants.{On, Over}
 use Rattle.scan_part.specs.declared.Part.{Part}
 use Rattle.scan_part.specs.Part.{readFrom, partRows, Begun, PartOf}
 use Rattle.scan_part.proofs.Readings.{put-rows, put-ending, from-start, begun-start}
-use Rattle.file_mend.specs.declared.Step.{Step}
-use Rattle.file_mend.specs.Mending.{rowsDiffering, rowsOf, rowsAt, PartHeld}
-use Rattle.file_mend.proofs.Parts.{rows-part, rows-few}
+use Rattle.file_survey.specs.declared.Step.{Step}
+use Rattle.file_survey.specs.Survey.{rowsDiffering, rowsOf, rowsAt, PartHeld}
+use Rattle.file_survey.proofs.Parts.{rows-part, rows-few}
 
 -- ---- a part of a text's rows
 

@@ -5,9 +5,9 @@ use native.Mathlib.Omega.{arith}
 use lib.ListN.{length}
 use borrow.Author.Needs.{needs}
 use Rattle.laws.proofs.Spelled.{same-says}
-use Rattle.file_mend.proofs.One.{cut-differs}
-use Rattle.file_mend.proofs.is_right.Statement.{statement}
-use Rattle.file_mend.proofs.is_right.Tie as tie
+use Rattle.file_patch.proofs.One.{cut-differs}
+use Rattle.file_patch.proofs.is_right.Statement.{statement}
+use Rattle.file_patch.proofs.is_right.Tie as tie
 
 -- ---- the function's entry, as it is seen from both ends
 

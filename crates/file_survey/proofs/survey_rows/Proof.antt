@@ -3,9 +3,9 @@ use Prim.Native.Nat.{_-_}
 use native.Mathlib.Omega.{arith}
 use lib.ListN.{length}
 use borrow.Author.Needs.{needs}
-use Rattle.file_mend.proofs.Holding.{Holding, holding-start, holding-on, holding-over, count-few, listed-few, k-few}
-use Rattle.file_mend.proofs.survey_rows.Statement.{statement}
-use Rattle.file_mend.proofs.survey_rows.Tie as tie
+use Rattle.file_survey.proofs.Holding.{Holding, holding-start, holding-on, holding-over, count-few, listed-few, k-few}
+use Rattle.file_survey.proofs.survey_rows.Statement.{statement}
+use Rattle.file_survey.proofs.survey_rows.Tie as tie
 
 abbrev Inv-loop : tie.InvT-loop
 Inv-loop form text file spot₀ count₀ listed₀ k₀ spot count listed k = Holding form text file spot count listed k

@@ -7,9 +7,9 @@ use Rattle.rules_forms.specs.Shapes.{rowBytesOf}
 use Rattle.file_sizes.proofs.Sizes.{some-rows, few-rows}
 use Rattle.scan_part.specs.Part.{PartOf}
 use Rattle.scan_part.proofs.Onward.{count-most}
-use Rattle.file_mend.proofs.Steps.{words-lent, fresh-made}
-use Rattle.file_mend.proofs.fresh_part.Statement.{statement}
-use Rattle.file_mend.proofs.fresh_part.Tie as tie
+use Rattle.file_survey.proofs.Steps.{words-lent, fresh-made}
+use Rattle.file_survey.proofs.fresh_part.Statement.{statement}
+use Rattle.file_survey.proofs.fresh_part.Tie as tie
 
 -- ---- the places on the way
 

@@ -1,8 +1,8 @@
 -- `hold_part` meets its contract, with a law for a part that has no rows and one for a part that has some.
 use borrow.Author.Needs.{needs}
-use Rattle.file_mend.proofs.Steps.{held-none, held-some}
-use Rattle.file_mend.proofs.hold_part.Statement.{statement}
-use Rattle.file_mend.proofs.hold_part.Tie as tie
+use Rattle.file_survey.proofs.Steps.{held-none, held-some}
+use Rattle.file_survey.proofs.hold_part.Statement.{statement}
+use Rattle.file_survey.proofs.hold_part.Tie as tie
 
 -- ---- the places on the way
 
