@@ -27,7 +27,7 @@ use Rattle.file_survey.specs.Survey.{blocksOf, rowsDiffering, rowsOf, rowsAt}
 use Rattle.file_survey.proofs.Parts.{blocks-size, blocks-part, blocks-then, rows-part, blocks-of-one, rows-length}
 use Rattle.file_survey.proofs.Files.{fresh-blocks}
 use Rattle.file_survey.proofs.Holding.{rowsFrom, part-within, on-rows, on-full, begins}
-use Rattle.file_mend.specs.Mending.{PartFits, PartMended, Fresh, RowsMended}
+use Rattle.file_rewrite.specs.Mending.{PartFits, PartMended, Fresh, RowsMended}
 
 -- ---- a part written into a list
 

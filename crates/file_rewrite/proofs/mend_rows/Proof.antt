@@ -3,9 +3,9 @@ use Prim.Native.Nat.{_-_}
 use native.Mathlib.Omega.{arith}
 use lib.ListN.{length}
 use borrow.Author.Needs.{needs}
-use Rattle.file_mend.proofs.Going.{Going, going-start, going-fits, going-over, going-on, memory-size, list-size, k-small}
-use Rattle.file_mend.proofs.mend_rows.Statement.{statement}
-use Rattle.file_mend.proofs.mend_rows.Tie as tie
+use Rattle.file_rewrite.proofs.Going.{Going, going-start, going-fits, going-over, going-on, memory-size, list-size, k-small}
+use Rattle.file_rewrite.proofs.mend_rows.Statement.{statement}
+use Rattle.file_rewrite.proofs.mend_rows.Tie as tie
 
 abbrev Inv-loop : tie.InvT-loop
 Inv-loop form text file₀ n list₀ first spot₀ listed₀ k₀ file list spot listed k =

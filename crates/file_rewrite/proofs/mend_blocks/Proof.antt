@@ -8,9 +8,9 @@ use Rattle.rules_forms.specs.Shapes.{numberOf}
 use Rattle.rules_mend.specs.Mend.{freshTable, freshFile}
 use Rattle.file_survey.proofs.Files.{saidBlock}
 use Rattle.file_survey.proofs.Surveyed.{length-is, length-small}
-use Rattle.file_mend.proofs.Told.{first-fits, rows-fit, Left, rows-left}
-use Rattle.file_mend.proofs.mend_blocks.Statement.{statement}
-use Rattle.file_mend.proofs.mend_blocks.Tie as tie
+use Rattle.file_rewrite.proofs.Left.{first-fits, rows-fit, Left, rows-left}
+use Rattle.file_rewrite.proofs.mend_blocks.Statement.{statement}
+use Rattle.file_rewrite.proofs.mend_blocks.Tie as tie
 
 -- ---- the places on the way
 

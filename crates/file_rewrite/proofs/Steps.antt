@@ -14,7 +14,7 @@ use Rattle.file_patch.proofs.One.{list-stays}
 use Rattle.file_survey.specs.Survey.{blocksOf, rowsDiffering, rowsAt, rowsBlock}
 use Rattle.file_survey.proofs.Parts.{blocks-of-none, rows-none}
 use Rattle.file_survey.proofs.Steps.{no-rows, fresh-is, entry-is, fresh-size}
-use Rattle.file_mend.specs.Mending.{PartFits, PartMended}
+use Rattle.file_rewrite.specs.Mending.{PartFits, PartMended}
 
 module _ (form : Form) (text : List ℕ) (at k : ℕ) {r : Part} (p : PartOf text at (perBlock (rowBytesOf form)) r) where
   module _ (ne : r .count ≡ 0 → ⊥) (fresh : List ℕ) (made : fresh ≡ rowsBlock form k (rowsAt form text at)) where

@@ -1,8 +1,8 @@
 -- `mend_part` meets its contract, with a law for a part that has no rows and one for a part that has some.
 use borrow.Author.Needs.{needs}
-use Rattle.file_mend.proofs.Steps.{mended-none, mended-some, fits-block}
-use Rattle.file_mend.proofs.mend_part.Statement.{statement}
-use Rattle.file_mend.proofs.mend_part.Tie as tie
+use Rattle.file_rewrite.proofs.Steps.{mended-none, mended-some, fits-block}
+use Rattle.file_rewrite.proofs.mend_part.Statement.{statement}
+use Rattle.file_rewrite.proofs.mend_part.Tie as tie
 
 -- ---- the places on the way
 
