@@ -47,7 +47,7 @@ fn write_block(memory: &mut [u8], k: u32, fresh: &[u8])
 }
 
 // Block k of memory, whatever of it is file: it is written if the bytes that stand there differ, and left alone if they are right.
-fn put_block(memory: &mut [u8], k: u32, fresh: &[u8])
+fn restore_block(memory: &mut [u8], k: u32, fresh: &[u8])
     requires { ⌜ (length (now fresh) ≡ 512) × (512 * k + 512 ≤ length (now memory)) ⌝ }
     ensures { λ _. ⌜ now (memory .exit) ≡ take (512 * k) (now (memory .entry)) ++ (now (fresh .entry) ++ drop (512 * k + 512) (now (memory .entry))) ⌝ }
 {
@@ -72,7 +72,7 @@ pub fn mend_block(
     if is_right(&memory[..n], k, fresh) {
         return listed;
     }
-    put_block(memory, k, fresh);
+    restore_block(memory, k, fresh);
     list[listed] = k;
     listed + 1
 }

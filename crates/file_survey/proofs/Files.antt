@@ -28,7 +28,7 @@ use Rattle.rules_mend.specs.Mend.{freshTable, freshWords, freshFile, differing,
 use Rattle.theory_files.proofs.Numbers.{bytes-length}
 use Rattle.theory_files.proofs.One.{block-length}
 use Rattle.theory_forms.proofs.Moves.{encoded-length}
-use Rattle.theory_mend.proofs.Listed.{listed-first}
+use Rattle.theory_mend.proofs.Listed.{listed-first, differing-most}
 use Rattle.file_sizes.proofs.Sizes.{few-blocks}
 use Rattle.file_patch.specs.Block.{entry}
 use Rattle.file_survey.specs.Survey.{blocksOf, rowsDiffering, rowsOf}
@@ -119,27 +119,7 @@ module _ (form : Form) (text : List ℕ) where
     unfolding surplus
     no-tail h = rw (le-ltb (length (freshFile (numberOf form) text)) (length file) h)
 
-    -- one at most
-    pub tail-most : length (surplus (freshFile (numberOf form) text) file) ≤ 1
-    unfolding surplus
-    tail-most = go (ltb (length (freshFile (numberOf form) text)) (length file))
-      where
-        go : (b : Bool) → length (cond b ((length (freshFile (numberOf form) text) / 512) ∷ []) []) ≤ 1
-        go true = omega arith
-        go false = omega arith
-
 -- ---- how many entries there are at most
-
-differing-most : (m k : ℕ) (fresh file : List ℕ) → length (differing m k fresh file) ≤ m
-unfolding differing
-differing-most zero k fresh file = omega arith
-differing-most (suc m) k fresh file =
-    go (sameBytes (take 512 fresh) (take 512 file)) (differing-most m (suc k) (drop 512 fresh) (drop 512 file))
-  where
-    go : (b : Bool) → length (differing m (suc k) (drop 512 fresh) (drop 512 file)) ≤ m
-        → length (cond b [] (k ∷ []) ++ differing m (suc k) (drop 512 fresh) (drop 512 file)) ≤ suc m
-    go true h = omega arith
-    go false h = omega arith
 
 -- There are no more entries than rows.
 pub rows-most : (form : Form) (k : ℕ) (rs : List Row) (file : List ℕ) → length (rowsDiffering form k rs file) ≤ length rs

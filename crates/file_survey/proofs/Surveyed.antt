@@ -13,12 +13,13 @@ use Rattle.rules_files.specs.Blocks.{fileLength}
 use Rattle.rules_forms.specs.declared.Form.{Form}
 use Rattle.rules_forms.specs.Shapes.{numberOf, rowBytesOf}
 use Rattle.rules_mend.specs.Mend.{freshTable, freshFile, surplus, listed}
+use Rattle.theory_mend.proofs.Listed.{surplus-most}
 use Rattle.file_sizes.proofs.Sizes.{few-blocks}
 use Rattle.scan_part.proofs.Readings.{from-start}
 use Rattle.file_patch.specs.Block.{entry}
 use Rattle.file_patch.proofs.One.{entry-most}
 use Rattle.file_survey.specs.Survey.{rowsDiffering, rowsOf}
-use Rattle.file_survey.proofs.Files.{saidBlock, fresh-length, fresh-blocks, listed-parts, tail-entry, no-tail, tail-most, rows-most}
+use Rattle.file_survey.proofs.Files.{saidBlock, fresh-length, fresh-blocks, listed-parts, tail-entry, no-tail, rows-most}
 use Rattle.file_survey.proofs.Holding.{few-from}
 
 -- ---- lengths
@@ -68,7 +69,7 @@ listed-small form text file fine =
     omega (
       arith,
       parts form text file (freshTable text) b _ _ refl refl refl refl,
-      tail-most form text file,
+      surplus-most (freshFile (numberOf form) text) file,
       rows-most form 1 (rowsOf text) file,
       rows-small text fine,
       entry-most b file 0,

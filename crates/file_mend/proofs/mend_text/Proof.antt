@@ -112,10 +112,10 @@ mends c =
     }
 
 slice-reshare-prefix-survey : tie.Need-slice-reshare-prefix-survey
-slice-reshare-prefix-survey c = there-inside c
+slice-reshare-prefix-survey c = omega (arith, there-inside c)
 
 slice-aggregate-survey : tie.Need-slice-aggregate-survey
-slice-aggregate-survey c = sym (length-take-le _ _ (there-inside (c .before)))
+slice-aggregate-survey c = sym (length-take-le _ _ (omega (arith, there-inside (c .before))))
 
 survey-requires : tie.Need-survey-requires
 survey-requires c κs = search needs

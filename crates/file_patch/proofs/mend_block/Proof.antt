@@ -21,10 +21,10 @@ at-right c = c .before .before .before .before .before .before
 abbrev at-wrong : tie.Else1 → tie.Start
 at-wrong c = c .before .before .before .before .before .before
 
-abbrev differing : tie.After-put-block → tie.Else1
+abbrev differing : tie.After-restore-block → tie.Else1
 differing c = c .before .before
 
-abbrev written : tie.After-slice-known3 → tie.After-put-block
+abbrev written : tie.After-slice-known3 → tie.After-restore-block
 written c = c .before .before
 
 -- the entry, where the block is right and where it differs
@@ -65,8 +65,8 @@ returns c =
     let r = right-stays (a .fresh .now) (a .memory .now) (a .k) (right-inside (a .fresh .now) (a .memory .now) (a .k) (a .n) (s .pre .0 .0) e) in
     (omega (arith, ap length z), (r, list-stays (a .list .now) (a .listed) _ z))
 
-put-block-requires : tie.Need-put-block-requires
-put-block-requires c κs = at-wrong (c .before) .pre .0
+restore-block-requires : tie.Need-restore-block-requires
+restore-block-requires c κs = at-wrong (c .before) .pre .0
 
 mul-list : tie.Need-mul-list
 mul-list c = search needs
@@ -89,7 +89,7 @@ returns-2 c =
     let d = differing w in
     let a = at-wrong d .args in
     let z = one d in
-    (omega (arith, ap length z), (w .put-block .ensures, list-more (a .list .now) (a .listed) (a .k) _ z (room d)))
+    (omega (arith, ap length z), (w .restore-block .ensures, list-more (a .list .now) (a .listed) (a .k) _ z (room d)))
 
 pub mend-block-spec : {M : Type 1} → statement M
 mend-block-spec =
@@ -100,7 +100,7 @@ mend-block-spec =
     is-right-requires
     same-length
     returns
-    put-block-requires
+    restore-block-requires
     mul-list
     slice-write-list
     add-result

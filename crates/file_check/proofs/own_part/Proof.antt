@@ -1,9 +1,9 @@
 -- `own_part` meets its contract: the four bytes of the check are the last that its places would count.
 use native.Mathlib.Omega.{arith}
-use Rattle.file_blocks.proofs.Added.{check-own}
+use Rattle.file_check.proofs.Added.{check-own}
 use borrow.Author.Needs.{needs}
-use Rattle.file_blocks.proofs.own_part.Statement.{statement}
-use Rattle.file_blocks.proofs.own_part.Tie as tie
+use Rattle.file_check.proofs.own_part.Statement.{statement}
+use Rattle.file_check.proofs.own_part.Tie as tie
 
 -- ---- the places on the way, from the last byte back to the function's entry
 

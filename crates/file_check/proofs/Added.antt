@@ -8,8 +8,8 @@ use native.Mathlib.Omega.{arith}
 use lib.ListN.{length, take, drop, getD, set, replicate, length-take, length-drop, take-append-drop, drop-of-length-le}
 use lib.Seq.{take-suc, drop-drop, getD-take, length-take-le, take-all}
 use Rattle.rules_files.specs.Blocks.{sumFrom, check}
-use Rattle.file_blocks.specs.Columns.{plus, strip, total, Within}
-use Rattle.file_blocks.proofs.Laws.{check-more}
+use Rattle.file_check.specs.Columns.{plus, strip, total, Within}
+use Rattle.file_check.proofs.Laws.{check-more}
 
 -- ---- one place more
 

@@ -1,4 +1,4 @@
--- `put_block` meets its contract: a block that has no entry stays as it is, and one that has an entry differs and is written.
+-- `restore_block` meets its contract: a block that has no entry stays as it is, and one that has an entry differs and is written.
 use mathlib.Core.Path.{_≡_, sym, _∙_}
 use Prim.Native.Nat.{_<_}
 use native.Mathlib.Omega.{arith}
@@ -6,8 +6,8 @@ use lib.ListN.{length}
 use borrow.Author.Needs.{needs}
 use Rattle.file_patch.specs.Block.{entry}
 use Rattle.file_patch.proofs.One.{entry-most, none-right, some-wrong, right-stays}
-use Rattle.file_patch.proofs.put_block.Statement.{statement}
-use Rattle.file_patch.proofs.put_block.Tie as tie
+use Rattle.file_patch.proofs.restore_block.Statement.{statement}
+use Rattle.file_patch.proofs.restore_block.Tie as tie
 
 -- ---- the function's entry, as it is seen from both ends
 
@@ -48,8 +48,8 @@ same-length-2 c = search needs
 returns-2 : tie.Need-returns-2
 returns-2 c = search needs
 
-pub put-block-spec : {M : Type 1} → statement M
-put-block-spec =
+pub restore-block-spec : {M : Type 1} → statement M
+restore-block-spec =
     tie.close
     (tie.spec
     count-block-requires

@@ -6,11 +6,11 @@ use native.Mathlib.Omega.{arith}
 use lib.ListN.{length, take, getD}
 use lib.Seq.{take-all}
 use Rattle.rules_files.specs.Blocks.{sumFrom, check}
-use Rattle.file_blocks.specs.Columns.{total}
-use Rattle.file_blocks.proofs.Laws.{check-more}
-use Rattle.file_blocks.proofs.Added.{total-more}
-use Rattle.file_blocks.proofs.weigh.Statement.{statement}
-use Rattle.file_blocks.proofs.weigh.Tie as tie
+use Rattle.file_check.specs.Columns.{total}
+use Rattle.file_check.proofs.Laws.{check-more}
+use Rattle.file_check.proofs.Added.{total-more}
+use Rattle.file_check.proofs.weigh.Statement.{statement}
+use Rattle.file_check.proofs.weigh.Tie as tie
 
 abbrev Inv-loop : tie.InvT-loop
 Inv-loop sums below sum₀ place₀ j₀ sum place j =

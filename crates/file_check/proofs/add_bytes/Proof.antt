@@ -5,10 +5,10 @@ use native.Mathlib.Numerals.{add-one}
 use native.Mathlib.Omega.{arith}
 use lib.ListN.{length, take, drop, getD, length-drop}
 use lib.Seq.{getD-drop, take-all}
-use Rattle.file_blocks.specs.Columns.{plus, Within}
-use Rattle.file_blocks.proofs.Added.{plus-none, plus-stored, stored-within, stored-length, within-none, within-more}
-use Rattle.file_blocks.proofs.add_bytes.Statement.{statement}
-use Rattle.file_blocks.proofs.add_bytes.Tie as tie
+use Rattle.file_check.specs.Columns.{plus, Within}
+use Rattle.file_check.proofs.Added.{plus-none, plus-stored, stored-within, stored-length, within-none, within-more}
+use Rattle.file_check.proofs.add_bytes.Statement.{statement}
+use Rattle.file_check.proofs.add_bytes.Tie as tie
 
 abbrev Inv-loop : tie.InvT-loop
 Inv-loop sums₀ bytes at j₀ sums j =

@@ -6,9 +6,9 @@ use native.Mathlib.Omega.{arith}
 use lib.ListN.{length, take, drop}
 use lib.Dec.{eqb}
 use Rattle.rules_files.specs.Blocks.{zeros}
-use Rattle.file_blocks.proofs.Laws.{filler-more}
-use Rattle.file_blocks.proofs.is_filler.Statement.{statement}
-use Rattle.file_blocks.proofs.is_filler.Tie as tie
+use Rattle.file_check.proofs.Laws.{filler-more}
+use Rattle.file_check.proofs.is_filler.Statement.{statement}
+use Rattle.file_check.proofs.is_filler.Tie as tie
 
 abbrev Inv-loop : tie.InvT-loop
 Inv-loop bytes from most₀ i₀ most i = (from ≤ i) × ((i ≤ 508) × (eqb most 0 ≡ zeros (take (i - from) (drop from bytes))))

@@ -3,9 +3,9 @@ use mathlib.Core.Path.{_≡_, sym, _∙_}
 use Prim.Native.Nat.{_+_, _*_, _-_, _≤_}
 use native.Mathlib.Omega.{arith}
 use Rattle.rules_files.specs.Blocks.{check}
-use Rattle.file_blocks.proofs.Added.{Summed, summed-none, summed-more, summed-all, within-less}
-use Rattle.file_blocks.proofs.check_of.Statement.{statement}
-use Rattle.file_blocks.proofs.check_of.Tie as tie
+use Rattle.file_check.proofs.Added.{Summed, summed-none, summed-more, summed-all, within-less}
+use Rattle.file_check.proofs.check_of.Statement.{statement}
+use Rattle.file_check.proofs.check_of.Tie as tie
 
 abbrev Inv-loop : tie.InvT-loop
 Inv-loop bytes sums₀ below₀ strips₀ sums below strips = (strips ≤ 8) × Summed bytes strips sums below
