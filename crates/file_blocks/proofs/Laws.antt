@@ -1,4 +1,4 @@
--- Laws of numbers where they stand in bytes, of one more byte, word or row, and of bytes written one behind the other.
+-- Laws of numbers where they stand in bytes, of one more word or row, and of bytes written one behind the other.
 use mathlib.Core.Path.{_≡_, refl, sym, ap, _∙_}
 use mathlib.Core.Bool.{Bool, true, false, _&&_}
 use mathlib.Core.List.{List, [], _∷_, _++_, append-assoc, append-nil}
@@ -72,48 +72,6 @@ module _ (s : List ℕ) (at : ℕ) where
         let f : at + 2 ≡ suc (suc at) = omega arith in
         let g : at + 3 ≡ suc (suc (suc at)) = omega arith in
         rw (e, f, g) (sets-eq (little 4 x) s at (omega arith))
-
--- ---- one byte more
-
-sum-snoc : (p : ℕ) (s : List ℕ) (b : ℕ) → sumFrom p (s ++ (b ∷ [])) ≡ sumFrom p s + b * (p + length s)
-unfolding sumFrom
-sum-snoc p [] b = let e : p + 0 ≡ p = omega arith in rw e (omega arith)
-sum-snoc p (x ∷ s) b = let e : p + suc (length s) ≡ suc p + length s = omega arith in rw (sum-snoc (suc p) s b, e) (omega arith)
-
-pub check-more : (s : List ℕ) (i : ℕ) → i < length s → check (take (i + 1) s) ≡ check (take i s) + getD s i 0 * (i + 1)
-unfolding check
-check-more s i h =
-    let e : 1 + length (take i s) ≡ suc i = omega (arith, length-take-le i s (omega arith)) in
-    rw (add-one i, take-suc s i 0 h, sum-snoc 1 (take i s) (getD s i 0), e)
-
-zeros-snoc : (s : List ℕ) (b : ℕ) → zeros (s ++ (b ∷ [])) ≡ (eqb b 0 && zeros s)
-unfolding zeros
-zeros-snoc [] b = refl
-zeros-snoc (x ∷ s) b = rw (zeros-snoc s b) (swap (eqb x 0) (eqb b 0) (zeros s))
-  where
-    swap : (p q r : Bool) → (p && (q && r)) ≡ (q && (p && r))
-    swap true true r = refl
-    swap true false r = refl
-    swap false true r = refl
-    swap false false r = refl
-
--- the larger of two is zero if both are
-pub larger-zero : (a b : ℕ) → eqb (max a b) 0 ≡ (eqb b 0 && eqb a 0)
-larger-zero a b =
-    same-bool (eqb (max a b) 0) (eqb b 0 && eqb a 0)
-    (λ e. let h = eqb-true (max a b) 0 e in true-both {p = eqb b 0} {q = eqb a 0} (eq-eqb b 0 (omega arith)) (eq-eqb a 0 (omega arith)))
-    (λ e. let h = both-true (eqb b 0) (eqb a 0) e in
-    let x = eqb-true b 0 (h .0) in let y = eqb-true a 0 (h .1) in eq-eqb (max a b) 0 (omega arith))
-
-pub filler-more : (s : List ℕ) (from i most : ℕ) → from ≤ i → i < length s → eqb most 0 ≡ zeros (take (i - from) (drop from s))
-    → eqb (max most (getD s i 0)) 0 ≡ zeros (take (i + 1 - from) (drop from s))
-filler-more s from i most h l e =
-    let f : i + 1 - from ≡ suc (i - from) = omega arith in
-    let g : from + (i - from) ≡ i = omega arith in
-    let d : List ℕ = drop from s in
-    let n : ℕ = i - from in
-    let z = zeros-snoc (take n d) (getD d n 0) in
-    rw (f, take-suc d n 0 (omega (arith, length-drop from s)), z, getD-drop, g, larger-zero most (getD s i 0), e)
 
 -- ---- whether a block is sound
 

@@ -1,3 +1,2 @@
 -- What the contracts of this crate cite besides the definitions.
-pub mod Columns
 pub mod Standing

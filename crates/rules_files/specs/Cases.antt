@@ -5,6 +5,7 @@ use mathlib.Core.Bool.{Bool, true, false, cond}
 use mathlib.Core.List.{List, [], _∷_, _++_, map}
 use Prim.Native.Nat.{ℕ, _+_, _*_}
 use lib.ListN.{length, take, drop, set, replicate}
+use Rattle.rules.specs.declared.Ending.{Ending}
 use Rattle.rules.specs.declared.Ending.the-variants as ending
 use Rattle.rules.specs.declared.Lexical.the-variants.{NoRowBegins}
 use Rattle.rules.specs.declared.Outer.the-variants.{NotWellFormed, NoRowRoom}
@@ -24,7 +25,7 @@ use Rattle.rules_files.specs.Bytes.{little}
 use Rattle.rules_files.specs.Blocks
 use Rattle.rules_files.specs.Blocks.{check, perBlock, blocksFor, fileLength}
 use Rattle.rules_files.specs.Files
-use Rattle.rules_files.specs.Files.{rowBytes, encode, storeTold, storeLeaves, loadTold, loadLeaves}
+use Rattle.rules_files.specs.Files.{rowBytes, encode, storeTold, storeLeaves, rowsTold, loadTold, loadLeaves}
 
 -- ---- files byte by byte
 
@@ -120,12 +121,19 @@ cases =
     ∷ record { bytes = record { at = 4; to = 2 } ∷ []; anew = true; cut = 512; room = 2; told = loaded.Refused OtherForm }
     ∷ record { bytes = record { at = 4; to = 2 } ∷ record { at = 28; to = 9 } ∷ []; anew = true; cut = 1024; room = 0; told = loaded.Refused OtherForm }
     ∷ record { bytes = record { at = 4; to = 2 } ∷ record { at = 32; to = 1 } ∷ []; anew = true; cut = 1024; room = 2; told = loaded.Refused (BadBlock 0) }
+    -- another form before whatever is wrong with block 1
+    ∷ record { bytes = record { at = 4; to = 2 } ∷ record { at = 512; to = 2 } ∷ []; anew = true; cut = 1024; room = 2; told = loaded.Refused OtherForm }
+    -- block 0 tells 65,536 rows, which are not there: 42 goes before 43, in one block and in two
+    ∷ record { bytes = record { at = 12; to = 0 } ∷ record { at = 14; to = 1 } ∷ []; anew = true; cut = 512; room = 2; told = loaded.Refused WrongLength }
+    ∷ record { bytes = record { at = 12; to = 0 } ∷ record { at = 14; to = 1 } ∷ []; anew = true; cut = 1024; room = 2; told = loaded.Refused WrongLength }
     -- block 1's number, row count, filler and check, before whatever is wrong with its rows
     ∷ record { bytes = record { at = 512; to = 2 } ∷ []; anew = true; cut = 1024; room = 2; told = loaded.Refused (BadBlock 1) }
     ∷ record { bytes = record { at = 514; to = 1 } ∷ []; anew = true; cut = 1024; room = 2; told = loaded.Refused (BadBlock 1) }
     ∷ record { bytes = record { at = 580; to = 1 } ∷ []; anew = true; cut = 1024; room = 2; told = loaded.Refused (BadBlock 1) }
     ∷ record { bytes = record { at = 516; to = 53 } ∷ []; anew = false; cut = 1024; room = 0; told = loaded.Refused (BadBlock 1) }
-    -- a kind that there is not, with or without room; a text too long; an ending with a place, and one that there is not
+    -- an ending that there is not, beside a block 1 that is not sound: 41 goes before 43
+    ∷ record { bytes = record { at = 16; to = 10 } ∷ record { at = 512; to = 2 } ∷ []; anew = true; cut = 1024; room = 2; told = loaded.Refused (BadBlock 1) }
+    -- a kind that there is not, without room, so 43 goes before 4; a text too long; an ending with a place, and one that there is not
     ∷ record { bytes = record { at = 516; to = 53 } ∷ []; anew = true; cut = 1024; room = 0; told = loaded.Refused NoTable }
     ∷ record { bytes = record { at = 10; to = 2 } ∷ []; anew = true; cut = 1024; room = 2; told = loaded.Refused NoTable }
     ∷ record { bytes = record { at = 20; to = 1 } ∷ []; anew = true; cut = 1024; room = 2; told = loaded.Refused NoTable }
@@ -137,3 +145,9 @@ cases =
 pub right : map (λ c. loadTold (fileOf c) (c .room)) cases ≡ map (λ c. c .told) cases
 unfolding fileOf sealed Bytes.little Bytes.number Bytes.numberAt Bytes.wordsIn Blocks.sumFrom Blocks.check Blocks.contentOf Blocks.zeros Blocks.sound Blocks.blocksFor Blocks.fileLength Blocks.soundFrom Blocks.bodyFrom Back.lexicalOf Files.readRefused Files.readEnding Files.endingIn Files.rowWordsIn Files.soundIn Files.rowsTold Files.readTold Files.blocksTold Files.saidTold Files.loadTold Rows.rowIn Rows.rowsIn Rows.valueBits Rows.rowPlace Rows.every Rows.chained Rows.lengthFits Rows.spansFit Rows.valueFits Rows.placeFits Rows.linesFit Rows.rowFits Rows.follows Rows.gapFits Rows.gapsFit Rows.lastRow Rows.endsBehind Rows.isEof Rows.eofLast Rows.endingFits Rows.rowsFit Rows.wellFormed Kinds.isMade Kinds.lengthIn
 right = refl
+
+-- Where no file is small enough to be computed: over 65,535 rows, all of them there, are 43, and 43 before 4.
+pub many : (ws : List ℕ) (room size : ℕ) (e : Ending)
+    → rowsTold ws room (record { count = 65536; length = size; ending = e }) ≡ loaded.Refused NoTable
+unfolding Files.rowsTold
+many ws room size e = refl

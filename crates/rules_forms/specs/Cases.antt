@@ -136,6 +136,10 @@ cases =
     -- under 512 bytes; not as long as block 0 says in its form
     ∷ refused (record { file = shortFile; bytes = []; anew = false; cut = 511; beside = text }) 1 1024 WrongLength
     ∷ refused (record { file = shortFile; bytes = []; anew = false; cut = 512; beside = text }) 1 1024 WrongLength
+    -- 65,537 rows that are not there: 42 before 43
+    ∷ refused (but shortFile 14 1) 1 1024 WrongLength
+    -- a form that there is not, in a block 0 whose check is wrong: 41 before 44
+    ∷ refused (record { file = longFile; bytes = record { at = 4; to = 3 } ∷ []; anew = false; cut = 1024; beside = text }) 1 1024 (BadBlock 0)
     -- filler of block 0: form 2 from byte 24 on, and any other form from 32 on
     ∷ refused (but shortFile 24 1) 1 1024 (BadBlock 0)
     ∷ refused (but shortFile 31 1) 1 1024 (BadBlock 0)

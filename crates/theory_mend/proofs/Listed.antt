@@ -1,11 +1,12 @@
--- Which blocks are listed: exactly those that differ, are cut or missing, and the first of a surplus tail, in ascending order.
+-- Which blocks are listed: exactly those that differ, are cut or missing, and the first of a surplus tail, in ascending order; and how
+-- many at most.
 use mathlib.Core.Path.{_≡_, refl, sym, ap, _∙_}
 use mathlib.Core.Bool.{Bool, true, false, cond, true≢false}
 use mathlib.Core.List.{List, [], _∷_, _++_, append-assoc}
 use Prim.Native.Nat.{ℕ, zero, suc, _+_, _*_, _/_, _≤_, _<_}
 use native.Mathlib.Nat.{le-refl, le-trans}
 use native.Mathlib.Omega.{arith}
-use lib.ListN.{length, take, drop, length-take, length-drop}
+use lib.ListN.{length, take, drop, length-append, length-take, length-drop}
 use lib.Seq.{take-add, take-all, drop-drop}
 use lib.Dec.{ltb}
 use borrow.Author.Tests.{ltb-true, ltb-false, lt-ltb, le-ltb}
@@ -259,3 +260,33 @@ unlisted fresh file k h out = go (sameBytes (blockAt k fresh) (blockAt k file)) 
     go : (b : Bool) → sameBytes (blockAt k fresh) (blockAt k file) ≡ b → blockAt k fresh ≡ blockAt k file
     go true e = same-eq (blockAt k fresh) (blockAt k file) e
     go false e = absurd (out (listed-exactly fresh file .differs k (h, differs-by (blockAt k fresh) (blockAt k file) e)))
+
+-- ---- how many are listed
+
+pub differing-most : (m k : ℕ) (fresh file : List ℕ) → length (differing m k fresh file) ≤ m
+unfolding differing
+differing-most zero k fresh file = omega arith
+differing-most (suc m) k fresh file =
+    go (sameBytes (take 512 fresh) (take 512 file)) (differing-most m (suc k) (drop 512 fresh) (drop 512 file))
+  where
+    go : (b : Bool) → length (differing m (suc k) (drop 512 fresh) (drop 512 file)) ≤ m
+        → length (cond b [] (k ∷ []) ++ differing m (suc k) (drop 512 fresh) (drop 512 file)) ≤ suc m
+    go true h = omega arith
+    go false h = omega arith
+
+-- a tail has one entry
+pub surplus-most : (fresh file : List ℕ) → length (surplus fresh file) ≤ 1
+unfolding surplus
+surplus-most fresh file = go (ltb (length fresh) (length file))
+  where
+    go : (b : Bool) → length (cond b ((length fresh / blockBytes) ∷ []) []) ≤ 1
+    go true = omega arith
+    go false = omega arith
+
+-- At most all blocks are listed, and a tail.
+pub listed-most : (fresh file : List ℕ) → length (listed fresh file) ≤ length fresh / blockBytes + 1
+unfolding listed
+listed-most fresh file =
+    let m = length fresh / blockBytes in
+    let d = differing m 0 fresh file in
+    omega (arith, length-append d (surplus fresh file), differing-most m 0 fresh file, surplus-most fresh file)

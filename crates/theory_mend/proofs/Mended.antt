@@ -3,6 +3,7 @@ use mathlib.Core.Path.{_≡_, refl, sym, ap, _∙_}
 use mathlib.Core.Bool.{Bool, true, false, cond, not, _||_}
 use mathlib.Core.List.{List, [], _++_}
 use Prim.Native.Nat.{ℕ, _+_, _-_, _*_, _/_, _≤_, _<_}
+use native.Mathlib.Nat.{le-trans}
 use native.Mathlib.Omega.{arith}
 use lib.ListN.{length, take, drop, take-append-drop, length-append, length-take, length-drop}
 use lib.Seq.{take-at, drop-at, take-all, drop-drop, take-append-le, drop-append-le, drop-append-add}
@@ -31,8 +32,8 @@ use Rattle.rules_mend.specs.declared.Mended.the-variants as mended
 use Rattle.rules_mend.specs.Mend.{freshTable, freshWords, freshFile, listed, tooSmall, freshTold, mendTold, mendLeaves, listLeaves}
 use Rattle.theory_files.proofs.Files.{stored-read, stored-words}
 use Rattle.theory_mend.specs.Mended.{IsMended, left, ReadsBack, IsRight, NothingAgain, Untouched, RestStays}
-use Rattle.theory_mend.specs.Mended.{blockAt, Member, ListTells}
-use Rattle.theory_mend.proofs.Listed.{listed-exactly, cut-listed, listed-ascending, listed-none, none-right, unlisted}
+use Rattle.theory_mend.specs.Mended.{blockAt, Member, ListTells, HasRoom}
+use Rattle.theory_mend.proofs.Listed.{listed-exactly, cut-listed, listed-ascending, listed-none, none-right, unlisted, listed-most}
 use Rattle.theory_mend.proofs.Fresh.{Holds, fresh-whole, fresh-well, fresh-words, fresh-size, fresh-agrees, fresh-says, fresh-holds}
 
 -- ---- what is known of a mending that was told
@@ -342,3 +343,30 @@ module _ (text : List ℕ) (form : ℕ) (memory : List ℕ) (n : ℕ) (list : Li
     cut = λ k h l. cut-listed (freshFile form text) (take n memory) k h (omega (arith, length-take n memory));
     ascending = listed-ascending (freshFile form text) (take n memory);
   }
+
+-- ---- how many are listed
+
+-- No more blocks are listed than the file has now, and one for a tail.
+pub mended-few : (text : List ℕ) (form : ℕ) (memory : List ℕ) (n : ℕ) (list : List ℕ) (size count : ℕ)
+    → IsMended text form memory n list size count → count ≤ size / blockBytes + 1
+mended-few text form memory n list size count m =
+    let d = mend-of text form memory n list size count m in
+    rw (← d .size-is, ← d .count-is) (listed-most (freshFile form text) (take n memory))
+
+-- So with room for that many a mending is never refused with 4.
+pub room-enough : (text : List ℕ) (form : ℕ) (memory : List ℕ) (n : ℕ) (list : List ℕ) → isForm form ≡ true
+    → textJudged text ≡ verdict.Fine → freshTable text .count ≤ mostRows → HasRoom text form memory n list
+    → IsMended text form memory n list (length (freshFile form text)) (length (listed (freshFile form text) (take n memory)))
+room-enough text form memory n list known fine few r =
+    record {
+      told = told-of text form memory n list _ _ (record {
+        known = known;
+        fine = fine;
+        few = few;
+        room = r .file;
+        held = r .held;
+        listing = le-trans (listed-most (freshFile form text) (take n memory)) (r .entries);
+        size-is = refl;
+        count-is = refl;
+      });
+    }

@@ -96,3 +96,9 @@ pub record RestStays (text : List ℕ) (form : ℕ) (memory : List ℕ) (n : ℕ
   pub behind : drop size (mendLeaves text form memory n list) ≡ drop size memory
   pub right : (k : ℕ) → (Member k (listed (freshFile form text) (take n memory)) → ⊥)
       → blockAt k (mendLeaves text form memory n list) ≡ blockAt k memory
+
+-- There is room: memory holds the file and what it becomes, and the list an entry for each block of that and one for a tail.
+pub record HasRoom (text : List ℕ) (form : ℕ) (memory : List ℕ) (n : ℕ) (list : List ℕ) : Type 0 where
+  pub file : length (freshFile form text) ≤ length memory
+  pub held : n ≤ length memory
+  pub entries : length (freshFile form text) / blockBytes + 1 ≤ length list

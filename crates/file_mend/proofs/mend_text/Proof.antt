@@ -17,7 +17,8 @@ use Rattle.rules_mend.specs.declared.Mended.the-variants as mended
 use Rattle.rules_mend.specs.Mend.{freshTable, freshFile, listed}
 use Rattle.theory_mend.proofs.Mended.{MendOf}
 use Rattle.theory_mend.proofs.Ways.{told-many, told-small}
-use Rattle.file_mend.proofs.Told.{length-is, length-small, listed-small, shown-all, small-says, room-says}
+use Rattle.file_survey.proofs.Surveyed.{length-is, length-small, listed-small}
+use Rattle.file_mend.proofs.Told.{shown-all, small-says, room-says}
 use Rattle.file_mend.proofs.Told.{known, refused, blocks, nothing}
 use Rattle.file_mend.proofs.mend_text.Statement.{statement}
 use Rattle.file_mend.proofs.mend_text.Tie as tie
@@ -111,10 +112,10 @@ mends c =
     }
 
 slice-reshare-prefix-survey : tie.Need-slice-reshare-prefix-survey
-slice-reshare-prefix-survey c = there-inside c
+slice-reshare-prefix-survey c = omega (arith, there-inside c)
 
 slice-aggregate-survey : tie.Need-slice-aggregate-survey
-slice-aggregate-survey c = sym (length-take-le _ _ (there-inside (c .before)))
+slice-aggregate-survey c = sym (length-take-le _ _ (omega (arith, there-inside (c .before))))
 
 survey-requires : tie.Need-survey-requires
 survey-requires c κs = search needs

@@ -1,0 +1,2 @@
+-- What the proofs of this crate use: one block held and written.
+pub mod One
