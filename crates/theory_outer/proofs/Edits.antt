@@ -1,6 +1,6 @@
 -- The calls that are lent rows and a table's words, as they are made: the edit, the change, the restart and the parse.
--- They are lent what a scan of a text tells and leaves (`OuterLent`). So an edit, a change, and a load of what was stored
--- may stand where a scan does.
+-- They are lent what a scan of a text tells and leaves (`OuterLent`). So an edit, a change, and a load of what was
+-- stored may stand where a scan does.
 use Prim.Native.Nat.{ℕ, _*_, _≤_}
 use native.Mathlib.Omega.{arith}
 use mathlib.Core.Bool.{true}
@@ -24,6 +24,7 @@ use Rattle.theory_edits.specs.Scanned as scanned
 use Rattle.theory_edits.specs.Change.{Change, oldText, newText, a, b, n, starts, Window}
 use Rattle.theory_edits.specs.Demand3.{Due}
 use Rattle.theory_edits.proofs.Low.{Between, restart-between}
+use Rattle.theory_edits.proofs.Whole.{whole-not-due}
 use Rattle.answers.specs.Layout.{words, toldWords, restartWords, isEnding, tableOf}
 use Rattle.answers.proofs.Table.{lent-table}
 use Rattle.edit_change.proofs.Posts.{restarts}
@@ -69,6 +70,12 @@ pub seven-exactly : {c : Change} {w lent answer new : List ℕ} → Edited c w l
 seven-exactly {c} {lent = lent} (short d r) = (λ e. d, λ x. rw (r .told))
 seven-exactly {c} {lent = lent} (fresh f g) =
     (λ e. absurd (not-7 (newText c) (roomOf lent) (ap (λ (ws : List ℕ). getD ws 0 0) (sym (g .told)) ∙ e)), λ d. absurd (f d))
+
+-- By a window to the new text's end it never is.
+pub whole-never-7 : {c : Change} {lent answer new : List ℕ} → Edited c (drop (starts c) (newText c)) lent answer new
+    → getD answer 0 0 ≡ 7
+    → ⊥
+whole-never-7 {c} e q = whole-not-due c (seven-exactly e .0 q)
 
 -- Edits that lead to the same text, none of them short, end alike in the same memory: so do edits in a row and the one
 -- that covers them, and edits in either order.

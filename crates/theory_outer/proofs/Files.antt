@@ -87,7 +87,8 @@ module _ {rows table lent answer m : List ℕ} (s : StoreCall rows table lent an
   told-bytes : storeTold rows (tableOf table) (length lent) ≡ is-stored.Bytes (getD answer 7 0)
   told-bytes = is-file _ _ _ _ _ was-stored fit
 
-  its-file : fileOf answer m ≡ encode rows (tableOf table)
+  -- what is written is the one file of its table
+  pub its-file : fileOf answer m ≡ encode rows (tableOf table)
   its-file = rw (store-says s .1) (stored-file rows (tableOf table) lent (getD answer 7 0) told-bytes fit)
 
   -- With any one byte changed, a load of the file says 41 with that byte's block.

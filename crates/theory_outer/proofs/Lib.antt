@@ -7,3 +7,4 @@ pub mod Edits
 pub mod Files
 pub mod Forms
 pub mod Mends
+pub mod Rooms

@@ -1,5 +1,5 @@
 -- The scan call, and what the calls over its rows tell of them: the table test and spelling.
-use Prim.Native.Nat.{ℕ, _+_, _-_, _*_, _/_, _≤_, _<_}
+use Prim.Native.Nat.{ℕ, zero, suc, _+_, _-_, _*_, _/_, _≤_, _<_}
 use native.Mathlib.Nat.{not-le-of-lt}
 use native.Mathlib.Omega.{arith}
 use mathlib.Core.Bool.{Bool, true, false, cond, true≢false}
@@ -19,24 +19,25 @@ use Rattle.rules.specs.declared.Table.{Table}
 use Rattle.rules.specs.declared.Told.{Told}
 use Rattle.rules.specs.declared.Told.the-variants.{Rows, Refused}
 use Rattle.rules.specs.Text.{mostBytes, validBytes, valid, placeAt, startPlace}
-use Rattle.rules.specs.Rows.{rowNo, rowsIn, wellFormed, spelling}
-use Rattle.rules.specs.Scan.{readEnding, scan, roomOf, scanTold}
+use Rattle.rules.specs.Rows.{Row, rowNo, rowsIn, wellFormed, spelling}
+use Rattle.rules.specs.Scan.{Reading, readRows, readEnding, scan, roomOf, scanTold}
 use Rattle.rules.specs.Calls.{judged, spellingJudged}
-use Rattle.laws.proofs.Rows.{few-rows, start-word, end-word}
+use Rattle.laws.proofs.Rows.{few-rows, rows-at, start-word, end-word}
 use Rattle.theory_bytes.specs.Octets.{Octets}
-use Rattle.theory_bytes.proofs.Octets.{valid-exactly}
+use Rattle.theory_bytes.proofs.Octets.{valid-exactly, longest}
 use Rattle.theory_calls.specs.Demand2.{rowsOf}
 use Rattle.theory_calls.proofs.Answers.{scan-too-long, scan-bad-byte, scan-rows, scan-few-rows}
 use Rattle.theory_comments.specs.Comments.{commentsIn, counted}
 use Rattle.theory_comments.proofs.Comments.{counts-add-up}
 use Rattle.theory_edits.specs.Scanned as scanned
+use Rattle.theory_edits.proofs.Low.{Between, Parts, part, parts-end, parts-stop, rows-between}
 use Rattle.theory_edits.proofs.WellFormed.{scanned-rows, scanned-well-formed}
 use Rattle.answers.specs.Layout.{words, endingWords, toldWords, isEnding, tableOf, nowhere}
 use Rattle.answers.proofs.Table.{no-table}
 use Rattle.theory_outer.specs.Calls.{ScanCall, WellFormedCall, SpellingCall}
 use Rattle.theory_outer.specs.Said.{Part, Spells, spells, beyond, unread}
 use Rattle.theory_outer.proofs.Calls.{scan-says, well-says, spelling-says}
-use Rattle.theory_outer.proofs.Lent.{scan-lends, lent-words, lent-is, lent-scanned}
+use Rattle.theory_outer.proofs.Lent.{scan-lends, lent-words, lent-is, lent-scanned, lent-valid}
 
 -- ---- the ways in which a scan ends
 
@@ -95,6 +96,15 @@ not-7 t m e = by (tells t m) e
     by (tells-4 l f) e = omega arith
     by tells-rows e = let l = rows-number (scanned.tableOf t) (omega (arith, e)) in omega (arith, e)
 
+-- the place of 2
+at-2 : {t : List ℕ} {m : ℕ} {x : Told} {answer : List ℕ} → Tells t m x → answer ≡ toldWords x → getD (toldWords x) 0 0 ≡ 2
+    → getD answer 1 0 ≡ validBytes t
+unfolding placeAt
+at-2 tells-1 q e = absurd (omega arith)
+at-2 (tells-2 f) q e = rw q
+at-2 (tells-4 l f) q e = absurd (omega arith)
+at-2 {t} tells-rows q e = let l = rows-number (scanned.tableOf t) (omega (arith, e)) in absurd (omega (arith, e))
+
 -- a table whose number is 0 ends the text
 none-told : (k n : ℕ) (e : Ending) → getD (endingWords k n e) 0 0 ≡ 0 → e ≡ ending.None
 none-told k n ending.None f = refl
@@ -105,6 +115,15 @@ none-told k n (ending.Refused lexical.OpenComment p) f = absurd (omega arith)
 none-told k n (ending.Refused lexical.OpenString p) f = absurd (omega arith)
 none-told k n (ending.Refused lexical.BadEscape p) f = absurd (omega arith)
 none-told k n (ending.Refused lexical.NumberTooLarge p) f = absurd (omega arith)
+
+-- each row of a reading whose rows start and end between characters
+part-at : (t : List ℕ) (v : valid t ≡ true) (d : Row) {l : Reading} → Parts t v l → (k : ℕ) → k < length (readRows l)
+    → Between t (getD (readRows l) k d .start) × Between t (getD (readRows l) k d .end)
+unfolding readRows
+part-at t v d (part f g p) zero h = (f, g)
+part-at t v d (part f g p) (suc k) h = part-at t v d p k (omega arith)
+part-at t v d parts-end k h = absurd (omega arith)
+part-at t v d parts-stop k h = absurd (omega arith)
 
 -- ---- room is enough
 
@@ -132,9 +151,24 @@ module _ {text lent answer rows : List ℕ} (s : ScanCall text lent answer rows)
       by true v h = absurd (h (valid-exactly text .0 v))
       by false v h = rw (scan-says s .0, scan-bad-byte text (roomOf lent) l v)
 
+  -- It stands behind the longest beginning that RFC 3629 derives.
+  pub bad-byte-place : getD answer 0 0 ≡ 2 → Octets (take (getD answer 1 0) text)
+      × ((k : ℕ) → k ≤ length text → Octets (take k text) → k ≤ getD answer 1 0)
+  bad-byte-place e = rw (at-2 (tells text (roomOf lent)) (scan-says s .0) (its-number e)) (longest text)
+
   -- ---- a table
 
   module _ (h : isEnding (getD answer 0 0) ≡ true) where
+    -- Its rows start and end between two characters.
+    pub rows-split : (k : ℕ) → k < getD answer 6 0 → Between text (rowNo rows k .start) × Between text (rowNo rows k .end)
+    rows-split k l =
+        let w = lent-scanned (scan-lends s) h in
+        let c : getD answer 6 0 ≡ length (rowsOf text) = ap (λ (t : Table). t .count) (lent-is (scan-lends s) h) in
+        let f : k < length (rowsOf text) = omega arith in
+        let e : getD (rowsOf text) k (rowNo rows k) ≡ rowNo rows k =
+        ap (λ (rs : List Row). getD rs k (rowNo rows k)) (sym (scanned-rows w)) ∙ rows-at (length (rowsOf text)) rows (rowNo rows k) k f in
+        rw e at (part-at text (lent-valid (scan-lends s) h) (rowNo rows k) (rows-between text (lent-valid (scan-lends s) h)) k f)
+
     -- What a scan left and told is well formed.
     pub scan-then-test : {r : ℕ} → WellFormedCall rows answer r → r ≡ 1
     scan-then-test w = well-says w ∙ rw (lent-is (scan-lends s) h, scanned-well-formed (lent-scanned (scan-lends s) h))
