@@ -2,20 +2,21 @@
 -- calls.
 use Prim.Native.Nat.{ℕ, _/_, _≤_}
 use native.Mathlib.Omega.{arith}
-use mathlib.Core.Bool.{Bool, true, false, true≢false}
+use mathlib.Core.Bool.{Bool, true, false, cond, not, true≢false}
 use mathlib.Core.List.{List, _++_}
 use mathlib.Core.Path.{_≡_, refl, ap, sym, _∙_}
-use lib.Dec.{eqb}
+use lib.Dec.{eqb, ltb}
 use lib.ListN.{length, take, drop, getD, take-append-drop}
 use lib.Seq.{drop-at}
-use borrow.Author.Tests.{eqb-true, eq-eqb}
+use borrow.Author.Tests.{eqb-true, eq-eqb, le-ltb, not-false}
+use Rattle.rules.specs.declared.Outer.the-variants.{NoRowRoom}
 use Rattle.rules.specs.declared.Table.{Table}
 use Rattle.rules.specs.Text.{startPlace}
 use Rattle.rules.specs.Scan.{roomOf}
-use Rattle.rules_files.specs.declared.Fault.the-variants.{OtherForm}
+use Rattle.rules_files.specs.declared.Fault.the-variants.{Outer, OtherForm}
 use Rattle.rules_files.specs.declared.Loaded.{Loaded}
 use Rattle.rules_files.specs.declared.Loaded.the-variants as is-loaded
-use Rattle.rules_files.specs.Blocks.{blockBytes}
+use Rattle.rules_files.specs.Blocks.{blockBytes, fileLength}
 use Rattle.rules_files.specs.Files.{formSaid, countSaid, rowWordsIn, loadTold}
 use Rattle.rules_forms.specs.declared.Apart.{Apart}
 use Rattle.rules_forms.specs.declared.Apart.the-variants.{File, OtherText}
@@ -25,7 +26,7 @@ use Rattle.rules_forms.specs.declared.Moved.{Moved}
 use Rattle.rules_forms.specs.declared.Moved.the-variants as is-moved
 use Rattle.rules_forms.specs.Short.{shortNumber, shortEncode, shortJudged}
 use Rattle.rules_forms.specs.Forms.{isForm, isShort, judged, rowsBeside, tableBeside, encodeIn, besideJudged, besideTold, besideLeaves}
-use Rattle.rules_forms.specs.Forms.{moveTold, movedFrom, moveLeaves}
+use Rattle.rules_forms.specs.Forms.{agreesBeside, rowBytesIn, moveJudged, moveTold, movedFrom, moveLeaves}
 use Rattle.laws.specs.Bounds.{Bytes, Words}
 use Rattle.theory_files.specs.Whole.{wordsOf}
 use Rattle.theory_files.proofs.Whole.{words-fit}
@@ -36,7 +37,8 @@ use Rattle.theory_forms.proofs.Short.{older-refuses}
 use Rattle.theory_forms.proofs.Older.{refused-by-name}
 use Rattle.theory_forms.proofs.Written.{written-form, written-judged}
 use Rattle.theory_forms.proofs.Moves.{move-is, written-is, written-length, own-form, move-stays, move-untouched, beside-untouched}
-use Rattle.answers.specs.Layout.{words, nowhere, isEnding}
+use Rattle.answers.specs.Layout.{words, nowhere, isEnding, tableOf}
+use Rattle.answers.proofs.Table.{lent-table}
 use Rattle.file_answers.specs.Layout.{loadedWords, besideWords, movedWords}
 use Rattle.spoonharbor.specs.OuterFiles.{fileOf, OuterFile}
 use Rattle.spoonharbor.specs.OuterForms.{OuterMoved}
@@ -155,6 +157,60 @@ moved-by-name {text} {file} {lent} {answer} {m} s z bytes l =
     let o = move-is text file shortNumber lent n w in
     let r = short-refused text file bytes (o .table) (o .judged-is) in
     refused-44 l (rw (its-file s z bytes, written-is text file shortNumber lent n w) r)
+
+-- ---- what is read beside a text can be moved
+
+-- a reading that is told
+record ReadOf (text file : List ℕ) (u : Table) : Type 0 where
+  table : Table
+  judged-is : judged file ≡ is-loaded.Rows table
+  agree : agreesBeside text file table ≡ true
+  count : table .count ≡ u .count
+
+past : (b : Bool) (why : Apart) (y : Beside) (u : Table) → cond b (is-beside.Refused why) y ≡ is-beside.Rows u
+    → (b ≡ false) × (y ≡ is-beside.Rows u)
+past true why y u e = absurd (let z : _≡_ {A = ℕ} 0 1 = cc in omega arith)
+past false why y u e = (refl, e)
+
+read-of : (text file : List ℕ) (room : ℕ) (u : Table) → besideTold text file room ≡ is-beside.Rows u → ReadOf text file u
+unfolding besideTold besideJudged tableBeside
+read-of text file room u q = go (judged file) refl q
+  where
+    count-same : (t : Table) → is-beside.Rows (tableBeside text file t) ≡ is-beside.Rows u → tableBeside text file t ≡ u
+    count-same t e = cc
+
+    go : (x : Loaded) → judged file ≡ x → besideJudged text file room x ≡ is-beside.Rows u → ReadOf text file u
+    go (is-loaded.Refused why) j e = absurd (let z : _≡_ {A = ℕ} 0 1 = cc in omega arith)
+    go (is-loaded.Rows t) j e =
+        let last = cond (not (agreesBeside text file t)) (is-beside.Refused OtherText) (is-beside.Rows (tableBeside text file t)) in
+        let f = past (ltb room (t .count)) (File (Outer NoRowRoom)) last u e in
+        let k = past (not (agreesBeside text file t)) OtherText (is-beside.Rows (tableBeside text file t)) u (f .1) in
+        record {
+          table = t;
+          judged-is = j;
+          agree = not-false (agreesBeside text file t) (k .0);
+          count = ap (λ (v : Table). v .count) (count-same t (k .1));
+        }
+
+-- Beside a text that it was read with, a file is moved to either form, in as many bytes as the file of that form has
+-- for the rows that were told.
+pub read-then-move : {text file lent answer rows : List ℕ} → LoadBesideCall text file lent answer rows → isEnding (getD answer 0 0) ≡ true
+    → {form : ℕ} {room told m : List ℕ} → MoveCall text file form room told m → isForm form ≡ true
+    → fileLength (rowBytesIn form) (getD answer 6 0) ≤ length room
+    → getD told 0 0 ≡ 0
+unfolding isEnding moveTold moveJudged
+read-then-move {text} {file} {lent} {answer} s h {form} {room} {told} c k l = by (besideTold text file (roomOf lent)) refl
+  where
+    by : (x : Beside) → besideTold text file (roomOf lent) ≡ x → getD told 0 0 ≡ 0
+    by (is-beside.Rows u) e =
+        let r = read-of text file (roomOf lent) u e in
+        let t : tableOf answer ≡ u = lent-table u (beside-says s .0 ∙ ap besideWords e) in
+        let n : getD answer 6 0 ≡ r .table .count = ap (λ (v : Table). v .count) t ∙ sym (r .count) in
+        let f : ltb (length room) (fileLength (rowBytesIn form) (r .table .count)) ≡ false
+        = le-ltb (length room) _ (rw n at l) in
+        rw (move-says c .0, k, r .judged-is, f, r .agree)
+    by (is-beside.Refused (File why)) e = absurd (true≢false (sym h ∙ rw (beside-says s .0, e) (no-ending why)))
+    by (is-beside.Refused OtherText) e = absurd (true≢false (sym h ∙ rw (beside-says s .0, e) refl))
 
 -- ---- refused calls
 
