@@ -1,4 +1,5 @@
--- Demand 3 at the outer face: a table lent in the words in which it was told is that table.
+-- Demand 3 at the outer face, where a table lent in the words in which it was told is that table, and at the calls' own
+-- contracts.
 use Prim.Native.Nat.{ℕ, _+_}
 use native.Mathlib.Omega.{arith}
 use mathlib.Core.Bool.{true, false, true≢false}
@@ -8,9 +9,13 @@ use mathlib.Core.Path.{_≡_, refl, ap, sym, _∙_}
 use lib.Dec.{ltb}
 use lib.ListN.{length, getD, length-append}
 use borrow.Author.Tests.{le-ltb}
+use contract.Lifetimes.{Lfts}
+use borrow.Fn.Kinds.{Dens, endedOf}
+use denote.Triple.Clauses.{AtExit}
 use Rattle.rules.specs.declared.Table.{Table}
 use Rattle.rules.specs.declared.Told.{Told}
 use Rattle.rules.specs.declared.Told.the-variants.{Rows}
+use Rattle.rules.specs.Text.{startPlace}
 use Rattle.rules.specs.Scan.{roomOf, scanTold}
 use Rattle.rules.specs.Edit.{restart, editTold, editLeaves, restartTold}
 use Rattle.theory_edits.specs.Scanned as scanned
@@ -21,6 +26,11 @@ use Rattle.theory_edits.proofs.Demand3.{demand-3}
 use Rattle.answers.specs.Layout.{words, toldWords, restartWords, isEnding, tableOf}
 use Rattle.answers.proofs.Table.{lent-table}
 use Rattle.spoonharbor.specs.OuterEdit.{OuterGiven, outerTells, outerLeaves, OuterSeven, OuterFresh}
+use Rattle.spoonharbor.specs.OuterParse.{OuterLent, OuterRefused}
+use Rattle.spoonharbor.proofs.spoonharbor_edit.Kinds as of-edit
+use Rattle.spoonharbor.proofs.spoonharbor_edit.Reads.{Post as EditPost}
+use Rattle.spoonharbor.proofs.spoonharbor_restart.Kinds as of-restart
+use Rattle.spoonharbor.proofs.spoonharbor_restart.Reads.{Post as RestartPost}
 
 -- ---- the theorem
 
@@ -111,3 +121,45 @@ module _ (c : Change) (ws answer w : List ℕ) (g : OuterGiven c ws answer w) wh
         table = h;
         window = v;
       }
+
+-- ---- the calls' own contracts: `Post` is what one promises of the arguments x, the answer r and lent memory at exit e
+
+-- `spoonharbor_edit` is lent the rows and words that a scan of a change's old text left and told, the change's four
+-- numbers, and a window of its new text. Either 7 is due, the answer is 7's, and no lent word changes. Or 7 is not due,
+-- and it leaves and tells what a scan of the new text does.
+module _ (κs : Lfts 5) (x : Dens κs of-edit.ps) (r : Unit {0}) (e : AtExit (endedOf 5 of-edit.ps of-edit.r) κs) where
+  abbrev shown : List ℕ
+  shown = x .1 .1 .1 .1 .1 .1 .0 .now
+
+  abbrev room : List ℕ
+  room = x .1 .1 .1 .1 .1 .1 .1 .0 .now
+
+  abbrev rows : List ℕ
+  rows = e .1 .1 .1 .1 .1 .1 .1 .0 .now
+
+  abbrev told : List ℕ
+  told = e .1 .1 .1 .1 .1 .1 .1 .1 .0 .now
+
+  pub outer-edit-call : EditPost κs x r e → (c : Change) → OuterGiven c (x .0 .now) (x .1 .0 .now) shown
+      → x .1 .1 .0 ≡ a c → x .1 .1 .1 .0 ≡ b c → x .1 .1 .1 .1 .0 ≡ n c → x .1 .1 .1 .1 .1 .0 ≡ starts c
+      → (Due c shown × OuterRefused room told rows 7 startPlace 0 0 0) ⊎ ((Due c shown → ⊥) × OuterLent (newText c) room rows told)
+  outer-edit-call p c g ea eb en es = by (outer-edit c (x .0 .now) (x .1 .0 .now) shown g)
+    where
+      tells : told ≡ outerTells c (x .0 .now) (x .1 .0 .now) shown room
+      tells = rw (ea, eb, en, es) at (p .0)
+
+      leaves : rows ≡ outerLeaves c (x .0 .now) (x .1 .0 .now) shown room
+      leaves = rw (ea, eb, en, es) at (p .1)
+
+      by : (Due c shown × OuterSeven c (x .0 .now) (x .1 .0 .now) shown)
+          ⊎ ((Due c shown → ⊥) × OuterFresh c (x .0 .now) (x .1 .0 .now) shown)
+          → (Due c shown × OuterRefused room told rows 7 startPlace 0 0 0) ⊎ ((Due c shown → ⊥) × OuterLent (newText c) room rows told)
+      by (inl h) = inl (h .0, record { told = tells ∙ h .1 .told room; left = leaves ∙ h .1 .left room })
+      by (inr h) = inr (h .0, record { told = tells ∙ h .1 .told room; left = leaves ∙ h .1 .left room })
+
+-- `spoonharbor_restart` is lent the same rows and words, and the change's first number. It tells the restart place,
+-- where the window starts.
+module _ (κs : Lfts 3) (x : Dens κs of-restart.ps) (r : Unit {0}) (e : AtExit (endedOf 3 of-restart.ps of-restart.r) κs) where
+  pub outer-restart-call : RestartPost κs x r e → (c : Change) (w : List ℕ) → OuterGiven c (x .0 .now) (x .1 .0 .now) w → x .1 .1 .0 ≡ a c
+      → e .1 .1 .1 .0 .now ≡ words 0 (restart (oldRows c) (a c)) 0 0 0 0
+  outer-restart-call p c w g ea = rw ea at p ∙ outer-starts c (x .0 .now) (x .1 .0 .now) w g

@@ -74,7 +74,7 @@ rows-told (loaded.Refused fault.OtherForm) e = absurd (true≢false (sym e))
 -- What was stored is loaded: lent the file that `spoonharbor_store` wrote and room for its rows, `spoonharbor_load` gives back the table
 -- and the words of its rows. The rows are u32 words, so that each is below 2^32.
 module _ (ws table lent answer m : List ℕ) (g : OuterStored ws table lent answer m) (words : Words ws) where
-  is-file : storeTold ws (tableOf table) (length lent) ≡ stored.Bytes (getD answer 7 0)
+  pub is-file : storeTold ws (tableOf table) (length lent) ≡ stored.Bytes (getD answer 7 0)
   is-file =
       let z = ap (λ (l : List ℕ). getD l 0 0) (sym (g .told)) ∙ g .stored in
       rw (g .told) (bytes-told (storeTold ws (tableOf table) (length lent)) z)

@@ -25,8 +25,8 @@ use Rattle.theory_forms.specs.Forms.{IsMoved}
 use Rattle.theory_forms.proofs.Back.{there-and-back, read-alike}
 use Rattle.theory_mend.specs.Mended.{IsMended}
 use Rattle.theory_mend.proofs.Mended.{mended-reads}
-use Rattle.spoonharbor.specs.OuterFiles.{fileOf}
-use Rattle.spoonharbor.specs.OuterForms.{OuterMoved, OuterMovedBack, OuterAlike, OuterMended, OuterFresh}
+use Rattle.spoonharbor.specs.OuterFiles.{fileOf, OuterFile}
+use Rattle.spoonharbor.specs.OuterForms.{OuterMoved, OuterAlike, OuterMended, OuterFresh}
 use Rattle.spoonharbor.proofs.OuterFiles.{fault-some}
 use Rattle.spoonharbor.proofs.spoonharbor_load_beside.Kinds as of-load
 use Rattle.spoonharbor.proofs.spoonharbor_load_beside.Reads.{Post as LoadPost}
@@ -49,19 +49,19 @@ mended-told (mended.Refused why p) e = absurd (fault-some why e)
 -- ---- moved files. The file is bytes.
 
 module _ (text file : List ℕ) (form : ℕ) (lent answer m : List ℕ) (g : OuterMoved text file form lent answer m) (bytes : Bytes file) where
-  is-moved : IsMoved text file form lent (getD answer 7 0)
+  pub is-moved : IsMoved text file form lent (getD answer 7 0)
   is-moved =
       let z = ap (λ (l : List ℕ). getD l 0 0) (sym (g .told)) ∙ g .moved in
       record { told = rw (g .told) (moved-told (moveTold text file form (length lent)) z) }
 
   -- Lent the file that was written, the form that the first file says and room for it, a second move gives the first file's bytes.
   pub outer-there-and-back : (back : List ℕ) → length file ≤ length back
-      → OuterMovedBack file back (movedWords (moveTold text (fileOf answer m) (formSaid file) (length back)))
+      → OuterFile file back (movedWords (moveTold text (fileOf answer m) (formSaid file) (length back)))
       (moveLeaves text (fileOf answer m) (formSaid file) back)
   outer-there-and-back back room =
       let t = there-and-back text file form lent (getD answer 7 0) bytes is-moved in
       record {
-        size = rw (g .left, t .told back room);
+        told = rw (g .left, t .told back room);
         left = rw (g .left) (t .bytes back room);
       }
 
@@ -79,7 +79,7 @@ module _ (text file : List ℕ) (form : ℕ) (lent answer m : List ℕ) (g : Out
 
 module _ (text : List ℕ) (form : ℕ) (memory : List ℕ) (n : ℕ) (list answer m blocks : List ℕ)
     (g : OuterMended text form memory n list answer m blocks) where
-  is-mended : IsMended text form memory n list (getD answer 7 0) (getD answer 6 0)
+  pub is-mended : IsMended text form memory n list (getD answer 7 0) (getD answer 6 0)
   is-mended =
       let z = ap (λ (l : List ℕ). getD l 0 0) (sym (g .told)) ∙ g .mended in
       record { told = rw (g .told) (mended-told (mendTold text form memory n list) z) }
@@ -102,7 +102,7 @@ module _ (κs : Lfts 4) (a : Dens κs of-move.ps) (r : Unit {0}) (e : AtExit (en
   pub outer-move-there-and-back : MovePost κs a r e → MovePost λs b q f → Bytes (a .1 .0 .now) → getD (e .1 .1 .1 .1 .0 .now) 0 0 ≡ 0
       → b .0 .now ≡ a .0 .now → b .1 .0 .now ≡ fileOf (e .1 .1 .1 .1 .0 .now) (e .1 .1 .1 .0 .now)
       → b .1 .1 .0 ≡ formSaid (a .1 .0 .now) → length (a .1 .0 .now) ≤ length (b .1 .1 .1 .0 .now)
-      → OuterMovedBack (a .1 .0 .now) (b .1 .1 .1 .0 .now) (f .1 .1 .1 .1 .0 .now) (f .1 .1 .1 .0 .now)
+      → OuterFile (a .1 .0 .now) (b .1 .1 .1 .0 .now) (f .1 .1 .1 .1 .0 .now) (f .1 .1 .1 .0 .now)
   outer-move-there-and-back p s bytes z x y w room =
       let g : OuterMoved (a .0 .now) (a .1 .0 .now) (a .1 .1 .0) (a .1 .1 .1 .0 .now) (e .1 .1 .1 .1 .0 .now) (e .1 .1 .1 .0 .now) =
       record { told = p .0; left = p .1; moved = z } in

@@ -1,8 +1,8 @@
 -- Files with their text at hand, in words: what the outer face's moves give there and back, and what a mended file is read as.
 use Prim.Native.Nat.{ℕ}
-use mathlib.Core.List.{List, _++_}
+use mathlib.Core.List.{List}
 use mathlib.Core.Path.{_≡_}
-use lib.ListN.{length, drop, getD}
+use lib.ListN.{length, getD}
 use Rattle.rules.specs.Scan.{roomOf, scanTold, scanLeaves}
 use Rattle.rules_forms.specs.Forms.{besideTold, besideLeaves, moveTold, moveLeaves}
 use Rattle.rules_mend.specs.Mend.{mendTold, mendLeaves, listLeaves}
@@ -14,11 +14,6 @@ pub record OuterMoved (text file : List ℕ) (form : ℕ) (lent answer m : List 
   pub told : answer ≡ movedWords (moveTold text file form (length lent))
   pub left : m ≡ moveLeaves text file form lent
   pub moved : getD answer 0 0 ≡ 0
-
--- `spoonharbor_move` back, lent the bytes `lent`, told `answer` and left m: the file that there was, and behind it what was there.
-pub record OuterMovedBack (file lent answer m : List ℕ) : Type 0 where
-  pub size : getD answer 7 0 ≡ length file
-  pub left : m ≡ file ++ drop (length file) lent
 
 -- `spoonharbor_load_beside` told `answer` and left `rows` of the moved file: what it tells and leaves of the file itself.
 pub record OuterAlike (text file new answer rows : List ℕ) : Type 0 where
