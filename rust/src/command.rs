@@ -1,19 +1,24 @@
 //! What the command does with its arguments.
 
 mod check;
-mod columns;
+mod explain;
+mod folder;
+mod json;
 mod mended;
 mod message;
 mod output;
+mod paint;
 mod rows;
 mod source;
 mod stored;
 mod tree;
 mod verb;
 
+use check::Checking;
 use output::Output;
+use paint::Colour;
 use source::{Source, Trouble};
-use spoonharbor::{lent, Document, Form, Refusal, LONGEST_TEXT, VERSION};
+use spoonharbor::{columns, lent, Document, Form, Refusal, LONGEST_TEXT, VERSION};
 use std::ffi::{OsStr, OsString};
 use std::io::{self, Write};
 use std::process::ExitCode;
@@ -53,14 +58,14 @@ struct Task {
     options: Options,
 }
 
-/// The file that `-o` names to be written, the text that `--text` names, the form that `--form` asks for, whether `--style` asks for style,
-/// and whether with `--check` something is only told.
+/// The file that `-o` names to be written, the text that `--text` names, the form that `--form` asks for, how `check` checks, and whether
+/// with `--check` something is only told.
 #[derive(Default)]
 pub struct Options {
     output: Option<OsString>,
     text: Option<OsString>,
     form: Option<Form>,
-    with_style: bool,
+    checking: Checking,
     only_told: bool,
 }
 
@@ -110,17 +115,25 @@ fn asked_of(verb: Verb, arguments: &[OsString]) -> Asked {
             Some("--version" | "-V") => return Asked::Version,
             Some("-o") if option.is_some() => options.output = rest.next().cloned(),
             Some("--text") if option.is_some() => options.text = rest.next().cloned(),
-            Some("--style") if option.is_some() => options.with_style = true,
+            Some("--style") if option.is_some() => options.checking.with_style = true,
+            Some("--json") if option.is_some() => options.checking.as_json = true,
+            Some("--deny") if option.is_some() => {
+                match rest.next().and_then(|what| what.to_str()) {
+                    Some("warnings") => options.checking.denies_warnings = true,
+                    _ => return misused(verb, "behind --deny the word warnings is wanted"),
+                }
+            }
+            Some("--color") if option.is_some() => {
+                match rest.next().and_then(|colour| Colour::named(colour)) {
+                    Some(colour) => options.checking.colour = colour,
+                    None => return misused(verb, "behind --color auto, always or never is wanted"),
+                }
+            }
             Some("--check") if option.is_some() => options.only_told = true,
             Some("--form") if option.is_some() => {
                 match rest.next().and_then(|form| form_of(form)) {
                     Some(form) => options.form = Some(form),
-                    None => {
-                        return Asked::Misused(format!(
-                            "{}: behind --form 1 or 2 is wanted",
-                            verb.name()
-                        ))
-                    }
+                    None => return misused(verb, "behind --form 1 or 2 is wanted"),
                 }
             }
             _ if is_option(argument) => return Asked::Misused(unknown_option(argument)),
@@ -128,13 +141,17 @@ fn asked_of(verb: Verb, arguments: &[OsString]) -> Asked {
         }
     }
     match verb.lacks(files.len(), &options) {
-        Some(lack) => Asked::Misused(format!("{}: {lack}", verb.name())),
+        Some(lack) => misused(verb, lack),
         None => Asked::Run(Task {
             verb,
             files,
             options,
         }),
     }
+}
+
+fn misused(verb: Verb, lack: &str) -> Asked {
+    Asked::Misused(format!("{}: {lack}", verb.name()))
 }
 
 /// The form that an argument names.
@@ -173,14 +190,31 @@ fn answered(asked: Asked, out: &mut impl Write) -> io::Result<Outcome> {
             complain("this command was built with the library of another version");
             Ok(Outcome::Trouble)
         }
+        Asked::Run(task) if task.verb == Verb::Explain => explain::explain_all(&task.files, out),
         Asked::Run(task) => {
             let mut worst = Outcome::Fine;
             for file in &task.files {
-                worst = worst.max(done(&task, file, out)?);
+                worst = worst.max(match task.verb {
+                    Verb::Check => all_done(&task, file, out)?,
+                    _ => done(&task, file, out)?,
+                });
             }
             Ok(worst)
         }
     }
+}
+
+/// Does a task with each of the files that an argument stands for.
+fn all_done(task: &Task, argument: &OsStr, out: &mut impl Write) -> io::Result<Outcome> {
+    let files = match folder::probes(argument) {
+        Ok(files) => files,
+        Err(trouble) => return troubled(&trouble, out),
+    };
+    let mut worst = Outcome::Fine;
+    for file in &files {
+        worst = worst.max(done(task, file, out)?);
+    }
+    Ok(worst)
 }
 
 /// Does a task with one of its files.
@@ -189,7 +223,7 @@ fn done(task: &Task, file: &OsStr, out: &mut impl Write) -> io::Result<Outcome> 
         output,
         text,
         form,
-        with_style,
+        checking,
         only_told,
     } = &task.options;
     let read = Source::read(file, task.verb.most_bytes()).and_then(|source| {
@@ -202,7 +236,7 @@ fn done(task: &Task, file: &OsStr, out: &mut impl Write) -> io::Result<Outcome> 
     };
     let output = output.as_deref().unwrap_or_default();
     let written = match (task.verb, &text) {
-        (Verb::Check, _) => Ok(check::check(&source, *with_style, out)?),
+        (Verb::Check, _) => Ok(check::check(&source, *checking, out)?),
         (Verb::Rows, _) => Ok(shown(&source, out, rows::print)?),
         (Verb::Tree, _) => Ok(shown(&source, out, tree::print)?),
         (Verb::Load, text) => Ok(stored::load(&source, text.as_ref(), out)?),
@@ -211,7 +245,7 @@ fn done(task: &Task, file: &OsStr, out: &mut impl Write) -> io::Result<Outcome> 
             mended::move_to(&source, text, form.unwrap_or(Form::Full), output, out)?
         }
         (Verb::Mend, Some(text)) => mended::mend(&source, file, text, *form, *only_told, out)?,
-        (Verb::Move | Verb::Mend, None) => Ok(Outcome::Trouble),
+        (Verb::Move | Verb::Mend, None) | (Verb::Explain, _) => Ok(Outcome::Trouble),
     };
     match written {
         Ok(outcome) => Ok(outcome),

@@ -47,6 +47,8 @@
 //! [`lent`] has the library's calls themselves, over slices, for those who keep their own memory: a table there may be anyone's, so what
 //! its rows spell are bytes.
 
+pub mod columns;
+pub mod diagnostic;
 mod document;
 mod ffi;
 mod file;
