@@ -233,7 +233,7 @@ fn several_files_are_all_checked() {
     folder.file("bad", "unit");
     let ran = folder.run(&["check", "good", "bad", "good"]);
     let wanted = format!(
-        "good: {OK}\nerror[21]: expected an identifier, found the end of the file\n --> bad:1:5\n  |\n1 | unit\n  |     ^\n  \
+        "good: {OK}\nerror[21]: expected an identifier after this, found the end of the file\n --> bad:1:5\n  |\n1 | unit\n  |     ^\n  \
          = proved: the library refuses the text with 21 at 1:5\n\nbad: refused, 1 error\ngood: {OK}\n"
     );
     assert_eq!((ran.out, ran.status), (wanted, 1));

@@ -38,7 +38,7 @@ fn each_fault_has_its_words() {
         );
         cases += 1;
     }
-    assert_eq!(cases, 92);
+    assert_eq!(cases, 110);
 }
 
 /// UTF-16 with its mark is 2, without it 11, and both are told at the start.

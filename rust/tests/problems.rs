@@ -344,17 +344,65 @@ fn assert_sound(text: &[u8]) {
     }
 }
 
+/// What people type by mistake, and parts of what stands around it.
+#[rustfmt::skip]
+const SNIPPETS: [&str; 64] = [
+    "==", "=", "!", "!=", "&&", "||", "->", "<", ">>", "<<<", "++", "--", "-=", "*=", "-1", "- ", "(", ")", "[", "]",
+    "{", "}", ";", ";;", ":", ".", ",", "*/", "/*", "//", "#", "\"", "'", "“", "”", "\u{a0}", "\u{feff}", "é", "0X1",
+    "0b1", "1.5", "5.", "1_0", "0x", "9999999999999999999", "map", "event", "unit", "reg", "let ", "if", "else",
+    "guard", "return", "section", "license", "type", "key", "max: ", "u64 ", "bytes", "\n", "\r", "@",
+];
+
+/// Each of these put in anywhere, and any six bytes or fewer taken out, is one message, where it is an error at all. Two come of a shift
+/// that is cut in two, and of a declaration's word in front of a brace.
+#[test]
+fn a_mistake_anywhere_is_one_message() {
+    let count = |text: String| errors(&text).len();
+    let places = 0..=PROGRAM.len();
+    let mut put_in = SNIPPETS.iter().flat_map(|snippet| {
+        let at = |place: usize| [&PROGRAM[..place], snippet, &PROGRAM[place..]].concat();
+        places.clone().map(move |place| count(at(place)))
+    });
+    let told = put_in.by_ref().filter(|told| *told > 0);
+    let (one, more): (Vec<usize>, Vec<usize>) = told.partition(|told| *told == 1);
+    assert_eq!((one.len(), more.len()), (23_281, 57));
+    for length in 1..=6 {
+        for place in 0..=PROGRAM.len() - length {
+            let text = [&PROGRAM[..place], &PROGRAM[place + length..]].concat();
+            assert!(count(text) <= 1, "{place} {length}");
+        }
+    }
+}
+
+/// The program with some of these put in.
+fn mistyped(random: &mut Random) -> Vec<u8> {
+    let mut text = PROGRAM.to_string();
+    for _ in 0..=random.below(4) {
+        let mut at = random.below(text.len() + 1);
+        while !text.is_char_boundary(at) {
+            at -= 1;
+        }
+        let end = text.len().min(at + random.below(3));
+        match text.is_char_boundary(end) {
+            true => text.replace_range(at..end, random.pick(&SNIPPETS)),
+            false => text.insert_str(at, random.pick(&SNIPPETS)),
+        }
+    }
+    text.into_bytes()
+}
+
 #[test]
 fn whatever_the_text_is_what_is_told_is_sound() {
     let mut random = Random::new(35);
     for step in 0..3000 {
-        let text = match step % 4 {
+        let text = match step % 6 {
             0 => random_text(&mut random),
             1 => damage::text(&mut random, 6),
             2 => {
                 let text = damage::text(&mut random, 4);
                 characters::with_characters(&mut random, &text)
             }
+            3 | 4 => mistyped(&mut random),
             _ => {
                 let mut text = PROGRAM.as_bytes().to_vec();
                 damage::damage_bytes(&mut random, &mut text);

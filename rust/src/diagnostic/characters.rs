@@ -85,6 +85,8 @@ pub fn no_operator(sign: &str) -> String {
         "&&" | "||" => "no logical operators",
         "&" | "|" | "^" | "~" | "&=" | "|=" | "^=" => "no bitwise operators",
         "?" => "no conditional expressions",
+        "->" => "no pointers to follow",
+        "<<<" | ">>>" | "<<=" | ">>=" => "the shifts '<<' and '>>' only",
         _ => "no comparisons",
     };
     format!("Solnix has {lack}: '{sign}' is not an operator")

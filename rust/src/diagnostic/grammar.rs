@@ -3,8 +3,9 @@
 
 use super::lexical::Reading;
 use super::nearest::nearest;
-use super::parts::Part;
+use super::parts::{is_declaration_word, Part};
 use super::scene::Scene;
+use super::statements::NO_COMMENT;
 use super::{maps, wanted, Diagnostic};
 use crate::document::Document;
 use crate::kind::Kind;
@@ -23,8 +24,9 @@ pub fn refusals(reading: &Reading, parts: &[Part], whole: Option<Refusal>) -> Ve
     let mut is_read = true;
     let mut unclosed = 0;
     for part in parts {
-        let is_rest =
-            !part.is_declaration && (!is_read || unclosed > 0 && only_closes(reading, part));
+        let closes = !part.is_declaration && unclosed > 0 && has_end(reading, part);
+        let is_rest = closes || !part.is_declaration && !is_read;
+        unclosed -= usize::from(closes);
         if is_rest || reading.has_fault(&part.own) {
             is_read = false;
             continue;
@@ -39,10 +41,10 @@ pub fn refusals(reading: &Reading, parts: &[Part], whole: Option<Refusal>) -> Ve
     told
 }
 
-/// Whether a part has nothing but `}`.
-fn only_closes(reading: &Reading, part: &Part) -> bool {
+/// Whether a part has a `}`, which may be that of a declaration in front that is not closed.
+fn has_end(reading: &Reading, part: &Part) -> bool {
     let rows = &reading.rows[part.rows.clone()];
-    rows.iter().all(|row| row.kind == Kind::RBrace)
+    rows.iter().any(|row| row.kind == Kind::RBrace)
 }
 
 /// The library's refusal of a part by itself, with its place in the whole text.
@@ -89,12 +91,18 @@ fn anchored(scene: &Scene) -> Diagnostic {
 
 /// 22: what stands where a declaration would.
 fn top_level(scene: &Scene, fitting: KindSet) -> Diagnostic {
+    let kind = scene.kind(scene.at);
+    if kind == Kind::Star && scene.kind(scene.at + 1) == Kind::Slash && scene.touches_next(scene.at)
+    {
+        return scene.told(scene.spans(scene.at..scene.at + 2), NO_COMMENT);
+    }
     let message = format!("expected {fitting}, found {}", scene.found(scene.at));
     let told = scene.told_of(scene.at, message);
-    match nearest(scene.word(scene.at), DECLARATIONS) {
-        _ if scene.kind(scene.at) == Kind::RBrace => told.help("no '{' is open here"),
-        Some(word) => told.help(format!("did you mean '{word}'?")),
-        None => told,
+    match (kind, nearest(scene.word(scene.at), DECLARATIONS)) {
+        (Kind::RBrace, _) => told.help("no '{' is open here"),
+        (Kind::Semicolon, _) => told.help("no ';' stands behind a declaration"),
+        (_, Some(word)) => told.help(format!("did you mean '{word}'?")),
+        _ => told,
     }
 }
 
@@ -138,9 +146,31 @@ pub fn not_closed(scene: &Scene) -> Option<Diagnostic> {
     if !scene.is_at_end() {
         return None;
     }
-    let message = format!("{} is not closed: expected '}}'", owner(scene, open));
-    let told = scene.told(end_of(scene), message);
+    let owner = owner(scene, open);
+    let told = match is_inside(scene) {
+        true => {
+            let word = scene.word(scene.at);
+            scene.told_of(
+                scene.at,
+                format!("'{word}' cannot stand inside {owner}: expected '}}' in front of it"),
+            )
+        }
+        false => scene.told(
+            end_of(scene),
+            format!("{owner} is not closed: expected '}}'"),
+        ),
+    };
     Some(told.note_at(scene.span(open), "this '{' is open"))
+}
+
+/// Whether the declaration at the place is indented, as one that is meant to stand inside.
+fn is_inside(scene: &Scene) -> bool {
+    let column = |row: usize| scene.rows.get(row).map_or(0, |row| row.column);
+    let line = |row: usize| scene.rows.get(row).map_or(0, |row| row.line);
+    let (first, last) = (scene.part.start, scene.at.saturating_sub(1));
+    is_declaration_word(scene.kind(scene.at))
+        && column(scene.at) > column(first)
+        && line(scene.at) > line(last)
 }
 
 /// What a `{` belongs to.

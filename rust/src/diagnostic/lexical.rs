@@ -77,6 +77,9 @@ pub fn read(text: &[u8], refusal: Option<Refusal>) -> Reading {
     let mut told_from = None;
     while let Some((begin, found)) = reading.next_fault(&valid) {
         let fault = fault(&valid, begin, &found);
+        if fault.unread.is_empty() {
+            break;
+        }
         let is_old = unknown.binary_search(&found.place.offset).is_ok()
             || told_from == Some(begin) && found.reason == Reason::OpenString;
         blank_out(&mut valid, &fault.unread);
@@ -254,7 +257,7 @@ fn letter(text: &str, at: usize) -> Fault {
 /// A quote that is none here, with what it encloses on its line.
 fn quote(text: &str, one: Range<usize>) -> Fault {
     let line = &text[one.end..line_end(text, one.end)];
-    match line.char_indices().find(|(_, letter)| is_quote(*letter)) {
+    match partner(line) {
         Some((length, other)) => {
             let message = format!("write straight quotes: \"{}\"", &line[..length]);
             let end = one.end + length + other.len_utf8();
@@ -262,6 +265,13 @@ fn quote(text: &str, one: Range<usize>) -> Fault {
         }
         None => Fault::new(one, "write straight quotes".to_string()),
     }
+}
+
+/// The quote that closes what one opens that is none here: the first like it, or a straight one if that has no partner itself.
+fn partner(line: &str) -> Option<(usize, char)> {
+    let is_single = line.matches('"').count() % 2 == 1;
+    line.char_indices()
+        .find(|(_, letter)| is_quote(*letter) && (is_single || *letter != '"'))
 }
 
 /// A blank that is none here, or what does not show; several of them are one fault.
@@ -277,14 +287,17 @@ fn foreign_blank(text: &str, at: usize, letter: char) -> Fault {
     Fault::new(at..end, format!("{name}: {advice}"))
 }
 
-/// An operator that other languages have.
+/// An operator that other languages have, with the signs of this one that it begins with.
 fn operator(text: &str, at: usize) -> Fault {
-    let from = at - usize::from(text[..at].ends_with('='));
+    let before = text[..at].trim_end_matches(['=', '<', '>']).len();
+    let from =
+        before - usize::from(text[before..].starts_with('>') && text[..before].ends_with('-'));
     let end = run(text, at, is_operator);
     let sign = &text[from..end];
     let fault = Fault::new(from..end, no_operator(sign));
     match sign {
         "<" | ">" => fault.help(format!("a shift is '{sign}{sign}'")),
+        "->" => fault.help("a field is written with '.'"),
         _ => fault,
     }
 }

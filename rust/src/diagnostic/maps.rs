@@ -82,7 +82,7 @@ pub fn negative(scene: &Scene) -> Diagnostic {
 /// 27: a `max`, or the length of an event's field.
 pub fn out_of_range(scene: &Scene) -> Diagnostic {
     if scene.before(1) == Kind::LBracket {
-        let value = scene.rows[scene.at].value;
+        let value = scene.value(scene.at);
         return scene.told_of(scene.at, format!("the length is {value}; {}", limit(value)));
     }
     let rows = expression(scene, scene.at + 1);
@@ -102,7 +102,7 @@ fn limit(value: i64) -> &'static str {
 
 /// 28: the count.
 pub fn shift_count(scene: &Scene) -> Diagnostic {
-    let count = scene.rows[scene.at].value;
+    let count = scene.value(scene.at);
     let limit = if count < 0 {
         "it cannot be negative"
     } else {
@@ -157,7 +157,7 @@ fn shifted(scene: &Scene, rows: Range<usize>) -> i64 {
     let mut value: i64 = 0;
     let mut sign = Kind::Number;
     for row in rows {
-        let number = scene.rows[row].value;
+        let number = scene.value(row);
         match (scene.kind(row), sign) {
             (Kind::Number, Kind::Shl) => value = value.wrapping_shl(number as u32),
             (Kind::Number, Kind::Shr) => value = value.wrapping_shr(number as u32),
@@ -212,4 +212,17 @@ pub fn no_dot(scene: &Scene, fitting: KindSet, found: Kind) -> Option<Diagnostic
     let name = scene.word(scene.at);
     let message = format!("expected '.' before the map type: write .{name}");
     is_dot.then(|| scene.told_of(scene.at, message))
+}
+
+/// A type in front of the name of an event's field.
+pub fn type_first(scene: &Scene, fitting: KindSet, found: Kind) -> Option<Diagnostic> {
+    let is_type = matches!(
+        found,
+        Kind::TypeU32 | Kind::TypeU64 | Kind::TypeI32 | Kind::TypeI64 | Kind::KeywordBytes
+    );
+    let is_field = fitting.len() == 2 && fitting.contains(Kind::RBrace);
+    let is_known = is_type && is_field && scene.kind(scene.at + 1) == Kind::Identifier;
+    let (of, name) = (scene.word(scene.at), scene.word(scene.at + 1));
+    let message = format!("a field's name stands in front of its type: write {name}: {of};");
+    is_known.then(|| scene.told_of(scene.at, message))
 }

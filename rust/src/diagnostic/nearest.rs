@@ -7,7 +7,10 @@ pub fn nearest<'a>(word: &str, words: impl IntoIterator<Item = &'a str>) -> Opti
     let near = words
         .into_iter()
         .map(|other| (distance(&word, other), other))
-        .filter(|(away, other)| *away <= 2 * 1.max(other.len() / 3));
+        .filter(|(away, other)| match word.len().min(other.len()) {
+            0..=2 => *away <= 1,
+            _ => *away <= 2 * 1.max(other.len() / 3),
+        });
     near.min_by_key(|(away, _)| *away).map(|(_, other)| other)
 }
 
@@ -64,6 +67,10 @@ mod tests {
         for (word, wanted) in cases {
             assert_eq!(nearest(word, words), wanted, "{word}");
         }
+        assert_eq!(
+            (nearest("f", ["if"]), nearest("fi", ["if"])),
+            (None, Some("if"))
+        );
         assert_eq!(
             nearest("load_u46", ["load_u16", "load_u64"]),
             Some("load_u64")

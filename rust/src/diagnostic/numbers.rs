@@ -7,9 +7,9 @@ use crate::kind::Kind;
 use crate::kind_set::KindSet;
 use std::ops::Range;
 
-/// A number with something directly behind it: `0X10`, `0b101`, `15.04`, `10_000`, `4k`.
-pub fn bad_number(scene: &Scene, _: KindSet, _: Kind) -> Option<Diagnostic> {
-    let rows = run_around(scene)?;
+/// A number with something directly behind it: `0X10`, `0b101`, `15.04`, `5.`, `10_000`, `1,000`, `4k`.
+pub fn bad_number(scene: &Scene, fitting: KindSet, _: Kind) -> Option<Diagnostic> {
+    let rows = run_around(scene, fitting).or_else(|| cut_off(scene))?;
     let spelt = scene.quoted(rows.clone())?;
     Some(scene.told(
         scene.spans(rows),
@@ -17,11 +17,19 @@ pub fn bad_number(scene: &Scene, _: KindSet, _: Kind) -> Option<Diagnostic> {
     ))
 }
 
-/// The rows around the place that touch each other, the first of them a number.
-fn run_around(scene: &Scene) -> Option<Range<usize>> {
+/// A number and a dot in front of the place.
+fn cut_off(scene: &Scene) -> Option<Range<usize>> {
+    let is_cut = scene.before(1) == Kind::Dot && scene.before(2) == Kind::Number;
+    is_cut.then(|| scene.at - 2..scene.at)
+}
+
+/// The rows around the place that touch each other, the first of them a number. A comma is one of them where none would have fitted.
+fn run_around(scene: &Scene, fitting: KindSet) -> Option<Range<usize>> {
+    let with_comma = !fitting.contains(Kind::Comma);
     let is_part = |row: usize| {
         let kind = scene.kind(row);
-        matches!(kind, Kind::Number | Kind::Identifier | Kind::Dot) || is_word(kind)
+        let is_comma = with_comma && kind == Kind::Comma && scene.kind(row + 1) == Kind::Number;
+        is_comma || matches!(kind, Kind::Number | Kind::Identifier | Kind::Dot) || is_word(kind)
     };
     if !is_part(scene.at) || scene.is_at_end() {
         return None;
@@ -49,7 +57,7 @@ fn advice(spelt: &str) -> String {
             .find_map(|prefix| digits.strip_prefix(prefix))?;
         i64::from_str_radix(behind, base).ok()
     };
-    let without = digits.replace('_', "");
+    let without = digits.replace(['_', ','], "");
     if let Some(hex) = digits.strip_prefix("0X") {
         return format!("write {sign}0x{hex}");
     }
@@ -110,8 +118,7 @@ pub fn value(scene: &Scene, rows: Range<usize>) -> Option<i64> {
         .any(|row| matches!(scene.kind(row), Kind::Shl | Kind::Shr));
     let sums = rows.clone().any(|row| {
         let kind = scene.kind(row);
-        matches!(kind, Kind::Plus | Kind::Minus)
-            || kind == Kind::Number && scene.rows[row].value < 0
+        matches!(kind, Kind::Plus | Kind::Minus) || kind == Kind::Number && scene.value(row) < 0
     });
     if shifts && sums || rows.len() > MOST_ROWS {
         return None;
@@ -126,7 +133,7 @@ fn binds(scene: &Scene, row: usize) -> Option<usize> {
     match scene.kind(row) {
         Kind::Shl | Kind::Shr => Some(0),
         Kind::Plus | Kind::Minus => Some(1),
-        Kind::Number if scene.rows[row].value < 0 => Some(1),
+        Kind::Number if scene.value(row) < 0 => Some(1),
         Kind::Star | Kind::Slash | Kind::Percent => Some(2),
         _ => None,
     }
@@ -153,7 +160,7 @@ fn operand(scene: &Scene, at: &mut usize, end: usize) -> Option<i64> {
     *at += 1;
     match scene.kind(row) {
         _ if row >= end => None,
-        Kind::Number => Some(scene.rows[row].value),
+        Kind::Number => Some(scene.value(row)),
         Kind::LParen => {
             let value = chain(scene, at, end, 0)?;
             *at += 1;
@@ -189,6 +196,8 @@ mod tests {
             ("0o17", "there are no octal numbers, write 15"),
             ("15.04", "whole numbers only"),
             ("10_000", "write 10000"),
+            ("1,000", "write 1000"),
+            ("5.", "whole numbers only"),
             ("4k", "a letter stands directly behind it"),
         ];
         for (spelt, wanted) in cases {

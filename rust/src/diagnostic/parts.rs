@@ -61,7 +61,7 @@ pub fn is_declaration_word(kind: Kind) -> bool {
 fn declaration_end(rows: &[Row], first: usize) -> (usize, bool) {
     let mut depth = 0;
     for at in first + 1..rows.len() - 1 {
-        if begins(rows, at) {
+        if begins(rows, at, rows[first].column) {
             return (at, false);
         }
         match rows[at].kind {
@@ -78,24 +78,31 @@ fn declaration_end(rows: &[Row], first: usize) -> (usize, bool) {
 fn next_begin(rows: &[Row], first: usize) -> usize {
     let last = rows.len() - 1;
     (first + 1..last)
-        .find(|&at| begins(rows, at))
+        .find(|&at| begins(rows, at, usize::MAX))
         .unwrap_or(last)
 }
 
-/// Whether a row begins a declaration, inside a broken one too: the word stands nowhere else in a program, so elsewhere
-/// it is taken for one unless it stands where a name would.
-fn begins(rows: &[Row], at: usize) -> bool {
+/// Whether a row begins a declaration, inside a broken one too. The word stands nowhere else in a program. So it begins one if a name and
+/// `{` follow; or, up to this column, if it is the first on its line and has a name on it, or none, and nothing else but `{`.
+fn begins(rows: &[Row], at: usize, column: usize) -> bool {
     let kind = |index: usize| rows.get(index).map_or(Kind::Eof, |row| row.kind);
     if !is_declaration_word(kind(at)) {
         return false;
     }
-    let before = rows[at - 1];
     let is_name = matches!(kind(at + 1), Kind::Identifier | Kind::Number) || is_word(kind(at + 1));
-    let is_named = is_name && kind(at + 2) == Kind::LBrace;
-    let may_follow = is_name || matches!(kind(at + 1), Kind::LBrace | Kind::Eof);
+    if is_name && kind(at + 2) == Kind::LBrace {
+        return true;
+    }
+    let is_alone = |index: usize| {
+        let next = rows.get(index);
+        next.is_none_or(|next| {
+            next.line > rows[at].line || matches!(next.kind, Kind::LBrace | Kind::Eof)
+        })
+    };
+    let before = rows[at - 1];
     let is_apart = matches!(before.kind, Kind::RBrace | Kind::Semicolon)
         || before.line < rows[at].line && !wants_name(before.kind);
-    is_named || may_follow && is_apart
+    is_apart && rows[at].column <= column && is_alone(at + 1 + usize::from(is_name))
 }
 
 /// Whether a name stands behind a row of this kind.

@@ -49,7 +49,9 @@ impl<'a> Scene<'a> {
 
     /// How a row is spelt.
     pub fn word(&self, row: usize) -> &'a str {
-        self.rows.get(row).map_or("", |row| &self.text[row.span()])
+        let row = self.rows.get(row);
+        row.and_then(|row| self.text.get(row.span()))
+            .unwrap_or_default()
     }
 
     pub fn span(&self, row: usize) -> Range<usize> {
@@ -62,9 +64,14 @@ impl<'a> Scene<'a> {
         self.span(rows.start).start..self.span(rows.end.saturating_sub(1)).end
     }
 
+    /// A number's value; 0 of any other row.
+    pub fn value(&self, row: usize) -> i64 {
+        self.rows.get(row).map_or(0, |row| row.value)
+    }
+
     /// The text of some rows, if it is short and on one line.
     pub fn quoted(&self, rows: Range<usize>) -> Option<&'a str> {
-        let text = &self.text[self.spans(rows)];
+        let text = self.text.get(self.spans(rows))?;
         (text.len() <= MOST_QUOTED && !text.contains('\n')).then_some(text)
     }
 

@@ -167,8 +167,16 @@ pub fn reserved(scene: &Scene, fitting: KindSet, found: Kind) -> Option<Diagnost
     is_name.then(|| scene.told_of(scene.at, message))
 }
 
-/// A section or a licence without quotes.
+/// A section or a licence without quotes, or with a sign in front of them.
 pub fn no_string(scene: &Scene, fitting: KindSet, found: Kind) -> Option<Diagnostic> {
+    let next = scene.at + 1;
+    if matches!(found, Kind::Equals | Kind::Colon) && scene.kind(next) == Kind::StringLiteral {
+        let (word, string) = (scene.word(scene.at - 1), scene.quoted(next..next + 1)?);
+        return Some(scene.told_of(
+            scene.at,
+            format!("expected a string: write {word} {string};"),
+        ));
+    }
     let is_bare =
         fitting.contains(Kind::StringLiteral) && (found == Kind::Identifier || is_word(found));
     let message = format!("expected a string: write \"{}\"", scene.word(scene.at));
@@ -217,3 +225,77 @@ pub fn late_shift(scene: &Scene, fitting: KindSet, found: Kind) -> Option<Diagno
     let help = "put the sum in parentheses: (a + b) << c";
     is_late.then(|| scene.told_of(scene.at, message).help(help))
 }
+
+/// A variable with a type: `reg a: u64 = 1;` and `reg u64 a = 1;`.
+pub fn typed(scene: &Scene, _: KindSet, found: Kind) -> Option<Diagnostic> {
+    let declares = |kind: Kind| {
+        matches!(
+            kind,
+            Kind::KeywordReg | Kind::KeywordImm | Kind::KeywordHeap
+        )
+    };
+    let (word, name) = match found {
+        Kind::Colon if declares(scene.before(2)) => (scene.at - 2, scene.at - 1),
+        Kind::TypeU32 | Kind::TypeU64 | Kind::TypeI32 | Kind::TypeI64
+            if declares(scene.before(1)) && scene.kind(scene.at + 1) == Kind::Identifier =>
+        {
+            (scene.at - 1, scene.at + 1)
+        }
+        _ => return None,
+    };
+    let (word, name) = (scene.word(word), scene.word(name));
+    let message = format!("a variable is declared without a type: write {word} {name} = ..;");
+    Some(scene.told_of(scene.at, message))
+}
+
+/// A call of something that is no method, and loops, which look like one.
+pub fn called(scene: &Scene, fitting: KindSet, found: Kind) -> Option<Diagnostic> {
+    let is_call =
+        found == Kind::LParen && scene.before(1) == Kind::Identifier && fitting.contains(Kind::Dot);
+    if !is_call {
+        return None;
+    }
+    let row = scene.at - 1;
+    let name = scene.word(row);
+    let message = match name {
+        "while" | "for" | "loop" | "do" => {
+            format!("Solnix has no loops: '{name}' begins no statement")
+        }
+        "switch" | "match" => format!("'{name}' begins no statement: did you mean 'if guard'?"),
+        _ if nearest(name, BEGINNINGS).is_some() => return None,
+        _ => format!("there are no functions, only methods of variables: write ctx.{name}(..)"),
+    };
+    Some(scene.told_of(row, message))
+}
+
+/// `a[0]`.
+pub fn indexed(scene: &Scene, fitting: KindSet, found: Kind) -> Option<Diagnostic> {
+    let is_index = found == Kind::LBracket && fitting.contains(Kind::Dot);
+    let message = "Solnix has no indexing: '[' stands only behind the type of an event's field";
+    is_index.then(|| scene.told_of(scene.at, message))
+}
+
+/// `-a`.
+pub fn negated(scene: &Scene, fitting: KindSet, found: Kind) -> Option<Diagnostic> {
+    let is_sign =
+        found == Kind::Minus && fitting.contains(Kind::Number) && fitting.contains(Kind::LParen);
+    let next = scene.kind(scene.at + 1);
+    let operand = match next {
+        Kind::Identifier => scene.word(scene.at + 1),
+        Kind::LParen => "(..)",
+        _ => return None,
+    };
+    let message = format!("only a number has a sign in front of it: write 0 - {operand}");
+    is_sign.then(|| scene.told_of(scene.at, message))
+}
+
+/// `*/` behind a comment that is closed already.
+pub fn comment_end(scene: &Scene, _: KindSet, found: Kind) -> Option<Diagnostic> {
+    let is_end =
+        found == Kind::Slash && scene.before(1) == Kind::Star && scene.touches_next(scene.at - 1);
+    let span = scene.spans(scene.at.saturating_sub(1)..scene.at + 1);
+    is_end.then(|| scene.told(span, NO_COMMENT))
+}
+
+/// What is said of `*/` where no comment is open.
+pub const NO_COMMENT: &str = "'*/' closes nothing: comments do not nest";

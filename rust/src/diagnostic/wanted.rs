@@ -10,7 +10,7 @@ use crate::kind_set::KindSet;
 type Rule = fn(&Scene, KindSet, Kind) -> Option<Diagnostic>;
 
 /// The rules, special ones first.
-const RULES: [Rule; 20] = [
+const RULES: [Rule; 27] = [
     statements::comparison,
     statements::doubled,
     numbers::bad_number,
@@ -18,6 +18,13 @@ const RULES: [Rule; 20] = [
     statements::assignment,
     maps::in_max,
     maps::no_dot,
+    maps::type_first,
+    comma,
+    statements::typed,
+    statements::called,
+    statements::indexed,
+    statements::negated,
+    statements::comment_end,
     statements::guard,
     statements::guarded,
     statements::else_if,
@@ -39,16 +46,24 @@ pub fn told(scene: &Scene, fitting: KindSet, found: Kind) -> Diagnostic {
     known.unwrap_or_else(|| any(scene, fitting))
 }
 
-/// What is said where no rule knows better.
+/// What is said where no rule knows better: of a row on another line that something was expected in front of it.
 fn any(scene: &Scene, fitting: KindSet) -> Diagnostic {
-    let span = match scene.kind(scene.at) {
-        Kind::Eof => scene.behind(),
-        _ => scene.span(scene.at),
-    };
-    scene.told(
-        span,
-        format!("expected {fitting}, found {}", scene.found(scene.at)),
-    )
+    let found = scene.found(scene.at);
+    let is_begun = !scene.is_on_line() && scene.statement() < scene.at;
+    match is_begun || scene.kind(scene.at) == Kind::Eof {
+        true => scene.told(
+            scene.behind(),
+            format!("expected {fitting} after this, found {found}"),
+        ),
+        false => scene.told_of(scene.at, format!("expected {fitting}, found {found}")),
+    }
+}
+
+/// A comma behind a field.
+fn comma(scene: &Scene, fitting: KindSet, found: Kind) -> Option<Diagnostic> {
+    let is_field = scene.kind(scene.part.start) != Kind::KeywordUnit;
+    let is_known = is_field && found == Kind::Comma && fitting.contains(Kind::Semicolon);
+    is_known.then(|| scene.told_of(scene.at, "expected ';': a field does not end with ','"))
 }
 
 /// The `}` is missing.
