@@ -16,7 +16,6 @@ mod verb;
 
 use check::Checking;
 use output::Output;
-use paint::Colour;
 use source::{Source, Trouble};
 use spoonharbor::{columns, lent, Document, Form, Refusal, LONGEST_TEXT, VERSION};
 use std::ffi::{OsStr, OsString};
@@ -91,7 +90,7 @@ fn asked(arguments: &[OsString]) -> Asked {
         return Asked::Misused("a verb is missing".to_string());
     };
     match (first.to_str(), Verb::named(first)) {
-        (_, Some(verb)) => asked_of(verb, rest),
+        (_, Some(verb)) => asked_of(verb, &parted(rest)),
         (Some("help" | "--help" | "-h"), _) => {
             let verb = rest.first().and_then(|verb| Verb::named(verb));
             Asked::Help(verb.map_or(USAGE, Verb::usage))
@@ -100,6 +99,19 @@ fn asked(arguments: &[OsString]) -> Asked {
         _ if is_option(first) => Asked::Misused(unknown_option(first)),
         _ => Asked::Misused(format!("unknown verb {}", first.to_string_lossy())),
     }
+}
+
+/// The arguments, with `--color=WHEN` and `--deny=WHAT` as two; what stands behind `--` stays as it is.
+fn parted(arguments: &[OsString]) -> Vec<OsString> {
+    let options = arguments.iter().take_while(|argument| *argument != "--");
+    let count = options.clone().count();
+    let parts = options.flat_map(|argument| {
+        match argument.to_str().and_then(|word| word.split_once('=')) {
+            Some((name @ ("--color" | "--deny"), choice)) => vec![name.into(), choice.into()],
+            _ => vec![argument.clone()],
+        }
+    });
+    parts.chain(arguments[count..].iter().cloned()).collect()
 }
 
 /// Reads a verb's arguments. What stands behind `--` is a file, whatever it begins with.
@@ -117,16 +129,9 @@ fn asked_of(verb: Verb, arguments: &[OsString]) -> Asked {
             Some("--text") if option.is_some() => options.text = rest.next().cloned(),
             Some("--style") if option.is_some() => options.checking.with_style = true,
             Some("--json") if option.is_some() => options.checking.as_json = true,
-            Some("--deny") if option.is_some() => {
-                match rest.next().and_then(|what| what.to_str()) {
-                    Some("warnings") => options.checking.denies_warnings = true,
-                    _ => return misused(verb, "behind --deny the word warnings is wanted"),
-                }
-            }
-            Some("--color") if option.is_some() => {
-                match rest.next().and_then(|colour| Colour::named(colour)) {
-                    Some(colour) => options.checking.colour = colour,
-                    None => return misused(verb, "behind --color auto, always or never is wanted"),
+            Some(word @ ("--deny" | "--color")) if option.is_some() => {
+                if let Err(lack) = options.checking.choose(word, rest.next()) {
+                    return misused(verb, lack);
                 }
             }
             Some("--check") if option.is_some() => options.only_told = true,

@@ -93,137 +93,54 @@ fn characters_are_printed() {
     assert_eq!(folder.run(&["check", "t"]).status, 0);
 }
 
-/// Each refusal's words, and the place that the library tells.
+/// Texts, the number and words of their refusals, and the places that the library tells.
+#[rustfmt::skip]
+const REFUSALS: [(&str, u32, &str, &str); 23] = [
+    ("@", 11, "nothing begins with '@'", "1:1"),
+    ("a \u{1}", 11, "nothing begins with '\\x01'", "1:3"),
+    ("a<b", 16, "Solnix has no comparisons: '<' is not an operator", "1:2"),
+    ("a >= b", 16, "Solnix has no comparisons: '>=' is not an operator", "1:3"),
+    ("-0xg", 17, "expected a hex digit behind '0x'", "1:4"),
+    ("0x", 17, "expected a hex digit behind '0x'", "1:3"),
+    ("a0x@", 11, "nothing begins with '@'", "1:4"),
+    ("a /* b", 12, "this comment is not closed: expected '*/'", "1:5"),
+    ("\"a\nb", 13, "this string is not closed: expected '\"'", "1:3"),
+    ("\"a\\t\"", 14, "unknown escape: expected '\\\"', '\\\\' or '\\n'", "1:3"),
+    ("99999999999999999999", 15, "number too large: the most is 9223372036854775807", "1:1"),
+    ("unit u{\n", 21, "unit 'u' is not closed: expected '}'", "2:1"),
+    ("event e{}\nunits", 22, "expected 'unit', 'map', 'event' or end of file, found 'units'", "2:1"),
+    ("map m{type}", 21, "expected ':' after this", "1:11"),
+    ("map m{type:.tree;", 24, "unknown map type 'tree'; one of .hash .array .ringbuf .lru_hash .prog_array", "1:17"),
+    ("map m{key:u8;", 25, "'u8' is no type: u32, u64, i32 or i64", "1:13"),
+    ("map m{max:1<<63;", 26, "max is -9223372036854775808; it cannot be negative", "1:16"),
+    ("map m{max:4294967296;", 27, "max is 4294967296; the most is 4294967295", "1:11"),
+    ("map m{max:1<<64;", 28, "the shift count is 64; the most is 63", "1:14"),
+    ("map m{type:.ringbuf;}\n\nevent e{}", 29, "map 'm' has no 'max'", "3:1"),
+    ("event e{a:u8;", 30, "expected 'u32', 'u64', 'i32', 'i64' or 'bytes', found 'u8'", "1:11"),
+    ("unit u{a.b.c();}", 31, "only a variable has methods", "1:12"),
+    ("unit u{a-=1;}", 21, "only '=' and '+=' assign: write a = a - 1", "1:9"),
+];
+
+fn is_refused(folder: &Folder, text: &str, number: u32, message: &str, place: &str) {
+    folder.file("t", text);
+    let ran = folder.run(&["check", "t"]);
+    let first = ran.out.lines().next().unwrap_or_default();
+    assert_eq!(first, format!("error[{number}]: {message}"), "{text:?}");
+    let proved = format!("proved: the library refuses the text with {number} at {place}\n");
+    assert!(ran.out.contains(&proved), "{text:?}");
+    assert_eq!((ran.complaints.as_str(), ran.status), ("", 1), "{text:?}");
+    assert!(ran.out.ends_with("\nt: refused, 1 error\n"), "{text:?}");
+}
+
 #[test]
 fn each_refusal_has_its_words() {
-    let deep = format!("unit u{{{}1;}}", "(".repeat(65));
-    let cases: [(&str, u32, &str, &str); 24] = [
-        ("@", 11, "nothing begins with '@'", "1:1"),
-        ("a \u{1}", 11, "nothing begins with '\\x01'", "1:3"),
-        (
-            "a<b",
-            16,
-            "Solnix has no comparisons: '<' is not an operator",
-            "1:2",
-        ),
-        (
-            "a >= b",
-            16,
-            "Solnix has no comparisons: '>=' is not an operator",
-            "1:3",
-        ),
-        ("-0xg", 17, "expected a hex digit behind '0x'", "1:4"),
-        ("0x", 17, "expected a hex digit behind '0x'", "1:3"),
-        ("a0x@", 11, "nothing begins with '@'", "1:4"),
-        (
-            "a /* b",
-            12,
-            "this comment is not closed: expected '*/'",
-            "1:5",
-        ),
-        (
-            "\"a\nb",
-            13,
-            "this string is not closed: expected '\"'",
-            "1:3",
-        ),
-        (
-            "\"a\\t\"",
-            14,
-            "unknown escape: expected '\\\"', '\\\\' or '\\n'",
-            "1:3",
-        ),
-        (
-            "99999999999999999999",
-            15,
-            "number too large: the most is 9223372036854775807",
-            "1:1",
-        ),
-        (
-            "unit u{\n",
-            21,
-            "unit 'u' is not closed: expected '}'",
-            "2:1",
-        ),
-        (
-            "event e{}\nunits",
-            22,
-            "expected 'unit', 'map', 'event' or end of file, found 'units'",
-            "2:1",
-        ),
-        ("map m{type}", 21, "expected ':' after this", "1:11"),
-        (
-            "map m{type:.tree;",
-            24,
-            "unknown map type 'tree'; one of .hash .array .ringbuf .lru_hash .prog_array",
-            "1:17",
-        ),
-        (
-            "map m{key:u8;",
-            25,
-            "'u8' is no type: u32, u64, i32 or i64",
-            "1:13",
-        ),
-        (
-            "map m{max:1<<63;",
-            26,
-            "max is -9223372036854775808; it cannot be negative",
-            "1:16",
-        ),
-        (
-            "map m{max:4294967296;",
-            27,
-            "max is 4294967296; the most is 4294967295",
-            "1:11",
-        ),
-        (
-            "map m{max:1<<64;",
-            28,
-            "the shift count is 64; the most is 63",
-            "1:14",
-        ),
-        (
-            "map m{type:.ringbuf;}\n\nevent e{}",
-            29,
-            "map 'm' has no 'max'",
-            "3:1",
-        ),
-        (
-            "event e{a:u8;",
-            30,
-            "expected 'u32', 'u64', 'i32', 'i64' or 'bytes', found 'u8'",
-            "1:11",
-        ),
-        (
-            "unit u{a.b.c();}",
-            31,
-            "only a variable has methods",
-            "1:12",
-        ),
-        (
-            &deep,
-            32,
-            "nested too deeply: at most 64 may be open",
-            "1:72",
-        ),
-        (
-            "unit u{a-=1;}",
-            21,
-            "only '=' and '+=' assign: write a = a - 1",
-            "1:9",
-        ),
-    ];
     let folder = Folder::new("words");
-    for (text, number, message, place) in cases {
-        folder.file("t", text);
-        let ran = folder.run(&["check", "t"]);
-        let first = ran.out.lines().next().unwrap_or_default();
-        assert_eq!(first, format!("error[{number}]: {message}"), "{text:?}");
-        let proved = format!("proved: the library refuses the text with {number} at {place}\n");
-        assert!(ran.out.contains(&proved), "{text:?}");
-        assert_eq!((ran.complaints.as_str(), ran.status), ("", 1), "{text:?}");
-        assert!(ran.out.ends_with("\nt: refused, 1 error\n"), "{text:?}");
+    for (text, number, message, place) in REFUSALS {
+        is_refused(&folder, text, number, message, place);
     }
+    let deep = format!("unit u{{{}1;}}", "(".repeat(65));
+    let message = "nested too deeply: at most 64 may be open";
+    is_refused(&folder, &deep, 32, message, "1:72");
 }
 
 #[test]

@@ -164,6 +164,8 @@ fn colour_is_written_where_it_is_wanted() {
 t: refused, 1 error
 ";
     assert_eq!(ran.out, wanted);
+    let ran = folder.run(&["check", "--color=always", "t"]);
+    assert_eq!(ran.out, wanted);
     for choice in ["auto", "never"] {
         assert_eq!(folder.run(&["check", "--color", choice, "t"]).out, plain);
     }
@@ -246,6 +248,7 @@ fn warnings_may_be_denied() {
         ran.out
     );
     assert_eq!(ran.status, 1);
+    assert_eq!(folder.run(&["check", "t", "--deny=warnings"]).status, 1);
     let ran = folder.run(&["check", "--deny", "all", "t"]);
     assert!(ran
         .complaints

@@ -5,6 +5,7 @@ use super::source::Source;
 use super::{json, message, Outcome};
 use spoonharbor::diagnostic::{diagnose, Checks, Diagnostic};
 use spoonharbor::{Document, NodeKind, Tree};
+use std::ffi::OsString;
 use std::io::{self, Write};
 
 /// The number of the warning that `--style` asks for.
@@ -23,6 +24,22 @@ pub struct Checking {
     /// Whether each problem is one line for programs.
     pub as_json: bool,
     pub colour: Colour,
+}
+
+impl Checking {
+    /// Takes what stands behind `--deny` or `--color`, or says what should.
+    pub fn choose(&mut self, option: &str, choice: Option<&OsString>) -> Result<(), &'static str> {
+        if option == "--deny" {
+            self.denies_warnings = choice.is_some_and(|choice| choice == "warnings");
+            return match self.denies_warnings {
+                true => Ok(()),
+                false => Err("behind --deny the word warnings is wanted"),
+            };
+        }
+        let colour = choice.and_then(|choice| Colour::named(choice));
+        self.colour = colour.ok_or("behind --color auto, always or never is wanted")?;
+        Ok(())
+    }
 }
 
 /// Checks one text.
