@@ -32,10 +32,14 @@ mod warnings;
 
 pub use explain::{explain, explained, Explained};
 
+use crate::columns::shown;
 use crate::document::Document;
 use crate::refusal::{Place, Reason, Refusal};
 use std::fmt;
 use std::ops::Range;
+
+/// The most letters of a message, a note or a help.
+const MOST_LETTERS: usize = 300;
 
 /// How bad it is.
 #[derive(Debug, Clone, Copy, PartialEq, Eq, Hash)]
@@ -134,7 +138,7 @@ impl Diagnostic {
             number,
             severity,
             span,
-            message,
+            message: printable(&message),
             notes: Vec::new(),
             help: None,
             proved: None,
@@ -152,7 +156,7 @@ impl Diagnostic {
     fn note(mut self, message: impl Into<String>) -> Diagnostic {
         self.notes.push(Note {
             span: None,
-            message: message.into(),
+            message: printable(&message.into()),
         });
         self
     }
@@ -160,13 +164,13 @@ impl Diagnostic {
     fn note_at(mut self, span: Range<usize>, message: impl Into<String>) -> Diagnostic {
         self.notes.push(Note {
             span: Some(span),
-            message: message.into(),
+            message: printable(&message.into()),
         });
         self
     }
 
     fn help(mut self, help: impl Into<String>) -> Diagnostic {
-        self.help = Some(help.into());
+        self.help = Some(printable(&help.into()));
         self
     }
 
@@ -183,6 +187,22 @@ impl Diagnostic {
     /// Whether it is about the text as a whole, so that no line of it is shown.
     pub fn is_about_the_whole(&self) -> bool {
         self.number == Reason::TextTooLong.number()
+    }
+}
+
+/// Words that may hold parts of a text, as they may be printed: with a `?` for what does not show, and not too long.
+fn printable(words: &str) -> String {
+    let shown = shown(words);
+    match shown.char_indices().nth(MOST_LETTERS) {
+        Some((end, _)) => format!("{}...", &shown[..end]),
+        None => shown,
+    }
+}
+
+impl Document {
+    /// Everything that is wrong with the text, in its order. The text is read afresh for it.
+    pub fn diagnostics(&self, checks: &Checks) -> Vec<Diagnostic> {
+        diagnose(self.text().as_bytes(), checks)
     }
 }
 
@@ -250,6 +270,24 @@ mod tests {
         }
         assert_eq!(Position::of(b"\xff\xffa", 3).utf16, 4);
         assert_eq!(Position::of(b"a", 99).byte, 1);
+    }
+
+    #[test]
+    fn words_may_be_printed() {
+        let text = "unit u { section \"kpro\u{1b}[31m\u{202e}be/\"; license \"GPL\"; }";
+        let told = Document::open(text)
+            .unwrap()
+            .diagnostics(&Checks::default());
+        assert_eq!(
+            told[0].message,
+            "the section \"kpro?[31m?be/\" gives no program kind"
+        );
+        let long = format!(
+            "unit u {{ section \"{}\"; license \"GPL\"; }}",
+            "é".repeat(900)
+        );
+        let told = diagnose(long.as_bytes(), &Checks::default());
+        assert_eq!(told[0].message.chars().count(), MOST_LETTERS + 3);
     }
 
     #[test]
