@@ -56,10 +56,13 @@ pub enum Severity {
 pub struct Diagnostic {
     /// The refusal's number, or from 101 on that of a warning; [`explain`] says what it means.
     pub number: u32,
+    /// Whether the text is refused for it.
     pub severity: Severity,
     /// The bytes that it is about; empty where something is missing.
     pub span: Range<usize>,
+    /// What is wrong, in one line.
     pub message: String,
+    /// What belongs to it.
     pub notes: Vec<Note>,
     /// What to write, if that is known.
     pub help: Option<String>,
@@ -72,7 +75,9 @@ pub struct Diagnostic {
 #[derive(Debug, Clone, PartialEq, Eq)]
 #[non_exhaustive]
 pub struct Note {
+    /// The bytes that it is about, if it is about some.
     pub span: Option<Range<usize>>,
+    /// What it says, in one line.
     pub message: String,
 }
 
@@ -88,7 +93,9 @@ pub struct Checks {
 #[derive(Debug, Clone, Copy, PartialEq, Eq, Hash)]
 #[non_exhaustive]
 pub struct Position {
+    /// The offset.
     pub byte: usize,
+    /// One more than the newlines in front.
     pub line: usize,
     /// In bytes.
     pub column: usize,

@@ -301,7 +301,12 @@ fn lexical_faults_are_all_told() {
         .collect();
     assert_eq!(found, [(11, 2), (16, 3), (11, 4), (14, 5), (14, 5)]);
     let many = "@ ".repeat(2000);
-    assert_eq!(errors(&many).len(), 500);
+    let told = errors(&many);
+    assert_eq!(told.len(), 500);
+    assert_eq!(
+        told[499].notes[0].message,
+        "what stands behind this is not read"
+    );
 }
 
 /// What is told of any bytes: spans lie in the text and between characters, messages stand in order, errors come

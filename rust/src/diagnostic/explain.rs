@@ -5,6 +5,7 @@
 #[derive(Debug, Clone, Copy, PartialEq, Eq)]
 #[non_exhaustive]
 pub struct Explained {
+    /// The number.
     pub number: u32,
     /// A few words for it.
     pub title: &'static str,

@@ -64,50 +64,61 @@ fn looks_like_utf16(text: &[u8]) -> bool {
 
 /// Reads a text to its end, over all faults. `refusal` is the library's of the whole text.
 pub fn read(text: &[u8], refusal: Option<Refusal>) -> Reading {
+    let (valid, unknown) = made_valid(text);
     let mut reading = Reading {
-        text: String::new(),
+        text: valid,
         rows: Vec::new(),
         faults: Vec::new(),
         told: Vec::new(),
     };
-    let (mut valid, unknown) = made_valid(text);
     if let Some(refusal) = refusal.filter(|refusal| refusal.reason == Reason::BadByte) {
         reading.told.push(no_utf8(text, &refusal, unknown.len()));
     }
-    let mut told_from = None;
-    while let Some((begin, found)) = reading.next_fault(&valid) {
-        let fault = fault(&valid, begin, &found);
+    let mut last = None;
+    while let Some((begin, found)) = reading.next_fault() {
+        let fault = fault(&reading.text, begin, &found);
         if fault.unread.is_empty() {
             break;
         }
-        let is_old = unknown.binary_search(&found.place.offset).is_ok()
-            || told_from == Some(begin) && found.reason == Reason::OpenString;
-        blank_out(&mut valid, &fault.unread);
-        reading.faults.push(fault.unread.clone());
-        told_from = Some(begin);
-        if is_old {
-            continue;
+        let is_told = unknown.binary_search(&found.place.offset).is_ok()
+            || last == Some(begin) && found.reason == Reason::OpenString;
+        reading.leave_out(fault.unread.clone());
+        if !is_told {
+            reading.tell(told(fault, &found, refusal), begin);
         }
-        reading.told.push(told(fault, &found, refusal));
-        if reading.told.len() == MOST_TOLD {
-            let rest = begin..valid.len();
-            blank_out(&mut valid, &rest);
-            reading.faults.push(rest);
-        }
+        last = Some(begin);
     }
-    reading.text = valid;
     reading
 }
 
 impl Reading {
     /// Reads the text, and gives the refusal that ends the rows and where what is refused begins.
-    fn next_fault(&mut self, text: &str) -> Option<(usize, Refusal)> {
-        let document = Document::open(text).ok()?;
+    fn next_fault(&mut self) -> Option<(usize, Refusal)> {
+        let document = Document::open(self.text.as_str()).ok()?;
         self.rows = document.rows().collect();
         let end = self.rows.last().map_or(0, |row| row.end);
-        document
-            .refusal()
-            .map(|refusal| (gap_end(text, end), refusal))
+        let refusal = document.refusal()?;
+        Some((gap_end(&self.text, end), refusal))
+    }
+
+    /// Puts blanks in the place of some characters; lines stay.
+    fn leave_out(&mut self, range: Range<usize>) {
+        let blank = |byte: u8| if byte == b'\n' { '\n' } else { ' ' };
+        let blanks: String = self.text[range.clone()].bytes().map(blank).collect();
+        self.text.replace_range(range.clone(), &blanks);
+        self.faults.push(range);
+    }
+
+    /// Tells a fault. If it is the last that is told, the text from its begin on is left out.
+    fn tell(&mut self, told: Diagnostic, begin: usize) {
+        let is_last = self.told.len() + 1 == MOST_TOLD;
+        self.told.push(match is_last {
+            true => told.note("what stands behind this is not read"),
+            false => told,
+        });
+        if is_last {
+            self.leave_out(begin..self.text.len());
+        }
     }
 
     /// Whether something in these bytes was refused.
@@ -155,15 +166,6 @@ fn told(fault: Fault, found: &Refusal, whole: Option<Refusal>) -> Diagnostic {
         Some(whole) if whole == *found => told.proved_at(whole.place),
         _ => told,
     }
-}
-
-/// Puts blanks in the place of some characters; lines stay.
-fn blank_out(text: &mut String, range: &Range<usize>) {
-    let blanks: String = text[range.clone()]
-        .bytes()
-        .map(|byte| if byte == b'\n' { '\n' } else { ' ' })
-        .collect();
-    text.replace_range(range.clone(), &blanks);
 }
 
 /// Where the gap ends that begins here: behind blanks and closed comments.
