@@ -34,15 +34,8 @@ fn run_around(scene: &Scene, fitting: KindSet) -> Option<Range<usize>> {
     if !is_part(scene.at) || scene.is_at_end() {
         return None;
     }
-    let mut first = scene.at;
-    while first > scene.part.start && is_part(first - 1) && scene.touches_next(first - 1) {
-        first -= 1;
-    }
-    let mut end = scene.at + 1;
-    while end < scene.part.end && is_part(end) && scene.touches_next(end - 1) {
-        end += 1;
-    }
-    (first < scene.at && scene.kind(first) == Kind::Number).then_some(first..end)
+    let rows = scene.run(is_part);
+    (rows.start < scene.at && scene.kind(rows.start) == Kind::Number).then_some(rows)
 }
 
 /// What to write for something that is no number.

@@ -97,6 +97,15 @@ impl<'a> Scene<'a> {
         row + 1 < self.rows.len() && self.span(row).end == self.span(row + 1).start
     }
 
+    /// The rows of the part around the place that touch each other and meet a test; the row at the place is one of them.
+    pub fn run(&self, is_part: impl Fn(usize) -> bool) -> Range<usize> {
+        let is_more = |row: &usize| is_part(*row) && self.touches_next(*row);
+        let before = (self.part.start..self.at).rev().take_while(is_more);
+        let goes_on = |row: &usize| is_part(*row) && self.touches_next(*row - 1);
+        let behind = (self.at + 1..self.part.end).take_while(goes_on);
+        self.at - before.count()..self.at + 1 + behind.count()
+    }
+
     /// Whether the row at the place stands on the line of the one in front of it.
     pub fn is_on_line(&self) -> bool {
         let line = |row: usize| self.rows.get(row).map(|row| row.line);

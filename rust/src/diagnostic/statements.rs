@@ -30,20 +30,12 @@ const OTHER_WORDS: [(&str, &str); 10] = [
 
 /// `==`, which is two rows.
 pub fn comparison(scene: &Scene, _: KindSet, found: Kind) -> Option<Diagnostic> {
-    let is_equals = |row: usize| scene.kind(row) == Kind::Equals;
     if found != Kind::Equals {
         return None;
     }
-    let mut first = scene.at;
-    while first > scene.part.start && is_equals(first - 1) && scene.touches_next(first - 1) {
-        first -= 1;
-    }
-    let mut end = scene.at + 1;
-    while is_equals(end) && scene.touches_next(end - 1) {
-        end += 1;
-    }
-    let sign = scene.quoted(first..end).filter(|_| end - first > 1)?;
-    Some(scene.told(scene.spans(first..end), no_operator(sign)))
+    let rows = scene.run(|row| scene.kind(row) == Kind::Equals);
+    let sign = scene.quoted(rows.clone()).filter(|_| rows.len() > 1)?;
+    Some(scene.told(scene.spans(rows), no_operator(sign)))
 }
 
 /// `++` and `--`.
@@ -81,19 +73,15 @@ pub fn assignment(scene: &Scene, fitting: KindSet, found: Kind) -> Option<Diagno
     }
     let sign = scene.word(scene.at).trim_end_matches('=');
     let ends = |row: &usize| scene.kind(*row) == Kind::Semicolon;
-    let end = (scene.at..scene.part.end)
-        .find(ends)
-        .unwrap_or(scene.at + 1);
+    let end = (scene.at..scene.part.end).find(ends).unwrap_or(scene.at);
     let left = scene.quoted(scene.statement()..scene.at);
-    let right = scene
-        .quoted(scene.at + 1..end)
-        .filter(|_| end > scene.at + 1);
-    let (left, right) = left.zip(right).unwrap_or(("a", "b"));
-    let right = match end - scene.at {
-        2 => right.to_string(),
-        _ => format!("({right})"),
+    let right = scene.quoted(scene.at + 1..end);
+    let written = match left.zip(right) {
+        Some((left, right)) if end == scene.at + 2 => format!("{left} = {left} {sign} {right}"),
+        Some((left, right)) => format!("{left} = {left} {sign} ({right})"),
+        None => format!("a = a {sign} b"),
     };
-    let message = format!("only '=' and '+=' assign: write {left} = {left} {sign} {right}");
+    let message = format!("only '=' and '+=' assign: write {written}");
     Some(scene.told_of(scene.at, message))
 }
 
