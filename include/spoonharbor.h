@@ -322,8 +322,12 @@ void spoonharbor_parse(const uint8_t *text, size_t text_length, const uint32_t *
 /* Old bytes a to b (b not included) became n new ones, and the text is all of the new text. The new table is that of a fresh scan of it. One
  * call suffices: it finds the restart place itself, and never says 7. Refusals in this order: 3, 6 (a > b, b past the old text, or the text
  * is not as long as the change makes it), 1, 2 (of the bytes from the restart place on), which leave the new rows untouched, then 4 or 11
- * to 17 as a scan gives them. The text before the restart place is taken to be the old one's. After 2 there is no table, so keep the old one
- * with its text, and change whole characters. */
+ * to 17 as a scan gives them. After 2 there is no table, so keep the old one with its text, and change whole
+ * characters.
+ *
+ * The text must be the old one but for the change. The call does not look at what stands in front of the restart place.
+ * Of what follows a meeting place it judges the UTF-8 alone. If either is another text, the arguments still determine
+ * the answer, but it is no scan's. Assert `sh_front_holds` in debugging. */
 void spoonharbor_change(const uint32_t *old_rows, size_t old_words, const uint32_t table[SH_WORDS], uint32_t a, uint32_t b, uint32_t n,
                         const uint8_t *text, size_t text_length, uint32_t *new_rows, size_t new_words, uint32_t answer[SH_WORDS]);
 
@@ -341,6 +345,25 @@ void spoonharbor_edit(const uint32_t *old_rows, size_t old_words, const uint32_t
 
 /* Where the window of an edit at a must start: SH_OFFSET, SH_LINE, SH_COLUMN with number 0. Refusals 3, 6. */
 void spoonharbor_restart(const uint32_t *old_rows, size_t old_words, const uint32_t table[SH_WORDS], uint32_t a, uint32_t answer[SH_WORDS]);
+
+/* For an assert before a change or an edit at a: 1 if a scan of the new text begins with the rows that are kept, so
+ * that its front is what the old table was made of, else 0. It writes scratch memory, which may be that of the new rows.
+ * If there is less room than kept rows, it compares as many as there is room for. If the call itself refuses the old
+ * table, a or the text behind the front, the front is not held against it. It costs a scan up to there. */
+static inline int sh_front_holds(const uint32_t *old_rows, size_t old_words, const uint32_t table[SH_WORDS], uint32_t a,
+                                 const uint8_t *text, size_t text_length, uint32_t *scratch, size_t scratch_words) {
+    uint32_t restart[SH_WORDS], told[SH_WORDS];
+    size_t rows = 0, word = 0;
+    spoonharbor_restart(old_rows, old_words, table, a, restart);
+    if (restart[SH_NUMBER] != 0) return 1;
+    while (rows < table[SH_COUNT] && rows < scratch_words / SH_ROW_WORDS
+           && old_rows[rows * SH_ROW_WORDS + SH_ROW_END] < a) rows++;
+    spoonharbor_scan(text, text_length, scratch, rows * SH_ROW_WORDS, told);
+    if (told[SH_NUMBER] == SH_REFUSED_TEXT_TOO_LONG) return 1;
+    if (told[SH_NUMBER] == SH_REFUSED_BAD_BYTE) return told[SH_OFFSET] >= restart[SH_OFFSET];
+    while (word < rows * SH_ROW_WORDS && scratch[word] == old_rows[word]) word++;
+    return told[SH_COUNT] == rows && word == rows * SH_ROW_WORDS;
+}
 
 /* Store a table as a file: SH_LENGTH bytes from the front of it, SH_COUNT blocks. SH_FILE_ROOM of the row count suffices. Refusals in this
  * order: 3, 40, 4; they leave the file untouched. */

@@ -1,5 +1,6 @@
 //! What the command does with its arguments.
 
+mod block;
 mod check;
 mod explain;
 mod folder;
@@ -13,8 +14,10 @@ mod source;
 mod stored;
 mod tree;
 mod verb;
+mod writing;
 
 use check::Checking;
+use mended::Mending;
 use output::Output;
 use source::{Source, Trouble};
 use spoonharbor::{columns, lent, Document, Form, Refusal, LONGEST_TEXT, VERSION};
@@ -57,8 +60,8 @@ struct Task {
     options: Options,
 }
 
-/// The file that `-o` names to be written, the text that `--text` names, the form that `--form` asks for, how `check` checks, and whether
-/// with `--check` something is only told.
+/// The file that `-o` names to be written, the text that `--text` names, the form that `--form` asks for, how `check`
+/// checks, whether with `--check` something is only told, and whether `--force` writes over what would stay.
 #[derive(Default)]
 pub struct Options {
     output: Option<OsString>,
@@ -66,6 +69,7 @@ pub struct Options {
     form: Option<Form>,
     checking: Checking,
     only_told: bool,
+    is_forced: bool,
 }
 
 /// Runs the command and gives back its exit status.
@@ -135,6 +139,7 @@ fn asked_of(verb: Verb, arguments: &[OsString]) -> Asked {
                 }
             }
             Some("--check") if option.is_some() => options.only_told = true,
+            Some("--force") if option.is_some() => options.is_forced = true,
             Some("--form") if option.is_some() => {
                 match rest.next().and_then(|form| form_of(form)) {
                     Some(form) => options.form = Some(form),
@@ -145,7 +150,7 @@ fn asked_of(verb: Verb, arguments: &[OsString]) -> Asked {
             _ => files.push(argument.clone()),
         }
     }
-    match verb.lacks(files.len(), &options) {
+    match verb.lacks(&files, &options) {
         Some(lack) => misused(verb, lack),
         None => Asked::Run(Task {
             verb,
@@ -230,6 +235,7 @@ fn done(task: &Task, file: &OsStr, out: &mut impl Write) -> io::Result<Outcome> 
         form,
         checking,
         only_told,
+        is_forced,
     } = &task.options;
     let read = Source::read(file, task.verb.most_bytes()).and_then(|source| {
         let text = text.as_deref().map(|text| Source::read(text, LONGEST_TEXT));
@@ -245,11 +251,19 @@ fn done(task: &Task, file: &OsStr, out: &mut impl Write) -> io::Result<Outcome> 
         (Verb::Rows, _) => Ok(shown(&source, out, rows::print)?),
         (Verb::Tree, _) => Ok(shown(&source, out, tree::print)?),
         (Verb::Load, text) => Ok(stored::load(&source, text.as_ref(), out)?),
-        (Verb::Store, _) => stored::store(&source, file, output, out)?,
+        (Verb::Store, _) => stored::store(&source, output, *is_forced, out)?,
         (Verb::Move, Some(text)) => {
-            mended::move_to(&source, text, form.unwrap_or(Form::Full), output, out)?
+            let form = form.unwrap_or(Form::Full);
+            mended::move_to(&source, text, form, output, *is_forced, out)?
         }
-        (Verb::Mend, Some(text)) => mended::mend(&source, file, text, *form, *only_told, out)?,
+        (Verb::Mend, Some(text)) => {
+            let asked = Mending {
+                form: *form,
+                is_only_told: *only_told,
+                is_forced: *is_forced,
+            };
+            mended::mend(&source, file, text, &asked, out)?
+        }
         (Verb::Move | Verb::Mend, None) | (Verb::Explain, _) => Ok(Outcome::Trouble),
     };
     match written {

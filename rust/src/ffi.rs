@@ -1,6 +1,6 @@
 //! The library's C face, as `include/spoonharbor.h` declares it. Nothing but `lent` calls these.
 
-use crate::lent::Words;
+use crate::words::Words;
 
 extern "C" {
     pub fn spoonharbor_version() -> u32;

@@ -4,37 +4,10 @@
 //! slices; a table is lent in the words in which [`scan`], [`change`], [`edit`], [`load`] or [`load_beside`] told it.
 
 use crate::ffi;
-
-/// An answer, or what stands beside a table's rows: the words at [`NUMBER`] to [`LENGTH`].
-pub type Words = [u32; 8];
-
-/// The refusal's number, 0 if there is none.
-pub const NUMBER: usize = 0;
-/// The refusal's place: its offset, line and column.
-pub const OFFSET: usize = 1;
-/// The line of the refusal's place.
-pub const LINE: usize = 2;
-/// The column of the refusal's place, which counts bytes.
-pub const COLUMN: usize = 3;
-/// Of 21, 22, 23, 25 and 30 the kinds 0 to 31 that would have fitted, bit k for kind k; the field of 29, the block of 41, a spelling's start,
-/// or the number that was asked for.
-pub const FIRST: usize = 4;
-/// Of 21, 22, 23, 25 and 30 the kinds from 32 on that would have fitted, bit 0 for kind 32; or a spelling's end.
-pub const SECOND: usize = 5;
-/// How many rows, nodes or blocks were written, or how many blocks listed.
-pub const COUNT: usize = 6;
-/// The text's length, of a store, a move and a mending the file's, of a parse that is refused with 21 the kind that was found; 0 where a
-/// call that tells a length is refused and told no table.
-pub const LENGTH: usize = 7;
-
-/// The words of a row: kind, start, end, line, column, value low, value high, comments in the gap before it.
-pub const ROW_WORDS: usize = 8;
-
-/// The words of a node: kind, place row, name row, children, four facts.
-pub const NODE_WORDS: usize = 8;
-
-/// A row that is missing.
-pub const MISSING: u32 = u32::MAX;
+pub use crate::words::{
+    Words, COLUMN, COUNT, FIRST, LENGTH, LINE, MISSING, NODE_WORDS, NUMBER, OFFSET, ROW_END,
+    ROW_WORDS, SECOND,
+};
 
 // Every unsafe block below is sound for the same reasons. Each pointer is that of a reference, which stays valid through the
 // call, and the length beside it is the slice's own, so the library may read all of it; it writes only through pointers that
@@ -121,6 +94,10 @@ pub struct Change {
 
 /// Writes the new table behind a change, by all of the new text: that of a fresh scan. It is never 7, and 6 also where the text
 /// is not as long as the change makes it.
+///
+/// The text must be the old one but for the change. The call does not look at what stands in front of the restart place.
+/// Of what follows a meeting place it judges the UTF-8 alone. If either is another text, the arguments still determine
+/// the answer, but it is no scan's. [`front_holds`] finds another front.
 pub fn change(old: &[u32], table: &Words, change: Change, text: &[u8], new: &mut [u32]) -> Words {
     let mut answer = [0; 8];
     // SAFETY: `old`, `table` and `text` are lent for reading, `new` and `answer` for writing, with their own lengths.
@@ -180,6 +157,28 @@ pub fn restart(old: &[u32], table: &Words, a: u32) -> Words {
     // SAFETY: `old`, with its own length, and `table` are lent for reading, `answer` for writing.
     unsafe { ffi::spoonharbor_restart(old.as_ptr(), old.len(), table, a, &mut answer) };
     answer
+}
+
+/// For a `debug_assert!` before [`change`] or [`edit`] at `a`: whether a scan of the new text begins with the rows that
+/// are kept, so that its front is what the old table was made of. It writes scratch memory, which may be that of the
+/// new rows. If there is less room than kept rows, it compares as many as there is room for. If the call itself refuses
+/// the old table, `a` or the text behind the front, the front is not held against it.
+pub fn front_holds(old: &[u32], table: &Words, a: u32, text: &[u8], scratch: &mut [u32]) -> bool {
+    let restart = restart(old, table, a);
+    if restart[NUMBER] != 0 {
+        return true;
+    }
+    let ends = old.iter().skip(ROW_END).step_by(ROW_WORDS);
+    let rows = ends.take(table[COUNT] as usize);
+    let kept = rows.take_while(|&&end| end < a).count();
+    let compared = kept.min(scratch.len() / ROW_WORDS);
+    let words = compared * ROW_WORDS;
+    let told = scan(text, &mut scratch[..words]);
+    match told[NUMBER] {
+        1 => true,
+        2 => told[OFFSET] >= restart[OFFSET],
+        _ => told[COUNT] as usize == compared && scratch[..words] == old[..words],
+    }
 }
 
 /// Stores a table as a file: at [`LENGTH`] how many bytes of it are written, at [`COUNT`] how many blocks. Refusals 3, 40, 4 leave the

@@ -63,6 +63,7 @@ pub mod diagnostic;
 mod document;
 mod ffi;
 mod file;
+mod form;
 mod kind;
 mod kind_set;
 pub mod lent;
@@ -71,15 +72,17 @@ mod row;
 mod sets;
 mod table;
 mod tree;
+mod words;
 
 pub use document::Document;
-pub use file::{mend_file, move_file, Form};
+pub use file::{mend_file, move_file};
+pub use form::{Form, MOST_STORED_ROWS};
 pub use kind::Kind;
 pub use kind_set::{KindSet, Kinds};
 pub use refusal::{MapField, Place, Reason, Refusal};
 pub use row::{Row, Rows};
 pub use sets::{allows, section_kind, set_size, Method, ProgramKind};
-pub use table::{Table, MOST_STORED_ROWS};
+pub use table::Table;
 pub use tree::{FieldType, MapType, Node, NodeKind, Operator, Tree, Type};
 
 /// This crate's version as one number: major, minor and patch in a byte each. The build refuses an archive of another version,

@@ -93,7 +93,9 @@ pub enum Reason {
     NoTable,
     /// 44: a file in another form than 1, or where the text is at hand than 1 and 2, or such a form asked for.
     OtherForm,
-    /// 45: a stored table that the text cannot have: it is of a text of another length, or lines and columns are not the text's.
+    /// 45: a stored table that the text cannot have. It is of a text of another length. Or a line or column is not the
+    /// text's, which a reading of form 1 beside the text tells. Or a row or refusal starts or ends inside a character,
+    /// which [`crate::Document::open_with`] tells.
     OtherText,
     /// A number that this version has no name for. The library of this version gives none.
     Other(u32),
@@ -331,7 +333,9 @@ impl fmt::Display for Reason {
             Reason::OtherForm => {
                 out.write_str("stored in a form that is not read here")
             }
-            Reason::OtherText => out.write_str("the stored table is another text's"),
+            Reason::OtherText => out.write_str(
+                "the stored table is another text's: length, lines and columns, or characters' edges do not agree",
+            ),
             Reason::Other(number) => write!(out, "refused with {number}"),
         }
     }
@@ -376,7 +380,7 @@ mod tests {
 
     #[test]
     fn refusals_of_files_have_no_place() {
-        for number in 40..=44 {
+        for number in 40..=45 {
             let refusal = Refusal::from_words(&[number, 0, 1, 1, 7, 0, 0, 0]).unwrap();
             assert_eq!(refusal.number(), number);
             assert_eq!(refusal.to_string(), refusal.reason.to_string());

@@ -1,13 +1,10 @@
 //! A table without its text: rows and how they end, stored as a file and read back.
 
-use crate::file::{most_rows, Form};
+use crate::form::{most_rows, Form};
 use crate::lent::{self, Words, ROW_WORDS};
 use crate::refusal::Refusal;
 use crate::row::{Row, Rows};
 use std::fmt;
-
-/// The most rows that a file holds.
-pub const MOST_STORED_ROWS: usize = 65_535;
 
 /// The rows of a text and how they end, without the text: what a [`crate::Document`] has beside its text, or what a file holds. Which text
 /// it is the table of is not in it, but for the text's length.
@@ -62,7 +59,8 @@ impl Table {
         Table::told(words, rows)
     }
 
-    /// The file of [`Form::Full`] that holds the table; the same table gives the same bytes. A table of over [`MOST_STORED_ROWS`] rows is 40.
+    /// The file of [`Form::Full`] that holds the table; the same table gives the same bytes. A table of over
+    /// [`crate::MOST_STORED_ROWS`] rows is 40.
     pub fn store(&self) -> Result<Vec<u8>, Refusal> {
         let mut file = vec![0; Form::Full.file_length(count(&self.words))];
         let answer = lent::store(self.row_words(), &self.words, &mut file);

@@ -195,7 +195,10 @@ fn the_command_moves_a_file() {
     ]);
     assert_eq!(
         (ran.out.as_str(), ran.status),
-        ("rows: the stored table is another text's\n", 1)
+        (
+            "rows: the stored table is another text's: length, lines and columns, or characters' edges do not agree\n",
+            1
+        )
     );
     assert_eq!(names(&folder), ["other", "probe", "rows", "short"]);
 }

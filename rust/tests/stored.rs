@@ -152,7 +152,7 @@ fn what_cannot_be_written_is_trouble() {
     let folder = folder("written");
     fs::create_dir(folder.0.join("folder")).unwrap();
     let cases = [
-        ("folder", "folder: Is a directory (os error 21)"),
+        ("folder", "folder: it is a directory"),
         ("no/file", "no/file: No such file or directory (os error 2)"),
         (
             "./probe.snx",

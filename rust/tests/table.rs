@@ -140,7 +140,10 @@ fn a_table_that_the_text_cannot_have_is_refused() {
     let other = |text: &str, table: &Table| {
         let refusal = Document::open_with(text, table.clone()).unwrap_err();
         assert_eq!((refusal.reason, refusal.number()), (Reason::OtherText, 45));
-        assert_eq!(refusal.to_string(), "the stored table is another text's");
+        assert_eq!(
+            refusal.to_string(),
+            "the stored table is another text's: length, lines and columns, or characters' edges do not agree"
+        );
     };
     other("", &table);
     other(&TEXT[1..], &table);

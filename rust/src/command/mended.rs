@@ -1,14 +1,15 @@
 //! `spoonharbor move` and `mend`: a stored table with its text at hand, into the other form, or as it should be.
 
+use super::block::{says_short, told_length, BLOCK, LONGEST_FILE};
 use super::source::{Source, Trouble};
-use super::stored::{complaint, damaged, says_short, too_long, BLOCK, LONGEST_FILE};
+use super::stored::{complaint, damaged, too_long};
+use super::writing::{place_of_table, write_table};
 use super::{message, Outcome};
-use spoonharbor::{mend_file, move_file, Form, Refusal};
+use spoonharbor::{mend_file, move_file, Document, Form, Reason, Refusal, Table};
 use std::cmp::Ordering;
-use std::ffi::{OsStr, OsString};
-use std::fs::{self, File};
+use std::ffi::OsStr;
 use std::io::{self, Write};
-use std::path::{Path, PathBuf};
+use std::path::Path;
 
 /// Moves a stored table to a form and writes it to a path, or says why not.
 pub fn move_to(
@@ -16,6 +17,7 @@ pub fn move_to(
     text: &Source,
     form: Form,
     output: &OsStr,
+    is_forced: bool,
     out: &mut impl Write,
 ) -> io::Result<Result<Outcome, Trouble>> {
     if let Some(complaint) = too_long(&source.bytes) {
@@ -29,8 +31,8 @@ pub fn move_to(
             return Ok(Ok(Outcome::Refused));
         }
     };
-    if let Err(error) = written(Path::new(output), &file) {
-        return Ok(Err(Trouble::new(output, error)));
+    if let Err(trouble) = write_table(output, &file, text, is_forced) {
+        return Ok(Err(trouble));
     }
     let name = Path::new(output).display();
     let (before, after) = (source.bytes.len(), file.len());
@@ -42,91 +44,236 @@ pub fn move_to(
     Ok(Ok(Outcome::Fine))
 }
 
-/// Mends the stored table of a path, or only tells what would be mended. The form is that which is asked for, else the one of which more of
-/// the file is right.
+/// How a file is to be mended: in the form asked for, or else in the one of which more of it is right; only told;
+/// even if it is another text's, or no table at all.
+pub struct Mending {
+    pub form: Option<Form>,
+    pub is_only_told: bool,
+    pub is_forced: bool,
+}
+
+/// A file as it should be in a form, and the blocks that differed from that.
+struct Mended {
+    form: Form,
+    file: Vec<u8>,
+    blocks: Vec<u32>,
+}
+
+/// What a file is beside what a reading of the text stores.
+enum State {
+    /// Just that.
+    Right,
+    /// That, but in this form, and the other is asked for.
+    InForm(Form),
+    /// Another text's, and how that shows.
+    OtherText(String),
+    /// Damaged in the blocks that differ.
+    Damaged,
+}
+
+/// Mends the stored table of a path, or only tells what would be mended. Another text's table stays unless it is
+/// forced.
 pub fn mend(
     source: &Source,
     path: &OsStr,
     text: &Source,
-    asked: Option<Form>,
-    only_told: bool,
+    asked: &Mending,
     out: &mut impl Write,
 ) -> io::Result<Result<Outcome, Trouble>> {
-    let (form, file, blocks) = match mended(source, text, asked) {
+    let place = match place_of_table(path, text, asked.is_forced) {
+        Ok(place) => place,
+        Err(trouble) => return Ok(Err(trouble)),
+    };
+    let mended = match Mended::of(source, text, asked.form) {
         Ok(mended) => mended,
         Err(refusal) => {
             message::refused(text, &refusal, out)?;
             return Ok(Ok(Outcome::Refused));
         }
     };
-    for &block in &blocks {
-        writeln!(
-            out,
-            "{}: {}",
-            source.name,
-            what_of(block, &source.bytes, &file)
-        )?;
-    }
-    if blocks.is_empty() {
-        writeln!(
-            out,
-            "{}: right, {form} of {} bytes",
-            source.name,
-            file.len()
-        )?;
-        return Ok(Ok(Outcome::Fine));
-    }
-    let many = match blocks.len() {
-        1 => "1 block".to_string(),
-        many => format!("{many} blocks"),
+    let state = mended.state(source, text);
+    mended.tell(&state, source, out)?;
+    let outcome = match state {
+        State::Right => Outcome::Fine,
+        _ if asked.is_only_told => mended.tell_to_do(&state, source, out)?,
+        State::OtherText(_) if !asked.is_forced => tell_asking(source, text, out)?,
+        _ => {
+            if let Err(error) = place.write(&mended.file, asked.is_forced) {
+                return Ok(Err(Trouble::new(path, error)));
+            }
+            mended.tell_done(&state, source, out)?
+        }
     };
-    if only_told {
-        writeln!(out, "{}: {many} to mend in {form}", source.name)?;
-        return Ok(Ok(Outcome::Refused));
-    }
-    if let Err(error) = written(Path::new(path), &file) {
-        return Ok(Err(Trouble::new(path, error)));
-    }
-    writeln!(
-        out,
-        "{}: {many} mended, {form} of {} bytes",
-        source.name,
-        file.len()
-    )?;
-    Ok(Ok(Outcome::Fine))
+    Ok(Ok(outcome))
 }
 
-/// A file as it should be in the form asked for, or in the form in which fewer blocks differ, and the blocks that differ.
-fn mended(
-    source: &Source,
-    text: &Source,
-    asked: Option<Form>,
-) -> Result<(Form, Vec<u8>, Vec<u32>), Refusal> {
-    let in_form = |form| {
+impl Mended {
+    /// In the form asked for, or in the form of which more is right; of two equal ones in that which the file says.
+    fn of(source: &Source, text: &Source, asked: Option<Form>) -> Result<Mended, Refusal> {
+        if let Some(form) = asked {
+            return Mended::in_form(source, text, form);
+        }
+        let full = Mended::in_form(source, text, Form::Full)?;
+        let short = Mended::in_form(source, text, Form::Short)?;
+        let takes_short = match short.right_blocks().cmp(&full.right_blocks()) {
+            Ordering::Less => false,
+            Ordering::Equal => says_short(&source.bytes),
+            Ordering::Greater => true,
+        };
+        Ok(if takes_short { short } else { full })
+    }
+
+    fn in_form(source: &Source, text: &Source, form: Form) -> Result<Mended, Refusal> {
         let mut file = source.bytes.clone();
         let blocks = mend_file(&text.bytes, &mut file, form)?;
-        Ok((form, file, blocks))
-    };
-    if let Some(form) = asked {
-        return in_form(form);
+        Ok(Mended { form, file, blocks })
     }
-    let (full, short) = (in_form(Form::Full)?, in_form(Form::Short)?);
-    let takes_short = match right_blocks(&short).cmp(&right_blocks(&full)) {
-        Ordering::Less => false,
-        Ordering::Equal => says_short(&source.bytes),
-        Ordering::Greater => true,
-    };
-    Ok(if takes_short { short } else { full })
+
+    /// How many blocks of the file were right.
+    fn right_blocks(&self) -> usize {
+        let whole = self.file.len() / BLOCK;
+        let differing = self
+            .blocks
+            .iter()
+            .filter(|&&block| (block as usize) < whole);
+        whole - differing.count()
+    }
+
+    /// What the file was before. It is sound if a reading takes it, or refuses it as another text's, which is judged
+    /// last.
+    fn state(&self, source: &Source, text: &Source) -> State {
+        if self.blocks.is_empty() {
+            return State::Right;
+        }
+        let is_right_in = |form: &Form| {
+            let mended = Mended::in_form(source, text, *form);
+            mended.is_ok_and(|mended| mended.blocks.is_empty())
+        };
+        if let Some(form) = Form::ALL.into_iter().find(is_right_in) {
+            return State::InForm(form);
+        }
+        let read = Table::load_beside(&text.bytes, &source.bytes);
+        let is_sound = match &read {
+            Ok(_) => true,
+            Err(refusal) => refusal.reason == Reason::OtherText,
+        };
+        let bytes = text.bytes.len();
+        match told_length(&source.bytes).filter(|&told| told != bytes) {
+            Some(told) => {
+                let what = if is_sound {
+                    "sound, but"
+                } else {
+                    "damaged, and"
+                };
+                State::OtherText(format!(
+                    "{what} of another text: that one has {told} bytes, and {} has {bytes}",
+                    text.name
+                ))
+            }
+            None if is_sound => {
+                let line = first_line_apart(source, text);
+                State::OtherText(format!(
+                    "sound, but of another text: in line {line} it differs from {}",
+                    text.name
+                ))
+            }
+            None => State::Damaged,
+        }
+    }
+
+    /// Tells what the file was.
+    fn tell(&self, state: &State, source: &Source, out: &mut impl Write) -> io::Result<()> {
+        let name = &source.name;
+        match state {
+            State::Right => writeln!(
+                out,
+                "{name}: right, {} of {} bytes",
+                self.form,
+                self.file.len()
+            ),
+            State::InForm(form) => writeln!(out, "{name}: right, but in {form}"),
+            State::OtherText(how) => writeln!(out, "{name}: {how}"),
+            State::Damaged => self.blocks.iter().try_for_each(|&block| {
+                writeln!(out, "{name}: {}", what_of(block, &source.bytes, &self.file))
+            }),
+        }
+    }
+
+    /// Tells what there is to do.
+    fn tell_to_do(
+        &self,
+        state: &State,
+        source: &Source,
+        out: &mut impl Write,
+    ) -> io::Result<Outcome> {
+        if let State::Damaged = state {
+            writeln!(
+                out,
+                "{}: {} to mend in {}",
+                source.name,
+                self.many(),
+                self.form
+            )?;
+        }
+        Ok(Outcome::Refused)
+    }
+
+    /// Tells what was done.
+    fn tell_done(
+        &self,
+        state: &State,
+        source: &Source,
+        out: &mut impl Write,
+    ) -> io::Result<Outcome> {
+        let done = match state {
+            State::Damaged => format!("{} mended", self.many()),
+            State::InForm(_) => "moved".to_string(),
+            _ => "written anew".to_string(),
+        };
+        writeln!(
+            out,
+            "{}: {done}, {} of {} bytes",
+            source.name,
+            self.form,
+            self.file.len()
+        )?;
+        Ok(Outcome::Fine)
+    }
+
+    /// How many blocks differed.
+    fn many(&self) -> String {
+        match self.blocks.len() {
+            1 => "1 block".to_string(),
+            many => format!("{many} blocks"),
+        }
+    }
 }
 
-/// How many blocks of a file were right.
-fn right_blocks((_, file, blocks): &(Form, Vec<u8>, Vec<u32>)) -> usize {
-    let whole = file.len() / BLOCK;
-    whole
-        - blocks
-            .iter()
-            .filter(|&&block| (block as usize) < whole)
-            .count()
+/// Asks for the text of a file that is another's, or to be asked twice.
+fn tell_asking(source: &Source, text: &Source, out: &mut impl Write) -> io::Result<Outcome> {
+    writeln!(
+        out,
+        "{}: it stays; --text names its own text, or --force writes over it what {} has",
+        source.name, text.name
+    )?;
+    Ok(Outcome::Refused)
+}
+
+/// The first line in which the table of a sound file differs from that of a text that is as long as the file says.
+fn first_line_apart(source: &Source, text: &Source) -> usize {
+    let stored =
+        Table::load(&source.bytes).or_else(|_| Table::load_beside(&text.bytes, &source.bytes));
+    let (Ok(stored), Ok(fresh)) = (stored, Document::open(text.bytes.clone())) else {
+        return 1;
+    };
+    let pairs = stored.rows().zip(fresh.rows());
+    let same = pairs.take_while(|(stored, fresh)| stored == fresh).count();
+    let line_behind = |table: &Table| match (table.row(same), table.refusal()) {
+        (Some(row), _) => row.line,
+        (None, Some(refusal)) => refusal.place.line,
+        (None, None) => usize::MAX,
+    };
+    line_behind(&stored).min(line_behind(fresh.table()))
 }
 
 /// What is wrong with a block of a file that should be another.
@@ -141,50 +288,6 @@ fn what_of(block: u32, file: &[u8], right: &[u8]) -> String {
         (_, true, _) => format!("block {block} is missing"),
         (_, _, true) => format!("block {block} is cut"),
         _ => damaged(block),
-    }
-}
-
-/// Writes a file beside a path and gives it the path's name then, so that what stands there stays if the writing fails.
-fn written(path: &Path, file: &[u8]) -> io::Result<()> {
-    let beside = beside(path)?;
-    let result = write_new(&beside, file)
-        .and_then(|()| keep_mode(path, &beside))
-        .and_then(|()| fs::rename(&beside, path));
-    if result.is_err() {
-        let _ = fs::remove_file(&beside);
-    }
-    result
-}
-
-/// A name beside a path that no file has.
-fn beside(path: &Path) -> io::Result<PathBuf> {
-    let name = path
-        .file_name()
-        .ok_or_else(|| io::Error::other("it is a directory"))?;
-    for number in 0..1000 {
-        let mut other = OsString::from(".");
-        other.push(name);
-        other.push(format!(".{number}.new"));
-        let other = path.with_file_name(other);
-        if !other.exists() {
-            return Ok(other);
-        }
-    }
-    Err(io::Error::other("no name beside it is free"))
-}
-
-/// Writes a file that must not be there yet, as far as to the disk.
-fn write_new(path: &Path, bytes: &[u8]) -> io::Result<()> {
-    let mut file = File::create_new(path)?;
-    file.write_all(bytes)?;
-    file.sync_all()
-}
-
-/// Gives a new file the permissions of the one whose place it takes, if there is one.
-fn keep_mode(path: &Path, new: &Path) -> io::Result<()> {
-    match fs::metadata(path) {
-        Ok(there) => fs::set_permissions(new, there.permissions()),
-        Err(_) => Ok(()),
     }
 }
 

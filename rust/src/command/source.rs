@@ -2,14 +2,24 @@
 
 use std::ffi::OsStr;
 use std::fmt;
-use std::fs::File;
+use std::fs::{File, Metadata};
 use std::io::{self, Read};
+use std::os::fd::AsFd;
+use std::os::unix::fs::MetadataExt;
 use std::path::Path;
 
-/// A file's name as it is printed, and its bytes: at most one more than it may have.
+/// A file's name as it is printed, its bytes, at most one more than it may have, and which file it is.
 pub struct Source {
     pub name: String,
     pub bytes: Vec<u8>,
+    pub identity: Identity,
+}
+
+/// Which file it is, whatever its name and whatever links lead to it.
+#[derive(Debug, Clone, Copy, PartialEq, Eq)]
+pub struct Identity {
+    device: u64,
+    inode: u64,
 }
 
 /// A file that cannot be read or written.
@@ -25,13 +35,26 @@ impl Source {
             Some("-") => "standard input".to_string(),
             _ => Path::new(file).display().to_string(),
         };
-        let bytes = match file.to_str() {
-            Some("-") => read_limited(io::stdin().lock(), most),
-            _ => read_file(Path::new(file), most),
+        let opened = match file.to_str() {
+            Some("-") => standard_input(),
+            _ => File::open(file),
         };
-        match bytes {
-            Ok(bytes) => Ok(Source { name, bytes }),
+        match opened.and_then(|opened| read_file(opened, most)) {
+            Ok((bytes, identity)) => Ok(Source {
+                name,
+                bytes,
+                identity,
+            }),
             Err(error) => Err(Trouble { name, error }),
+        }
+    }
+}
+
+impl Identity {
+    pub fn of(file: &Metadata) -> Identity {
+        Identity {
+            device: file.dev(),
+            inode: file.ino(),
         }
     }
 }
@@ -44,15 +67,22 @@ impl Trouble {
     }
 }
 
-fn read_file(path: &Path, most: usize) -> io::Result<Vec<u8>> {
-    let file = File::open(path)?;
-    if file.metadata()?.is_dir() {
-        return Err(io::Error::other("it is a directory"));
-    }
-    read_limited(file, most)
+/// Standard input as a file, which it may be: then it is known by its identity.
+fn standard_input() -> io::Result<File> {
+    let input = io::stdin().as_fd().try_clone_to_owned()?;
+    Ok(File::from(input))
 }
 
-fn read_limited(reader: impl Read, most: usize) -> io::Result<Vec<u8>> {
+fn read_file(file: File, most: usize) -> io::Result<(Vec<u8>, Identity)> {
+    let metadata = file.metadata()?;
+    if metadata.is_dir() {
+        return Err(io::Error::other("it is a directory"));
+    }
+    Ok((read_limited(file, most)?, Identity::of(&metadata)))
+}
+
+/// The first bytes of a file, at most one more than the most that it may have.
+pub fn read_limited(reader: impl Read, most: usize) -> io::Result<Vec<u8>> {
     let mut bytes = Vec::new();
     reader.take(most as u64 + 1).read_to_end(&mut bytes)?;
     Ok(bytes)

@@ -1,23 +1,20 @@
 //! `spoonharbor store` and `load`: a text's table into a file, and a file's rows listed, with their text at hand or without.
 
+use super::block::{says_short, BLOCK, LONGEST_FILE};
 use super::source::{Source, Trouble};
+use super::writing::write_table;
 use super::{message, rows, Outcome};
-use spoonharbor::{Document, Form, Reason, Refusal, Table};
+use spoonharbor::{Document, Reason, Refusal, Table};
 use std::ffi::OsStr;
-use std::fs;
 use std::io::{self, Write};
 use std::path::Path;
 
-/// The bytes of the longest file, which has 65,535 rows, and of each of its blocks.
-pub const LONGEST_FILE: usize = 2_237_440;
-pub const BLOCK: usize = 512;
-
-/// Stores the table of the text of a path, or says why it cannot be written. Of a text that scans only up to a place, the rows up to
-/// there are stored, and the refusal is told.
+/// Stores the table of a text at a path, or says why it cannot be written. If the text scans only up to a place, it
+/// stores the rows up to there and tells the refusal.
 pub fn store(
     source: &Source,
-    path: &OsStr,
     output: &OsStr,
+    is_forced: bool,
     out: &mut impl Write,
 ) -> io::Result<Result<Outcome, Trouble>> {
     let table = match Document::open(source.bytes.clone()) {
@@ -31,8 +28,8 @@ pub fn store(
             return Ok(Ok(Outcome::Refused));
         }
     };
-    if let Err(error) = write(path, output, &file) {
-        return Ok(Err(Trouble::new(output, error)));
+    if let Err(trouble) = write_table(output, &file, source, is_forced) {
+        return Ok(Err(trouble));
     }
     let rows = match table.rows().len() {
         1 => "1 row".to_string(),
@@ -50,15 +47,6 @@ pub fn store(
 fn refused(source: &Source, refusal: &Refusal, out: &mut impl Write) -> io::Result<Outcome> {
     message::refused(source, refusal, out)?;
     Ok(Outcome::Refused)
-}
-
-/// Writes a file, unless that is the text's own.
-fn write(path: &OsStr, output: &OsStr, file: &[u8]) -> io::Result<()> {
-    let place = |path| fs::canonicalize(path).ok();
-    if path != "-" && place(output).is_some_and(|there| place(path) == Some(there)) {
-        return Err(io::Error::other("it is the text itself, and stays"));
-    }
-    fs::write(output, file)
 }
 
 /// Lists the rows of a stored table, read beside its text where that is given.
@@ -95,11 +83,6 @@ fn loaded(file: &[u8], text: Option<&Source>) -> Result<Table, String> {
         }
         _ => complaint(&refusal),
     })
-}
-
-/// Whether a file's first block says form 2.
-pub fn says_short(file: &[u8]) -> bool {
-    file.get(4..8) == Some(&Form::Short.number().to_le_bytes())
 }
 
 /// What is said of a file that is longer than any.

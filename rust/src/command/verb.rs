@@ -1,10 +1,10 @@
 //! The command's verbs and what is said of them.
 
+use super::block::LONGEST_FILE;
 use super::mended::MOST_MENDED;
-use super::stored::LONGEST_FILE;
 use super::Options;
 use spoonharbor::LONGEST_TEXT;
-use std::ffi::OsStr;
+use std::ffi::{OsStr, OsString};
 
 /// What is said of the whole command.
 pub const USAGE: &str = "\
@@ -73,10 +73,14 @@ Exit status: 0 the text is a program, 1 it is refused, 2 trouble.
 ";
 
 const STORE_USAGE: &str = "\
-usage: spoonharbor store [--] FILE -o TABLE
+usage: spoonharbor store [--force] [--] FILE -o TABLE
 
-Stores the rows of a text in a file, which `spoonharbor load` and the library's calls read. If the text cannot be scanned to its end, the
-rows up to there are stored with the refusal, which is printed too. A file that is there is written over, unless it is the text itself.
+Stores the rows of a text in a file, which `spoonharbor load` and the library's calls read. If the text cannot be
+scanned to its end, it stores the rows up to there with the refusal, and prints that too.
+
+A stored table that is at TABLE is written over, and so is an empty file. A file that has not one right block of a
+stored table stays, unless there is --force. The text itself always stays. Links are followed. The new file is written
+beside the old one and then renamed, with the same owner, group and mode. If that fails, the old file stays.
 
 FILE is a path, or - for standard input; TABLE is a path; behind -- the path FILE may begin with -.
 Exit status: 0 the text scans to its end and is stored, 1 it is refused, 2 trouble.
@@ -95,26 +99,36 @@ Exit status: 0 the table is sound and its text scans to the end, 1 file or text 
 ";
 
 const MOVE_USAGE: &str = "\
-usage: spoonharbor move [--] FILE --form FORM --text TEXT -o OTHER
+usage: spoonharbor move [--force] [--] FILE --form FORM --text TEXT -o OTHER
 
-Stores a stored table in another form, with its text at hand: form 2 leaves out lines and columns, which the text has, and takes three
-quarters of the bytes; form 1 has them. There and back gives the same bytes. A file that is damaged, or whose length, lines or columns do
-not agree with the text, is refused. OTHER is written beside its place and then put there, and may be FILE.
+Stores a stored table in another form, with its text at hand: form 2 leaves out lines and columns, which the text has,
+and takes three quarters of the bytes; form 1 has them. There and back gives the same bytes. A file that is damaged, or
+whose length, lines or columns do not agree with the text, is refused.
+
+OTHER may be FILE. What else may be there already, and how it is written, is as of `spoonharbor store`; TEXT always
+stays.
 
 FILE is a path, or - for standard input; TEXT and OTHER are paths; behind -- the path FILE may begin with -.
 Exit status: 0 the file is written, 1 FILE is refused, 2 trouble.
 ";
 
 const MEND_USAGE: &str = "\
-usage: spoonharbor mend [--check] [--form FORM] [--] FILE --text TEXT
+usage: spoonharbor mend [--check] [--form FORM] [--force] [--] FILE --text TEXT
 
-Makes a stored table what a reading of its text stores, and tells each block that differed from that: damaged, cut, missing, or too much.
-With --check it is only told. The form is that of which more of the file is right, or the one that --form names. A file that is right is
-left alone; else the mended one is written beside it and then put in its place, so that the old one stays where the writing fails. An
-empty file is written whole, and a text that scans only up to a place is stored up to there, as by `spoonharbor store`.
+Mends a stored table by its text, and tells what was found:
+- right: the file is what a reading of TEXT stores. It is left alone.
+- sound, but of another text: it tells both lengths, or the first line that differs. The file stays, unless there is
+  --force, which writes what TEXT has. The same holds for a damaged file that still says another length.
+- damaged: it tells each block that is damaged, cut, missing or too much, and makes the file what TEXT stores.
+
+With --check all of it is only told. The form is that of which more of the file is right, or the one that --form names.
+An empty file is written whole. A text that scans only up to a place is stored up to there, as by `spoonharbor store`.
+A file that has not one right block of a stored table stays, unless there is --force. TEXT always stays. How the file
+is written is as of `spoonharbor store`.
 
 FILE and TEXT are paths; behind -- the path FILE may begin with -.
-Exit status: 0 the file is right now, 1 with --check it is not, or the text is refused, 2 trouble.
+Exit status: 0 the file is right now, 1 it is another text's, or with --check not right, or the text is refused,
+2 trouble.
 ";
 
 /// What can be done with files.
@@ -190,12 +204,13 @@ impl Verb {
             "--text" => matches!(self, Verb::Load | Verb::Move | Verb::Mend),
             "--form" => matches!(self, Verb::Move | Verb::Mend),
             "-o" => matches!(self, Verb::Store | Verb::Move),
+            "--force" => matches!(self, Verb::Store | Verb::Move | Verb::Mend),
             _ => false,
         }
     }
 
-    /// What is wrong with so many files, and with what the options name, if anything.
-    pub fn lacks(self, files: usize, options: &Options) -> Option<&'static str> {
+    /// What is wrong with the files, and with what the options name, if anything.
+    pub fn lacks(self, files: &[OsString], options: &Options) -> Option<&'static str> {
         let output = match options.output.as_deref() {
             None => Some("-o and the file to write are missing"),
             Some(path) if path == "-" => Some("behind -o a path is wanted"),
@@ -211,13 +226,14 @@ impl Verb {
             _ => None,
         };
         match (self, files) {
-            (Verb::Check, 0) => Some("a file is missing"),
+            (Verb::Check, []) => Some("a file is missing"),
             (Verb::Check | Verb::Explain, _) => None,
-            (Verb::Store, 1) => output,
-            (Verb::Load, 1) if options.text.is_some() => text,
-            (Verb::Move, 1) => form.or(text).or(output),
-            (Verb::Mend, 1) => text,
-            (_, 1) => None,
+            (Verb::Store, [_]) => output,
+            (Verb::Load, [_]) if options.text.is_some() => text,
+            (Verb::Move, [_]) => form.or(text).or(output),
+            (Verb::Mend, [file]) if file == "-" => Some("the path of a file is wanted"),
+            (Verb::Mend, [_]) => text,
+            (_, [_]) => None,
             _ => Some("one file is wanted"),
         }
     }
