@@ -2,10 +2,13 @@
 
 mod block;
 mod check;
-mod columns;
+mod explain;
+mod folder;
+mod json;
 mod mended;
 mod message;
 mod output;
+mod paint;
 mod rows;
 mod source;
 mod stored;
@@ -13,10 +16,11 @@ mod tree;
 mod verb;
 mod writing;
 
+use check::Checking;
 use mended::Mending;
 use output::Output;
 use source::{Source, Trouble};
-use spoonharbor::{lent, Document, Form, Refusal, LONGEST_TEXT, VERSION};
+use spoonharbor::{columns, lent, Document, Form, Refusal, LONGEST_TEXT, VERSION};
 use std::ffi::{OsStr, OsString};
 use std::io::{self, Write};
 use std::process::ExitCode;
@@ -56,14 +60,14 @@ struct Task {
     options: Options,
 }
 
-/// The file that `-o` names to be written, the text that `--text` names, the form that `--form` asks for, whether `--style` asks for style,
-/// whether with `--check` something is only told, and whether `--force` writes over what would stay.
+/// The file that `-o` names to be written, the text that `--text` names, the form that `--form` asks for, how `check`
+/// checks, whether with `--check` something is only told, and whether `--force` writes over what would stay.
 #[derive(Default)]
 pub struct Options {
     output: Option<OsString>,
     text: Option<OsString>,
     form: Option<Form>,
-    with_style: bool,
+    checking: Checking,
     only_told: bool,
     is_forced: bool,
 }
@@ -90,7 +94,7 @@ fn asked(arguments: &[OsString]) -> Asked {
         return Asked::Misused("a verb is missing".to_string());
     };
     match (first.to_str(), Verb::named(first)) {
-        (_, Some(verb)) => asked_of(verb, rest),
+        (_, Some(verb)) => asked_of(verb, &parted(rest)),
         (Some("help" | "--help" | "-h"), _) => {
             let verb = rest.first().and_then(|verb| Verb::named(verb));
             Asked::Help(verb.map_or(USAGE, Verb::usage))
@@ -99,6 +103,19 @@ fn asked(arguments: &[OsString]) -> Asked {
         _ if is_option(first) => Asked::Misused(unknown_option(first)),
         _ => Asked::Misused(format!("unknown verb {}", first.to_string_lossy())),
     }
+}
+
+/// The arguments, with `--color=WHEN` and `--deny=WHAT` as two; what stands behind `--` stays as it is.
+fn parted(arguments: &[OsString]) -> Vec<OsString> {
+    let options = arguments.iter().take_while(|argument| *argument != "--");
+    let count = options.clone().count();
+    let parts = options.flat_map(|argument| {
+        match argument.to_str().and_then(|word| word.split_once('=')) {
+            Some((name @ ("--color" | "--deny"), choice)) => vec![name.into(), choice.into()],
+            _ => vec![argument.clone()],
+        }
+    });
+    parts.chain(arguments[count..].iter().cloned()).collect()
 }
 
 /// Reads a verb's arguments. What stands behind `--` is a file, whatever it begins with.
@@ -114,18 +131,19 @@ fn asked_of(verb: Verb, arguments: &[OsString]) -> Asked {
             Some("--version" | "-V") => return Asked::Version,
             Some("-o") if option.is_some() => options.output = rest.next().cloned(),
             Some("--text") if option.is_some() => options.text = rest.next().cloned(),
-            Some("--style") if option.is_some() => options.with_style = true,
+            Some("--style") if option.is_some() => options.checking.with_style = true,
+            Some("--json") if option.is_some() => options.checking.as_json = true,
+            Some(word @ ("--deny" | "--color")) if option.is_some() => {
+                if let Err(lack) = options.checking.choose(word, rest.next()) {
+                    return misused(verb, lack);
+                }
+            }
             Some("--check") if option.is_some() => options.only_told = true,
             Some("--force") if option.is_some() => options.is_forced = true,
             Some("--form") if option.is_some() => {
                 match rest.next().and_then(|form| form_of(form)) {
                     Some(form) => options.form = Some(form),
-                    None => {
-                        return Asked::Misused(format!(
-                            "{}: behind --form 1 or 2 is wanted",
-                            verb.name()
-                        ))
-                    }
+                    None => return misused(verb, "behind --form 1 or 2 is wanted"),
                 }
             }
             _ if is_option(argument) => return Asked::Misused(unknown_option(argument)),
@@ -133,13 +151,17 @@ fn asked_of(verb: Verb, arguments: &[OsString]) -> Asked {
         }
     }
     match verb.lacks(&files, &options) {
-        Some(lack) => Asked::Misused(format!("{}: {lack}", verb.name())),
+        Some(lack) => misused(verb, lack),
         None => Asked::Run(Task {
             verb,
             files,
             options,
         }),
     }
+}
+
+fn misused(verb: Verb, lack: &str) -> Asked {
+    Asked::Misused(format!("{}: {lack}", verb.name()))
 }
 
 /// The form that an argument names.
@@ -178,14 +200,31 @@ fn answered(asked: Asked, out: &mut impl Write) -> io::Result<Outcome> {
             complain("this command was built with the library of another version");
             Ok(Outcome::Trouble)
         }
+        Asked::Run(task) if task.verb == Verb::Explain => explain::explain_all(&task.files, out),
         Asked::Run(task) => {
             let mut worst = Outcome::Fine;
             for file in &task.files {
-                worst = worst.max(done(&task, file, out)?);
+                worst = worst.max(match task.verb {
+                    Verb::Check => all_done(&task, file, out)?,
+                    _ => done(&task, file, out)?,
+                });
             }
             Ok(worst)
         }
     }
+}
+
+/// Does a task with each of the files that an argument stands for.
+fn all_done(task: &Task, argument: &OsStr, out: &mut impl Write) -> io::Result<Outcome> {
+    let files = match folder::probes(argument) {
+        Ok(files) => files,
+        Err(trouble) => return troubled(&trouble, out),
+    };
+    let mut worst = Outcome::Fine;
+    for file in &files {
+        worst = worst.max(done(task, file, out)?);
+    }
+    Ok(worst)
 }
 
 /// Does a task with one of its files.
@@ -194,7 +233,7 @@ fn done(task: &Task, file: &OsStr, out: &mut impl Write) -> io::Result<Outcome> 
         output,
         text,
         form,
-        with_style,
+        checking,
         only_told,
         is_forced,
     } = &task.options;
@@ -208,7 +247,7 @@ fn done(task: &Task, file: &OsStr, out: &mut impl Write) -> io::Result<Outcome> 
     };
     let output = output.as_deref().unwrap_or_default();
     let written = match (task.verb, &text) {
-        (Verb::Check, _) => Ok(check::check(&source, *with_style, out)?),
+        (Verb::Check, _) => Ok(check::check(&source, *checking, out)?),
         (Verb::Rows, _) => Ok(shown(&source, out, rows::print)?),
         (Verb::Tree, _) => Ok(shown(&source, out, tree::print)?),
         (Verb::Load, text) => Ok(stored::load(&source, text.as_ref(), out)?),
@@ -225,7 +264,7 @@ fn done(task: &Task, file: &OsStr, out: &mut impl Write) -> io::Result<Outcome> 
             };
             mended::mend(&source, file, text, &asked, out)?
         }
-        (Verb::Move | Verb::Mend, None) => Ok(Outcome::Trouble),
+        (Verb::Move | Verb::Mend, None) | (Verb::Explain, _) => Ok(Outcome::Trouble),
     };
     match written {
         Ok(outcome) => Ok(outcome),

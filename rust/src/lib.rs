@@ -44,9 +44,22 @@
 //! # Ok::<(), spoonharbor::Refusal>(())
 //! ```
 //!
+//! What is wrong with a text is told in words by [`diagnostic`]: every problem at once, at the fault, for people and editors.
+//!
+//! ```
+//! use spoonharbor::{diagnostic::Checks, Document};
+//!
+//! let document = Document::open("event e { a: u32 }")?;
+//! let told = document.diagnostics(&Checks::default());
+//! assert_eq!((told[0].to_string().as_str(), told[0].span.clone()), ("error[21]: expected ';' after this", 16..16));
+//! # Ok::<(), spoonharbor::Refusal>(())
+//! ```
+//!
 //! [`lent`] has the library's calls themselves, over slices, for those who keep their own memory: a table there may be anyone's, so what
 //! its rows spell are bytes.
 
+pub mod columns;
+pub mod diagnostic;
 mod document;
 mod ffi;
 mod file;

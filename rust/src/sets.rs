@@ -103,6 +103,28 @@ impl Method {
         Method::ProbeReadUserStr,
         Method::ProbeReadKernelStr,
     ];
+
+    /// The method's name in the language.
+    pub fn name(self) -> &'static str {
+        match self {
+            Method::LoadU8 => "load_u8",
+            Method::LoadU16 => "load_u16",
+            Method::LoadU32 => "load_u32",
+            Method::LoadU64 => "load_u64",
+            Method::LoadI8 => "load_i8",
+            Method::LoadI16 => "load_i16",
+            Method::LoadI32 => "load_i32",
+            Method::LoadI64 => "load_i64",
+            Method::LoadBytes => "load_bytes",
+            Method::GetPidTgid => "get_pid_tgid",
+            Method::GetUidGid => "get_uid_gid",
+            Method::GetCurrentComm => "get_current_comm",
+            Method::GetCurrentTask => "get_current_task",
+            Method::GetKtimeNs => "get_ktime_ns",
+            Method::ProbeReadUserStr => "probe_read_user_str",
+            Method::ProbeReadKernelStr => "probe_read_kernel_str",
+        }
+    }
 }
 
 /// The program kind that a section's text gives.

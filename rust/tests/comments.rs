@@ -41,31 +41,45 @@ const MAP: &str = "map m{type:.hash;key:u32;value:u64;max:8;}\n";
 fn maps_without_a_comment_are_told() {
     let folder = Folder::new("style");
     let text = format!(
-        "// first\n{MAP} {}unit u{{}}\n",
+        "// first\n{MAP} {}event e{{}}\n",
         MAP.replace("m{", "times{")
     );
     folder.file("t", &text);
-    let fine = "t: ok, 2 maps, 0 events, 1 unit\n";
+    let fine = "t: ok, 2 maps, 1 event, 0 units (checked: syntax, sections, methods)\n";
     let ran = folder.run(&["check", "t"]);
     assert_eq!((ran.out.as_str(), ran.status), (fine, 0));
     let ran = folder.run(&["check", "--style", "t"]);
-    let wanted = format!(
-        "{fine}t:3:2: style: no comment above the map 'times'\n     map times{{type:.hash;key:u32;value:u64;max:8;}}\n     ^\n"
-    );
-    assert_eq!((ran.out, ran.status), (wanted, 1));
+    let wanted = "\
+warning[108]: map 'times' has no comment above it
+ --> t:3:2
+  |
+3 |  map times{type:.hash;key:u32;value:u64;max:8;}
+  |  ^^^
+
+t: refused, 1 warning
+";
+    assert_eq!((ran.out.as_str(), ran.status), (wanted, 1));
     assert_eq!(ran.complaints, "");
     folder.file("good", format!("/* why */{MAP}// and this\n\n{MAP}"));
     assert_eq!(folder.run(&["check", "good", "--style"]).status, 0);
     assert_eq!(folder.run(&["check", "--style", "good", "t"]).status, 1);
 }
 
-/// A text that is no program gets its refusal alone, and no other verb has a style.
+/// A refusal elsewhere in the text does not silence style, and no other verb has one.
 #[test]
-fn style_is_a_program_s() {
+fn style_is_told_beside_refusals() {
     let folder = Folder::new("no-style");
     folder.file("t", format!("{MAP}unit"));
     let ran = folder.run(&["check", "--style", "t"]);
-    assert_eq!(ran.out, folder.run(&["check", "t"]).out);
+    assert!(ran
+        .out
+        .starts_with("warning[108]: map 'm' has no comment above it\n"));
+    assert!(ran.out.ends_with(
+        &folder
+            .run(&["check", "t"])
+            .out
+            .replace("1 error", "1 error, 1 warning")
+    ));
     assert_eq!(ran.status, 1);
     for verb in ["rows", "tree", "load"] {
         let ran = folder.run(&[verb, "--style", "t"]);

@@ -72,6 +72,7 @@ fn a_staged_install_names_its_last_place() {
     let told = fs::read_to_string(there.join("lib/pkgconfig/spoonharbor.pc")).unwrap();
     assert!(told.starts_with("prefix=/opt/probes\n"));
     assert!(there.join("include/spoonharbor.h").is_file());
+    assert!(there.join("include/spoonharbor_messages.h").is_file());
     assert!(there.join("lib/libspoonharbor.a").is_file());
     for wrong in [["--prefix"].as_slice(), &["--prefix", ""], &["there"]] {
         let ran = run(

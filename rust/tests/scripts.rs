@@ -10,6 +10,9 @@ use std::process::Command;
 
 const PROBE: &str = "unit u{\n x+=-1;\n}\n";
 
+/// The same with a section and a license, so that nothing is told of it.
+const SOUND: &str = "unit u{\n section \"xdp\"; license \"GPL\";\n x+=-1;\n}\n";
+
 fn script(name: &str) -> PathBuf {
     repository().join(name)
 }
@@ -21,18 +24,24 @@ fn run_in(folder: &Folder, name: &str, arguments: &[&str]) -> Ran {
 #[test]
 fn the_first_command_checks_files() {
     let folder = Folder::new("first");
-    folder.file("good.snx", PROBE);
+    folder.file("good.snx", SOUND);
     folder.file("bad.snx", "unit u{\n x+=-1\n}\n");
     let ran = run_in(&folder, "check", &["good.snx"]);
-    assert_eq!(
-        (ran.out.as_str(), ran.status),
-        ("good.snx: ok, 0 maps, 0 events, 1 unit\n", 0)
-    );
+    let ok = "good.snx: ok, 0 maps, 0 events, 1 unit (checked: syntax, sections, methods)\n";
+    assert_eq!((ran.out.as_str(), ran.status), (ok, 0));
     let ran = run_in(&folder, "check", &["good.snx", "bad.snx"]);
-    assert!(ran
-        .out
-        .ends_with("bad.snx:3:1: expected ';', '.' or an operator, found '}'\n    }\n    ^\n"));
+    assert!(ran.out.starts_with(&format!(
+        "{ok}error[21]: expected ';' after this\n --> bad.snx:2:7\n"
+    )));
+    assert!(ran.out.ends_with("bad.snx: refused, 1 error\n"));
     assert_eq!(ran.status, 1);
+    let ran = run_in(&folder, "check", &["."]);
+    assert!(ran.out.starts_with("error[21]"), "{}", ran.out);
+    assert!(
+        ran.out.ends_with(&ok.replace("good", "./good")),
+        "{}",
+        ran.out
+    );
     let ran = run_in(&folder, "check", &["missing.snx"]);
     assert!(ran.complaints.contains("missing.snx"));
     assert_eq!((ran.out.as_str(), ran.status), ("", 2));

@@ -53,7 +53,8 @@ fn a_refused_text_is_stored_up_to_there() {
     let ran = folder.run(&["store", "-o", "t.rows", "t"]);
     assert_eq!(
         ran.out,
-        "t: 1 row stored in t.rows\nt:1:3: nothing begins with '@'\n    a @\n      ^\n"
+        "t: 1 row stored in t.rows\nerror[11]: nothing begins with '@'\n --> t:1:3\n  |\n1 | a @\n  |   ^\n  \
+         = proved: the library refuses the text with 11 at 1:3\n\n"
     );
     assert_eq!((ran.complaints.as_str(), ran.status), ("", 1));
     let ran = folder.run(&["load", "t.rows"]);
@@ -72,8 +73,11 @@ fn texts_without_a_table_are_refused() {
     folder.file("degree", b"// 5\xb0\n");
     folder.file("rows", vec![b';'; 65_535]);
     let refused = [
-        ("long", "long: the text is longer than 65,536 bytes\n"),
-        ("degree", "degree:1:5: byte 176 begins no UTF-8 character"),
+        (
+            "long",
+            "error[1]: the text is longer than 65,536 bytes\n --> long\n",
+        ),
+        ("degree", "error[2]: byte 176 begins no UTF-8 character"),
         (
             "rows",
             "rows: more rows than a file holds: the most is 65,535\n",

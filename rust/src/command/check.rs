@@ -1,55 +1,111 @@
-//! `spoonharbor check`: one line for a program, and for a refused text its place, the reason and the source line; with `--style` also each
-//! map of a program that has no comment above it.
+//! `spoonharbor check`: every problem of a text, and one line that says how it went.
 
-use super::message;
+use super::paint::Colour;
 use super::source::Source;
-use super::Outcome;
-use spoonharbor::{Document, Kind, NodeKind, Refusal, Tree};
+use super::{json, message, Outcome};
+use spoonharbor::diagnostic::{diagnose, Checks, Diagnostic};
+use spoonharbor::{Document, NodeKind, Tree};
+use std::ffi::OsString;
 use std::io::{self, Write};
 
-/// Checks one text; its style too if that is asked for.
-pub fn check(source: &Source, with_style: bool, out: &mut impl Write) -> io::Result<Outcome> {
-    match parsed(&source.bytes) {
-        Ok((document, tree)) => {
-            writeln!(out, "{}: ok, {}", source.name, told(source, &tree))?;
-            match with_style {
-                true => style(source, &document, out),
-                false => Ok(Outcome::Fine),
-            }
+/// The number of the warning that `--style` asks for.
+const NO_COMMENT: u32 = 108;
+
+/// What was checked of a text that is ok.
+const CHECKED: &str = "checked: syntax, sections, methods";
+
+/// How a text is checked and what is printed of it.
+#[derive(Debug, Clone, Copy, Default)]
+pub struct Checking {
+    /// Whether maps without a comment are told, and refused.
+    pub with_style: bool,
+    /// Whether a warning is as bad as an error.
+    pub denies_warnings: bool,
+    /// Whether each problem is one line for programs.
+    pub as_json: bool,
+    pub colour: Colour,
+}
+
+impl Checking {
+    /// Takes what stands behind `--deny` or `--color`, or says what should.
+    pub fn choose(&mut self, option: &str, choice: Option<&OsString>) -> Result<(), &'static str> {
+        if option == "--deny" {
+            self.denies_warnings = choice.is_some_and(|choice| choice == "warnings");
+            return match self.denies_warnings {
+                true => Ok(()),
+                false => Err("behind --deny the word warnings is wanted"),
+            };
         }
-        Err(refusal) => {
-            message::refused(source, &refusal, out)?;
-            Ok(Outcome::Refused)
-        }
+        let colour = choice.and_then(|choice| Colour::named(choice));
+        self.colour = colour.ok_or("behind --color auto, always or never is wanted")?;
+        Ok(())
     }
 }
 
-fn parsed(text: &[u8]) -> Result<(Document, Tree), Refusal> {
-    let document = Document::open(text)?;
-    let tree = document.tree()?.clone();
-    Ok((document, tree))
-}
-
-/// Tells of each map of a program without a comment above it. The word `map` stands nowhere else in a program.
-fn style(source: &Source, document: &Document, out: &mut impl Write) -> io::Result<Outcome> {
-    let mut outcome = Outcome::Fine;
-    for (number, row) in document.rows().enumerate() {
-        if row.kind != Kind::KeywordMap || row.comments > 0 {
-            continue;
+/// Checks one text.
+pub fn check(source: &Source, checking: Checking, out: &mut impl Write) -> io::Result<Outcome> {
+    let mut checks = Checks::default();
+    checks.style = checking.with_style;
+    let told = diagnose(&source.bytes, &checks);
+    let outcome = outcome(&told, checking);
+    if checking.as_json {
+        for one in &told {
+            json::print(source, one, out)?;
         }
-        let name = document.spelling(number + 1).unwrap_or_default();
-        let words = format!("style: no comment above the map '{name}'");
-        message::pointed(source, row.place(), &words, out)?;
-        outcome = Outcome::Refused;
+        return Ok(outcome);
     }
+    let paint = checking.colour.paint();
+    for one in &told {
+        message::told_of(source, one, paint, out)?;
+    }
+    writeln!(out, "{}: {}", source.name, summary(source, &told, outcome))?;
     Ok(outcome)
 }
 
+/// A text is refused for an error, for a map out of style where that was asked for, and for any warning where these are
+/// denied.
+fn outcome(told: &[Diagnostic], checking: Checking) -> Outcome {
+    let is_bad =
+        |one: &Diagnostic| one.is_error() || checking.denies_warnings || one.number == NO_COMMENT;
+    match told.iter().any(is_bad) {
+        true => Outcome::Refused,
+        false => Outcome::Fine,
+    }
+}
+
+/// What is said of the text as a whole.
+fn summary(source: &Source, told: &[Diagnostic], outcome: Outcome) -> String {
+    let errors = told.iter().filter(|one| one.is_error()).count();
+    let counts = [(errors, "error"), (told.len() - errors, "warning")];
+    let counts: Vec<String> = counts
+        .iter()
+        .filter(|(count, _)| *count > 0)
+        .map(|&(count, word)| counted(count, word))
+        .collect();
+    if outcome == Outcome::Refused {
+        return format!("refused, {}", counts.join(", "));
+    }
+    let warned = match counts.as_slice() {
+        [] => String::new(),
+        counts => format!("; {}", counts.join(", ")),
+    };
+    format!("ok, {}{warned} ({CHECKED})", declared(source))
+}
+
 /// What is in a program: how many of each declaration.
-fn told(source: &Source, tree: &Tree) -> String {
+fn declared(source: &Source) -> String {
     if source.bytes.is_empty() {
         return "an empty file".to_string();
     }
+    let document = Document::open(source.bytes.as_slice());
+    let tree = document
+        .as_ref()
+        .ok()
+        .and_then(|document| document.tree().ok());
+    tree.map_or(String::new(), told)
+}
+
+fn told(tree: &Tree) -> String {
     let count = |wanted: fn(&NodeKind) -> bool| {
         let found = tree.nodes().iter().filter(|node| wanted(&node.kind));
         found.count()
@@ -59,9 +115,14 @@ fn told(source: &Source, tree: &Tree) -> String {
         (count(|kind| matches!(kind, NodeKind::Event)), "event"),
         (count(|kind| matches!(kind, NodeKind::Unit { .. })), "unit"),
     ]
-    .map(|(count, word)| match count {
+    .map(|(count, word)| counted(count, word))
+    .join(", ")
+}
+
+/// `1 map`, `2 maps`.
+fn counted(count: usize, word: &str) -> String {
+    match count {
         1 => format!("1 {word}"),
         _ => format!("{count} {word}s"),
-    })
-    .join(", ")
+    }
 }

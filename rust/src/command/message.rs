@@ -1,9 +1,13 @@
-//! A refusal for people: `file:line:column: message`, the source line, and a caret below the place.
+//! A diagnostic for people: its number and words, `--> file:line:column`, the source line with carets below the place,
+//! notes and help.
 
-use super::columns::{columns, is_mark, shows};
+use super::paint::{Colour, Paint};
 use super::source::Source;
-use spoonharbor::{Place, Reason, Refusal};
+use spoonharbor::columns::{columns, is_mark, shows};
+use spoonharbor::diagnostic::{diagnose_refusal, Diagnostic, Position, Severity};
+use spoonharbor::Refusal;
 use std::io::{self, Write};
+use std::ops::Range;
 
 /// The most cells of a source line that are shown, and how many of them stand before the place in a longer line.
 const LINE_SHOWN: usize = 100;
@@ -15,82 +19,128 @@ const UNSHOWN: &str = "?";
 
 /// Prints a refusal of this source.
 pub fn refused(source: &Source, refusal: &Refusal, out: &mut impl Write) -> io::Result<()> {
-    if refusal.reason == Reason::TextTooLong {
-        return writeln!(out, "{}: {}", source.name, refusal.reason);
+    let told = diagnose_refusal(&source.bytes, refusal);
+    told_of(source, &told, Colour::Auto.paint(), out)
+}
+
+/// Prints a diagnostic of this source.
+pub fn told_of(
+    source: &Source,
+    told: &Diagnostic,
+    paint: Paint,
+    out: &mut impl Write,
+) -> io::Result<()> {
+    let heading = format!("{}[{}]", told.severity, told.number);
+    let message = paint.message(&format!(": {}", told.message));
+    writeln!(out, "{}{message}", paint.heading(told.severity, &heading))?;
+    let page = Page::new(source, told, paint);
+    if told.is_about_the_whole() {
+        writeln!(out, "{} {}", paint.gutter(" -->"), source.name)?;
+    } else {
+        page.line(&told.span, told.severity, out)?;
     }
-    let words = words(&source.bytes, refusal);
-    pointed(source, refusal.place, &words, out)
+    for note in told.notes.iter().filter(|note| note.span.is_none()) {
+        page.added("note", &note.message, out)?;
+    }
+    if let Some(help) = &told.help {
+        page.added("help", help, out)?;
+    }
+    if let Some(place) = told.proved {
+        let words = format!(
+            "the library refuses the text with {} at {}:{}",
+            told.number, place.line, place.column
+        );
+        page.added("proved", &words, out)?;
+    }
+    for note in &told.notes {
+        let Some(span) = &note.span else { continue };
+        writeln!(out, "{}: {}", paint.added("note"), note.message)?;
+        page.line(span, told.severity, out)?;
+    }
+    writeln!(out)
 }
 
-/// Prints words about a place of this source, with the line and a caret.
-pub fn pointed(source: &Source, place: Place, words: &str, out: &mut impl Write) -> io::Result<()> {
-    let (line, column) = (place.line, place.column);
-    writeln!(out, "{}:{line}:{column}: {words}", source.name)?;
-    let line = SourceLine::around(&source.bytes, place.offset);
-    writeln!(out, "    {}", line.shown)?;
-    writeln!(out, "    {}^", line.before_caret)
+/// Where source lines are printed, with room for their numbers in front.
+struct Page<'a> {
+    source: &'a Source,
+    paint: Paint,
+    width: usize,
 }
 
-/// The reason in words, with the byte or character in question where there is one.
-fn words(text: &[u8], refusal: &Refusal) -> String {
-    let offset = refusal.place.offset;
-    let words = match refusal.reason {
-        Reason::BadByte => text.get(offset).map(no_character),
-        Reason::NoRowBegins => character(text, offset).map(no_row),
-        Reason::LoneSign => character(text, offset).map(lone),
-        _ => None,
-    };
-    words.unwrap_or_else(|| refusal.reason.to_string())
-}
-
-fn no_character(byte: &u8) -> String {
-    format!("byte {byte} begins no UTF-8 character here: save the text as UTF-8")
-}
-
-fn no_row(letter: char) -> String {
-    format!("nothing begins with {}", named(letter))
-}
-
-fn lone(sign: char) -> String {
-    format!("a lone '{sign}': Solnix has no comparisons, and a shift is '{sign}{sign}'")
-}
-
-/// The character that begins at this offset.
-fn character(text: &[u8], offset: usize) -> Option<char> {
-    text.get(offset..)?
-        .utf8_chunks()
-        .next()?
-        .valid()
-        .chars()
-        .next()
-}
-
-/// A character in quotes, by its number where it would not show there.
-fn named(letter: char) -> String {
-    match letter {
-        '\u{feff}' => "a byte order mark: save the text without it".to_string(),
-        _ if letter.is_ascii() => format!("'{}'", (letter as u8).escape_ascii()),
-        _ if !shows(letter) || is_mark(letter) || letter.is_whitespace() => {
-            format!("'{}'", letter.escape_unicode())
+impl<'a> Page<'a> {
+    fn new(source: &'a Source, told: &Diagnostic, paint: Paint) -> Page<'a> {
+        let spans = told.notes.iter().filter_map(|note| note.span.as_ref());
+        let lines = spans
+            .chain([&told.span])
+            .map(|span| Position::of(&source.bytes, span.start).line);
+        let last = lines.max().unwrap_or(1);
+        Page {
+            source,
+            paint,
+            width: last.to_string().len(),
         }
-        _ => format!("'{letter}'"),
+    }
+
+    /// Prints where bytes stand, their line and carets below them.
+    fn line(
+        &self,
+        span: &Range<usize>,
+        severity: Severity,
+        out: &mut impl Write,
+    ) -> io::Result<()> {
+        let at = Position::of(&self.source.bytes, span.start);
+        let line = SourceLine::around(&self.source.bytes, span);
+        let blank = " ".repeat(self.width);
+        let paint = self.paint;
+        let (arrow, bar) = (
+            paint.gutter(&format!("{blank}-->")),
+            paint.gutter(&format!("{blank} |")),
+        );
+        writeln!(
+            out,
+            "{arrow} {}:{}:{}",
+            self.source.name, at.line, at.column
+        )?;
+        writeln!(out, "{bar}")?;
+        let number = paint.gutter(&format!("{:>1$} |", at.line, self.width));
+        writeln!(
+            out,
+            "{}",
+            format!("{number} {}", line.shown).trim_end_matches(' ')
+        )?;
+        writeln!(
+            out,
+            "{bar} {}{}",
+            line.before_caret,
+            paint.heading(severity, &line.carets)
+        )
+    }
+
+    /// Prints what is added to a diagnostic.
+    fn added(&self, word: &str, words: &str, out: &mut impl Write) -> io::Result<()> {
+        let sign = self.paint.gutter(&format!("{} =", " ".repeat(self.width)));
+        writeln!(out, "{sign} {}: {words}", self.paint.added(word))
     }
 }
 
-/// A line of the source as it is shown, and what stands below it before the caret.
+/// A line of the source as it is shown, and what stands below it: before the carets, and the carets.
 struct SourceLine {
     shown: String,
     before_caret: String,
+    carets: String,
 }
 
 impl SourceLine {
-    /// The line that the byte at `offset` stands on; a part of it if it is long.
-    fn around(text: &[u8], offset: usize) -> SourceLine {
-        let offset = offset.min(text.len());
+    /// The line that some bytes begin on; a part of it if it is long. Bytes on further lines have no carets.
+    fn around(text: &[u8], span: &Range<usize>) -> SourceLine {
+        let offset = span.start.min(text.len());
         let (begin, end) = line_around(text, offset);
         let cells = cells(&text[begin..end]);
         let at = cells.partition_point(|cell| begin + cell.end <= offset);
         let (from, to) = part_shown(at, cells.len());
+        let below = cells[at..to.max(at)].iter().enumerate();
+        let below = below.take_while(|(index, cell)| *index == 0 || begin + cell.start < span.end);
+        let carets: String = below.map(|(_, cell)| cell.carets()).collect();
         let cut_before = if from > 0 { CUT } else { "" };
         let cut_behind = if to < cells.len() { CUT } else { "" };
         let shown: String = cells[from..to].iter().map(|cell| cell.shown).collect();
@@ -98,6 +148,10 @@ impl SourceLine {
         SourceLine {
             shown: format!("{cut_before}{shown}{cut_behind}"),
             before_caret: format!("{}{blanks}", " ".repeat(cut_before.len())),
+            carets: match carets.contains('^') {
+                true => carets.trim_end().to_string(),
+                false => "^".to_string(),
+            },
         }
     }
 }
@@ -116,7 +170,8 @@ fn line_around(text: &[u8], offset: usize) -> (usize, usize) {
     (begin, end - usize::from(ends_in_return))
 }
 
-/// The part of a line of so many cells that is shown; the caret, which stands below the cell `at` or behind the last, is in it.
+/// The part of a line of so many cells that is shown; the caret, which stands below the cell `at` or behind the last,
+/// is in it.
 fn part_shown(at: usize, cells: usize) -> (usize, usize) {
     if cells <= LINE_SHOWN {
         return (0, cells);
@@ -125,10 +180,11 @@ fn part_shown(at: usize, cells: usize) -> (usize, usize) {
     (from, cells.min(from + LINE_SHOWN))
 }
 
-/// What stands in one place of a shown line: a character and the marks that are drawn on it, or a `?` for one that does not show and for
-/// each byte that belongs to none. `end` is where its bytes end in the line.
+/// What stands in one place of a shown line: a character and the marks that are drawn on it, or a `?` for one that does
+/// not show and for each byte that belongs to none. `start` and `end` are where its bytes are in the line.
 struct Cell<'a> {
     shown: &'a str,
+    start: usize,
     end: usize,
 }
 
@@ -139,6 +195,11 @@ impl Cell<'_> {
             "\t" => "\t".to_string(),
             shown => " ".repeat(shown.chars().map(columns).sum()),
         }
+    }
+
+    /// As wide as the cell; a tab stays a tab.
+    fn carets(&self) -> String {
+        self.blank().replace(' ', "^")
     }
 }
 
@@ -151,18 +212,20 @@ fn cells(line: &[u8]) -> Vec<Cell<'_>> {
         while let Some(length) = cell_length(rest) {
             let (cell, behind) = rest.split_at(length);
             rest = behind;
+            let start = end;
             end += length;
             let shown = if cell.starts_with(is_base) {
                 cell
             } else {
                 UNSHOWN
             };
-            cells.push(Cell { shown, end });
+            cells.push(Cell { shown, start, end });
         }
         for _ in chunk.invalid() {
             end += 1;
             cells.push(Cell {
                 shown: UNSHOWN,
+                start: end - 1,
                 end,
             });
         }
@@ -170,8 +233,8 @@ fn cells(line: &[u8]) -> Vec<Cell<'_>> {
     cells
 }
 
-/// How many bytes the first cell of a text has: its first character's, and those of the marks behind it, unless it is a tab, does not show
-/// or is a mark itself, on which none is drawn.
+/// How many bytes the first cell of a text has: its first character's, and those of the marks behind it, unless it is a
+/// tab, does not show or is a mark itself, on which none is drawn.
 fn cell_length(text: &str) -> Option<usize> {
     let mut letters = text.chars();
     let first = letters.next()?;
@@ -191,8 +254,13 @@ mod tests {
 
     /// The line with the caret's line below it.
     fn lines(text: &[u8], offset: usize) -> (String, String) {
-        let line = SourceLine::around(text, offset);
+        let line = SourceLine::around(text, &(offset..offset));
+        assert!(line.carets.starts_with('^'));
         (line.shown, line.before_caret + "^")
+    }
+
+    fn around(text: &str, offset: usize) -> SourceLine {
+        SourceLine::around(text.as_bytes(), &(offset..offset))
     }
 
     fn is_below(text: &str, place: &str, shown: &str, caret: &str) {
@@ -244,13 +312,13 @@ mod tests {
         for letter in ["a", "°", "a\u{301}", "😀"] {
             let text = letter.repeat(5000);
             let width = columns(letter.chars().next().unwrap());
-            let line = SourceLine::around(text.as_bytes(), 2000 * letter.len());
+            let line = around(&text, 2000 * letter.len());
             assert_eq!(line.shown, format!("...{}...", letter.repeat(LINE_SHOWN)));
             assert_eq!(line.before_caret.len(), SHOWN_BEFORE * width + 3);
-            let line = SourceLine::around(text.as_bytes(), 0);
+            let line = around(&text, 0);
             assert_eq!(line.before_caret, "");
             assert_eq!(line.shown, format!("{}...", letter.repeat(LINE_SHOWN)));
-            let line = SourceLine::around(text.as_bytes(), text.len());
+            let line = around(&text, text.len());
             assert_eq!(line.shown, format!("...{}", letter.repeat(SHOWN_BEFORE)));
             assert_eq!(line.before_caret.len(), SHOWN_BEFORE * width + 3);
         }
@@ -270,20 +338,19 @@ mod tests {
     }
 
     #[test]
-    fn what_begins_nothing_is_named() {
-        let named = [
-            ('@', "'@'"),
-            ('\u{1}', "'\\x01'"),
-            ('°', "'°'"),
-            ('α', "'α'"),
-            ('角', "'角'"),
-            ('\u{a0}', "'\\u{a0}'"),
-            ('\u{301}', "'\\u{301}'"),
-            ('\u{202e}', "'\\u{202e}'"),
-            ('\u{feff}', "a byte order mark: save the text without it"),
-        ];
-        for (letter, wanted) in named {
-            assert_eq!(super::named(letter), wanted);
-        }
+    fn carets_are_as_wide_as_what_they_stand_below() {
+        let carets =
+            |text: &str, span: Range<usize>| SourceLine::around(text.as_bytes(), &span).carets;
+        assert_eq!(carets("ab cd", 3..5), "^^");
+        assert_eq!(carets("ab cd", 5..5), "^");
+        assert_eq!(carets("ab cd", 0..99), "^^^^^");
+        assert_eq!(carets("ab\ncd", 1..4), "^");
+        assert_eq!(carets("角 a", 0..3), "^^");
+        assert_eq!(carets("a\tb c", 0..3), "^\t^");
+        assert_eq!(carets("e\u{301}x", 0..3), "^");
+        assert_eq!(carets("\u{301}x", 0..2), "^");
+        assert_eq!(carets("", 0..0), "^");
+        let long = "a".repeat(5000);
+        assert_eq!(carets(&long, 0..5000), "^".repeat(LINE_SHOWN));
     }
 }

@@ -9,6 +9,7 @@ use std::ffi::{OsStr, OsString};
 /// What is said of the whole command.
 pub const USAGE: &str = "\
 usage: spoonharbor check FILE..            say of each file whether it is a program, and if not, where and why
+       spoonharbor explain NUMBER..        say what the number of a refusal or a warning means
        spoonharbor rows FILE               print its rows
        spoonharbor tree FILE               print its tree
        spoonharbor store FILE -o TABLE     store its rows in a file
@@ -21,14 +22,33 @@ FILE is a path, or - for standard input. Exit status: 0 all is well, 1 a text or
 ";
 
 const CHECK_USAGE: &str = "\
-usage: spoonharbor check [--style] [--] FILE..
+usage: spoonharbor check [--style] [--deny warnings] [--json] [--color WHEN] [--] FILE..
 
-Says of each file whether it is a Solnix program. A program gets one line, which counts its maps, events and units; a refused text
-gets file:line:column and the reason, the source line, and a caret below the place. Columns count bytes; the caret stands below the
-character. With --style each map of a program that has no comment above it, behind whatever stands before it, is told in the same way.
+Tells every problem of each file, in the text's order: its number, its words, file:line:column, the source line with carets below the
+place, and what to write. Columns count bytes; carets stand below characters. Reading goes on behind a refusal at the next declaration.
+One refusal is marked as proved: it is the library's own of the whole text. The last line of each file says how it went.
 
-FILE is a path, or - for standard input; behind -- a path may begin with -. A file that cannot be read is told on standard error, and
-the others are checked all the same. Exit status: 0 every text is a program, and with --style in style, 1 a text is not, 2 trouble.
+ok means that the text is a Solnix program: it is UTF-8, it scans and it parses. Warnings tell sections that give no program kind, missing
+sections and licenses, methods of ctx that the program kind does not have, two declarations of one name, and lines that end in CR alone.
+ok does not mean that names are declared, that types agree, or that the kernel takes the probe.
+
+  --style           also warn of each map without a comment above it, and refuse the file for it
+  --deny warnings   refuse a file for any warning
+  --json            one JSON object on a line for each problem, and nothing else
+  --color WHEN      auto, always or never; auto is colour on a terminal, unless the variable NO_COLOR is set
+
+FILE is a path, or - for standard input; a folder stands for every *.snx in it and below; behind -- a path may begin with -. A file that
+cannot be read is told on standard error, and the others are checked all the same.
+Exit status: 0 every text is ok, 1 one is refused, 2 trouble.
+";
+
+const EXPLAIN_USAGE: &str = "\
+usage: spoonharbor explain [--] [NUMBER..]
+
+Says what the number of a refusal or a warning means, with an example on either side of its edge. Without a number it lists them all.
+1 to 7 are of what a call was lent, 11 to 17 of the scan, 21 to 32 of the grammar, 40 to 45 of stored tables, 101 to 108 are warnings.
+
+Exit status: 0 each number is explained, 2 there is no such number.
 ";
 
 const ROWS_USAGE: &str = "\
@@ -115,6 +135,7 @@ Exit status: 0 the file is right now, 1 it is another text's, or with --check no
 #[derive(Debug, Clone, Copy, PartialEq, Eq)]
 pub enum Verb {
     Check,
+    Explain,
     Rows,
     Tree,
     Store,
@@ -128,6 +149,7 @@ impl Verb {
     pub fn named(word: &OsStr) -> Option<Verb> {
         let verbs = [
             Verb::Check,
+            Verb::Explain,
             Verb::Rows,
             Verb::Tree,
             Verb::Store,
@@ -141,6 +163,7 @@ impl Verb {
     pub fn name(self) -> &'static str {
         match self {
             Verb::Check => "check",
+            Verb::Explain => "explain",
             Verb::Rows => "rows",
             Verb::Tree => "tree",
             Verb::Store => "store",
@@ -154,6 +177,7 @@ impl Verb {
     pub fn usage(self) -> &'static str {
         match self {
             Verb::Check => CHECK_USAGE,
+            Verb::Explain => EXPLAIN_USAGE,
             Verb::Rows => ROWS_USAGE,
             Verb::Tree => TREE_USAGE,
             Verb::Store => STORE_USAGE,
@@ -175,7 +199,7 @@ impl Verb {
     /// Whether it takes an option.
     pub fn takes(self, option: &str) -> bool {
         match option {
-            "--style" => self == Verb::Check,
+            "--style" | "--deny" | "--json" | "--color" => self == Verb::Check,
             "--check" => self == Verb::Mend,
             "--text" => matches!(self, Verb::Load | Verb::Move | Verb::Mend),
             "--form" => matches!(self, Verb::Move | Verb::Mend),
@@ -203,7 +227,7 @@ impl Verb {
         };
         match (self, files) {
             (Verb::Check, []) => Some("a file is missing"),
-            (Verb::Check, _) => None,
+            (Verb::Check | Verb::Explain, _) => None,
             (Verb::Store, [_]) => output,
             (Verb::Load, [_]) if options.text.is_some() => text,
             (Verb::Move, [_]) => form.or(text).or(output),
