@@ -49,12 +49,12 @@ impl Document {
     pub fn open_with(text: impl Into<Vec<u8>>, table: Table) -> Result<Document, Refusal> {
         let text = text.into();
         if text.len() > LONGEST_TEXT {
-            return Err(at_start(Reason::TextTooLong));
+            return Err(Refusal::from(Reason::TextTooLong));
         }
         let text = valid(text)?;
         match table.fits(&text) {
             true => Ok(Document::of(text, table)),
-            false => Err(at_start(Reason::OtherText)),
+            false => Err(Refusal::from(Reason::OtherText)),
         }
     }
 
@@ -111,7 +111,7 @@ impl Document {
     pub fn spelling(&self, row: usize) -> Result<&str, Refusal> {
         self.row(row)
             .and_then(|row| self.text.get(row.span()))
-            .ok_or(at_start(Reason::NotWellFormed))
+            .ok_or(Refusal::from(Reason::NotWellFormed))
     }
 
     /// The program's tree, or the first refusal: that of the rows (11 to 17), or one of 21 to 32. The text is parsed when the tree is
@@ -170,7 +170,7 @@ impl Document {
     /// The text before a range and behind it, if the range lies in the text and cuts no character.
     fn kept(&self, range: &Range<usize>) -> Result<(&str, &str), Refusal> {
         if range.start > range.end || range.end > self.text.len() {
-            return Err(at_start(Reason::EditNotSensible));
+            return Err(Refusal::from(Reason::EditNotSensible));
         }
         let part = |at: usize| {
             self.text
@@ -210,7 +210,7 @@ impl fmt::Debug for Document {
 /// A change of a text of so many bytes in the library's numbers, if the new text is not too long.
 fn change(range: Range<usize>, length: usize, new_bytes: usize) -> Result<Change, Refusal> {
     if new_bytes > LONGEST_TEXT || length - range.len() + new_bytes > LONGEST_TEXT {
-        return Err(at_start(Reason::TextTooLong));
+        return Err(Refusal::from(Reason::TextTooLong));
     }
     Ok(Change {
         a: range.start as u32,
@@ -238,11 +238,4 @@ fn roomy(spare: &mut Vec<u32>, length: usize) -> &mut [u32] {
 /// How many words the rows of a text of so many bytes need: every row but Eof has a byte.
 fn room_for(length: usize) -> usize {
     (length + 1) * ROW_WORDS
-}
-
-fn at_start(reason: Reason) -> Refusal {
-    Refusal {
-        reason,
-        place: Place::START,
-    }
 }
