@@ -9,23 +9,54 @@ use crate::ast::{
     StmtKind, Type, Unit, VarDecl, VarType,
 };
 use crate::parser::SourceLoc;
-use spoonharbor::{self as own, Document, FieldType, Node, NodeKind, Operator, Refusal};
+use spoonharbor::lent::{self, Words, NODE_WORDS, ROW_WORDS};
+use spoonharbor::{self as own, Document, FieldType, NodeKind, Operator, Refusal};
+use std::vec::Drain;
 
 /// The compiler's tree of a document's text, or the first refusal: that of the rows (11 to 17), or one of 21 to 32.
 ///
 /// A document that was opened with a stored table of another text may have rows that name nothing. Then the answer is 3,
 /// or a tree that is the table's and not the text's.
 pub fn program(document: &Document) -> Result<Program, Refusal> {
-    let mut making = Making::of(document);
-    for node in document.tree()?.nodes() {
-        making.take(node)?;
+    let (text, table) = (document.text(), document.table());
+    let mut nodes = vec![0; table.row_words().len()];
+    let answer = lent::parse(
+        text.as_bytes(),
+        table.row_words(),
+        table.words(),
+        &mut nodes,
+    );
+    if let Some(refusal) = Refusal::from_words(&answer) {
+        return Err(refusal);
     }
-    Ok(making.program)
+    let written = nodes
+        .as_chunks()
+        .0
+        .iter()
+        .take(answer[lent::COUNT] as usize);
+    let mut making = Making::of(text, table.row_words());
+    let taken = written.copied().try_for_each(|words| making.take(words));
+    match taken.map_or(Refusal::from_words(&NOT_WELL_FORMED), |()| None) {
+        None => Ok(making.program),
+        Some(refusal) => Err(refusal),
+    }
+}
+
+/// 3 in the library's words: the nodes are no tree of the rows. No tree that the library wrote is refused so.
+const NOT_WELL_FORMED: Words = [3, 0, 1, 1, 0, 0, 0, 0];
+
+/// What stands in a node besides its kind. A name that is missing is no row.
+#[derive(Clone, Copy)]
+struct Node {
+    place: usize,
+    name: usize,
+    children: usize,
 }
 
 /// What was made of the nodes so far and no parent took up yet.
 struct Making<'d> {
-    document: &'d Document,
+    text: &'d str,
+    rows: &'d [[u32; ROW_WORDS]],
     expressions: Vec<Expr>,
     statements: Vec<Stmt>,
     /// The bodies of an `if`: then, and else if there is one.
@@ -36,9 +67,10 @@ struct Making<'d> {
 }
 
 impl<'d> Making<'d> {
-    fn of(document: &'d Document) -> Making<'d> {
+    fn of(text: &'d str, row_words: &'d [u32]) -> Making<'d> {
         Making {
-            document,
+            text,
+            rows: row_words.as_chunks().0,
             expressions: Vec::new(),
             statements: Vec::new(),
             bodies: Vec::new(),
@@ -52,14 +84,20 @@ impl<'d> Making<'d> {
         }
     }
 
-    fn take(&mut self, node: &Node) -> Result<(), Refusal> {
-        match node.kind {
-            NodeKind::Variable
-            | NodeKind::Number(_)
-            | NodeKind::Dereference
-            | NodeKind::Binary(_)
-            | NodeKind::Call
-            | NodeKind::Field => self.expression(node),
+    /// Takes the next node, in its words.
+    fn take(&mut self, [kind, place, name, children, a, b, c, d]: [u32; NODE_WORDS]) -> Option<()> {
+        let node = Node {
+            place: place as usize,
+            name: name as usize,
+            children: children as usize,
+        };
+        match NodeKind::from_words(kind, [a, b, c, d])? {
+            NodeKind::Variable => self.put(node, ExprKind::Variable(self.name(node)?)),
+            NodeKind::Number(value) => self.put(node, ExprKind::Number(value)),
+            NodeKind::Dereference => self.dereference(node),
+            NodeKind::Binary(operator) => self.binary(node, operator),
+            NodeKind::Call => self.call(node),
+            NodeKind::Field => self.field(node),
             NodeKind::Then | NodeKind::Else => self.body(node),
             NodeKind::Section => self.section(node),
             NodeKind::Unit { kind, license, .. } => self.unit(node, kind, license),
@@ -73,182 +111,186 @@ impl<'d> Making<'d> {
                 ..
             } => self.map(node, map_type, [key, value], max),
             // A unit tells its licence.
-            NodeKind::License | NodeKind::Program => Ok(()),
-            _ => self.statement(node),
+            NodeKind::License | NodeKind::Program => Some(()),
+            statement => self.statement(node, statement),
         }
     }
 
     /// Where the node's place row stands.
-    fn loc(&self, node: &Node) -> Result<SourceLoc, Refusal> {
-        let row = self.document.row(node.place).ok_or_else(not_well_formed)?;
-        Ok(SourceLoc::new(row.line, row.column, row.start))
+    fn loc(&self, node: Node) -> Option<SourceLoc> {
+        let [_, start, _, line, column, ..] = *self.rows.get(node.place)?;
+        Some(SourceLoc::new(
+            line as usize,
+            column as usize,
+            start as usize,
+        ))
+    }
+
+    /// What a row spells.
+    fn spelling(&self, row: usize) -> Option<&str> {
+        let [_, start, end, ..] = *self.rows.get(row)?;
+        self.text.get(start as usize..end as usize)
     }
 
     /// What the node's name row spells.
-    fn name(&self, node: &Node) -> Result<String, Refusal> {
-        let row = node.name.ok_or_else(not_well_formed)?;
-        self.document.spelling(row).map(str::to_string)
+    fn name(&self, node: Node) -> Option<String> {
+        self.spelling(node.name).map(str::to_string)
     }
 
     /// The text of a string row, as the compiler has it: no quote at either end, escapes as they are written.
-    fn string(&self, row: usize) -> Result<String, Refusal> {
-        let spelling = self.document.spelling(row)?;
-        Ok(spelling.trim_matches('"').to_string())
+    fn string(&self, row: usize) -> Option<String> {
+        let spelling = self.spelling(row)?;
+        Some(spelling.trim_matches('"').to_string())
     }
 
-    /// The last expression.
-    fn operand(&mut self) -> Result<Expr, Refusal> {
-        self.expressions.pop().ok_or_else(not_well_formed)
-    }
-
-    fn boxed_operand(&mut self) -> Result<Box<Expr>, Refusal> {
-        self.operand().map(Box::new)
-    }
-
-    fn expression(&mut self, node: &Node) -> Result<(), Refusal> {
-        let kind = match node.kind {
-            NodeKind::Variable => ExprKind::Variable(self.name(node)?),
-            NodeKind::Number(value) => ExprKind::Number(value),
-            NodeKind::Dereference => ExprKind::Dereference(self.boxed_operand()?),
-            NodeKind::Binary(operator) => self.binary(operator)?,
-            NodeKind::Call => self.call(node)?,
-            NodeKind::Field => ExprKind::FieldAccess {
-                base: self.boxed_operand()?,
-                field: self.name(node)?,
-            },
-            _ => return Err(not_well_formed()),
-        };
+    /// Puts down an expression that stands at the node's place.
+    fn put(&mut self, node: Node, kind: ExprKind) -> Option<()> {
         let loc = self.loc(node)?;
         self.expressions.push(Expr { kind, loc });
-        Ok(())
+        Some(())
     }
 
-    fn binary(&mut self, operator: Operator) -> Result<ExprKind, Refusal> {
-        let right = self.boxed_operand()?;
-        let left = self.boxed_operand()?;
-        Ok(ExprKind::Binary(BinaryExpr {
-            op: binary_operator(operator),
-            left,
-            right,
-        }))
+    /// Takes up the last expression.
+    fn operand(&mut self) -> Option<Box<Expr>> {
+        self.expressions.pop().map(Box::new)
+    }
+
+    fn dereference(&mut self, node: Node) -> Option<()> {
+        let inner = self.operand()?;
+        self.put(node, ExprKind::Dereference(inner))
+    }
+
+    fn binary(&mut self, node: Node, operator: Operator) -> Option<()> {
+        let right = self.operand()?;
+        let left = self.operand()?;
+        let op = binary_operator(operator);
+        self.put(node, ExprKind::Binary(BinaryExpr { op, left, right }))
     }
 
     /// The receiver is the first child, the arguments are the others.
-    fn call(&mut self, node: &Node) -> Result<ExprKind, Refusal> {
-        let arg = last(&mut self.expressions, node.children.saturating_sub(1))?;
-        Ok(ExprKind::MethodCall(MethodCall {
-            receiver: self.boxed_operand()?,
-            method: self.name(node)?,
+    fn call(&mut self, node: Node) -> Option<()> {
+        let arguments = last(&mut self.expressions, node.children.checked_sub(1)?)?;
+        let arg = arguments.collect();
+        let receiver = self.operand()?;
+        let method = self.name(node)?;
+        let call = MethodCall {
+            receiver,
+            method,
             arg,
-        }))
+        };
+        self.put(node, ExprKind::MethodCall(call))
     }
 
-    fn statement(&mut self, node: &Node) -> Result<(), Refusal> {
-        let kind = match node.kind {
-            NodeKind::Expression => StmtKind::ExprStmt(self.boxed_operand()?),
+    fn field(&mut self, node: Node) -> Option<()> {
+        let base = self.operand()?;
+        let field = self.name(node)?;
+        self.put(node, ExprKind::FieldAccess { base, field })
+    }
+
+    fn statement(&mut self, node: Node, kind: NodeKind) -> Option<()> {
+        let kind = match kind {
+            NodeKind::Expression => StmtKind::ExprStmt(self.operand()?),
             NodeKind::Assign => self.assignment(AssignmentOp::Assign)?,
             NodeKind::AddAssign => self.assignment(AssignmentOp::AddAssign)?,
             NodeKind::Reg => self.variable(node, VarType::Reg)?,
             NodeKind::Imm => self.variable(node, VarType::Imm)?,
             NodeKind::Heap => StmtKind::HeapVarDecl(HeapVarDecl {
                 name: self.name(node)?,
-                init: self.operand()?,
+                init: self.expressions.pop()?,
             }),
-            NodeKind::Return => StmtKind::Return(self.boxed_operand()?),
+            NodeKind::Return => StmtKind::Return(self.operand()?),
             NodeKind::If => self.guarded(node)?,
-            _ => return Err(not_well_formed()),
+            _ => return None,
         };
         let loc = self.loc(node)?;
         self.statements.push(Stmt { kind, loc });
-        Ok(())
+        Some(())
     }
 
-    fn assignment(&mut self, op: AssignmentOp) -> Result<StmtKind, Refusal> {
-        let value = self.boxed_operand()?;
-        let target = self.boxed_operand()?;
-        Ok(StmtKind::Assignment(Assignment { target, op, value }))
+    fn assignment(&mut self, op: AssignmentOp) -> Option<StmtKind> {
+        let value = self.operand()?;
+        let target = self.operand()?;
+        Some(StmtKind::Assignment(Assignment { target, op, value }))
     }
 
-    fn variable(&mut self, node: &Node, var_type: VarType) -> Result<StmtKind, Refusal> {
-        Ok(StmtKind::VarDecl(VarDecl {
+    fn variable(&mut self, node: Node, var_type: VarType) -> Option<StmtKind> {
+        Some(StmtKind::VarDecl(VarDecl {
             name: self.name(node)?,
             var_type,
-            value: self.boxed_operand()?,
+            value: self.operand()?,
         }))
     }
 
-    fn body(&mut self, node: &Node) -> Result<(), Refusal> {
-        let body = last(&mut self.statements, node.children)?;
+    fn body(&mut self, node: Node) -> Option<()> {
+        let body = last(&mut self.statements, node.children)?.collect();
         self.bodies.push(body);
-        Ok(())
+        Some(())
     }
 
     /// Its children are the variable, then, and else if there is one.
-    fn guarded(&mut self, node: &Node) -> Result<StmtKind, Refusal> {
+    fn guarded(&mut self, node: Node) -> Option<StmtKind> {
         let else_body = match node.children {
-            3 => Some(self.bodies.pop().ok_or_else(not_well_formed)?),
+            3 => Some(self.bodies.pop()?),
             _ => None,
         };
-        Ok(StmtKind::IfGuard(IfGuard {
-            then_body: self.bodies.pop().ok_or_else(not_well_formed)?,
+        Some(StmtKind::IfGuard(IfGuard {
+            then_body: self.bodies.pop()?,
             else_body,
-            condition: self.operand()?,
+            condition: self.expressions.pop()?,
         }))
     }
 
-    fn section(&mut self, node: &Node) -> Result<(), Refusal> {
+    fn section(&mut self, node: Node) -> Option<()> {
         let section = self.string(node.place)?;
         self.sections.push(section);
-        Ok(())
+        Some(())
     }
 
     /// Units stand in no other node, so all statements and sections that are left are this one's.
-    fn unit(
-        &mut self,
-        node: &Node,
-        kind: own::ProgramKind,
-        license: Option<usize>,
-    ) -> Result<(), Refusal> {
+    fn unit(&mut self, node: Node, kind: own::ProgramKind, license: Option<usize>) -> Option<()> {
         let unit = Unit {
             name: self.name(node)?,
             loc: self.loc(node)?,
-            sections: std::mem::take(&mut self.sections),
+            sections: self.sections.drain(..).collect(),
             kind: program_kind(kind),
-            license: license.map(|row| self.string(row)).transpose()?,
+            license: match license {
+                Some(row) => Some(self.string(row)?),
+                None => None,
+            },
             events: Vec::new(),
-            body: std::mem::take(&mut self.statements),
+            body: self.statements.drain(..).collect(),
         };
         self.program.units.push(unit);
-        Ok(())
+        Some(())
     }
 
-    fn event_field(&mut self, node: &Node, field_type: FieldType) -> Result<(), Refusal> {
+    fn event_field(&mut self, node: Node, field_type: FieldType) -> Option<()> {
         let field = EventField {
             name: self.name(node)?,
             ty: event_type(field_type),
             loc: self.loc(node)?,
         };
         self.fields.push(field);
-        Ok(())
+        Some(())
     }
 
-    fn event(&mut self, node: &Node) -> Result<(), Refusal> {
+    fn event(&mut self, node: Node) -> Option<()> {
         let event = EventDecl {
             name: self.name(node)?,
-            fields: std::mem::take(&mut self.fields),
+            fields: self.fields.drain(..).collect(),
             loc: self.loc(node)?,
         };
         self.program.events.push(event);
-        Ok(())
+        Some(())
     }
 
     fn map(
         &mut self,
-        node: &Node,
+        node: Node,
         kind: own::MapType,
         [key, value]: [Option<own::Type>; 2],
         max: u32,
-    ) -> Result<(), Refusal> {
+    ) -> Option<()> {
         let map = MapDecl {
             name: self.name(node)?,
             map_type: map_type(kind),
@@ -258,14 +300,14 @@ impl<'d> Making<'d> {
             loc: self.loc(node)?,
         };
         self.program.maps.push(map);
-        Ok(())
+        Some(())
     }
 }
 
-/// The last so many of a list, in their order, which the list is without then.
-fn last<T>(list: &mut Vec<T>, count: usize) -> Result<Vec<T>, Refusal> {
-    let kept = list.len().checked_sub(count).ok_or_else(not_well_formed)?;
-    Ok(list.split_off(kept))
+/// Takes up the last so many of a list, in their order.
+fn last<T>(list: &mut Vec<T>, count: usize) -> Option<Drain<'_, T>> {
+    let kept = list.len().checked_sub(count)?;
+    Some(list.drain(kept..))
 }
 
 fn binary_operator(operator: Operator) -> BinOp {
@@ -336,9 +378,4 @@ fn program_kind(own: own::ProgramKind) -> ProgramKind {
         own::ProgramKind::Lsm => ProgramKind::Lsm,
         _ => ProgramKind::Unknown,
     }
-}
-
-/// 3: the nodes are no tree of the document's rows. No tree that the library wrote is refused with it.
-fn not_well_formed() -> Refusal {
-    Refusal::from(own::Reason::NotWellFormed)
 }

@@ -1,6 +1,6 @@
 //! A text with its rows, which follow every change of the text.
 
-use crate::lent::{self, Change, NODE_WORDS, ROW_WORDS};
+use crate::lent::{self, Change, Words, NODE_WORDS, ROW_WORDS};
 use crate::refusal::{Place, Reason, Refusal};
 use crate::row::{Row, Rows};
 use crate::table::{written, Table};
@@ -31,8 +31,7 @@ impl Document {
     /// rows up to there, and [`Document::refusal`] tells the rest.
     pub fn open(text: impl Into<Vec<u8>>) -> Result<Document, Refusal> {
         let text = text.into();
-        let mut rows = vec![0; room_for(text.len().min(LONGEST_TEXT))];
-        let words = lent::scan(&text, &mut rows);
+        let (words, rows) = scanned(&text);
         let table = Table::told(words, rows)?;
         // The library has taken the text, which is valid UTF-8 then.
         Ok(Document::of(valid(text)?, table))
@@ -49,12 +48,12 @@ impl Document {
     pub fn open_with(text: impl Into<Vec<u8>>, table: Table) -> Result<Document, Refusal> {
         let text = text.into();
         if text.len() > LONGEST_TEXT {
-            return Err(Refusal::from(Reason::TextTooLong));
+            return Err(at_start(Reason::TextTooLong));
         }
         let text = valid(text)?;
         match table.fits(&text) {
             true => Ok(Document::of(text, table)),
-            false => Err(Refusal::from(Reason::OtherText)),
+            false => Err(at_start(Reason::OtherText)),
         }
     }
 
@@ -111,7 +110,7 @@ impl Document {
     pub fn spelling(&self, row: usize) -> Result<&str, Refusal> {
         self.row(row)
             .and_then(|row| self.text.get(row.span()))
-            .ok_or(Refusal::from(Reason::NotWellFormed))
+            .ok_or(at_start(Reason::NotWellFormed))
     }
 
     /// The program's tree, or the first refusal: that of the rows (11 to 17), or one of 21 to 32. The text is parsed when the tree is
@@ -170,7 +169,7 @@ impl Document {
     /// The text before a range and behind it, if the range lies in the text and cuts no character.
     fn kept(&self, range: &Range<usize>) -> Result<(&str, &str), Refusal> {
         if range.start > range.end || range.end > self.text.len() {
-            return Err(Refusal::from(Reason::EditNotSensible));
+            return Err(at_start(Reason::EditNotSensible));
         }
         let part = |at: usize| {
             self.text
@@ -210,7 +209,7 @@ impl fmt::Debug for Document {
 /// A change of a text of so many bytes in the library's numbers, if the new text is not too long.
 fn change(range: Range<usize>, length: usize, new_bytes: usize) -> Result<Change, Refusal> {
     if new_bytes > LONGEST_TEXT || length - range.len() + new_bytes > LONGEST_TEXT {
-        return Err(Refusal::from(Reason::TextTooLong));
+        return Err(at_start(Reason::TextTooLong));
     }
     Ok(Change {
         a: range.start as u32,
@@ -235,7 +234,27 @@ fn roomy(spare: &mut Vec<u32>, length: usize) -> &mut [u32] {
     spare
 }
 
+/// What a scan tells of a text, and its rows. There is room for a row to four bytes first, which most probes never fill; a text that does is
+/// read again with room for all that it can have.
+fn scanned(text: &[u8]) -> (Words, Vec<u32>) {
+    let length = text.len().min(LONGEST_TEXT);
+    let mut rows = vec![0; room_for(length / 4)];
+    let mut words = lent::scan(text, &mut rows);
+    if words[lent::NUMBER] == Reason::NoRowRoom.number() {
+        rows = vec![0; room_for(length)];
+        words = lent::scan(text, &mut rows);
+    }
+    (words, rows)
+}
+
 /// How many words the rows of a text of so many bytes need: every row but Eof has a byte.
 fn room_for(length: usize) -> usize {
     (length + 1) * ROW_WORDS
+}
+
+fn at_start(reason: Reason) -> Refusal {
+    Refusal {
+        reason,
+        place: Place::START,
+    }
 }

@@ -253,16 +253,6 @@ impl Refusal {
     }
 }
 
-/// The reason at the text's start: of a refusal that is about no other place.
-impl From<Reason> for Refusal {
-    fn from(reason: Reason) -> Refusal {
-        Refusal {
-            reason,
-            place: Place::START,
-        }
-    }
-}
-
 impl Place {
     /// Before the first byte.
     pub(crate) const START: Place = Place {

@@ -103,13 +103,13 @@ impl Table {
                         .is_none_or(|refusal| between(refusal.place.offset)))
     }
 
-    /// The words of the rows.
-    pub(crate) fn row_words(&self) -> &[u32] {
+    /// The words of the rows, as a call of [`crate::lent`] is lent them.
+    pub fn row_words(&self) -> &[u32] {
         written(&self.rows, &self.words)
     }
 
-    /// The words beside them.
-    pub(crate) fn words(&self) -> &Words {
+    /// The words beside them, in which the library told the table.
+    pub fn words(&self) -> &Words {
         &self.words
     }
 }

@@ -211,8 +211,9 @@ fn row_or_none(word: u32) -> Option<usize> {
 }
 
 impl NodeKind {
+    /// The kind with this number and these facts, as [`crate::lent::parse`] writes them.
     #[inline]
-    fn from_words(number: u32, facts: [u32; 4]) -> Option<NodeKind> {
+    pub fn from_words(number: u32, facts: [u32; 4]) -> Option<NodeKind> {
         let [a, b, c, d] = facts;
         Some(match number {
             1 => NodeKind::Variable,
