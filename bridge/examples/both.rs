@@ -11,7 +11,7 @@ use held::{held, Held};
 use std::process::ExitCode;
 
 /// What is said of a text, and whether both sides are the same.
-fn told(text: &[u8]) -> (String, bool) {
+pub fn told(text: &[u8]) -> (String, bool) {
     match held(text) {
         Held::Same => ("same".to_string(), true),
         Held::BothRefuse(refusal) => (format!("same, refused by both: {refusal}"), true),

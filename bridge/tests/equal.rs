@@ -7,7 +7,7 @@ use compare::deep::on_deep_stack;
 use compare::generate::characters::valid_with_characters;
 use compare::generate::probe::{half_greek, probe_text};
 use compare::generate::random::Random;
-use compare::generate::{damage, lengths, nesting, programs};
+use compare::generate::{damage, nesting, programs};
 use held::{expressions, first_difference, held, Counts, Held};
 use spoonharbor::Document;
 
@@ -47,14 +47,13 @@ fn stored_texts() {
     assert!(counts.get(REFUSED) > 3_000, "{counts}");
 }
 
-/// The probes of the examples.
+/// The probes of the examples, one of which lacks a semicolon.
 #[test]
 fn stored_probes() {
+    let sound = include_bytes!("../examples/encoder.snx");
     let refused = include_bytes!("../../rust/examples/encoder.snx");
-    let counts = all([refused.to_vec()]);
-    assert_eq!(counts.get(REFUSED), 1);
-    let text = String::from_utf8_lossy(refused).replace("load_u64(0)", "load_u64(0);");
-    assert_eq!(all([text.into_bytes()]).get(SAME), 1);
+    let counts = all([sound.to_vec(), refused.to_vec()]);
+    assert_eq!((counts.get(SAME), counts.get(REFUSED)), (1, 1));
 }
 
 #[test]
@@ -129,11 +128,12 @@ fn chains_as_long_as_a_text() {
     assert_eq!(all(texts).get(SAME), 4);
 }
 
+/// 65,536 bytes are read, and one more is refused here.
 #[test]
 fn texts_of_limit_length() {
-    let counts = all(lengths::texts().collect::<Vec<_>>());
-    assert!(counts.get(SAME) > 0, "{counts}");
-    assert!(counts.get("listed: 1 here, a tree there") > 0, "{counts}");
+    let counts = all([65_536, 65_537].map(|length| probe_text(length, 1)));
+    assert_eq!(counts.get(SAME), 1, "{counts}");
+    assert_eq!(counts.get("listed: 1 here, a tree there"), 1, "{counts}");
 }
 
 /// Each difference of docs/DIFFERENCES.md, by the smallest text that shows it.

@@ -132,9 +132,9 @@ pub fn first_difference(here: &str, there: &str) -> Option<String> {
         .take_while(|(here, there)| here == there)
         .count();
     let part = |text: &str| {
-        let from = text.floor_char_boundary(same.saturating_sub(60));
-        let to = text.floor_char_boundary(same + 60);
-        text[from..to].to_string()
+        let from = same.saturating_sub(60);
+        let to = text.len().min(same + 60);
+        String::from_utf8_lossy(&text.as_bytes()[from..to]).into_owned()
     };
     Some(format!("here  {}\nthere {}", part(here), part(there)))
 }
