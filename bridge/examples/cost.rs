@@ -1,9 +1,10 @@
 //! What the compiler's tree of a text costs: `cargo run --profile plain --offline --example cost [ROUNDS]`.
 //!
 //! 60,000 bytes of probes become the tree by Spoonharbor's calls and the bridge, and by the compiler's own lexer and
-//! parser. Every side is given the text as it is in memory, takes all memory that it needs, and gives all of it back,
-//! the tree with it, inside its time. Each round runs every side once, in an order that is drawn for the round. The
-//! figures are the medians; the last is that of the old side's time over the new one's in the same round.
+//! parser. Every side is given the text as it is in memory. It takes all memory that it needs inside its time and gives
+//! all of it back there but the tree, which is what was asked for. Each round runs every side once, in an order that is
+//! drawn for the round. The figures are medians; the last is that of the old side's time over the new one's in the same
+//! round.
 
 use bridge::ast::Program;
 use bridge::lexer::Lexer;
@@ -58,11 +59,6 @@ fn nodes(text: &str) -> Made {
     Made::Document(document)
 }
 
-/// Has the allocator put together what was given back, so that no side does it for the side before.
-fn tidy() {
-    drop(black_box(Vec::<u8>::with_capacity(1 << 20)));
-}
-
 fn main() {
     let rounds = std::env::args().nth(1).and_then(|word| word.parse().ok());
     let rounds: usize = rounds.unwrap_or(1_001);
@@ -71,7 +67,6 @@ fn main() {
     let mut times: [Vec<f64>; 4] = Default::default();
     for round in 0..WARM + rounds {
         for side in order(&mut random) {
-            tidy();
             let began = Instant::now();
             let made = black_box(SIDES[side].1(black_box(&text)));
             let took = began.elapsed().as_secs_f64() * 1e6;

@@ -143,7 +143,8 @@ impl<'d> Making<'d> {
         Some(spelling.trim_matches('"').to_string())
     }
 
-    /// Puts down an expression that stands at the node's place.
+    /// Puts down an expression that stands at the node's place. Where it is inlined, no expression is moved.
+    #[inline(always)]
     fn put(&mut self, node: Node, kind: ExprKind) -> Option<()> {
         let loc = self.loc(node)?;
         self.expressions.push(Expr { kind, loc });
@@ -187,38 +188,56 @@ impl<'d> Making<'d> {
         self.put(node, ExprKind::FieldAccess { base, field })
     }
 
-    fn statement(&mut self, node: Node, kind: NodeKind) -> Option<()> {
-        let kind = match kind {
-            NodeKind::Expression => StmtKind::ExprStmt(self.operand()?),
-            NodeKind::Assign => self.assignment(AssignmentOp::Assign)?,
-            NodeKind::AddAssign => self.assignment(AssignmentOp::AddAssign)?,
-            NodeKind::Reg => self.variable(node, VarType::Reg)?,
-            NodeKind::Imm => self.variable(node, VarType::Imm)?,
-            NodeKind::Heap => StmtKind::HeapVarDecl(HeapVarDecl {
-                name: self.name(node)?,
-                init: self.expressions.pop()?,
-            }),
-            NodeKind::Return => StmtKind::Return(self.operand()?),
-            NodeKind::If => self.guarded(node)?,
-            _ => return None,
-        };
+    /// Puts down a statement that stands at the node's place.
+    #[inline(always)]
+    fn put_statement(&mut self, node: Node, kind: StmtKind) -> Option<()> {
         let loc = self.loc(node)?;
         self.statements.push(Stmt { kind, loc });
         Some(())
     }
 
-    fn assignment(&mut self, op: AssignmentOp) -> Option<StmtKind> {
-        let value = self.operand()?;
-        let target = self.operand()?;
-        Some(StmtKind::Assignment(Assignment { target, op, value }))
+    fn statement(&mut self, node: Node, kind: NodeKind) -> Option<()> {
+        match kind {
+            NodeKind::Expression => {
+                let value = self.operand()?;
+                self.put_statement(node, StmtKind::ExprStmt(value))
+            }
+            NodeKind::Assign => self.assignment(node, AssignmentOp::Assign),
+            NodeKind::AddAssign => self.assignment(node, AssignmentOp::AddAssign),
+            NodeKind::Reg => self.variable(node, VarType::Reg),
+            NodeKind::Imm => self.variable(node, VarType::Imm),
+            NodeKind::Heap => self.heap_variable(node),
+            NodeKind::Return => {
+                let value = self.operand()?;
+                self.put_statement(node, StmtKind::Return(value))
+            }
+            NodeKind::If => self.guarded(node),
+            _ => None,
+        }
     }
 
-    fn variable(&mut self, node: Node, var_type: VarType) -> Option<StmtKind> {
-        Some(StmtKind::VarDecl(VarDecl {
+    fn assignment(&mut self, node: Node, op: AssignmentOp) -> Option<()> {
+        let value = self.operand()?;
+        let target = self.operand()?;
+        let assignment = Assignment { target, op, value };
+        self.put_statement(node, StmtKind::Assignment(assignment))
+    }
+
+    fn variable(&mut self, node: Node, var_type: VarType) -> Option<()> {
+        let declared = VarDecl {
             name: self.name(node)?,
             var_type,
             value: self.operand()?,
-        }))
+        };
+        self.put_statement(node, StmtKind::VarDecl(declared))
+    }
+
+    fn heap_variable(&mut self, node: Node) -> Option<()> {
+        let declared = HeapVarDecl {
+            name: self.name(node)?,
+            init: self.expressions.pop()?,
+        };
+        self.put_statement(node, StmtKind::HeapVarDecl(declared))
     }
 
     fn body(&mut self, node: Node) -> Option<()> {
@@ -228,16 +247,17 @@ impl<'d> Making<'d> {
     }
 
     /// Its children are the variable, then, and else if there is one.
-    fn guarded(&mut self, node: Node) -> Option<StmtKind> {
+    fn guarded(&mut self, node: Node) -> Option<()> {
         let else_body = match node.children {
             3 => Some(self.bodies.pop()?),
             _ => None,
         };
-        Some(StmtKind::IfGuard(IfGuard {
+        let guarded = IfGuard {
             then_body: self.bodies.pop()?,
             else_body,
             condition: self.expressions.pop()?,
-        }))
+        };
+        self.put_statement(node, StmtKind::IfGuard(guarded))
     }
 
     fn section(&mut self, node: Node) -> Option<()> {
