@@ -1,7 +1,7 @@
 //! Whether the two sides make the same tree: `cargo run --release --offline --example both FILE..`.
 //!
-//! For each file a line: `same`, or what parts the compiler's own lexer and parser from Spoonharbor and the bridge. Exit
-//! status: 0 all are the same, 1 some part, 2 trouble.
+//! For each file a line: `same`, or what parts the compiler's own lexer and parser from Spoonharbor and the bridge.
+//! Exit status: 0 all are the same, 1 some part, 2 trouble.
 
 #[path = "../tests/held/mod.rs"]
 mod held;

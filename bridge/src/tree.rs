@@ -15,8 +15,8 @@ use std::vec::Drain;
 
 /// The compiler's tree of a document's text, or the first refusal: that of the rows (11 to 17), or one of 21 to 32.
 ///
-/// A document that was opened with a stored table of another text may have rows that name nothing. Then the answer is 3,
-/// or a tree that is the table's and not the text's.
+/// A document that was opened with a stored table of another text may have rows that name nothing. Then the answer is
+/// 3, or a tree that is the table's and not the text's.
 pub fn program(document: &Document) -> Result<Program, Refusal> {
     let (text, table) = (document.text(), document.table());
     let mut nodes = vec![0; table.row_words().len()];
