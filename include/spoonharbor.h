@@ -4,7 +4,7 @@
  *
  *     cc program.c $(pkg-config --cflags --libs spoonharbor)
  *
- * Without installing, link with what `rust/archive` writes: target/staticlib/libspoonharbor.a on x86-64, on another processor
+ * Without installing, link with what `tools/archive` writes: target/staticlib/libspoonharbor.a on x86-64, on another processor
  * target/staticlib/PROCESSOR/libspoonharbor.a. The archive needs no other library. `example.c` shows every call.
  *
  * Every call answers for every argument, reads and writes only what it is lent, and keeps nothing, so calls on different memory may run at

@@ -1,7 +1,7 @@
 //! Links the proved library, `libspoonharbor.a`, of this crate's own version.
 //!
 //! The archive stands in the folder that the environment variable `SPOONHARBOR_ARCHIVE` names. Without the variable it is
-//! `../target/staticlib` on x86-64 and `../target/staticlib/PROCESSOR` on another processor, where `./archive` proves and
+//! `../target/staticlib` on x86-64 and `../target/staticlib/PROCESSOR` on another processor, where `tools/archive` proves and
 //! writes it if it is missing or older than the crates. An archive of another version is refused.
 
 use std::env;
@@ -47,17 +47,17 @@ fn told(name: &str) -> String {
     }
 }
 
-/// The folder in which `./archive` writes the archive for the target's processor; it is as new as the crates then.
+/// The folder in which `tools/archive` writes the archive for the target's processor; it is as new as the crates then.
 fn built_folder() -> PathBuf {
     let here = PathBuf::from(told("CARGO_MANIFEST_DIR"));
     let root = here.parent().unwrap_or(&here).to_path_buf();
     let processor = told("CARGO_CFG_TARGET_ARCH");
-    for part in ["crates", "crates.txt", "rust/archive"] {
+    for part in ["crates", "crates.txt", "tools"] {
         println!("cargo:rerun-if-changed={}", root.join(part).display());
     }
     let mut command = Command::new("sh");
     command
-        .arg("rust/archive")
+        .arg("tools/archive")
         .arg(&processor)
         .current_dir(&root);
     if let Err(complaint) = succeeded(&mut command) {

@@ -4,7 +4,7 @@ mod shared;
 
 use shared::{repository, run, Folder, Ran};
 use std::fs;
-use std::os::unix::fs::{symlink, PermissionsExt};
+use std::os::unix::fs::symlink;
 use std::path::PathBuf;
 use std::process::Command;
 
@@ -104,16 +104,10 @@ fn bare(name: &str, more: &[&str]) -> Folder {
     for part in ["bin", "crates", "rust/src", "tools"] {
         fs::create_dir_all(folder.0.join(part)).unwrap();
     }
-    for file in [
-        "check",
-        "list",
-        "install",
-        "crates.txt",
-        "rust/archive",
-        "tools/prove",
-    ] {
-        fs::copy(script(file), folder.0.join(file)).unwrap();
+    for file in ["check", "list", "install", "tools/archive", "tools/prove"] {
+        folder.executable(file, fs::read(script(file)).unwrap());
     }
+    folder.file("crates.txt", fs::read(script("crates.txt")).unwrap());
     for file in ["rust/build.rs", "rust/Cargo.toml", "rust/Cargo.lock"] {
         folder.file(file, "");
     }
@@ -127,9 +121,7 @@ fn bare(name: &str, more: &[&str]) -> Folder {
         symlink(found.expect(tool), folder.0.join("bin").join(tool)).unwrap();
     }
     for tool in more {
-        let path = folder.0.join("bin").join(tool);
-        fs::write(&path, "#!/bin/sh\nexit 1\n").unwrap();
-        fs::set_permissions(&path, fs::Permissions::from_mode(0o755)).unwrap();
+        folder.executable(&format!("bin/{tool}"), "#!/bin/sh\nexit 1\n");
     }
     folder.file("probe", PROBE);
     folder
@@ -181,13 +173,8 @@ fn a_missing_toolchain_is_told() {
 fn each_crate_is_told() {
     let folder = bare("told", &["cargo"]);
     let says = |lines: &str, status: i32| {
-        let path = folder.0.join("bin/rt");
-        fs::write(
-            &path,
-            format!("#!/bin/sh\ncat <<'END'\n{lines}\nEND\nexit {status}\n"),
-        )
-        .unwrap();
-        fs::set_permissions(&path, fs::Permissions::from_mode(0o755)).unwrap();
+        let told = format!("#!/bin/sh\ncat <<'END'\n{lines}\nEND\nexit {status}\n");
+        folder.executable("bin/rt", told);
         let mut command = folder.program("tools/prove");
         command.args(["check", "scan"]);
         run(command.env("PATH", folder.0.join("bin")), b"")

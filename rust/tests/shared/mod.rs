@@ -4,8 +4,21 @@
 use std::ffi::OsStr;
 use std::fs;
 use std::io::Write;
+use std::os::unix::fs::PermissionsExt;
 use std::path::{Path, PathBuf};
-use std::process::{Command, Stdio};
+use std::process::{Child, Command, Stdio};
+use std::sync::{Mutex, PoisonError};
+
+/// Held while a program is started and while one is written. A program that is started meanwhile would have the
+/// other's file open for a moment, in which that one could not be run.
+static STARTING: Mutex<()> = Mutex::new(());
+
+fn started(command: &mut Command) -> Child {
+    let _held = STARTING.lock().unwrap_or_else(PoisonError::into_inner);
+    command
+        .spawn()
+        .unwrap_or_else(|error| panic!("{command:?}: {error}"))
+}
 
 /// The repository's folder.
 pub fn repository() -> PathBuf {
@@ -22,12 +35,11 @@ pub struct Ran {
 
 /// Runs a program to its end with this input.
 pub fn run(command: &mut Command, input: &[u8]) -> Ran {
-    let mut child = command
+    command
         .stdin(Stdio::piped())
         .stdout(Stdio::piped())
-        .stderr(Stdio::piped())
-        .spawn()
-        .unwrap_or_else(|error| panic!("{command:?}: {error}"));
+        .stderr(Stdio::piped());
+    let mut child = started(command);
     // A run that does not read its input may have closed it.
     let _ = child.stdin.take().unwrap().write_all(input);
     let output = child.wait_with_output().unwrap();
@@ -50,6 +62,13 @@ impl Folder {
 
     pub fn file(&self, name: &str, bytes: impl AsRef<[u8]>) {
         fs::write(self.0.join(name), bytes).unwrap();
+    }
+
+    /// A file that can be run.
+    pub fn executable(&self, name: &str, bytes: impl AsRef<[u8]>) {
+        let _held = STARTING.lock().unwrap_or_else(PoisonError::into_inner);
+        self.file(name, bytes);
+        fs::set_permissions(self.0.join(name), fs::Permissions::from_mode(0o755)).unwrap();
     }
 
     /// A program to run in this folder.
