@@ -46,7 +46,7 @@ static void set_size(void) { spoonharbor_set_size(SH_PROGRAM_KIND_RAW_TRACEPOINT
 
 static const uint8_t named[] = "raw_tracepoint/sys_enter";
 
-static void section(void) { answer[SH_NUMBER] = spoonharbor_section_kind(named, sizeof named - 1) != SH_PROGRAM_KIND_RAW_TRACEPOINT; }
+static void section_kind(void) { answer[SH_NUMBER] = spoonharbor_section_kind(named, sizeof named - 1) != SH_PROGRAM_KIND_RAW_TRACEPOINT; }
 
 static void store(void) { spoonharbor_store(rows, ROWS * SH_ROW_WORDS, table, file, sizeof file, answer); }
 
@@ -59,7 +59,7 @@ static void move(void) {
     spoonharbor_move(text, length, file, SH_FILE_ROOM(table[SH_COUNT]), SH_FORM_SHORT, moved, sizeof moved, answer);
 }
 
-static void read_beside(void) {
+static void load_beside(void) {
     spoonharbor_load_beside(text, length, moved, SH_SHORT_FILE_ROOM(table[SH_COUNT]), new_rows, ROWS * SH_ROW_WORDS, answer);
 }
 
@@ -68,6 +68,9 @@ static void mend(void) {
     spoonharbor_mend(text, length, SH_FORM_SHORT, moved, sizeof moved, 0, blocks, sizeof blocks / sizeof *blocks, answer);
 }
 
+static void version(void) { answer[SH_NUMBER] = spoonharbor_version() != SPOONHARBOR_VERSION; }
+
+/* Each by its name without `spoonharbor_`. */
 static const struct {
     const char *name;
     void (*call)(void);
@@ -77,16 +80,17 @@ static const struct {
     {"edit", edit},
     {"change", change},
     {"restart", restart},
-    {"table test", well_formed},
+    {"well_formed", well_formed},
     {"spelling", spelling},
-    {"section", section},
-    {"method", allows},
-    {"methods", set_size},
+    {"section_kind", section_kind},
+    {"allows", allows},
+    {"set_size", set_size},
     {"store", store},
     {"load", load},
     {"move", move},
-    {"read beside", read_beside},
+    {"load_beside", load_beside},
     {"mend", mend},
+    {"version", version},
 };
 
 /* How many bytes of the stack a call takes. */
