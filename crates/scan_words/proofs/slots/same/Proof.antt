@@ -24,7 +24,8 @@ cast-if1 c = omega (arith, c .shared-slice-known .given (c .before .before .loop
 returns : tie.Need-returns Inv-loop μ-loop
 returns c =
     let l = c .before .before .before .loop in
-    compare-off _ _ _ _ (l .left) (l .i) (l .inv) (c .before .before .loop-test .taken) (c .if1 .taken)
+    compare-off _ _ _ _ (l .left) (l .i) (l .inv) (c .before .before .loop-test .taken)
+    (λ e. c .if1 .taken (omega arith))
 
 mul-left : tie.Need-mul-left Inv-loop μ-loop
 mul-left c = omega arith
@@ -38,7 +39,8 @@ loop-less c = omega arith
 loop-again : tie.Need-loop-again Inv-loop μ-loop
 loop-again c =
     let l = c .before .before .before .loop in
-    compare-on _ _ _ _ (l .left) (l .i) (l .inv) (c .before .before .loop-test .taken) (c .if1 .left)
+    compare-on _ _ _ _ (l .left) (l .i) (l .inv) (c .before .before .loop-test .taken)
+    (omega (arith, c .if1 .left))
 
 returns-2 : tie.Need-returns-2 Inv-loop μ-loop
 returns-2 c =
