@@ -11,7 +11,7 @@ use scan_runs::read_digits;
 use scan_runs::read_quoted;
 use scan_runs::read_word;
 use scan_runs::shown;
-use scan_words::slots::kind_in;
+use scan_words::slots::kind_of;
 ghost use mathlib.Core.Path.{_≡_};
 ghost use mathlib.Core.Bool.{true, false};
 ghost use Prim.Native.Nat.{_+_, _≤_, _<_};
@@ -43,7 +43,7 @@ pub fn word(classes: &[u8; 256], text: &[u8], at: usize, whole: bool) -> Brief
     if !shown(text, end, whole) {
         return told(codes::UNKNOWN, 0);
     }
-    told(kind_in(w.packed), end - at)
+    told(kind_of(w.packed, text, at, end), end - at)
 }
 
 // A number's bits in two's complement.
