@@ -92,8 +92,8 @@ fn own_part(bytes: &[u8]) -> u32
         + wide(bytes[form::CHECKED + 3]) * (OWN_PLACE + 3)
 }
 
-// The check of a block: each byte in front of it times its place, counted from 1. Strips are added up from the last to the first, column by
-// column, so that the compiler works on many columns at once and multiplies only at the end.
+// The check of a block: each byte in front of it times its place, counted from 1. Strips are added up from the last to
+// the first, column by column, so that the compiler works on many columns at once and multiplies only at the end.
 pub fn check_of(bytes: &[u8]) -> u32
     requires { ⌜ length (now bytes) ≡ 512 ⌝ }
     ensures { λ r. ⌜ r ≡ check (take 508 (now (bytes .entry))) ⌝ }

@@ -1,4 +1,5 @@
-// A file mended in place: the text is read in the order of blocks, once to hold each block against what it should be, and once more, where one differs, to write.
+// A file mended in place: the text is read in the order of blocks, once to hold each block against what it should be,
+// and once more, where one differs, to write.
 use file_rewrite::mend_blocks;
 use file_sizes::length_for;
 use file_survey::survey;
@@ -51,7 +52,8 @@ fn mend_in(form: Form, text: &[u8], file: &mut [u8], n: usize, list: &mut [u32])
     }
 }
 
-// Mend a file of n bytes, which stands in lent memory, in the form of a number: the file is what a fresh scan stores, and the blocks that differed are listed, or nothing is done and why.
+// Mend a file of n bytes, which stands in lent memory, in the form of a number: the file is what a fresh scan stores,
+// and the blocks that differed are listed, or nothing is done and why.
 pub fn mend(text: &[u8], number: u32, file: &mut [u8], n: usize, list: &mut [u32]) -> Mended
     ensures { λ r. ⌜ (r ≡ mendTold (now (text .entry)) number (now (file .entry)) n (now (list .entry))) × ((now (file .exit) ≡ mendLeaves (now (text .entry)) number (now (file .entry)) n (now (list .entry))) × (now (list .exit) ≡ listLeaves (now (text .entry)) number (now (file .entry)) n (now (list .entry)))) ⌝ }
 {

@@ -46,7 +46,8 @@ fn write_block(memory: &mut [u8], k: u32, fresh: &[u8])
     }
 }
 
-// Block k of memory, whatever of it is file: it is written if the bytes that stand there differ, and left alone if they are right.
+// Block k of memory, whatever of it is file: it is written if the bytes that stand there differ, and left alone if they
+// are right.
 fn restore_block(memory: &mut [u8], k: u32, fresh: &[u8])
     requires { ⌜ (length (now fresh) ≡ 512) × (512 * k + 512 ≤ length (now memory)) ⌝ }
     ensures { λ _. ⌜ now (memory .exit) ≡ take (512 * k) (now (memory .entry)) ++ (now (fresh .entry) ++ drop (512 * k + 512) (now (memory .entry))) ⌝ }
@@ -57,7 +58,8 @@ fn restore_block(memory: &mut [u8], k: u32, fresh: &[u8])
     write_block(memory, k, fresh);
 }
 
-// Block k, behind so many entries of the list: if it differs in the first n bytes of memory it is put there and listed. How many entries there are then is told.
+// Block k, behind so many entries of the list: if it differs in the first n bytes of memory it is put there and listed.
+// How many entries there are then is told.
 pub fn mend_block(
     memory: &mut [u8],
     n: usize,

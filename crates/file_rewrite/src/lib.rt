@@ -1,4 +1,5 @@
-// The second reading of a mending: the rows of a text, a block at a time, each of which is written and listed where it differs.
+// The second reading of a mending: the rows of a text, a block at a time, each of which is written and listed where it
+// differs.
 use file_parts::put_said;
 use file_patch::mend_block;
 use file_sizes::length_for;
@@ -45,7 +46,8 @@ fn mend_part(
     }
 }
 
-// The blocks of a text's rows, behind so many entries of the list: each that differs is written and listed. How many entries there are then is told.
+// The blocks of a text's rows, behind so many entries of the list: each that differs is written and listed. How many
+// entries there are then is told.
 fn mend_rows(
     form: Form,
     text: &[u8],

@@ -1,4 +1,5 @@
-// The first reading of a mending: the rows of a text, a block at a time, held against those of a file. Its table is told, and how many blocks are to be listed.
+// The first reading of a mending: the rows of a text, a block at a time, held against those of a file. Its table is
+// told, and how many blocks are to be listed.
 use file_parts::put_part;
 use file_parts::put_said;
 use file_patch::count_block;
@@ -82,7 +83,8 @@ fn hold_part(form: Form, text: &[u8], spot: Spot, k: u32, file: &[u8]) -> Step
 
 // ---- all rows
 
-// The rows of a text, block by block, held against those of a file. Its table is told, and how many blocks behind block 0 differ.
+// The rows of a text, block by block, held against those of a file. Its table is told, and how many blocks behind block
+// 0 differ.
 fn survey_rows(form: Form, text: &[u8], file: &[u8]) -> Seen
     requires { ⌜ textJudged (now text) ≡ Fine ⌝ }
     ensures { λ r. ⌜ RowsHeld form (now (text .entry)) (now (file .entry)) r ⌝ }
@@ -116,7 +118,8 @@ fn survey_rows(form: Form, text: &[u8], file: &[u8]) -> Seen
     }
 }
 
-// The table of a text, and how many blocks of a file are to be listed: those that differ, and the first of a surplus tail.
+// The table of a text, and how many blocks of a file are to be listed: those that differ, and the first of a surplus
+// tail.
 pub fn survey(form: Form, text: &[u8], file: &[u8]) -> Seen
     requires { ⌜ textJudged (now text) ≡ Fine ⌝ }
     ensures { λ r. ⌜ (r .table ≡ freshTable (now (text .entry))) × (r .listed ≡ length (listed (freshFile (numberOf form) (now (text .entry))) (now (file .entry)))) ⌝ }
