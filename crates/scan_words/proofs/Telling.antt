@@ -33,15 +33,8 @@ spells-same v (x ∷ u) [] h e = absurd (none e)
     none : length (x ∷ u) ≡ 0 → ⊥
     none e = omega arith
 spells-same v (x ∷ u) (y ∷ w) h e =
-    let b = both-true (eqb x (v / 2 ^ 56)) (spells (v % 2 ^ 56 * 256) u) h in
-    rw (← eqb-true x (v / 2 ^ 56) (b .0), spells-same (v % 2 ^ 56 * 256) u w (b .1) (omega arith)) (ap (λ (p : Bool). p && sameBytes u w) (turned y x))
-  where
-    turned : (a b : ℕ) → eqb a b ≡ eqb b a
-    turned a b = pick (eqb b a) refl
-      where
-        pick : (p : Bool) → eqb b a ≡ p → eqb a b ≡ p
-        pick true q = eq-eqb a b (sym (eqb-true b a q))
-        pick false q = ne-eqb a b (λ z. eqb-false b a q (sym z))
+    let b = both-true (eqb (v / 2 ^ 56) x) (spells (v % 2 ^ 56 * 256) u) h in
+    rw (eqb-true (v / 2 ^ 56) x (b .0), spells-same (v % 2 ^ 56 * 256) u w (b .1) (omega arith))
 
 -- ---- a padded spelling
 
@@ -59,7 +52,8 @@ padded-eight i h = eqb-true _ _ (below eightTest 21 eight-tests i h)
 
 -- ---- a loop that packs bytes, which has come to k with the number v
 
-pub packed-on : (s : List ℕ) (k v : ℕ) → k < length s → packedOf v (drop k s) ≡ packedOf (v % 2 ^ 56 * 256 + getD s k 0) (drop (k + 1) s)
+pub packed-on : (s : List ℕ) (k v : ℕ) → k < length s →
+    packedOf v (drop k s) ≡ packedOf (v % 2 ^ 56 * 256 + getD s k 0) (drop (k + 1) s)
 unfolding packedOf
 packed-on s k v h = rw (drop-cons s k 0 h, add-one k)
 
@@ -80,15 +74,17 @@ pub record Comparing (t : List ℕ) (a e v₀ v i : ℕ) : Type 0 where
 
 module _ (t : List ℕ) (a e v₀ v i : ℕ) (r : Comparing t a e v₀ v i) where
   module _ (l : i < e) where
-    left-same : eqb (getD t i 0) (v / 2 ^ 56) && spells (v % 2 ^ 56 * 256) (take (e - (i + 1)) (drop (i + 1) t)) ≡ spells v₀ (take (e - a) (drop a t))
+    left-same : eqb (v / 2 ^ 56) (getD t i 0) && spells (v % 2 ^ 56 * 256) (take (e - (i + 1)) (drop (i + 1) t))
+        ≡ spells v₀ (take (e - a) (drop a t))
     unfolding spells
     left-same = rw (rest t i e l (omega (arith, r .inside))) at (r .same)
 
-    pub compare-on : getD t i 0 ≡ v / 2 ^ 56 → Comparing t a e v₀ (v % 2 ^ 56 * 256) (i + 1)
-    compare-on d = record { inside = r .inside; upto = omega arith; same = rw (eq-eqb (getD t i 0) (v / 2 ^ 56) d) at left-same }
+    pub compare-on : v / 2 ^ 56 ≡ getD t i 0 → Comparing t a e v₀ (v % 2 ^ 56 * 256) (i + 1)
+    compare-on d =
+        record { inside = r .inside; upto = omega arith; same = rw (eq-eqb (v / 2 ^ 56) (getD t i 0) d) at left-same }
 
-    pub compare-off : (getD t i 0 ≡ v / 2 ^ 56 → ⊥) → false ≡ spells v₀ (take (e - a) (drop a t))
-    compare-off d = rw (ne-eqb (getD t i 0) (v / 2 ^ 56) d) at left-same
+    pub compare-off : (v / 2 ^ 56 ≡ getD t i 0 → ⊥) → false ≡ spells v₀ (take (e - a) (drop a t))
+    compare-off d = rw (ne-eqb (v / 2 ^ 56) (getD t i 0) d) at left-same
 
   pub compare-end : e ≤ i → true ≡ spells v₀ (take (e - a) (drop a t))
   unfolding spells
@@ -207,7 +203,8 @@ module _ (w : List ℕ) (l : packable ≤ length w) where
       let x = both-true (fits e) _ s in
       let f = both-true (ltb (length (e .spelling)) packable) _ (x .0) in
       let y = both-true (not (taken es (slotOf (packedOf 0 (e .spelling))))) (spaced es) (x .1) in
-      either (eqb (slotOf (packedOf 0 (e .spelling))) i) (answered-other e w (f .1) (longer e (ltb-true _ _ (f .0)))) (long-held es (y .1) i)
+      either (eqb (slotOf (packedOf 0 (e .spelling))) i) (answered-other e w (f .1) (longer e (ltb-true _ _ (f .0))))
+      (long-held es (y .1) i)
     where
       either : (b : Bool) → answered (heldOf e) w ≡ Identifier → answered (heldIn es i) w ≡ Identifier →
           answered (cond b (heldOf e) (heldIn es i)) w ≡ Identifier
@@ -224,8 +221,8 @@ slot-tells w = pick (decLe packable (length w))
     pick (no l) = rw (take-all packable w (omega arith)) (looked w reserved reserved-spaced)
 
 -- the same of bytes a to e of a text, by what the slot of their number v holds
-module _ (t : List ℕ) (a e v : ℕ) (h : Held) (l : (a ≤ e) × (e ≤ length t)) (q : v ≡ packedOf 0 (take packable (take (e - a) (drop a t))))
-    (s : h ≡ heldIn reserved (slotOf v)) where
+module _ (t : List ℕ) (a e v : ℕ) (h : Held) (l : (a ≤ e) × (e ≤ length t))
+    (q : v ≡ packedOf 0 (take packable (take (e - a) (drop a t)))) (s : h ≡ heldIn reserved (slotOf v)) where
   abbrev w : List ℕ
   w = take (e - a) (drop a t)
 

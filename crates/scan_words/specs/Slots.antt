@@ -18,4 +18,4 @@ heldIn (e ∷ es) i = cond (eqb (slotOf (packedOf 0 (e .spelling))) i) (heldOf e
 -- whether bytes are the first of those that a number has, the highest first
 unfoldable pub spells : ℕ → List ℕ → Bool
 spells v [] = true
-spells v (b ∷ w) = eqb b (v / 2 ^ 56) && spells (v % 2 ^ 56 * 256) w
+spells v (b ∷ w) = eqb (v / 2 ^ 56) b && spells (v % 2 ^ 56 * 256) w

@@ -72,7 +72,8 @@ fn same(spelling: u64, text: &[u8], at: usize, end: usize) -> bool
 // The kind of a word of a text. Its first eight bytes, packed, tell a slot. If the reserved word there has as many bytes, and
 // the same ones, the kind is that word's, and else an identifier's.
 pub fn kind_of(packed: u64, text: &[u8], at: usize, end: usize) -> u32
-    requires { ⌜ ((at ≤ end) × (end ≤ length (now text))) × (packed ≡ packedOf 0 (take packable (take (end - at) (drop at (now text))))) ⌝ }
+    requires { ⌜ ((at ≤ end) × (end ≤ length (now text)))
+        × (packed ≡ packedOf 0 (take packable (take (end - at) (drop at (now text))))) ⌝ }
     ensures { λ r. ⌜ r ≡ kindIn reserved Identifier (take (end - at) (drop at (now (text .entry)))) ⌝ }
 {
     let word = held(packed / HALF % COUNT);
