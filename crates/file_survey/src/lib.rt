@@ -20,7 +20,7 @@ ghost use mathlib.Core.Path.{_≡_};
 ghost use lib.ListN.{length};
 ghost use Rattle.rules.specs.declared.Judged.the-variants.{Fine};
 ghost use Rattle.rules.specs.Text.{startPlace, textJudged};
-ghost use Rattle.rules_files.specs.Blocks.{perBlock};
+ghost use Rattle.rules_files.specs.Blocks.{perBlock, blockBytes};
 ghost use Rattle.rules_forms.specs.Shapes.{numberOf, rowBytesOf};
 ghost use Rattle.scan_part.specs.Part.{Begun, PartOf};
 ghost use Rattle.rules_mend.specs.Mend.{freshTable, freshFile, listed};
@@ -55,8 +55,10 @@ pub fn begin() -> Spot
 
 // The next rows of a text as block k.
 pub fn fresh_part(form: Form, text: &[u8], spot: Spot, k: u32, fresh: &mut [u8]) -> Part
-    requires { ⌜ Begun (now text) spot × (length (now fresh) ≡ 512) ⌝ }
-    ensures { λ r. ⌜ PartOf (now (text .entry)) (spot .at) (perBlock (rowBytesOf form)) r × (now (fresh .exit) ≡ rowsBlock form k (rowsAt form (now (text .entry)) (spot .at))) ⌝ }
+    requires { ⌜ Begun (now text) spot × (length (now fresh) ≡ blockBytes) ⌝ }
+    ensures { λ r. ⌜
+        PartOf (now (text .entry)) (spot .at) (perBlock (rowBytesOf form)) r
+        × (now (fresh .exit) ≡ rowsBlock form k (rowsAt form (now (text .entry)) (spot .at))) ⌝ }
 {
     let mut words = [0u32; PART_WORDS];
     let part = read_part(text, spot, block_rows(form), &mut words);
@@ -122,7 +124,9 @@ fn survey_rows(form: Form, text: &[u8], file: &[u8]) -> Seen
 // tail.
 pub fn survey(form: Form, text: &[u8], file: &[u8]) -> Seen
     requires { ⌜ textJudged (now text) ≡ Fine ⌝ }
-    ensures { λ r. ⌜ (r .table ≡ freshTable (now (text .entry))) × (r .listed ≡ length (listed (freshFile (numberOf form) (now (text .entry))) (now (file .entry)))) ⌝ }
+    ensures { λ r. ⌜
+        (r .table ≡ freshTable (now (text .entry)))
+        × (r .listed ≡ length (listed (freshFile (numberOf form) (now (text .entry))) (now (file .entry)))) ⌝ }
 {
     let held = survey_rows(form, text, file);
     let table = held.table;

@@ -114,7 +114,9 @@ fn shape_at(rows: &[u32], count: u32, row: u32) -> Shaped
 // A field at the row.
 fn field(rows: &[u32], count: u32, nodes: &mut [u32], row: u32, node: u32) -> Got
     requires { ⌜ Asks (now rows) count row node 0 ⌝ }
-    ensures { λ r. ⌜ Answers (λ ts. eventField ts row) (now (rows .entry)) count row node (now (nodes .entry)) (now (nodes .exit)) r ⌝ }
+    ensures { λ r. ⌜
+        Answers (λ ts. eventField ts row) (now (rows .entry)) count row node (now (nodes .entry))
+        (now (nodes .exit)) r ⌝ }
 {
     if parse_nodes::kind_at(rows, count, row) != IDENTIFIER {
         return Got::Refused(parse_nodes::wanted(IDENTIFIER), row as usize);
@@ -156,7 +158,8 @@ fn field(rows: &[u32], count: u32, nodes: &mut [u32], row: u32, node: u32) -> Go
 // The fields of the event whose word is at the row, from the first on up to `}`, and the event's node.
 fn fields(rows: &[u32], count: u32, nodes: &mut [u32], row: u32, start: At) -> Got
     requires { ⌜ AsksFields (now rows) count row start ⌝ }
-    ensures { λ r. ⌜ FieldsMet (now (rows .entry)) count row (start .node) (now (nodes .entry)) (now (nodes .exit)) r ⌝ }
+    ensures { λ r. ⌜
+        FieldsMet (now (rows .entry)) count row (start .node) (now (nodes .entry)) (now (nodes .exit)) r ⌝ }
 {
     let name = row + 1;
     let mut s = start;
@@ -189,7 +192,8 @@ fn fields(rows: &[u32], count: u32, nodes: &mut [u32], row: u32, start: At) -> G
 // The event whose word is at the row.
 pub fn event(rows: &[u32], count: u32, nodes: &mut [u32], row: u32, node: u32) -> Got
     requires { ⌜ AsksOpen (now rows) count row node 0 ⌝ }
-    ensures { λ r. ⌜ Answers (λ ts. eventAt ts row) (now (rows .entry)) count row node (now (nodes .entry)) (now (nodes .exit)) r ⌝ }
+    ensures { λ r. ⌜
+        Answers (λ ts. eventAt ts row) (now (rows .entry)) count row node (now (nodes .entry)) (now (nodes .exit)) r ⌝ }
 {
     match parse_nodes::opened(rows, count, row, node) {
         Got::Done(start) => fields(rows, count, nodes, row, start),

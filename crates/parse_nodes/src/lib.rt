@@ -17,7 +17,7 @@ ghost use lib.ListN.{length, set};
 ghost use lib.Seq.{sets};
 ghost use Rattle.rules.specs.Nodes.{NodeVariable, NodeNumber, node, factNode, nodeWords, missing};
 ghost use Rattle.rules.specs.Fits.{only, wrong, retold};
-ghost use Rattle.parse_nodes.specs.Post.{kindWord, stateAt, variableAt, countedAt, AsksOpen};
+ghost use Rattle.parse_nodes.specs.Post.{kindWord, stateAt, variableAt, countedAt, AsksOpen, mostRows};
 ghost use Rattle.parse_nodes.specs.Fitting.{retoldAt, dottedWords, onwardWords, Header};
 
 // Where the parser stands: the next row, the next node, the place of what was read and how many things it has if it is a list. Of what was
@@ -75,7 +75,12 @@ fn put(nodes: &mut [u32], at: usize, v: u32)
 // A node's words from an index on, one by one, as far as there is room.
 fn store_part(nodes: &mut [u32], at: usize, w: Words)
     requires { ⌜ at ≤ 524296 ⌝ }
-    ensures { λ _. ⌜ now (nodes .exit) ≡ sets (now (nodes .entry)) at (nodeWords (factNode (w .kind) (w .place) (w .name) (w .children) (w .fact0) (w .fact1) (w .fact2) (w .fact3))) ⌝ }
+    ensures { λ _. ⌜
+        now (nodes .exit)
+        ≡ sets (now (nodes .entry)) at
+        (nodeWords
+        (factNode (w .kind) (w .place) (w .name) (w .children) (w .fact0) (w .fact1) (w .fact2)
+        (w .fact3))) ⌝ }
 {
     put(nodes, at, w.kind);
     put(nodes, at + node::PLACE, w.place);
@@ -90,7 +95,12 @@ fn store_part(nodes: &mut [u32], at: usize, w: Words)
 // A node's words from an index on, where there is room for all.
 fn store_whole(nodes: &mut [u32], at: usize, w: Words)
     requires { ⌜ at + 8 ≤ length (now nodes) ⌝ }
-    ensures { λ _. ⌜ now (nodes .exit) ≡ sets (now (nodes .entry)) at (nodeWords (factNode (w .kind) (w .place) (w .name) (w .children) (w .fact0) (w .fact1) (w .fact2) (w .fact3))) ⌝ }
+    ensures { λ _. ⌜
+        now (nodes .exit)
+        ≡ sets (now (nodes .entry)) at
+        (nodeWords
+        (factNode (w .kind) (w .place) (w .name) (w .children) (w .fact0) (w .fact1) (w .fact2)
+        (w .fact3))) ⌝ }
 {
     nodes[at] = w.kind;
     nodes[at + node::PLACE] = w.place;
@@ -104,8 +114,13 @@ fn store_whole(nodes: &mut [u32], at: usize, w: Words)
 
 // Node n, as far as there is room.
 pub fn store(nodes: &mut [u32], n: u32, w: Words)
-    requires { ⌜ n ≤ 65537 ⌝ }
-    ensures { λ _. ⌜ now (nodes .exit) ≡ sets (now (nodes .entry)) (8 * n) (nodeWords (factNode (w .kind) (w .place) (w .name) (w .children) (w .fact0) (w .fact1) (w .fact2) (w .fact3))) ⌝ }
+    requires { ⌜ n ≤ mostRows ⌝ }
+    ensures { λ _. ⌜
+        now (nodes .exit)
+        ≡ sets (now (nodes .entry)) (8 * n)
+        (nodeWords
+        (factNode (w .kind) (w .place) (w .name) (w .children) (w .fact0) (w .fact1) (w .fact2)
+        (w .fact3))) ⌝ }
 {
     let at = node::WORDS * (n as usize);
     if nodes.len() <= at {
@@ -120,8 +135,9 @@ pub fn store(nodes: &mut [u32], n: u32, w: Words)
 
 // Node n with no facts; `name` is a row, or MISSING.
 pub fn close(nodes: &mut [u32], n: u32, kind: u32, place: u32, name: u32, children: u32)
-    requires { ⌜ n ≤ 65537 ⌝ }
-    ensures { λ _. ⌜ now (nodes .exit) ≡ sets (now (nodes .entry)) (8 * n) (nodeWords (node kind place name children)) ⌝ }
+    requires { ⌜ n ≤ mostRows ⌝ }
+    ensures { λ _. ⌜
+        now (nodes .exit) ≡ sets (now (nodes .entry)) (8 * n) (nodeWords (node kind place name children)) ⌝ }
 {
     store(
         nodes,
@@ -141,8 +157,11 @@ pub fn close(nodes: &mut [u32], n: u32, kind: u32, place: u32, name: u32, childr
 
 // The state behind a nameless node that is written at t, over what was read up to t.
 pub fn shut(nodes: &mut [u32], t: At, kind: u32, place: u32, children: u32) -> At
-    requires { ⌜ t .node ≤ 65537 ⌝ }
-    ensures { λ r. ⌜ (r ≡ stateAt (t .row) (t .node + 1) place) × (now (nodes .exit) ≡ sets (now (nodes .entry)) (8 * t .node) (nodeWords (node kind place missing children))) ⌝ }
+    requires { ⌜ t .node ≤ mostRows ⌝ }
+    ensures { λ r. ⌜
+        (r ≡ stateAt (t .row) (t .node + 1) place)
+        × (now (nodes .exit)
+        ≡ sets (now (nodes .entry)) (8 * t .node) (nodeWords (node kind place missing children))) ⌝ }
 {
     let n = t.node;
     close(nodes, n, kind, place, MISSING, children);
@@ -159,8 +178,11 @@ pub fn shut(nodes: &mut [u32], t: At, kind: u32, place: u32, children: u32) -> A
 
 // The state behind a nameless node over what was read up to t, and behind the row that ends it.
 pub fn ended(nodes: &mut [u32], t: At, kind: u32, place: u32, children: u32) -> At
-    requires { ⌜ (t .node ≤ 65537) × (t .row ≤ 65537) ⌝ }
-    ensures { λ r. ⌜ (r ≡ stateAt (t .row + 1) (t .node + 1) place) × (now (nodes .exit) ≡ sets (now (nodes .entry)) (8 * t .node) (nodeWords (node kind place missing children))) ⌝ }
+    requires { ⌜ (t .node ≤ mostRows) × (t .row ≤ mostRows) ⌝ }
+    ensures { λ r. ⌜
+        (r ≡ stateAt (t .row + 1) (t .node + 1) place)
+        × (now (nodes .exit)
+        ≡ sets (now (nodes .entry)) (8 * t .node) (nodeWords (node kind place missing children))) ⌝ }
 {
     let s = shut(nodes, t, kind, place, children);
     At {
@@ -176,8 +198,10 @@ pub fn ended(nodes: &mut [u32], t: At, kind: u32, place: u32, children: u32) -> 
 
 // The state behind a variable at a row.
 pub fn variable(nodes: &mut [u32], row: u32, n: u32) -> At
-    requires { ⌜ (row ≤ 65537) × (n ≤ 65537) ⌝ }
-    ensures { λ r. ⌜ (r ≡ variableAt (row + 1) (n + 1) row) × (now (nodes .exit) ≡ sets (now (nodes .entry)) (8 * n) (nodeWords (node NodeVariable row row 0))) ⌝ }
+    requires { ⌜ (row ≤ mostRows) × (n ≤ mostRows) ⌝ }
+    ensures { λ r. ⌜
+        (r ≡ variableAt (row + 1) (n + 1) row)
+        × (now (nodes .exit) ≡ sets (now (nodes .entry)) (8 * n) (nodeWords (node NodeVariable row row 0))) ⌝ }
 {
     close(nodes, n, node_kind::VARIABLE, row, row, 0);
     At {
@@ -193,8 +217,11 @@ pub fn variable(nodes: &mut [u32], row: u32, n: u32) -> At
 
 // The state behind a number at a row, with its value's words.
 pub fn number(nodes: &mut [u32], row: u32, n: u32, low: u32, high: u32) -> At
-    requires { ⌜ (row ≤ 65537) × (n ≤ 65537) ⌝ }
-    ensures { λ r. ⌜ (r ≡ stateAt (row + 1) (n + 1) row) × (now (nodes .exit) ≡ sets (now (nodes .entry)) (8 * n) (nodeWords (factNode NodeNumber row missing 0 low high 0 0))) ⌝ }
+    requires { ⌜ (row ≤ mostRows) × (n ≤ mostRows) ⌝ }
+    ensures { λ r. ⌜
+        (r ≡ stateAt (row + 1) (n + 1) row)
+        × (now (nodes .exit)
+        ≡ sets (now (nodes .entry)) (8 * n) (nodeWords (factNode NodeNumber row missing 0 low high 0 0))) ⌝ }
 {
     store(
         nodes,
