@@ -5,7 +5,6 @@ use parse_nodes::Words;
 use rules::Syntax;
 use rules::fact;
 use rules::fits;
-use rules::kind;
 use rules::kind::BYTES;
 use rules::kind::COLON;
 use rules::kind::IDENTIFIER;
@@ -71,15 +70,10 @@ fn typed_at(rows: &[u32], count: u32, row: u32, kind: u32) -> Shaped
     ensures { λ r. ⌜ TypeFound (now (rows .entry)) count row r ⌝ }
 {
     let next = row + 1;
+    let element = parse_nodes::type_number(kind);
     let k = parse_nodes::kind_at(rows, count, next);
     if k == LBRACKET {
-        return length_at(
-            rows,
-            count,
-            next + 1,
-            fact::FORM_ARRAY,
-            kind - kind::LAST_UNMADE,
-        );
+        return length_at(rows, count, next + 1, fact::FORM_ARRAY, element);
     }
     if k != SEMICOLON {
         return Shaped::Refused(parse_nodes::wrong(fits::FIELD_ENDS), next);
@@ -87,7 +81,7 @@ fn typed_at(rows: &[u32], count: u32, row: u32, kind: u32) -> Shaped
     Shaped::Done(Shape {
         row: next + 1,
         form: fact::FORM_PLAIN,
-        element: kind - kind::LAST_UNMADE,
+        element,
         length: 0,
     })
 }

@@ -5,7 +5,6 @@ use parse_nodes::Words;
 use rules::Syntax;
 use rules::fact;
 use rules::fits;
-use rules::kind;
 use rules::kind::COLON;
 use rules::kind::DOT;
 use rules::kind::EOF;
@@ -190,7 +189,7 @@ fn typed_field(rows: &[u32], count: u32, f: Facts, kind: u32) -> Found
     if parse_nodes::kind_at(rows, count, end) != SEMICOLON {
         return Found::Refused(parse_nodes::wanted(SEMICOLON), end);
     }
-    let number = t - kind::LAST_UNMADE;
+    let number = parse_nodes::type_number(t);
     let next = end + 1;
     if kind == KEY {
         return Found::Done(Facts {

@@ -4,6 +4,7 @@ use rules::fits;
 use rules::kind::DOT;
 use rules::kind::EOF;
 use rules::kind::IDENTIFIER;
+use rules::kind::LAST_UNMADE;
 use rules::kind::LBRACE;
 use rules::limit;
 use rules::node;
@@ -15,6 +16,8 @@ ghost use mathlib.Core.Bool.{true};
 ghost use Prim.Native.Nat.{_+_, _-_, _*_, _^_, _≤_, _<_};
 ghost use lib.ListN.{length, set};
 ghost use lib.Seq.{sets};
+ghost use Rattle.rules.specs.Kinds.{lastUnmade};
+ghost use Rattle.rules.specs.Tree.{typeNumber};
 ghost use Rattle.rules.specs.Nodes.{NodeVariable, NodeNumber, node, factNode, nodeWords, missing};
 ghost use Rattle.rules.specs.Fits.{only, wrong, retold};
 ghost use Rattle.parse_nodes.specs.Post.{kindWord, stateAt, variableAt, countedAt, AsksOpen, mostRows};
@@ -61,6 +64,14 @@ pub fn kind_at(rows: &[u32], count: u32, i: u32) -> u32
     } else {
         EOF
     }
+}
+
+// The number of a type, 1 to 4, by its kind.
+pub fn type_number(kind: u32) -> u32
+    requires { ⌜ lastUnmade ≤ kind ⌝ }
+    ensures { λ r. ⌜ r ≡ typeNumber kind ⌝ }
+{
+    kind - LAST_UNMADE
 }
 
 // A word, if there is room.
