@@ -61,12 +61,14 @@
 pub mod columns;
 pub mod diagnostic;
 mod document;
+mod extent;
 mod ffi;
 mod file;
 mod form;
 mod kind;
 mod kind_set;
 pub mod lent;
+mod position;
 mod refusal;
 mod row;
 mod sets;
@@ -79,11 +81,12 @@ pub use file::{mend_file, move_file};
 pub use form::{Form, MOST_STORED_ROWS};
 pub use kind::Kind;
 pub use kind_set::{KindSet, Kinds};
+pub use position::Position;
 pub use refusal::{MapField, Place, Reason, Refusal};
 pub use row::{Row, Rows};
 pub use sets::{allows, section_kind, set_size, Method, ProgramKind};
 pub use table::Table;
-pub use tree::{FieldType, MapType, Node, NodeKind, Operator, Tree, Type};
+pub use tree::{Children, FieldType, MapType, Node, NodeKind, Operator, Tree, Type};
 
 /// This crate's version as one number: major, minor and patch in a byte each. The build refuses an archive of another version,
 /// unless it is for another machine, whose programs do not run there; [`lent::version`] then tells.
