@@ -16,7 +16,8 @@
  * different memory may run at the same time. Parts of memory that are lent for writing must overlap neither each
  * other nor what is lent for reading. A length of 0 is fine (with any pointer that is not null). Lengths of rows and
  * nodes are lent in words, not in rows or bytes: each parameter whose name ends in `_words` is SH_ROW_WORDS or
- * SH_NODE_WORDS times a number of rows or nodes. Words that are left over are never written.
+ * SH_NODE_WORDS times a number of rows or nodes (but `block_words`, of numbers of one word). Words that are left
+ * over are never written.
  *
  * Texts are UTF-8, and all of a text is judged before any of it is read. Offsets, lengths and columns count bytes,
  * so an editor that shows a caret counts characters for itself. Rows of a scanned text start and end between
@@ -66,7 +67,8 @@ enum { SH_LONGEST_TEXT = 65536 };
 /* The words of an answer. */
 enum sh_answer_word {
     SH_NUMBER = 0, /* refusal number, 0 if none */
-    SH_OFFSET = 1, /* the refusal's place: offset, line and column; 0 1 1 where the place is 0; beside number 0 the restart place, else all 0 */
+    SH_OFFSET = 1, /* the refusal's place: offset, line and column; 0 1 1 where the place is 0; beside number 0 the
+                    * restart place, else all 0 */
     SH_LINE = 2,
     SH_COLUMN = 3, /* one more than the bytes since the last newline: characters of two to four bytes count two to four, a tab one */
     SH_FIRST = 4,  /* refusals that tell kinds: those of 0 to 31; SH_REFUSED_MAP_LACKS: the field; SH_FILE_BAD_BLOCK: the block;
