@@ -244,10 +244,8 @@ fn the_command_is_built_only_if_it_is_old() {
     symlink("check", folder.0.join("link")).unwrap();
     assert_eq!(checked("./link"), "");
     let later = later + std::time::Duration::from_secs(1);
-    let source = fs::File::options()
-        .append(true)
-        .open(folder.0.join("crates/a/specs/Lib.antt"));
-    source.unwrap().set_modified(later).unwrap();
+    let sources = fs::File::open(folder.0.join("crates/a/specs")).unwrap();
+    sources.set_modified(later).unwrap();
     let said = checked("./check");
     assert!(
         said.starts_with("check: building the command: ") && said.ends_with("built\n"),
