@@ -411,7 +411,8 @@ fn changes_go_over_the_limit_and_back() {
 
 #[test]
 fn ranges_of_any_kind_are_taken() {
-    let changes: [(fn(&mut Document) -> Result<(), spoonharbor::Refusal>, &str); 6] = [
+    type Changed = fn(&mut Document) -> Result<(), spoonharbor::Refusal>;
+    let changes: [(Changed, &str); 6] = [
         (|document| document.replace(..4, "map"), "map u{}"),
         (|document| document.replace(..=3, "map"), "map u{}"),
         (|document| document.replace(5..=5, "v"), "unit v{}"),
