@@ -58,6 +58,23 @@
 //! [`lent`] has the library's calls themselves, over slices, for those who keep their own memory: a table there may be anyone's, so what
 //! its rows spell are bytes.
 
+#![warn(clippy::pedantic)]
+// Left out of it: what would repeat itself at every call, casts of words whose bounds are proved, and a `match` on a test, which is
+// how this crate says both sides of one.
+#![allow(
+    clippy::borrow_as_ptr,
+    clippy::cast_possible_truncation,
+    clippy::cast_possible_wrap,
+    clippy::cast_sign_loss,
+    clippy::enum_glob_use,
+    clippy::match_bool,
+    clippy::missing_fields_in_debug,
+    clippy::must_use_candidate,
+    clippy::needless_pass_by_value,
+    clippy::similar_names,
+    clippy::single_match_else
+)]
+
 pub mod columns;
 pub mod diagnostic;
 mod document;
