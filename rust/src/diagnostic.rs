@@ -30,6 +30,7 @@ mod statements;
 mod wanted;
 mod warnings;
 
+pub use crate::position::Position;
 pub use explain::{explain, explained, Explained};
 
 use crate::columns::shown;
@@ -87,20 +88,6 @@ pub struct Note {
 pub struct Checks {
     /// Whether a map without a comment above it is told (108).
     pub style: bool,
-}
-
-/// A place as editors count it. Bytes count from 0; line and both columns from 1.
-#[derive(Debug, Clone, Copy, PartialEq, Eq, Hash)]
-#[non_exhaustive]
-pub struct Position {
-    /// The offset.
-    pub byte: usize,
-    /// One more than the newlines in front.
-    pub line: usize,
-    /// In bytes.
-    pub column: usize,
-    /// In units of UTF-16; a byte that is no UTF-8 counts as one.
-    pub utf16: usize,
 }
 
 /// Everything that is wrong with a text, which may be any bytes, in the text's order.
@@ -210,27 +197,6 @@ impl Document {
     /// Everything that is wrong with the text, in its order. The text is read afresh for it.
     pub fn diagnostics(&self, checks: &Checks) -> Vec<Diagnostic> {
         diagnose(self.text().as_bytes(), checks)
-    }
-}
-
-impl Position {
-    /// The place before the byte at `offset`, or the text's end.
-    pub fn of(text: &[u8], offset: usize) -> Position {
-        let Place {
-            offset: byte,
-            line,
-            column,
-        } = Place::before(text, offset);
-        let start = byte + 1 - column;
-        let units = text[start..byte]
-            .utf8_chunks()
-            .map(|chunk| chunk.valid().encode_utf16().count() + chunk.invalid().len());
-        Position {
-            byte,
-            line,
-            column,
-            utf16: 1 + units.sum::<usize>(),
-        }
     }
 }
 

@@ -7,53 +7,101 @@ use std::fmt;
 #[repr(u32)]
 #[non_exhaustive]
 pub enum Kind {
+    /// The word `unit`.
     KeywordUnit = 0,
+    /// The word `section`.
     KeywordSection = 1,
+    /// The word `license`.
     KeywordLicense = 2,
+    /// The word `return`.
     KeywordReturn = 3,
+    /// The word `reg`.
     KeywordReg = 4,
+    /// The word `imm`.
     KeywordImm = 5,
+    /// The word `map`.
     KeywordMap = 6,
+    /// The word `type`.
     KeywordType = 7,
+    /// The word `key`.
     KeywordKey = 8,
+    /// The word `value`.
     KeywordValue = 9,
+    /// The word `max`.
     KeywordMax = 10,
+    /// The word `if`.
     KeywordIf = 11,
+    /// The word `else`.
     KeywordElse = 12,
+    /// The word `guard`.
     KeywordGuard = 13,
+    /// The word `heap`.
     KeywordHeap = 14,
+    /// The word `event`.
     KeywordEvent = 15,
+    /// The word `u32`.
     TypeU32 = 21,
+    /// The word `u64`.
     TypeU64 = 22,
+    /// The word `i32`.
     TypeI32 = 23,
+    /// The word `i64`.
     TypeI64 = 24,
+    /// `{`.
     LBrace = 25,
+    /// `}`.
     RBrace = 26,
+    /// `(`.
     LParen = 27,
+    /// `)`.
     RParen = 28,
+    /// `:`.
     Colon = 29,
+    /// `.`.
     Dot = 30,
+    /// `,`.
     Comma = 31,
+    /// `;`.
     Semicolon = 32,
+    /// `[`.
     LBracket = 33,
+    /// `]`.
     RBracket = 34,
+    /// `=`.
     Equals = 35,
+    /// `+=`.
     PlusEquals = 36,
+    /// `-=`.
     MinusEquals = 37,
+    /// `*=`.
     StarEquals = 38,
+    /// `/=`.
     SlashEquals = 39,
+    /// `%=`.
     PercentEquals = 40,
+    /// `+`.
     Plus = 41,
+    /// `-`.
     Minus = 42,
+    /// `*`.
     Star = 43,
+    /// `/`.
     Slash = 44,
+    /// `%`.
     Percent = 45,
+    /// `>>`.
     Shr = 46,
+    /// `<<`.
     Shl = 47,
+    /// A name.
     Identifier = 48,
+    /// A string, with its quotes.
     StringLiteral = 49,
+    /// A number, with its sign.
     Number = 50,
+    /// The word `bytes`.
     KeywordBytes = 51,
+    /// The text's end.
     Eof = 52,
     /// A kind that this version has no name for. The library of this version makes none.
     Other = u32::MAX,

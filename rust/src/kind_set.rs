@@ -93,6 +93,7 @@ impl KindSet {
         self.0.count_ones() as usize
     }
 
+    /// Whether it has none.
     pub fn is_empty(self) -> bool {
         self.0 == 0
     }

@@ -87,8 +87,11 @@ pub fn parse(text: &[u8], rows: &[u32], table: &Words, nodes: &mut [u32]) -> Wor
 /// What became of a text: old bytes `a` to `b` (`b` not included) became `n` new ones.
 #[derive(Debug, Clone, Copy, PartialEq, Eq)]
 pub struct Change {
+    /// Where the old bytes that went start.
     pub a: u32,
+    /// Where they end.
     pub b: u32,
+    /// How many new bytes came.
     pub n: u32,
 }
 

@@ -58,15 +58,34 @@
 //! [`lent`] has the library's calls themselves, over slices, for those who keep their own memory: a table there may be anyone's, so what
 //! its rows spell are bytes.
 
+#![warn(clippy::pedantic)]
+// Left out of it: what would repeat itself at every call, casts of words whose bounds are proved, and a `match` on a test, which is
+// how this crate says both sides of one.
+#![allow(
+    clippy::borrow_as_ptr,
+    clippy::cast_possible_truncation,
+    clippy::cast_possible_wrap,
+    clippy::cast_sign_loss,
+    clippy::enum_glob_use,
+    clippy::match_bool,
+    clippy::missing_fields_in_debug,
+    clippy::must_use_candidate,
+    clippy::needless_pass_by_value,
+    clippy::similar_names,
+    clippy::single_match_else
+)]
+
 pub mod columns;
 pub mod diagnostic;
 mod document;
+mod extent;
 mod ffi;
 mod file;
 mod form;
 mod kind;
 mod kind_set;
 pub mod lent;
+mod position;
 mod refusal;
 mod row;
 mod sets;
@@ -79,11 +98,12 @@ pub use file::{mend_file, move_file};
 pub use form::{Form, MOST_STORED_ROWS};
 pub use kind::Kind;
 pub use kind_set::{KindSet, Kinds};
+pub use position::Position;
 pub use refusal::{MapField, Place, Reason, Refusal};
 pub use row::{Row, Rows};
 pub use sets::{allows, section_kind, set_size, Method, ProgramKind};
 pub use table::Table;
-pub use tree::{FieldType, MapType, Node, NodeKind, Operator, Tree, Type};
+pub use tree::{Children, FieldType, MapType, Node, NodeKind, Operator, Tree, Type};
 
 /// This crate's version as one number: major, minor and patch in a byte each. The build refuses an archive of another version,
 /// unless it is for another machine, whose programs do not run there; [`lent::version`] then tells.

@@ -9,17 +9,24 @@ use std::fmt;
 /// A position in a text. Offsets count from 0, lines and columns from 1; columns count bytes.
 #[derive(Debug, Clone, Copy, PartialEq, Eq, Hash)]
 pub struct Place {
+    /// How many bytes are in front.
     pub offset: usize,
+    /// One more than the newlines in front.
     pub line: usize,
+    /// One more than the bytes since the last newline.
     pub column: usize,
 }
 
 /// A field that a map must have.
 #[derive(Debug, Clone, Copy, PartialEq, Eq, Hash)]
 pub enum MapField {
+    /// `type`, which every map has.
     Type,
+    /// `key`, which every map has but a ringbuf.
     Key,
+    /// `value`, which every map has but a ringbuf.
     Value,
+    /// `max`, which every map has.
     Max,
 }
 
@@ -59,7 +66,12 @@ pub enum Reason {
     NoHexDigit,
     /// 21: rows of other kinds were wanted, one of which would have fitted.
     #[non_exhaustive]
-    Wanted { fitting: KindSet, found: Kind },
+    Wanted {
+        /// The kinds that would have fitted.
+        fitting: KindSet,
+        /// The kind that was found.
+        found: Kind,
+    },
     /// 22: none of `map`, `event` and `unit`; with what would have fitted.
     NotTopLevel(KindSet),
     /// 23: none of `type`, `key`, `value` and `max`; with what would have fitted.
@@ -105,7 +117,9 @@ pub enum Reason {
 #[derive(Debug, Clone, Copy, PartialEq, Eq, Hash)]
 #[non_exhaustive]
 pub struct Refusal {
+    /// Why.
     pub reason: Reason,
+    /// Where; the text's start if it is about no place.
     pub place: Place,
 }
 
@@ -282,6 +296,20 @@ impl Place {
     }
 }
 
+/// `line:column`.
+impl fmt::Display for Place {
+    fn fmt(&self, out: &mut fmt::Formatter<'_>) -> fmt::Result {
+        write!(out, "{}:{}", self.line, self.column)
+    }
+}
+
+/// The field's word in the language.
+impl fmt::Display for MapField {
+    fn fmt(&self, out: &mut fmt::Formatter<'_>) -> fmt::Result {
+        out.write_str(self.word())
+    }
+}
+
 /// The reason in words, without the place.
 impl fmt::Display for Reason {
     fn fmt(&self, out: &mut fmt::Formatter<'_>) -> fmt::Result {
@@ -319,7 +347,7 @@ impl fmt::Display for Reason {
             Reason::OutOfRange => out.write_str("out of range: expected 0 to 4294967295"),
             Reason::ShiftCount => out.write_str("shift count out of range: expected 0 to 63"),
             Reason::MapLacks(field) => {
-                write!(out, "the map before this has no '{}'", field.word())
+                write!(out, "the map before this has no '{field}'")
             }
             Reason::NotEventType(fitting) => write!(out, "expected {fitting:#}"),
             Reason::CallOnOther => out.write_str("only a variable has methods"),
@@ -347,8 +375,7 @@ impl fmt::Display for Refusal {
         if self.reason.has_no_place() {
             return self.reason.fmt(out);
         }
-        let Place { line, column, .. } = self.place;
-        write!(out, "{line}:{column}: {}", self.reason)
+        write!(out, "{}: {}", self.place, self.reason)
     }
 }
 

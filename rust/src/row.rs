@@ -3,6 +3,7 @@
 use crate::kind::Kind;
 use crate::lent::ROW_WORDS;
 use crate::refusal::Place;
+use std::fmt;
 use std::iter::FusedIterator;
 use std::ops::Range;
 use std::slice;
@@ -12,12 +13,19 @@ use std::slice;
 #[derive(Debug, Clone, Copy, PartialEq, Eq, Hash)]
 #[non_exhaustive]
 pub struct Row {
+    /// What it is.
     pub kind: Kind,
+    /// The offset of its first byte.
     pub start: usize,
+    /// The offset after its last byte.
     pub end: usize,
+    /// The line of its start, from 1.
     pub line: usize,
+    /// The column of its start in bytes, from 1.
     pub column: usize,
+    /// The value of a number, else 0.
     pub value: i64,
+    /// How many comments stand in front of it.
     pub comments: usize,
 }
 
@@ -46,6 +54,17 @@ impl Row {
             offset: self.start,
             line: self.line,
             column: self.column,
+        }
+    }
+}
+
+/// `line:column kind`, and of a number its value: `2:5 number -1`.
+impl fmt::Display for Row {
+    fn fmt(&self, out: &mut fmt::Formatter<'_>) -> fmt::Result {
+        write!(out, "{} {}", self.place(), self.kind)?;
+        match self.kind {
+            Kind::Number => write!(out, " {}", self.value),
+            _ => Ok(()),
         }
     }
 }

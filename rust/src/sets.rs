@@ -1,22 +1,34 @@
 //! Program kinds and the context methods that each allows.
 
 use crate::lent;
+use std::fmt;
 
 /// What a unit is, by its first section. A later version may have more kinds.
 #[derive(Debug, Clone, Copy, PartialEq, Eq, Hash)]
 #[repr(u32)]
 #[non_exhaustive]
 pub enum ProgramKind {
+    /// A packet at the driver: `xdp`.
     Xdp = 0,
+    /// A packet in traffic control: `classifier`, or a section that begins with `tc`.
     Tc = 1,
+    /// A packet at a socket: `sk_..`.
     Socket = 2,
+    /// A control group: `cgroup/..`.
     Cgroup = 3,
+    /// A kernel function: `kprobe/..` or `kretprobe/..`.
     Kprobe = 4,
+    /// A tracepoint: `tracepoint/..`.
     Tracepoint = 5,
+    /// A raw tracepoint: `raw_tracepoint/..`.
     RawTracepoint = 6,
+    /// A function's entry: `fentry/..`.
     Fentry = 7,
+    /// A function's exit: `fexit/..`.
     Fexit = 8,
+    /// A security hook: `lsm/..`.
     Lsm = 9,
+    /// No section, or one that gives no kind.
     Unknown = 10,
 }
 
@@ -25,21 +37,37 @@ pub enum ProgramKind {
 #[repr(u32)]
 #[non_exhaustive]
 pub enum Method {
+    /// `load_u8`.
     LoadU8 = 0,
+    /// `load_u16`.
     LoadU16 = 1,
+    /// `load_u32`.
     LoadU32 = 2,
+    /// `load_u64`.
     LoadU64 = 3,
+    /// `load_i8`.
     LoadI8 = 4,
+    /// `load_i16`.
     LoadI16 = 5,
+    /// `load_i32`.
     LoadI32 = 6,
+    /// `load_i64`.
     LoadI64 = 7,
+    /// `load_bytes`.
     LoadBytes = 8,
+    /// `get_pid_tgid`.
     GetPidTgid = 9,
+    /// `get_uid_gid`.
     GetUidGid = 10,
+    /// `get_current_comm`.
     GetCurrentComm = 11,
+    /// `get_current_task`.
     GetCurrentTask = 12,
+    /// `get_ktime_ns`.
     GetKtimeNs = 13,
+    /// `probe_read_user_str`.
     ProbeReadUserStr = 14,
+    /// `probe_read_kernel_str`.
     ProbeReadKernelStr = 15,
 }
 
@@ -124,6 +152,26 @@ impl Method {
             Method::ProbeReadUserStr => "probe_read_user_str",
             Method::ProbeReadKernelStr => "probe_read_kernel_str",
         }
+    }
+
+    /// The method with this name in the language.
+    pub fn from_name(name: &str) -> Option<Method> {
+        let mut all = Method::ALL.iter().copied();
+        all.find(|method| method.name() == name)
+    }
+}
+
+/// The kind's name.
+impl fmt::Display for ProgramKind {
+    fn fmt(&self, out: &mut fmt::Formatter<'_>) -> fmt::Result {
+        out.write_str(self.name())
+    }
+}
+
+/// The method's name in the language.
+impl fmt::Display for Method {
+    fn fmt(&self, out: &mut fmt::Formatter<'_>) -> fmt::Result {
+        out.write_str(self.name())
     }
 }
 

@@ -25,6 +25,19 @@ impl Table {
         Ok(Table { rows, words })
     }
 
+    /// What stands in the place of a table where a call told none: no rows, and the refusal.
+    pub(crate) fn of_no_text(words: Words) -> Table {
+        Table {
+            rows: Vec::new(),
+            words,
+        }
+    }
+
+    /// Whether it is a table, which that of a text that is too long is not.
+    pub(crate) fn is_of_a_text(&self) -> bool {
+        taken(&self.words).is_ok()
+    }
+
     /// Becomes the table that a call told, if it is one, whose rows stand in `spare`; its own rows before are the spare then.
     pub(crate) fn become_told(
         &mut self,
@@ -40,6 +53,10 @@ impl Table {
     /// Reads a stored table. The file is judged before any of it is taken: 42 if it is cut short or longer than it says, 41 with the block
     /// ([`crate::Reason::BadBlock`]) if one is damaged, 44 if it is stored in another form than 1, 43 if its blocks are sound and hold no
     /// table. What is read is the table that was stored; that it is the table of a certain text nobody can tell without the text.
+    ///
+    /// # Errors
+    ///
+    /// 41 to 44.
     pub fn load(file: &[u8]) -> Result<Table, Refusal> {
         Table::read(file, |rows| lent::load(file, rows))
     }
@@ -47,6 +64,10 @@ impl Table {
     /// Reads a file of either form beside its text. A file of [`Form::Short`] has its lines and columns from there, one of [`Form::Full`] is
     /// held against them. Refused is what [`Table::load`] refuses, but for a file of form 2, and last a text whose length, lines or columns
     /// do not agree with the file's (45, [`crate::Reason::OtherText`]). That the table is the text's own only a reading tells.
+    ///
+    /// # Errors
+    ///
+    /// 41 to 45.
     pub fn load_beside(text: &[u8], file: &[u8]) -> Result<Table, Refusal> {
         Table::read(file, |rows| lent::load_beside(text, file, rows))
     }
@@ -60,8 +81,13 @@ impl Table {
     }
 
     /// The file of [`Form::Full`] that holds the table; the same table gives the same bytes. A table of over
-    /// [`crate::MOST_STORED_ROWS`] rows is 40.
+    /// [`crate::MOST_STORED_ROWS`] rows is 40, and that of a text that is too long is 1.
+    ///
+    /// # Errors
+    ///
+    /// 1 or 40.
     pub fn store(&self) -> Result<Vec<u8>, Refusal> {
+        taken(&self.words)?;
         let mut file = vec![0; Form::Full.file_length(count(&self.words))];
         let answer = lent::store(self.row_words(), &self.words, &mut file);
         match Refusal::from_words(&answer) {
@@ -80,12 +106,12 @@ impl Table {
         self.rows().nth(row)
     }
 
-    /// The refusal, 11 to 17, at which the rows end; nothing if the whole text scanned.
+    /// The refusal, 11 to 17, at which the rows end, or 1 of a document whose text is too long; nothing if the whole text scanned.
     pub fn refusal(&self) -> Option<Refusal> {
         Refusal::from_words(&self.words)
     }
 
-    /// How many bytes the text has.
+    /// How many bytes the text has; 0 where the refusal is 1.
     pub fn text_length(&self) -> usize {
         self.words[lent::LENGTH] as usize
     }
@@ -93,7 +119,8 @@ impl Table {
     /// Whether a text may have this table: it is as long, and no row and no refusal stands inside one of its characters.
     pub(crate) fn fits(&self, text: &str) -> bool {
         let between = |offset| text.is_char_boundary(offset);
-        self.text_length() == text.len()
+        self.is_of_a_text()
+            && self.text_length() == text.len()
             && (text.is_ascii()
                 || self
                     .rows()

@@ -95,8 +95,6 @@ fn a_scan_that_is_refused_has_rows_up_to_there() {
 fn texts_that_are_no_texts_are_refused() {
     let longest = vec![b' '; LONGEST_TEXT];
     assert_eq!(Document::open(longest).unwrap().rows().len(), 1);
-    let refusal = Document::open(vec![b' '; LONGEST_TEXT + 1]).unwrap_err();
-    assert_eq!((refusal.number(), refusal.place), (1, place(0, 1, 1)));
     let refusal = Document::open(vec![0xff; 1 << 20]).unwrap_err();
     assert_eq!(refusal.reason, Reason::TextTooLong);
     let refusal = Document::open(b"/*\xc2\xb0*/\n b\xb0".as_slice()).unwrap_err();
@@ -227,7 +225,8 @@ fn a_tree_is_read() {
     let document = open(text);
     let tree = document.tree().unwrap();
     let root = tree.root();
-    let [map, event, unit] = tree.children(root)[..] else {
+    let children = |index: usize| tree.children(index).collect::<Vec<usize>>();
+    let [map, event, unit] = children(root)[..] else {
         panic!("three declarations")
     };
     let NodeKind::Map {
@@ -244,7 +243,6 @@ fn a_tree_is_read() {
     assert_eq!((key, value), (Some(Type::U32), Some(Type::I64)));
     let fields: Vec<NodeKind> = tree
         .children(event)
-        .into_iter()
         .map(|field| tree.nodes()[field].kind)
         .collect();
     assert_eq!(
@@ -262,19 +260,19 @@ fn a_tree_is_read() {
     };
     assert_eq!(kind, ProgramKind::Xdp);
     assert_eq!(document.spelling(license.unwrap()), Ok("\"GPL\""));
-    let items = tree.children(unit);
+    let items = children(unit);
     assert_eq!(items.len(), 4);
-    let sum = tree.children(items[2])[0];
+    let sum = children(items[2])[0];
     assert_eq!(tree.nodes()[sum].kind, NodeKind::Binary(Operator::Add));
-    let [star, field] = tree.children(sum)[..] else {
+    let [star, field] = children(sum)[..] else {
         panic!("two sides")
     };
     assert_eq!(tree.nodes()[star].kind, NodeKind::Dereference);
     assert_eq!(tree.nodes()[field].kind, NodeKind::Field);
-    let call = tree.children(star)[0];
+    let call = children(star)[0];
     assert_eq!(tree.nodes()[call].kind, NodeKind::Call);
     assert_eq!(tree.children(call).len(), 3);
-    let branches = tree.children(items[3]);
+    let branches = children(items[3]);
     assert_eq!(branches.len(), 3);
     assert_eq!(tree.nodes()[branches[2]].kind, NodeKind::Else);
 }
@@ -336,18 +334,301 @@ fn a_refused_replacement_changes_nothing() {
         assert_eq!(refusal.number(), 6);
         assert_eq!(document, before);
     }
-    let blanks = " ".repeat(1 << 20);
-    let refusal = document
-        .replace(8..8, &blanks[..LONGEST_TEXT - 7])
-        .unwrap_err();
-    assert_eq!((refusal.number(), refusal.place), (1, place(0, 1, 1)));
-    assert_eq!(document, before);
-    let refusal = document.replace(0..8, &blanks).unwrap_err();
-    assert_eq!(refusal.number(), 1);
-    assert_eq!(document, before);
+    let blanks = " ".repeat(LONGEST_TEXT);
     document.replace(8..8, &blanks[..LONGEST_TEXT - 8]).unwrap();
     assert_eq!(document.text().len(), LONGEST_TEXT);
     assert_eq!(document, Document::open(document.text()).unwrap());
+}
+
+/// A text that is too long is held without rows, tells 1, and is read as soon as it is short enough.
+#[test]
+fn a_text_that_is_too_long_is_held() {
+    let long = format!("unit u{{}}{}", " ".repeat(LONGEST_TEXT - 7));
+    let mut document = open(&long);
+    let is_held = |document: &Document| {
+        assert_eq!(document.rows().len(), 0);
+        let refusal = document.refusal().unwrap();
+        assert_eq!((refusal.number(), refusal.place), (1, place(0, 1, 1)));
+        assert_eq!(document.tree(), Err(refusal));
+        assert_eq!(document.table().store(), Err(refusal));
+        assert_eq!(document.spelling(0).unwrap_err().number(), 3);
+        assert_eq!(document.node_at(0), None);
+        assert_eq!(*document, open(document.text()));
+    };
+    is_held(&document);
+    assert!(document.refresh());
+    document.replace(LONGEST_TEXT.., "").unwrap();
+    assert_eq!(document, open(&long[..LONGEST_TEXT]));
+    assert_eq!(document.rows().len(), 5);
+    document.replace(.., &"°".repeat(1 << 19)).unwrap();
+    is_held(&document);
+    document.replace(2..4, "x").unwrap();
+    is_held(&document);
+    assert_eq!(document.text().len(), (1 << 20) - 1);
+    for (range, number) in [(0..1 << 20, 6), (0..1, 6)] {
+        let refusal = document.replace(range, "").unwrap_err();
+        assert_eq!(refusal.number(), number);
+        is_held(&document);
+    }
+    document.replace(3.., "").unwrap();
+    assert_eq!(document, open("°x"));
+    let refusal = Document::open_with(long.as_str(), open("").table().clone()).unwrap_err();
+    assert_eq!(refusal.number(), 1);
+    let none = open(&long).table().clone();
+    let refusal = Document::open_with("", none).unwrap_err();
+    assert_eq!(refusal.reason, Reason::OtherText);
+}
+
+/// Random changes around the limit: the document is that of a fresh reading, and none is refused.
+#[test]
+fn changes_go_over_the_limit_and_back() {
+    let mut text = "a = \"°\"; // x\n".repeat(4_000);
+    let mut document = open(&text);
+    let mut seed = 7_u64;
+    let mut random = |below: usize| {
+        seed = seed.wrapping_mul(6_364_136_223_846_793_005).wrapping_add(1);
+        (seed >> 33) as usize % below
+    };
+    let mut too_long = 0;
+    for _ in 0..200 {
+        let edge = |at: usize| {
+            (0..=at)
+                .rev()
+                .find(|&at| text.is_char_boundary(at))
+                .unwrap()
+        };
+        let start = edge(random(text.len() + 1));
+        let end = edge((start + random(9_000)).min(text.len())).max(start);
+        let most = if text.len() > LONGEST_TEXT { 1 } else { 900 };
+        let new = "b /* ° */ ".repeat(random(most));
+        document.replace(start..end, &new).unwrap();
+        text.replace_range(start..end, &new);
+        assert_eq!(document, open(&text));
+        too_long += usize::from(text.len() > LONGEST_TEXT);
+    }
+    assert!((20..180).contains(&too_long), "{too_long}");
+}
+
+#[test]
+fn ranges_of_any_kind_are_taken() {
+    type Changed = fn(&mut Document) -> Result<(), spoonharbor::Refusal>;
+    let changes: [(Changed, &str); 6] = [
+        (|document| document.replace(..4, "map"), "map u{}"),
+        (|document| document.replace(..=3, "map"), "map u{}"),
+        (|document| document.replace(5..=5, "v"), "unit v{}"),
+        (|document| document.replace(8.., ";"), "unit u{};"),
+        (|document| document.replace(.., ""), ""),
+        (
+            |document| {
+                let behind_five = (std::ops::Bound::Excluded(5), std::ops::Bound::Unbounded);
+                document.replace(behind_five, "")
+            },
+            "unit u",
+        ),
+    ];
+    for (change, text) in changes {
+        let mut document = open("unit u{}");
+        change(&mut document).unwrap();
+        assert_eq!(document, open(text));
+    }
+    let mut document = open("a");
+    let refusal = document.replace(0..=usize::MAX, "").unwrap_err();
+    assert_eq!(refusal.number(), 6);
+}
+
+const NODES: &str = "// maps\nmap m{type:.hash;key:u32;value:u64;max:1<<4;}\n\
+    event e { a: u64; b: bytes[9]; }\n\
+    unit u { section \"xdp\"; license \"GPL\";\n\
+    \treg r = *((ctx)).load_u8(1, (r - 2)) + (r.f);\n\
+    \tif guard (r) { x += r.m(); } else { }\n\
+    \tunused; return ((a + b) * *(c)); }\nunit v {}event n {}";
+
+/// Each node has the rows that it is written with, and its parent's are around them.
+#[test]
+fn nodes_have_rows_and_spans() {
+    let document = open(NODES);
+    let tree = document.tree().unwrap();
+    let spelt = |index: usize| &NODES[document.node_span(index).unwrap()];
+    let told: Vec<(u32, &str)> = (0..tree.len())
+        .map(|index| (tree.nodes()[index].kind.number(), spelt(index)))
+        .collect();
+    let wanted = [
+        (28, "map m{type:.hash;key:u32;value:u64;max:1<<4;}"),
+        (26, "a: u64;"),
+        (26, "b: bytes[9];"),
+        (27, "event e { a: u64; b: bytes[9]; }"),
+        (23, "section \"xdp\";"),
+        (24, "license \"GPL\";"),
+        (1, "ctx"),
+        (2, "1"),
+        (1, "r"),
+        (2, "2"),
+        (5, "r - 2"),
+        (11, "((ctx)).load_u8(1, (r - 2))"),
+        (3, "*((ctx)).load_u8(1, (r - 2))"),
+        (1, "r"),
+        (12, "r.f"),
+        (4, "*((ctx)).load_u8(1, (r - 2)) + (r.f)"),
+        (16, "reg r = *((ctx)).load_u8(1, (r - 2)) + (r.f);"),
+        (1, "r"),
+        (1, "x"),
+        (1, "r"),
+        (11, "r.m()"),
+        (15, "x += r.m();"),
+        (21, "{ x += r.m(); }"),
+        (22, "else { }"),
+        (20, "if guard (r) { x += r.m(); } else { }"),
+        (1, "unused"),
+        (13, "unused;"),
+        (1, "a"),
+        (1, "b"),
+        (4, "a + b"),
+        (1, "c"),
+        (3, "*(c)"),
+        (6, "(a + b) * *(c)"),
+        (19, "return ((a + b) * *(c));"),
+    ];
+    assert_eq!(told[..wanted.len()], wanted);
+    let behind: Vec<&str> = told[wanted.len()..].iter().map(|told| told.1).collect();
+    assert_eq!(behind[1..], ["unit v {}", "event n {}", NODES]);
+    assert!(behind[0].starts_with("unit u {") && behind[0].ends_with("(c)); }"));
+    for index in 0..tree.len() {
+        let (rows, span) = (
+            document.node_rows(index).unwrap(),
+            document.node_span(index).unwrap(),
+        );
+        let place = tree.nodes()[index].place;
+        assert!(rows.contains(&place), "{index}");
+        let Some(parent) = tree.parent(index) else {
+            assert_eq!(index, tree.root());
+            continue;
+        };
+        assert!(tree.children(parent).any(|child| child == index));
+        let around = document.node_span(parent).unwrap();
+        assert!(around.start <= span.start && span.end <= around.end);
+    }
+    assert_eq!(document.node_rows(tree.len()), None);
+    assert_eq!(open("unit").node_rows(0), None);
+}
+
+#[test]
+fn nodes_have_names() {
+    let document = open(NODES);
+    let names = document
+        .tree()
+        .unwrap()
+        .nodes()
+        .iter()
+        .filter_map(|node| document.name(node));
+    let names: Vec<&str> = names.collect();
+    assert_eq!(names[..6], ["m", "a", "b", "e", "\"xdp\"", "\"GPL\""]);
+    assert_eq!(names[6..9], ["ctx", "r", "load_u8"]);
+}
+
+#[test]
+fn offsets_have_rows_and_nodes() {
+    let document = open(NODES);
+    let tree = document.tree().unwrap();
+    for (number, row) in document.rows().enumerate() {
+        for offset in row.span() {
+            assert_eq!(document.row_at(offset), Some(number));
+        }
+    }
+    let gap = NODES.find("maps").unwrap();
+    assert_eq!(
+        (document.row_at(gap), document.row_at(NODES.len())),
+        (None, None)
+    );
+    let node = |part: &str| document.node_at(NODES.find(part).unwrap()).unwrap();
+    let kind = |part: &str| tree.nodes()[node(part)].kind.number();
+    assert_eq!(kind("maps"), 29);
+    assert_eq!(kind("max"), 28);
+    assert_eq!(kind("- 2"), 5);
+    assert_eq!(kind("load_u8"), 11);
+    assert_eq!(kind("else"), 22);
+    assert_eq!(kind("guard"), 20);
+    assert_eq!(document.node_at(NODES.len()), Some(tree.root()));
+    assert_eq!(document.node_at(NODES.len() + 1), None);
+    // The smallest node around each offset is the one that a search of all nodes finds.
+    for offset in 0..NODES.len() {
+        let spans =
+            (0..tree.len()).filter(|&index| document.node_span(index).unwrap().contains(&offset));
+        let smallest = spans.min_by_key(|&index| document.node_span(index).unwrap().len());
+        assert_eq!(document.node_at(offset), smallest, "{offset}");
+    }
+}
+
+#[test]
+fn lines_and_columns_lead_back() {
+    let document = open("// 0.1°\n\n\"🔭a\"\n");
+    let text = document.text();
+    for offset in 0..=text.len() + 1 {
+        let Some(position) = document.position(offset) else {
+            assert!(!text.is_char_boundary(offset));
+            continue;
+        };
+        assert_eq!(position.byte, offset);
+        let back = [
+            document.offset_at(position.line, position.column),
+            document.offset_at_utf16(position.line, position.utf16),
+        ];
+        assert_eq!(back, [Some(offset); 2]);
+    }
+    let a = document.position(text.find("a\"").unwrap()).unwrap();
+    assert_eq!((a.line, a.column, a.utf16), (3, 6, 4));
+    let nowhere = [
+        (0, 1),
+        (1, 0),
+        (1, 10),
+        (2, 2),
+        (4, 2),
+        (5, 1),
+        (1, usize::MAX),
+        (usize::MAX, 1),
+    ];
+    for (line, column) in nowhere {
+        assert_eq!(document.offset_at(line, column), None, "{line}:{column}");
+    }
+    // Inside the degree sign, and inside the two units of the telescope.
+    assert_eq!(document.offset_at(1, 8), None);
+    assert_eq!(document.offset_at_utf16(3, 3), None);
+    for (line, column) in [(0, 1), (1, 0), (1, 9), (2, 2), (5, 1)] {
+        assert_eq!(
+            document.offset_at_utf16(line, column),
+            None,
+            "{line}:{column}"
+        );
+    }
+}
+
+#[test]
+fn everything_is_shown() {
+    let document = open(NODES);
+    let tree = document.tree().unwrap();
+    let shown = |index: usize| tree.nodes()[index].kind.to_string();
+    assert_eq!(shown(0), "map: hash, key u32, value u64, max 16");
+    assert_eq!(shown(2), "event field: bytes[9]");
+    assert_eq!(
+        (shown(5), shown(10)),
+        ("license".into(), "operator -".into())
+    );
+    assert_eq!(document.to_string(), NODES);
+    assert_eq!(document.row(0).unwrap().to_string(), "2:1 'map'");
+    assert_eq!(document.row(0).unwrap().place().to_string(), "2:1");
+    assert_eq!(FieldType::Array(Type::I32, 7).to_string(), "i32[7]");
+    assert_eq!(
+        (Operator::Shl.to_string(), MapType::LruHash.to_string()),
+        ("<<".into(), "lru_hash".into())
+    );
+    assert_eq!(
+        (MapField::Max.to_string(), Method::LoadU8.to_string()),
+        ("max".into(), "load_u8".into())
+    );
+    assert_eq!(ProgramKind::RawTracepoint.to_string(), "raw tracepoint");
+    for method in Method::ALL {
+        assert_eq!(Method::from_name(method.name()), Some(*method));
+    }
+    assert_eq!(Method::from_name("load"), None);
 }
 
 /// A change whose end is far behind the new bytes.

@@ -25,7 +25,7 @@ fn is_on_both_sides(wanted: u32, refused: u32, fine: u32) {
 
 #[test]
 fn texts_and_rooms() {
-    let long = |bytes: usize| number(Document::open(vec![b'\n'; bytes]));
+    let long = |bytes: usize| number(Document::open(vec![b'\n'; bytes]).unwrap().tree());
     is_on_both_sides(1, long(65_537), long(65_536));
     is_on_both_sides(
         2,

@@ -471,3 +471,88 @@ fn every_call_is_declared() {
         assert!(example.contains(&format!("{name}(")), "{name}");
     }
 }
+
+/// When an edit, a change and a restart are 6, as their comments say.
+#[test]
+fn edits_that_are_not_sensible_are_as_the_header_says() {
+    let text = "unit u{}";
+    let (rows, table) = scanned(text);
+    let mut new = vec![0; 400];
+    let restart = |a: u32| lent::restart(&rows, &table, a)[lent::NUMBER];
+    assert_eq!((restart(8), restart(9)), (0, 6));
+    let start = lent::restart(&rows, &table, 5)[lent::OFFSET];
+    let mut edit = |a: u32, b: u32, start: u32, window: &str| {
+        let change = Change { a, b, n: 1 };
+        lent::edit(&rows, &table, change, start, window.as_bytes(), &mut new)[lent::NUMBER]
+    };
+    assert_eq!(start, 4);
+    assert_eq!(edit(5, 6, 4, " v{}"), 0);
+    // Another start, a window past the new end, a above b, a place past the old text.
+    assert_eq!(edit(5, 6, 5, "v{}"), 6);
+    assert_eq!(edit(5, 6, 4, " v{};"), 6);
+    assert_eq!(edit(6, 5, 4, " v{}"), 6);
+    assert_eq!(edit(5, 9, 4, " v"), 6);
+    let mut change = |b: u32, text: &str| {
+        let change = Change { a: 5, b, n: 1 };
+        lent::change(&rows, &table, change, text.as_bytes(), &mut new)[lent::NUMBER]
+    };
+    assert_eq!(change(6, "unit v{}"), 0);
+    assert_eq!((change(6, "unit v{} "), change(4, "unit v{}")), (6, 6));
+    // A part of a character.
+    assert_eq!(change(9, "unit v"), 6);
+    let cut = lent::change(
+        &rows,
+        &table,
+        Change { a: 8, b: 8, n: 1 },
+        b"unit u{}\xc2",
+        &mut new,
+    );
+    assert_eq!(cut[lent::NUMBER], 2);
+}
+
+/// A table of another length is 3 for spelling and parse.
+#[test]
+fn tables_of_another_length_are_as_the_header_says() {
+    let (rows, table) = scanned("unit u{}");
+    let mut nodes = vec![0; 80];
+    for text in ["unit u{} ", "unit u{"] {
+        assert_eq!(
+            lent::spelling(text.as_bytes(), &rows, &table, 0)[lent::NUMBER],
+            3
+        );
+        let parsed = lent::parse(text.as_bytes(), &rows, &table, &mut nodes);
+        assert_eq!(parsed[lent::NUMBER], 3);
+    }
+}
+
+/// A change with the table of `b a` beside the text `1 a`: row 0 stays a name, which a scan makes a number.
+#[test]
+fn a_change_with_another_text_s_table_is_no_scan() {
+    let (rows, table) = scanned("b a");
+    let mut new = vec![0; 40];
+    let change = Change { a: 3, b: 3, n: 1 };
+    let told = lent::change(&rows, &table, change, b"1 ab", &mut new);
+    assert_eq!((told[lent::NUMBER], new[0]), (0, Kind::Identifier.number()));
+    assert_eq!(scanned("1 ab").0[0], Kind::Number.number());
+}
+
+/// At each call the words that are lent are said to be words.
+#[test]
+fn every_parameter_in_words_is_said_to_be() {
+    let mut told = 0;
+    for part in HEADER.split("\n/* ").skip(1) {
+        let Some((comment, behind)) = part.split_once("*/\n") else {
+            continue;
+        };
+        let declaration = behind.split(';').next().unwrap();
+        if !declaration.contains(" spoonharbor_") || declaration.contains('{') {
+            continue;
+        }
+        let words = declaration.split(|letter: char| !letter.is_ascii_lowercase() && letter != '_');
+        for parameter in words.filter(|word| word.ends_with("_words")) {
+            assert!(comment.contains(parameter), "{parameter}: {comment}");
+            told += 1;
+        }
+    }
+    assert!(told >= 12, "{told}");
+}

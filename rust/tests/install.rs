@@ -59,6 +59,118 @@ fn c_and_cpp_programs_link_by_pkg_config() {
     }
 }
 
+/// What the example in Python prints.
+const IN_PYTHON: &str = "\
+14 rows, refused 21 at 3:1
+change 0
+15 rows, 6 nodes, names ctx load_u64 az dome
+change 6
+15 rows, 6 nodes, names ctx load_u64 az dome
+";
+
+/// The shared library, of the name that has its version: linked by pkg-config, and opened from Python.
+#[test]
+fn the_shared_library_is_used_from_c_and_python() {
+    let folder = Folder::new("shared");
+    succeeded(
+        folder
+            .program(repository().join("install"))
+            .args(["--prefix", "there"]),
+    );
+    let version = env!("CARGO_PKG_VERSION");
+    let (minor, _) = version.rsplit_once('.').unwrap();
+    let library = folder.0.join("there/lib");
+    let names = [
+        (
+            "libspoonharbor.so".to_string(),
+            format!("libspoonharbor.so.{minor}"),
+        ),
+        (
+            format!("libspoonharbor.so.{minor}"),
+            format!("libspoonharbor.so.{version}"),
+        ),
+    ];
+    for (link, to) in names {
+        assert_eq!(
+            fs::read_link(library.join(link)).unwrap(),
+            std::path::Path::new(&to)
+        );
+    }
+    let mut pkg_config = folder.program("pkg-config");
+    pkg_config
+        .env("PKG_CONFIG_PATH", library.join("pkgconfig"))
+        .args(["--cflags", "--libs", "spoonharbor-shared"]);
+    let flags = succeeded(&mut pkg_config).out.trim().to_string();
+    let example = repository().join("include/example.c");
+    let mut compile = folder.program("cc");
+    compile
+        .arg(example)
+        .args(flags.split(' '))
+        .args(["-o", "example"]);
+    succeeded(&mut compile);
+    let mut run_example = folder.program(folder.0.join("example"));
+    let ran = succeeded(run_example.env("LD_LIBRARY_PATH", &library));
+    assert_eq!(ran.out, include_str!("../../include/example.out"));
+    let without = run(&mut folder.program(folder.0.join("example")), b"");
+    assert!(
+        without
+            .complaints
+            .contains(&format!("libspoonharbor.so.{minor}")),
+        "{}",
+        without.complaints
+    );
+    let mut python = folder.program("python3");
+    python.arg(repository().join("include/example.py"));
+    let ran = succeeded(python.arg(library.join("libspoonharbor.so")));
+    assert_eq!(ran.out, format!("version {version}\n{IN_PYTHON}"));
+}
+
+/// Every paper that the header names is installed.
+#[test]
+fn the_papers_of_the_header_are_installed() {
+    let folder = Folder::new("papers");
+    succeeded(
+        folder
+            .program(repository().join("install"))
+            .args(["--prefix", "there"]),
+    );
+    let header = include_str!("../../include/spoonharbor.h");
+    let mut named = 0;
+    for part in header.split("docs/").skip(1) {
+        let paper = part.split_inclusive(".md").next().unwrap();
+        let installed = folder.0.join("there/share/doc/spoonharbor").join(paper);
+        assert!(installed.is_file(), "{paper}");
+        named += 1;
+    }
+    assert!(named >= 3);
+}
+
+/// The crate as it would be published: packed, unpacked and built, with the archive that its variable names.
+#[test]
+fn the_crate_is_packaged() {
+    let folder = Folder::new("packaged");
+    let own = std::path::Path::new(spoonharbor::ARCHIVE_FILE)
+        .parent()
+        .unwrap();
+    let mut command = folder.program(env!("CARGO"));
+    command.args([
+        "package",
+        "--offline",
+        "--quiet",
+        "--allow-dirty",
+        "--manifest-path",
+    ]);
+    command.arg(repository().join("rust/Cargo.toml"));
+    command.arg("--target-dir").arg(folder.0.join("target"));
+    let ran = succeeded(command.env("SPOONHARBOR_ARCHIVE", own));
+    assert!(!ran.complaints.contains("warning"), "{}", ran.complaints);
+    let packed = format!(
+        "target/package/spoonharbor-{}.crate",
+        env!("CARGO_PKG_VERSION")
+    );
+    assert!(folder.0.join(packed).is_file());
+}
+
 #[test]
 fn a_staged_install_names_its_last_place() {
     let folder = Folder::new("staged");

@@ -9,6 +9,10 @@ use std::process::Command;
 #[path = "../examples/typed.rs"]
 mod typed;
 
+#[allow(dead_code)]
+#[path = "../examples/outline.rs"]
+mod outline;
+
 /// Whether the README shows these lines together, set off as it sets off what is printed.
 fn is_shown(printed: &str) -> bool {
     let readme = include_str!("../../README.md");
@@ -62,4 +66,13 @@ fn the_edits_are_shown() {
 #[test]
 fn what_is_not_printed_is_not_shown() {
     assert!(!is_shown("47 rows, 12 nodes\n"));
+}
+
+#[test]
+fn the_outline_is_told() {
+    let text = include_str!("../../examples/samples.snx");
+    let told = outline::outline(text).unwrap();
+    let wanted = "6-9 samples (map: ringbuf, key none, value none, max 65536)\n\
+                  12-16 sample (event)\n18-31 on_sample (unit: kind tracepoint)\n";
+    assert_eq!(told, wanted);
 }

@@ -113,7 +113,14 @@ fn bare(name: &str, more: &[&str]) -> Folder {
     for part in ["bin", "crates", "rust/src", "tools"] {
         fs::create_dir_all(folder.0.join(part)).unwrap();
     }
-    for file in ["check", "list", "install", "tools/archive", "tools/prove"] {
+    for file in [
+        "check",
+        "list",
+        "install",
+        "tools/archive",
+        "tools/prove",
+        "tools/took",
+    ] {
         folder.executable(file, fs::read(script(file)).unwrap());
     }
     folder.file("crates.txt", fs::read(script("crates.txt")).unwrap());
@@ -121,7 +128,7 @@ fn bare(name: &str, more: &[&str]) -> Folder {
         folder.file(file, "");
     }
     let tools = [
-        "awk", "cat", "dirname", "find", "head", "mkdir", "readlink", "sed", "sh", "uname",
+        "awk", "cat", "date", "dirname", "find", "head", "mkdir", "readlink", "sed", "sh", "uname",
     ];
     for tool in tools {
         let found = std::env::split_paths(&std::env::var_os("PATH").unwrap())
@@ -177,6 +184,125 @@ fn a_missing_toolchain_is_told() {
     }
 }
 
+/// How long a step takes is what was measured here, and for crates that of the most crates.
+#[test]
+fn times_are_measured() {
+    let folder = bare("took", &[]);
+    let took = |arguments: &[&str]| {
+        let mut command = folder.program("tools/took");
+        run(command.args(arguments), b"").out
+    };
+    let unknown = "how long it takes is not yet measured on this machine";
+    assert_eq!(took(&["prove"]), unknown);
+    assert!(run(folder.program("./check").arg("--help"), b"")
+        .out
+        .contains(unknown));
+    took(&["prove", "443", "60"]);
+    let known = "443 s for 60 crates when last measured on this machine";
+    assert_eq!(took(&["prove"]), known);
+    took(&["prove", "7", "2"]);
+    assert_eq!(took(&["prove"]), known);
+    for name in ["./check", "./list", "./install"] {
+        let ran = run(folder.program(name).arg("--help"), b"");
+        assert!(ran.out.contains(known), "{name}: {}", ran.out);
+    }
+    took(&["prove", "500", "60"]);
+    assert!(took(&["prove"]).starts_with("500 s"));
+    took(&["command", "9"]);
+    took(&["command", "8"]);
+    assert_eq!(took(&["command"]), "8 s when last measured on this machine");
+}
+
+/// A repository whose command is a script: a built command is run as it is, and built anew if something that it is made of is newer.
+#[test]
+fn the_command_is_built_only_if_it_is_old() {
+    let folder = bare("old", &[]);
+    folder.executable("bin/cargo", "#!/bin/sh\necho built >&2\n");
+    folder.executable("bin/touch", "#!/bin/sh\nexit 0\n");
+    fs::create_dir_all(folder.0.join("rust/target/release")).unwrap();
+    fs::create_dir_all(folder.0.join("crates/a/specs")).unwrap();
+    folder.file("crates/a/specs/Lib.antt", "");
+    let later = std::time::SystemTime::now() + std::time::Duration::from_secs(60);
+    let program = "rust/target/release/spoonharbor";
+    folder.executable(program, "#!/bin/sh\necho \"$@\"\n");
+    let dated = |file: &str| {
+        let file = fs::File::options().append(true).open(folder.0.join(file));
+        file.unwrap().set_modified(later).unwrap();
+    };
+    dated(program);
+    let checked = |link: &str| {
+        let mut command = folder.program(link);
+        command
+            .arg("probe")
+            .env("PATH", folder.0.join("bin"))
+            .env("SPOONHARBOR_ARCHIVE", "there");
+        let ran = run(&mut command, b"");
+        assert_eq!((ran.out.as_str(), ran.status), ("check probe\n", 0));
+        ran.complaints
+    };
+    assert_eq!(checked("./check"), "");
+    symlink("check", folder.0.join("link")).unwrap();
+    assert_eq!(checked("./link"), "");
+    let later = later + std::time::Duration::from_secs(1);
+    let sources = fs::File::open(folder.0.join("crates/a/specs")).unwrap();
+    sources.set_modified(later).unwrap();
+    let said = checked("./check");
+    assert!(
+        said.starts_with("check: building the command: ") && said.ends_with("built\n"),
+        "{said}"
+    );
+}
+
+/// Every example is sound and in style, and nothing is warned of.
+#[test]
+fn every_example_is_ok() {
+    let mut examples: Vec<String> = fs::read_dir(script("examples"))
+        .unwrap()
+        .map(|entry| entry.unwrap().file_name().into_string().unwrap())
+        .collect();
+    examples.sort();
+    assert_eq!(examples.len(), 5);
+    for example in examples {
+        let mut command = Command::new(env!("CARGO_BIN_EXE_spoonharbor"));
+        command
+            .current_dir(script("examples"))
+            .args(["check", "--style", "--deny", "warnings", &example]);
+        let ran = run(&mut command, b"");
+        assert!(
+            ran.out.starts_with(&format!("{example}: ok, ")),
+            "{}",
+            ran.out
+        );
+        assert_eq!((ran.out.lines().count(), ran.status), (1, 0));
+    }
+}
+
+/// The programs of the page by example are sound, and what it says is refused is, with the number beside it.
+#[test]
+fn the_page_by_example_is_right() {
+    let page = fs::read_to_string(script("docs/BY-EXAMPLE.md")).unwrap();
+    let mut blocks = page.split("```");
+    let (mut sound, mut refused) = (0, 0);
+    while let (Some(_), Some(block)) = (blocks.next(), blocks.next()) {
+        let (kind, text) = block.split_once('\n').unwrap();
+        let tree = spoonharbor::Document::open(text)
+            .unwrap()
+            .tree()
+            .map(|_| ());
+        match kind.strip_prefix("refused ") {
+            Some(number) => {
+                assert_eq!(tree.unwrap_err().number().to_string(), number, "{text}");
+                refused += 1;
+            }
+            None => {
+                assert_eq!((kind, tree), ("solnix", Ok(())), "{text}");
+                sound += 1;
+            }
+        }
+    }
+    assert!(sound >= 8 && refused >= 8, "{sound} {refused}");
+}
+
 /// A toolchain that says what `rt` says: each crate has its line, and a crate that is not proved is trouble.
 #[test]
 fn each_crate_is_told() {
@@ -192,18 +318,18 @@ fn each_crate_is_told() {
                 logic=proved\nrt: laws proved (1 s)\nrt: scan proved (28 s)\nrt: ok, 3 crates proved";
     let ran = says(said, 0);
     let lines: Vec<&str> = ran.complaints.lines().collect();
-    assert!(
-        lines[0].starts_with("check: proving 11 crates, "),
-        "{}",
-        lines[0]
-    );
+    let told = lines[0].strip_prefix("check: proving ").unwrap();
+    let (total, _) = told.split_once(" crates, with a line for each: ").unwrap();
+    assert!(total.parse::<usize>().unwrap() > 3, "{told}");
     assert_eq!(
         lines[1..],
         [
-            "check: 2 of 11: laws proved (1 s)",
-            "check: 3 of 11: scan proved (28 s)"
+            format!("check: 2 of {total}: laws proved (1 s)"),
+            format!("check: 3 of {total}: scan proved (28 s)")
         ]
     );
+    let measured = fs::read_to_string(folder.0.join("target/took/prove")).unwrap();
+    assert!(measured.ends_with(" 2\n"), "{measured}");
     assert_eq!((ran.out.as_str(), ran.status), ("", 0));
 
     let ran = says("rt: rules NOT PROVED (exit 1, 3 s)\nrt: FAILED: rules", 1);

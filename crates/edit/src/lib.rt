@@ -78,7 +78,11 @@ fn is_short(old: &[u32], job: Job, window: &[u8], whole: bool) -> bool
 // The old rows from one on, moved: what stood at that row's start stands at p, with so many comments in the gap before it.
 fn follow(old: &[u32], table: Table, row: usize, p: Cursor, comments: u32, tail: &mut [u32]) -> Tail
     requires { ⌜ Follows (now old) table row p ⌝ }
-    ensures { λ r. ⌜ (r ≡ tailTold (roomOf (now (tail .entry))) (rowsBehind (now (old .entry)) table row p comments) (endingBehind (now (old .entry)) table row p)) × (now (tail .exit) ≡ laid (rowsBehind (now (old .entry)) table row p comments) (now (tail .entry))) ⌝ }
+    ensures { λ r. ⌜
+        (r
+        ≡ tailTold (roomOf (now (tail .entry))) (rowsBehind (now (old .entry)) table row p comments)
+        (endingBehind (now (old .entry)) table row p))
+        × (now (tail .exit) ≡ laid (rowsBehind (now (old .entry)) table row p comments) (now (tail .entry))) ⌝ }
 {
     let met = row_at(old, row);
     let o = row_place(met);
@@ -96,7 +100,11 @@ fn follow(old: &[u32], table: Table, row: usize, p: Cursor, comments: u32, tail:
 // The rows behind the kept ones: those of the window, and from a meeting on the old rows, moved.
 fn fill_tail(old: &[u32], job: Job, window: &[u8], whole: bool, tail: &mut [u32]) -> Tail
     requires { ⌜ Showing (now old) job (now window) whole ⌝ }
-    ensures { λ r. ⌜ (r ≡ tailTold (roomOf (now (tail .entry))) (jobRows (now (old .entry)) job (now (window .entry)) whole) (jobEnding (now (old .entry)) job (now (window .entry)) whole)) × (now (tail .exit) ≡ laid (jobRows (now (old .entry)) job (now (window .entry)) whole) (now (tail .entry))) ⌝ }
+    ensures { λ r. ⌜
+        (r
+        ≡ tailTold (roomOf (now (tail .entry))) (jobRows (now (old .entry)) job (now (window .entry)) whole)
+        (jobEnding (now (old .entry)) job (now (window .entry)) whole))
+        × (now (tail .exit) ≡ laid (jobRows (now (old .entry)) job (now (window .entry)) whole) (now (tail .entry))) ⌝ }
 {
     let begin = job.begin;
     let walked = walk(old, olds_of(job), window, begin, whole, tail);
@@ -122,7 +130,15 @@ fn fill_tail(old: &[u32], job: Job, window: &[u8], whole: bool, tail: &mut [u32]
 // The kept rows, and the rows behind them.
 fn fill(old: &[u32], job: Job, window: &[u8], whole: bool, size: u32, new: &mut [u32]) -> Told
     requires { ⌜ Showing (now old) job (now window) whole ⌝ }
-    ensures { λ r. ⌜ (r ≡ told size (roomOf (now (new .entry))) (kept (job .a) (oldRows (now (old .entry)) job) ++ jobRows (now (old .entry)) job (now (window .entry)) whole) (jobEnding (now (old .entry)) job (now (window .entry)) whole)) × (now (new .exit) ≡ laid (kept (job .a) (oldRows (now (old .entry)) job) ++ jobRows (now (old .entry)) job (now (window .entry)) whole) (now (new .entry))) ⌝ }
+    ensures { λ r. ⌜
+        (r
+        ≡ told size (roomOf (now (new .entry)))
+        (kept (job .a) (oldRows (now (old .entry)) job) ++ jobRows (now (old .entry)) job
+        (now (window .entry)) whole) (jobEnding (now (old .entry)) job (now (window .entry)) whole))
+        × (now (new .exit)
+        ≡ laid
+        (kept (job .a) (oldRows (now (old .entry)) job) ++ jobRows (now (old .entry)) job
+        (now (window .entry)) whole) (now (new .entry))) ⌝ }
 {
     let kept = job.kept;
     let room = new.len() / row::WORDS;
@@ -140,7 +156,9 @@ fn fill(old: &[u32], job: Job, window: &[u8], whole: bool, size: u32, new: &mut 
 // shows neither a meeting place nor a refusal nor the text's end.
 fn reread(old: &[u32], job: Job, window: &[u8], new: &mut [u32]) -> Told
     requires { ⌜ Ready (now old) job (now window) ⌝ }
-    ensures { λ r. ⌜ (r ≡ rereadTold (now (old .entry)) job (now (window .entry)) (roomOf (now (new .entry)))) × (now (new .exit) ≡ rereadLeaves (now (old .entry)) job (now (window .entry)) (now (new .entry))) ⌝ }
+    ensures { λ r. ⌜
+        (r ≡ rereadTold (now (old .entry)) job (now (window .entry)) (roomOf (now (new .entry))))
+        × (now (new .exit) ≡ rereadLeaves (now (old .entry)) job (now (window .entry)) (now (new .entry))) ⌝ }
 {
     let table = job.table;
     let begin = job.begin;
@@ -181,7 +199,13 @@ pub fn job_of(old: &[u32], table: Table, a: u32, b: u32, n: u32) -> Job
 // The edit that a job of a tested table says.
 fn do_job(old: &[u32], job: Job, start: u32, window: &[u8], new: &mut [u32]) -> Told
     requires { ⌜ Tested (now old) job ⌝ }
-    ensures { λ r. ⌜ (r ≡ editTold (now (old .entry)) (job .table) (job .a) (job .b) (job .n) start (now (window .entry)) (roomOf (now (new .entry)))) × (now (new .exit) ≡ editLeaves (now (old .entry)) (job .table) (job .a) (job .b) (job .n) start (now (window .entry)) (now (new .entry))) ⌝ }
+    ensures { λ r. ⌜
+        (r
+        ≡ editTold (now (old .entry)) (job .table) (job .a) (job .b) (job .n) start (now (window .entry))
+        (roomOf (now (new .entry))))
+        × (now (new .exit)
+        ≡ editLeaves (now (old .entry)) (job .table) (job .a) (job .b) (job .n) start (now (window .entry))
+        (now (new .entry))) ⌝ }
 {
     let begin = job.begin;
     let length = job.table.length;
@@ -214,7 +238,10 @@ pub fn edit_tested(
     new: &mut [u32],
 ) -> Told
     requires { ⌜ wellFormed (now old) table ≡ true ⌝ }
-    ensures { λ r. ⌜ (r ≡ editTold (now (old .entry)) table a b n start (now (window .entry)) (roomOf (now (new .entry)))) × (now (new .exit) ≡ editLeaves (now (old .entry)) table a b n start (now (window .entry)) (now (new .entry))) ⌝ }
+    ensures { λ r. ⌜
+        (r ≡ editTold (now (old .entry)) table a b n start (now (window .entry)) (roomOf (now (new .entry))))
+        × (now (new .exit)
+        ≡ editLeaves (now (old .entry)) table a b n start (now (window .entry)) (now (new .entry))) ⌝ }
 {
     do_job(old, job_of(old, table, a, b, n), start, window, new)
 }
@@ -230,7 +257,10 @@ pub fn edit(
     window: &[u8],
     new: &mut [u32],
 ) -> Told
-    ensures { λ r. ⌜ (r ≡ editTold (now (old .entry)) table a b n start (now (window .entry)) (roomOf (now (new .entry)))) × (now (new .exit) ≡ editLeaves (now (old .entry)) table a b n start (now (window .entry)) (now (new .entry))) ⌝ }
+    ensures told { λ r. ⌜
+        r ≡ editTold (now (old .entry)) table a b n start (now (window .entry)) (roomOf (now (new .entry))) ⌝ }
+    ensures left { λ _. ⌜
+        now (new .exit) ≡ editLeaves (now (old .entry)) table a b n start (now (window .entry)) (now (new .entry)) ⌝ }
 {
     if !well_formed(old, table) {
         return refused(Outer::NotWellFormed);

@@ -114,7 +114,9 @@ pub fn carry_rows(
     comments: u32,
     new: &mut [u32],
 )
-    requires { ⌜ (from * 8 + n * 8 ≤ length (now old)) × ((n * 8 ≤ length (now new)) × ((i : ℕ) → i < n → MovesRow o p (rowNo (now old) (from + i)))) ⌝ }
+    requires { ⌜
+        (from * 8 + n * 8 ≤ length (now old))
+        × ((n * 8 ≤ length (now new)) × ((i : ℕ) → i < n → MovesRow o p (rowNo (now old) (from + i)))) ⌝ }
     ensures { λ _. ⌜ now (new .exit)
         ≡ wordsOf (recounted comments (map (carryRow o p) (rowsIn n (drop (8 * from) (now (old .entry))))))
         ++ drop (8 * n) (now (new .entry)) ⌝ }

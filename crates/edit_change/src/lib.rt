@@ -36,7 +36,10 @@ pub fn change(
     text: &[u8],
     new: &mut [u32],
 ) -> Told
-    ensures { λ r. ⌜ (r ≡ changeTold (now (old .entry)) table a b n (now (text .entry)) (roomOf (now (new .entry)))) × (now (new .exit) ≡ changeLeaves (now (old .entry)) table a b n (now (text .entry)) (now (new .entry))) ⌝ }
+    ensures told { λ r. ⌜
+        r ≡ changeTold (now (old .entry)) table a b n (now (text .entry)) (roomOf (now (new .entry))) ⌝ }
+    ensures left { λ _. ⌜
+        now (new .exit) ≡ changeLeaves (now (old .entry)) table a b n (now (text .entry)) (now (new .entry)) ⌝ }
 {
     if !well_formed(old, table) {
         return refused(Outer::NotWellFormed);

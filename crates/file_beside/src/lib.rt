@@ -72,7 +72,9 @@ fn same_line(p: Cursor, q: Cursor) -> bool
 // Whether each row of a file of form 1 has the line and column that its start has in the text.
 fn rows_agree(text: &[u8], file: &[u8], table: Table) -> Counted
     requires { ⌜ Holds Full (now text) (now file) table ⌝ }
-    ensures { λ r. ⌜ (r .agree ≡ rowsAgree (now (text .entry)) (now (file .entry)) table) × (r .agree ≡ true → r .here ≡ lastPlace (now (text .entry)) (now (file .entry)) (table .count)) ⌝ }
+    ensures { λ r. ⌜
+        (r .agree ≡ rowsAgree (now (text .entry)) (now (file .entry)) table)
+        × (r .agree ≡ true → r .here ≡ lastPlace (now (text .entry)) (now (file .entry)) (table .count)) ⌝ }
 {
     let count = table.count;
     let mut here = Cursor::start();
@@ -143,7 +145,19 @@ fn place_of(form: Form, text: &[u8], here: Cursor, r: Row) -> Cursor
 // The eight words of a row at a place, into the first lent words.
 fn put_row(words: &mut [u32], r: Row, at: Cursor)
     requires { ⌜ 8 ≤ length (now words) ⌝ }
-    ensures { λ _. ⌜ now (words .exit) ≡ rowWords (record { kind = r .kind; start = r .start; end = r .end; line = at .line .0; column = at .column .0; low = r .low; high = r .high; comments = r .comments }) ++ drop 8 (now (words .entry)) ⌝ }
+    ensures { λ _. ⌜
+        now (words .exit)
+        ≡ rowWords
+        (record {
+          kind = r .kind;
+          start = r .start;
+          end = r .end;
+          line = at .line .0;
+          column = at .column .0;
+          low = r .low;
+          high = r .high;
+          comments = r .comments;
+        }) ++ drop 8 (now (words .entry)) ⌝ }
 {
     words[row::KIND] = r.kind;
     words[row::START] = r.start;
@@ -166,8 +180,14 @@ pub fn put_rows(
     begin: Cursor,
     words: &mut [u32],
 ) -> Cursor
-    requires { ⌜ ((Agrees (now text) (now file) table × (from + n ≤ table .count)) × (8 * n ≤ length (now words))) × (begin ≡ lastPlace (now text) (now file) from) ⌝ }
-    ensures { λ r. ⌜ (now (words .exit) ≡ take (8 * n) (drop (8 * from) (rowsBeside (now (text .entry)) (now (file .entry)))) ++ drop (8 * n) (now (words .entry))) × (r ≡ lastPlace (now (text .entry)) (now (file .entry)) (from + n)) ⌝ }
+    requires { ⌜
+        ((Agrees (now text) (now file) table × (from + n ≤ table .count)) × (8 * n ≤ length (now words)))
+        × (begin ≡ lastPlace (now text) (now file) from) ⌝ }
+    ensures { λ r. ⌜
+        (now (words .exit)
+        ≡ take (8 * n) (drop (8 * from) (rowsBeside (now (text .entry)) (now (file .entry)))) ++ drop (8 * n)
+        (now (words .entry)))
+        × (r ≡ lastPlace (now (text .entry)) (now (file .entry)) (from + n)) ⌝ }
 {
     let form = form_of(file);
     let count = table.count;
@@ -209,7 +229,10 @@ pub fn table_beside(text: &[u8], file: &[u8], table: Table, last: Cursor) -> Tab
 // All rows of a file that agrees with its text, into the first lent words; the table beside them is told.
 fn take_beside(text: &[u8], file: &[u8], table: Table, rows: &mut [u32]) -> Table
     requires { ⌜ Agrees (now text) (now file) table × (8 * table .count ≤ length (now rows)) ⌝ }
-    ensures { λ r. ⌜ (r ≡ tableBeside (now (text .entry)) (now (file .entry)) table) × (now (rows .exit) ≡ rowsBeside (now (text .entry)) (now (file .entry)) ++ drop (8 * table .count) (now (rows .entry))) ⌝ }
+    ensures { λ r. ⌜
+        (r ≡ tableBeside (now (text .entry)) (now (file .entry)) table)
+        × (now (rows .exit)
+        ≡ rowsBeside (now (text .entry)) (now (file .entry)) ++ drop (8 * table .count) (now (rows .entry))) ⌝ }
 {
     match form_of(file) {
         Form::Full => {
@@ -227,7 +250,9 @@ fn take_beside(text: &[u8], file: &[u8], table: Table, rows: &mut [u32]) -> Tabl
 // What is told of a file that holds a table: 4, 45 last of all, or the table, with its rows written.
 fn load_table(text: &[u8], file: &[u8], table: Table, rows: &mut [u32]) -> Beside
     requires { ⌜ judged (now file) ≡ Rows table ⌝ }
-    ensures { λ r. ⌜ (r ≡ besideJudged (now (text .entry)) (now (file .entry)) (roomOf (now (rows .entry))) (Rows table)) × (now (rows .exit) ≡ tableLeaves (now (text .entry)) (now (file .entry)) r (now (rows .entry))) ⌝ }
+    ensures { λ r. ⌜
+        (r ≡ besideJudged (now (text .entry)) (now (file .entry)) (roomOf (now (rows .entry))) (Rows table))
+        × (now (rows .exit) ≡ tableLeaves (now (text .entry)) (now (file .entry)) r (now (rows .entry))) ⌝ }
 {
     if rows.len() / row::WORDS < table.count as usize {
         return Beside::Refused(Apart::File(Fault::Outer(Outer::NoRowRoom)));
@@ -240,7 +265,9 @@ fn load_table(text: &[u8], file: &[u8], table: Table, rows: &mut [u32]) -> Besid
 
 // Read a file of either form beside its text: the rows of its table are written into the lent words, or nothing is and why.
 pub fn load_beside(text: &[u8], file: &[u8], rows: &mut [u32]) -> Beside
-    ensures { λ r. ⌜ (r ≡ besideTold (now (text .entry)) (now (file .entry)) (roomOf (now (rows .entry)))) × (now (rows .exit) ≡ besideLeaves (now (text .entry)) (now (file .entry)) (now (rows .entry))) ⌝ }
+    ensures told { λ r. ⌜ r ≡ besideTold (now (text .entry)) (now (file .entry)) (roomOf (now (rows .entry))) ⌝ }
+    ensures left { λ _. ⌜
+        now (rows .exit) ≡ besideLeaves (now (text .entry)) (now (file .entry)) (now (rows .entry)) ⌝ }
 {
     match judge(file) {
         Loaded::Refused(why) => Beside::Refused(Apart::File(why)),

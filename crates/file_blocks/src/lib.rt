@@ -17,7 +17,7 @@ ghost use lib.ListN.{length, take, drop, replicate};
 ghost use Rattle.rules.specs.Text.{mostBytes};
 ghost use Rattle.rows.specs.Shape.{LengthTable, asRow};
 ghost use Rattle.rules_files.specs.Bytes.{little, numberAt, bytesOf, wordsIn};
-ghost use Rattle.rules_files.specs.Blocks.{contentOf, block, sound};
+ghost use Rattle.rules_files.specs.Blocks.{contentOf, block, sound, blockBytes, checkedBytes, contentRoom};
 ghost use Rattle.rules_forms.specs.declared.Form.the-variants.{Full, Short};
 ghost use Rattle.rules_forms.specs.Shapes.{rowBytesOf};
 ghost use Rattle.file_blocks.specs.Standing.{rowFrom, rowsFrom, stand};
@@ -44,7 +44,8 @@ pub fn word_at(bytes: &[u8], at: usize) -> u32
 // A number into two bytes.
 fn put_half(bytes: &mut [u8], at: usize, x: u32)
     requires { ⌜ at + 2 ≤ length (now bytes) ⌝ }
-    ensures { λ _. ⌜ now (bytes .exit) ≡ (take at (now (bytes .entry)) ++ little 2 x) ++ drop (at + 2) (now (bytes .entry)) ⌝ }
+    ensures { λ _. ⌜
+        now (bytes .exit) ≡ (take at (now (bytes .entry)) ++ little 2 x) ++ drop (at + 2) (now (bytes .entry)) ⌝ }
 {
     bytes[at] = (x % 256) as u8;
     bytes[at + 1] = (x / 256 % 256) as u8;
@@ -53,7 +54,8 @@ fn put_half(bytes: &mut [u8], at: usize, x: u32)
 // A number into four bytes.
 pub fn put_word(bytes: &mut [u8], at: usize, x: u32)
     requires { ⌜ at + 4 ≤ length (now bytes) ⌝ }
-    ensures { λ _. ⌜ now (bytes .exit) ≡ (take at (now (bytes .entry)) ++ little 4 x) ++ drop (at + 4) (now (bytes .entry)) ⌝ }
+    ensures { λ _. ⌜
+        now (bytes .exit) ≡ (take at (now (bytes .entry)) ++ little 4 x) ++ drop (at + 4) (now (bytes .entry)) ⌝ }
 {
     bytes[at] = (x % 256) as u8;
     bytes[at + 1] = (x / 256 % 256) as u8;
@@ -65,7 +67,7 @@ pub fn put_word(bytes: &mut [u8], at: usize, x: u32)
 
 // Whether a block is sound: block k of n rows, with so many bytes of content.
 pub fn is_sound(bytes: &[u8], k: u32, n: u32, size: usize) -> bool
-    requires { ⌜ (length (now bytes) ≡ 512) × (size ≤ 504) ⌝ }
+    requires { ⌜ (length (now bytes) ≡ blockBytes) × (size ≤ contentRoom) ⌝ }
     ensures { λ r. ⌜ r ≡ sound k n size (now (bytes .entry)) ⌝ }
 {
     if half_at(bytes, 0) != k {
@@ -180,7 +182,10 @@ pub fn take_words(bytes: &[u8], n: usize, words: &mut [u32])
 // Words for a content.
 fn put_words(bytes: &mut [u8], words: &[u32])
     requires { ⌜ 4 + 4 * length (now words) ≤ length (now bytes) ⌝ }
-    ensures { λ _. ⌜ now (bytes .exit) ≡ (take 4 (now (bytes .entry)) ++ bytesOf (now (words .entry))) ++ drop (4 + 4 * length (now (words .entry))) (now (bytes .entry)) ⌝ }
+    ensures { λ _. ⌜
+        now (bytes .exit)
+        ≡ (take 4 (now (bytes .entry)) ++ bytesOf (now (words .entry))) ++ drop
+        (4 + 4 * length (now (words .entry))) (now (bytes .entry)) ⌝ }
 {
     let mut i = 0;
     while i < words.len() {
@@ -191,8 +196,10 @@ fn put_words(bytes: &mut [u8], words: &[u32])
 
 // Zeros from a byte on to the check.
 fn put_filler(bytes: &mut [u8], from: usize)
-    requires { ⌜ (from ≤ 508) × (508 ≤ length (now bytes)) ⌝ }
-    ensures { λ _. ⌜ now (bytes .exit) ≡ (take from (now (bytes .entry)) ++ replicate (508 - from) 0) ++ drop 508 (now (bytes .entry)) ⌝ }
+    requires { ⌜ (from ≤ checkedBytes) × (checkedBytes ≤ length (now bytes)) ⌝ }
+    ensures { λ _. ⌜
+        now (bytes .exit)
+        ≡ (take from (now (bytes .entry)) ++ replicate (checkedBytes - from) 0) ++ drop checkedBytes (now (bytes .entry)) ⌝ }
 {
     let mut i = from;
     while i < form::CHECKED {
@@ -203,7 +210,7 @@ fn put_filler(bytes: &mut [u8], from: usize)
 
 // A block whose content stands in it already: its numbers, filler and check are written.
 pub fn seal(bytes: &mut [u8], k: u32, n: u32, size: usize)
-    requires { ⌜ (length (now bytes) ≡ 512) × (size ≤ 504) ⌝ }
+    requires { ⌜ (length (now bytes) ≡ blockBytes) × (size ≤ contentRoom) ⌝ }
     ensures { λ _. ⌜ now (bytes .exit) ≡ block k n (contentOf size (now (bytes .entry))) ⌝ }
 {
     put_half(bytes, 0, k);
@@ -215,7 +222,7 @@ pub fn seal(bytes: &mut [u8], k: u32, n: u32, size: usize)
 
 // Block k of n rows, with some words for content.
 pub fn put_block(bytes: &mut [u8], k: u32, n: u32, words: &[u32])
-    requires { ⌜ (length (now bytes) ≡ 512) × (4 * length (now words) ≤ 504) ⌝ }
+    requires { ⌜ (length (now bytes) ≡ blockBytes) × (4 * length (now words) ≤ contentRoom) ⌝ }
     ensures { λ _. ⌜ now (bytes .exit) ≡ block k n (bytesOf (now (words .entry))) ⌝ }
 {
     put_words(bytes, words);

@@ -169,7 +169,8 @@ module _ (s : List ℕ) (at : ℕ) (h : at + 64 ≤ length s) where
         let top : List ℕ = strip at s in
         omega (arith, check-strip, e, f, sum-plus 1 sums top (omega (arith, strip-length)), total-plus below sums (omega arith))
 
--- what sums of columns say of strip r and those below it: each column's sum, and the sums of what stands below each of these strips
+-- what sums of columns say of strip r and those below it: each column's sum, and the sums of what stands below each of
+-- these strips
 pub record Summed (s : List ℕ) (r : ℕ) (sums below : List ℕ) : Type 0 where
   pub wide : length sums ≡ 64
   pub wide-below : length below ≡ 64

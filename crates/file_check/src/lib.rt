@@ -3,7 +3,7 @@ use rules_files::form;
 ghost use mathlib.Core.Path.{_≡_};
 ghost use Prim.Native.Nat.{_+_, _-_, _*_, _≤_, max};
 ghost use lib.ListN.{length, take, drop};
-ghost use Rattle.rules_files.specs.Blocks.{check, zeros};
+ghost use Rattle.rules_files.specs.Blocks.{check, zeros, blockBytes, checkedBytes};
 ghost use Rattle.file_check.specs.Columns.{plus, strip, total, Within, Added};
 
 // The bytes of a block as strips of so many bytes, one below the other, in whose columns they are added up.
@@ -55,7 +55,8 @@ fn add_bytes(sums: &mut [u16], bytes: &[u8], at: usize)
 
 // The sums of columns, onto others.
 fn add_sums(onto: &mut [u16], sums: &[u16])
-    requires { ⌜ ((length (now onto) ≡ 64) × (length (now sums) ≡ 64)) × (Within 32767 (now onto) × Within 32767 (now sums)) ⌝ }
+    requires { ⌜
+        ((length (now onto) ≡ 64) × (length (now sums) ≡ 64)) × (Within 32767 (now onto) × Within 32767 (now sums)) ⌝ }
     ensures { λ _. ⌜ now (onto .exit) ≡ plus (now (onto .entry)) (now (sums .entry)) ⌝ }
 {
     let mut j = 0;
@@ -83,8 +84,8 @@ fn weigh(sums: &[u16], below: &[u16]) -> u32
 
 // What the four bytes of the check itself would add.
 fn own_part(bytes: &[u8]) -> u32
-    requires { ⌜ length (now bytes) ≡ 512 ⌝ }
-    ensures { λ r. ⌜ check (take 508 (now (bytes .entry))) + r ≡ check (now (bytes .entry)) ⌝ }
+    requires { ⌜ length (now bytes) ≡ blockBytes ⌝ }
+    ensures { λ r. ⌜ check (take checkedBytes (now (bytes .entry))) + r ≡ check (now (bytes .entry)) ⌝ }
 {
     wide(bytes[form::CHECKED]) * OWN_PLACE
         + wide(bytes[form::CHECKED + 1]) * (OWN_PLACE + 1)
@@ -92,11 +93,11 @@ fn own_part(bytes: &[u8]) -> u32
         + wide(bytes[form::CHECKED + 3]) * (OWN_PLACE + 3)
 }
 
-// The check of a block: each byte in front of it times its place, counted from 1. Strips are added up from the last to the first, column by
-// column, so that the compiler works on many columns at once and multiplies only at the end.
+// The check of a block: each byte in front of it times its place, counted from 1. Strips are added up from the last to
+// the first, column by column, so that the compiler works on many columns at once and multiplies only at the end.
 pub fn check_of(bytes: &[u8]) -> u32
-    requires { ⌜ length (now bytes) ≡ 512 ⌝ }
-    ensures { λ r. ⌜ r ≡ check (take 508 (now (bytes .entry))) ⌝ }
+    requires { ⌜ length (now bytes) ≡ blockBytes ⌝ }
+    ensures { λ r. ⌜ r ≡ check (take checkedBytes (now (bytes .entry))) ⌝ }
 {
     let mut sums = [0u16; COLUMNS];
     let mut below = [0u16; COLUMNS];
@@ -120,8 +121,8 @@ fn larger(a: u8, b: u8) -> u8
 
 // Whether all bytes from one on to the check are zero.
 pub fn is_filler(bytes: &[u8], from: usize) -> bool
-    requires { ⌜ (from ≤ 508) × (508 ≤ length (now bytes)) ⌝ }
-    ensures { λ r. ⌜ r ≡ zeros (take (508 - from) (drop from (now (bytes .entry)))) ⌝ }
+    requires { ⌜ (from ≤ checkedBytes) × (checkedBytes ≤ length (now bytes)) ⌝ }
+    ensures { λ r. ⌜ r ≡ zeros (take (checkedBytes - from) (drop from (now (bytes .entry)))) ⌝ }
 {
     let mut most = 0;
     let mut i = from;

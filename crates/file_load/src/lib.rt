@@ -37,7 +37,7 @@ ghost use lib.ListN.{length, drop};
 ghost use Rattle.rules.specs.Rows.{wellFormed};
 ghost use Rattle.rules.specs.Scan.{roomOf};
 ghost use Rattle.rows.specs.Shape.{asRow, rowNo, rowBefore, closes, breaks};
-ghost use Rattle.rules_files.specs.Blocks.{fileLength};
+ghost use Rattle.rules_files.specs.Blocks.{fileLength, blockBytes};
 ghost use Rattle.rules_files.specs.Files.{readRefused, readEnding, endingIn, rowWordsIn, rowsTold, loadTold, loadLeaves};
 ghost use Rattle.rules_forms.specs.declared.Form.the-variants.{Full};
 ghost use Rattle.rules_forms.specs.Short.{onOneLine, shortEnding, shortJudged};
@@ -100,7 +100,7 @@ fn read_ending(number: u32, p: Cursor) -> EndingRead
 
 // The ending that block 0 of form 1 tells.
 fn full_ending(file: &[u8]) -> EndingRead
-    requires { ⌜ 512 ≤ length (now file) ⌝ }
+    requires { ⌜ blockBytes ≤ length (now file) ⌝ }
     ensures { λ r. ⌜ r ≡ endingIn (now (file .entry)) ⌝ }
 {
     let number = word_at(file, ENDING_AT);
@@ -119,7 +119,7 @@ fn full_ending(file: &[u8]) -> EndingRead
 
 // The ending that block 0 of form 2 tells: a refusal's place is that of a text of one line.
 fn short_ending(file: &[u8]) -> EndingRead
-    requires { ⌜ 512 ≤ length (now file) ⌝ }
+    requires { ⌜ blockBytes ≤ length (now file) ⌝ }
     ensures { λ r. ⌜ r ≡ shortEnding onOneLine (now (file .entry)) ⌝ }
 {
     let number = word_at(file, ENDING_AT);
@@ -142,7 +142,7 @@ fn short_ending(file: &[u8]) -> EndingRead
 
 // The ending that block 0 of a form tells.
 fn ending_in(form: Form, file: &[u8]) -> EndingRead
-    requires { ⌜ 512 ≤ length (now file) ⌝ }
+    requires { ⌜ blockBytes ≤ length (now file) ⌝ }
     ensures { λ r. ⌜ r ≡ endingOf form (now (file .entry)) ⌝ }
 {
     match form {
@@ -367,7 +367,7 @@ fn told(file: &[u8], room: usize) -> Loaded
 
 // What is told of a file that says 2: 41 for block 0, 42, and then the blocks behind it.
 fn short_told(file: &[u8]) -> Loaded
-    requires { ⌜ 512 ≤ length (now file) ⌝ }
+    requires { ⌜ blockBytes ≤ length (now file) ⌝ }
     ensures { λ r. ⌜ r ≡ shortJudged (now (file .entry)) ⌝ }
 {
     if !is_sound(&file[0..form::BLOCK], 0, 0, short::SAID) {
@@ -395,7 +395,7 @@ pub fn judge(file: &[u8]) -> Loaded
 
 // The form by which a file is judged.
 pub fn form_of(file: &[u8]) -> Form
-    requires { ⌜ 512 ≤ length (now file) ⌝ }
+    requires { ⌜ blockBytes ≤ length (now file) ⌝ }
     ensures { λ r. ⌜ r ≡ formOf (now (file .entry)) ⌝ }
 {
     if word_at(file, FORM_AT) == short::NUMBER {
@@ -424,7 +424,8 @@ pub fn take_rows(file: &[u8], count: u32, rows: &mut [u32])
 
 // Read a file: the rows of its table are written into the lent words, or nothing is and why.
 pub fn load(file: &[u8], rows: &mut [u32]) -> Loaded
-    ensures { λ r. ⌜ (r ≡ loadTold (now (file .entry)) (roomOf (now (rows .entry)))) × (now (rows .exit) ≡ loadLeaves (now (file .entry)) (now (rows .entry))) ⌝ }
+    ensures told { λ r. ⌜ r ≡ loadTold (now (file .entry)) (roomOf (now (rows .entry))) ⌝ }
+    ensures left { λ _. ⌜ now (rows .exit) ≡ loadLeaves (now (file .entry)) (now (rows .entry)) ⌝ }
 {
     let answer = told(file, rows.len() / row::WORDS);
     match answer {

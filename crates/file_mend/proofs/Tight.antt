@@ -1,5 +1,5 @@
--- The contract of `mend` asks nothing, and determines its result, every byte of the lent memory and every word of the lent list. The text
--- is lent as `&`, and shared memory cannot change.
+-- The contract of `mend` asks nothing, and determines its result, every byte of the lent memory and every word of the
+-- lent list. The text is lent as `&`, and shared memory cannot change.
 use mathlib.Core.Path.{refl}
 use Rattle.laws.specs.Tight.{Tight}
 use Rattle.laws.proofs.Tight.{alike, _▸_}

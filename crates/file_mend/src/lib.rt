@@ -1,4 +1,5 @@
-// A file mended in place: the text is read in the order of blocks, once to hold each block against what it should be, and once more, where one differs, to write.
+// A file mended in place: the text is read in the order of blocks, once to hold each block against what it should be,
+// and once more, where one differs, to write.
 use file_rewrite::mend_blocks;
 use file_sizes::length_for;
 use file_survey::survey;
@@ -20,7 +21,12 @@ ghost use Rattle.rules_mend.specs.Mend.{mendTold, mendLeaves, listLeaves};
 // A file of n bytes in lent memory, where the text is fine: 40, then 4, or it is mended.
 fn mend_text(form: Form, text: &[u8], file: &mut [u8], n: usize, list: &mut [u32]) -> Mended
     requires { ⌜ textJudged (now text) ≡ Fine ⌝ }
-    ensures { λ r. ⌜ (r ≡ mendTold (now (text .entry)) (numberOf form) (now (file .entry)) n (now (list .entry))) × ((now (file .exit) ≡ mendLeaves (now (text .entry)) (numberOf form) (now (file .entry)) n (now (list .entry))) × (now (list .exit) ≡ listLeaves (now (text .entry)) (numberOf form) (now (file .entry)) n (now (list .entry)))) ⌝ }
+    ensures { λ r. ⌜
+        (r ≡ mendTold (now (text .entry)) (numberOf form) (now (file .entry)) n (now (list .entry)))
+        × ((now (file .exit)
+        ≡ mendLeaves (now (text .entry)) (numberOf form) (now (file .entry)) n (now (list .entry)))
+        × (now (list .exit)
+        ≡ listLeaves (now (text .entry)) (numberOf form) (now (file .entry)) n (now (list .entry)))) ⌝ }
 {
     let room = file.len();
     let slots = list.len();
@@ -43,7 +49,12 @@ fn mend_text(form: Form, text: &[u8], file: &mut [u8], n: usize, list: &mut [u32
 
 // A file of one of both forms: 1 and 2 of the text in front of that.
 fn mend_in(form: Form, text: &[u8], file: &mut [u8], n: usize, list: &mut [u32]) -> Mended
-    ensures { λ r. ⌜ (r ≡ mendTold (now (text .entry)) (numberOf form) (now (file .entry)) n (now (list .entry))) × ((now (file .exit) ≡ mendLeaves (now (text .entry)) (numberOf form) (now (file .entry)) n (now (list .entry))) × (now (list .exit) ≡ listLeaves (now (text .entry)) (numberOf form) (now (file .entry)) n (now (list .entry)))) ⌝ }
+    ensures { λ r. ⌜
+        (r ≡ mendTold (now (text .entry)) (numberOf form) (now (file .entry)) n (now (list .entry)))
+        × ((now (file .exit)
+        ≡ mendLeaves (now (text .entry)) (numberOf form) (now (file .entry)) n (now (list .entry)))
+        × (now (list .exit)
+        ≡ listLeaves (now (text .entry)) (numberOf form) (now (file .entry)) n (now (list .entry)))) ⌝ }
 {
     match judge_text(text) {
         Judged::Refused(why, at) => Mended::Refused(Fault::Outer(why), at),
@@ -51,9 +62,14 @@ fn mend_in(form: Form, text: &[u8], file: &mut [u8], n: usize, list: &mut [u32])
     }
 }
 
-// Mend a file of n bytes, which stands in lent memory, in the form of a number: the file is what a fresh scan stores, and the blocks that differed are listed, or nothing is done and why.
+// Mend a file of n bytes, which stands in lent memory, in the form of a number: the file is what a fresh scan stores,
+// and the blocks that differed are listed, or nothing is done and why.
 pub fn mend(text: &[u8], number: u32, file: &mut [u8], n: usize, list: &mut [u32]) -> Mended
-    ensures { λ r. ⌜ (r ≡ mendTold (now (text .entry)) number (now (file .entry)) n (now (list .entry))) × ((now (file .exit) ≡ mendLeaves (now (text .entry)) number (now (file .entry)) n (now (list .entry))) × (now (list .exit) ≡ listLeaves (now (text .entry)) number (now (file .entry)) n (now (list .entry)))) ⌝ }
+    ensures told { λ r. ⌜ r ≡ mendTold (now (text .entry)) number (now (file .entry)) n (now (list .entry)) ⌝ }
+    ensures left { λ _. ⌜
+        now (file .exit) ≡ mendLeaves (now (text .entry)) number (now (file .entry)) n (now (list .entry)) ⌝ }
+    ensures listed { λ _. ⌜
+        now (list .exit) ≡ listLeaves (now (text .entry)) number (now (file .entry)) n (now (list .entry)) ⌝ }
 {
     if number == form::NUMBER {
         return mend_in(Form::Full, text, file, n, list);

@@ -26,7 +26,7 @@ ghost use Prim.Native.Nat.{_≤_};
 ghost use lib.ListN.{length, take, drop};
 ghost use Rattle.rules_files.specs.declared.Loaded.the-variants.{Rows};
 ghost use Rattle.rules_files.specs.Bytes.{bytesOf};
-ghost use Rattle.rules_files.specs.Blocks.{blocksFor, blocksFrom, fileLength};
+ghost use Rattle.rules_files.specs.Blocks.{blocksFor, blocksFrom, fileLength, blockBytes};
 ghost use Rattle.rules_forms.specs.Forms.{judged, rowsBeside, tableBeside, encodeIn, moveJudged, moveTold, moveLeaves};
 ghost use Rattle.rules_forms.specs.Shapes.{numberOf, rowBytesOf, bodyOf};
 ghost use Rattle.file_beside.specs.Counting.{Agrees, lastPlace};
@@ -49,8 +49,15 @@ fn copy(from: &[u8], to: &mut [u8])
 
 // The blocks of a file's rows in a form, behind block 0; the place of the last row is told.
 fn put_blocks(form: Form, text: &[u8], file: &[u8], table: Table, moved: &mut [u8]) -> Cursor
-    requires { ⌜ Agrees (now text) (now file) table × (fileLength (rowBytesOf form) (table .count) ≤ length (now moved)) ⌝ }
-    ensures { λ r. ⌜ (now (moved .exit) ≡ (take 512 (now (moved .entry)) ++ blocksFrom (rowBytesOf form) (blocksFor (rowBytesOf form) (table .count)) 1 (table .count) (bytesOf (bodyOf form (table .count) (rowsBeside (now (text .entry)) (now (file .entry)))))) ++ drop (fileLength (rowBytesOf form) (table .count)) (now (moved .entry))) × (r ≡ lastPlace (now (text .entry)) (now (file .entry)) (table .count)) ⌝ }
+    requires { ⌜
+        Agrees (now text) (now file) table × (fileLength (rowBytesOf form) (table .count) ≤ length (now moved)) ⌝ }
+    ensures { λ r. ⌜
+        (now (moved .exit)
+        ≡ (take blockBytes (now (moved .entry)) ++ blocksFrom (rowBytesOf form)
+        (blocksFor (rowBytesOf form) (table .count)) 1 (table .count)
+        (bytesOf (bodyOf form (table .count) (rowsBeside (now (text .entry)) (now (file .entry)))))) ++ drop
+        (fileLength (rowBytesOf form) (table .count)) (now (moved .entry)))
+        × (r ≡ lastPlace (now (text .entry)) (now (file .entry)) (table .count)) ⌝ }
 {
     let count = table.count as usize;
     let mut words = [0u32; PART_WORDS];
@@ -72,8 +79,13 @@ fn put_blocks(form: Form, text: &[u8], file: &[u8], table: Table, moved: &mut [u
 
 // The file of a form, where there is room for it. A file that has the form is copied.
 fn put_moved(form: Form, text: &[u8], file: &[u8], table: Table, moved: &mut [u8])
-    requires { ⌜ Agrees (now text) (now file) table × (fileLength (rowBytesOf form) (table .count) ≤ length (now moved)) ⌝ }
-    ensures { λ _. ⌜ now (moved .exit) ≡ encodeIn (numberOf form) (rowsBeside (now (text .entry)) (now (file .entry))) (tableBeside (now (text .entry)) (now (file .entry)) table) ++ drop (fileLength (rowBytesOf form) (table .count)) (now (moved .entry)) ⌝ }
+    requires { ⌜
+        Agrees (now text) (now file) table × (fileLength (rowBytesOf form) (table .count) ≤ length (now moved)) ⌝ }
+    ensures { λ _. ⌜
+        now (moved .exit)
+        ≡ encodeIn (numberOf form) (rowsBeside (now (text .entry)) (now (file .entry)))
+        (tableBeside (now (text .entry)) (now (file .entry)) table) ++ drop
+        (fileLength (rowBytesOf form) (table .count)) (now (moved .entry)) ⌝ }
 {
     if number(form) == number(form_of(file)) {
         copy(file, moved);
@@ -87,7 +99,14 @@ fn put_moved(form: Form, text: &[u8], file: &[u8], table: Table, moved: &mut [u8
 // What is told of a file that holds a table: 4, 45 last of all, or the bytes that were written.
 fn move_table(form: Form, text: &[u8], file: &[u8], table: Table, moved: &mut [u8]) -> Moved
     requires { ⌜ judged (now file) ≡ Rows table ⌝ }
-    ensures { λ r. ⌜ (r ≡ moveJudged (now (text .entry)) (now (file .entry)) (numberOf form) (length (now (moved .entry))) (Rows table)) × (now (moved .exit) ≡ leftBy r (encodeIn (numberOf form) (rowsBeside (now (text .entry)) (now (file .entry))) (tableBeside (now (text .entry)) (now (file .entry)) table)) (now (moved .entry))) ⌝ }
+    ensures { λ r. ⌜
+        (r
+        ≡ moveJudged (now (text .entry)) (now (file .entry)) (numberOf form) (length (now (moved .entry)))
+        (Rows table))
+        × (now (moved .exit)
+        ≡ leftBy r
+        (encodeIn (numberOf form) (rowsBeside (now (text .entry)) (now (file .entry)))
+        (tableBeside (now (text .entry)) (now (file .entry)) table)) (now (moved .entry))) ⌝ }
 {
     let length = length_for(form, table.count);
     if moved.len() < length {
@@ -103,7 +122,10 @@ fn move_table(form: Form, text: &[u8], file: &[u8], table: Table, moved: &mut [u
 
 // A file moved to one of both forms.
 fn move_to(form: Form, text: &[u8], file: &[u8], moved: &mut [u8]) -> Moved
-    ensures { λ r. ⌜ (r ≡ moveTold (now (text .entry)) (now (file .entry)) (numberOf form) (length (now (moved .entry)))) × (now (moved .exit) ≡ moveLeaves (now (text .entry)) (now (file .entry)) (numberOf form) (now (moved .entry))) ⌝ }
+    ensures { λ r. ⌜
+        (r ≡ moveTold (now (text .entry)) (now (file .entry)) (numberOf form) (length (now (moved .entry))))
+        × (now (moved .exit)
+        ≡ moveLeaves (now (text .entry)) (now (file .entry)) (numberOf form) (now (moved .entry))) ⌝ }
 {
     match judge(file) {
         Loaded::Refused(why) => Moved::Refused(Apart::File(why)),
@@ -113,7 +135,9 @@ fn move_to(form: Form, text: &[u8], file: &[u8], moved: &mut [u8]) -> Moved
 
 // Move a file to the form of a number, into lent memory: so many bytes of it are written, or none and why.
 pub fn move_file(text: &[u8], file: &[u8], number: u32, moved: &mut [u8]) -> Moved
-    ensures { λ r. ⌜ (r ≡ moveTold (now (text .entry)) (now (file .entry)) number (length (now (moved .entry)))) × (now (moved .exit) ≡ moveLeaves (now (text .entry)) (now (file .entry)) number (now (moved .entry))) ⌝ }
+    ensures told { λ r. ⌜ r ≡ moveTold (now (text .entry)) (now (file .entry)) number (length (now (moved .entry))) ⌝ }
+    ensures left { λ _. ⌜
+        now (moved .exit) ≡ moveLeaves (now (text .entry)) (now (file .entry)) number (now (moved .entry)) ⌝ }
 {
     if number == form::NUMBER {
         return move_to(Form::Full, text, file, moved);

@@ -15,7 +15,7 @@ ghost use Prim.Native.Nat.{_+_, _*_, _≤_};
 ghost use lib.ListN.{length, take, drop};
 ghost use Rattle.rules.specs.Rows.{rowIn};
 ghost use Rattle.rules_files.specs.Bytes.{bytesOf};
-ghost use Rattle.rules_files.specs.Blocks.{block, perBlock};
+ghost use Rattle.rules_files.specs.Blocks.{block, perBlock, blockBytes};
 ghost use Rattle.rules_files.specs.Files.{said};
 ghost use Rattle.rules_forms.specs.Short.{shortRow, shortened, shortSaid};
 ghost use Rattle.rules_forms.specs.Shapes.{rowBytesOf, saidIn, bodyOf};
@@ -58,7 +58,7 @@ fn short_words_of(table: Table) -> [u32; 5]
 
 // Block 0 of a table.
 pub fn put_said(form: Form, bytes: &mut [u8], table: Table)
-    requires { ⌜ length (now bytes) ≡ 512 ⌝ }
+    requires { ⌜ length (now bytes) ≡ blockBytes ⌝ }
     ensures { λ _. ⌜ now (bytes .exit) ≡ block 0 0 (bytesOf (saidIn form table)) ⌝ }
 {
     match form {
@@ -76,7 +76,10 @@ pub fn put_said(form: Form, bytes: &mut [u8], table: Table)
 // The first row but its line and column, into the bytes from one on.
 fn put_short_row(bytes: &mut [u8], at: usize, rows: &[u32])
     requires { ⌜ (at + 24 ≤ length (now bytes)) × (8 ≤ length (now rows)) ⌝ }
-    ensures { λ _. ⌜ now (bytes .exit) ≡ (take at (now (bytes .entry)) ++ bytesOf (shortRow (rowIn (now (rows .entry))))) ++ drop (at + 24) (now (bytes .entry)) ⌝ }
+    ensures { λ _. ⌜
+        now (bytes .exit)
+        ≡ (take at (now (bytes .entry)) ++ bytesOf (shortRow (rowIn (now (rows .entry))))) ++ drop (at + 24)
+        (now (bytes .entry)) ⌝ }
 {
     put_word(bytes, at, rows[row::KIND]);
     put_word(bytes, at + form::WORD * row::START, rows[row::START]);
@@ -93,7 +96,10 @@ fn put_short_row(bytes: &mut [u8], at: usize, rows: &[u32])
 // The first n rows but their lines and columns, for a content.
 fn put_short_rows(bytes: &mut [u8], n: usize, rows: &[u32])
     requires { ⌜ (4 + 24 * n ≤ length (now bytes)) × (8 * n ≤ length (now rows)) ⌝ }
-    ensures { λ _. ⌜ now (bytes .exit) ≡ (take 4 (now (bytes .entry)) ++ bytesOf (shortened n (now (rows .entry)))) ++ drop (4 + 24 * n) (now (bytes .entry)) ⌝ }
+    ensures { λ _. ⌜
+        now (bytes .exit)
+        ≡ (take 4 (now (bytes .entry)) ++ bytesOf (shortened n (now (rows .entry)))) ++ drop (4 + 24 * n)
+        (now (bytes .entry)) ⌝ }
 {
     let mut i = 0;
     while i < n {
@@ -105,7 +111,7 @@ fn put_short_rows(bytes: &mut [u8], n: usize, rows: &[u32])
 
 // Block k of the first n rows.
 pub fn put_part(form: Form, bytes: &mut [u8], k: u32, n: usize, rows: &[u32])
-    requires { ⌜ ((length (now bytes) ≡ 512) × (n ≤ perBlock (rowBytesOf form))) × (8 * n ≤ length (now rows)) ⌝ }
+    requires { ⌜ ((length (now bytes) ≡ blockBytes) × (n ≤ perBlock (rowBytesOf form))) × (8 * n ≤ length (now rows)) ⌝ }
     ensures { λ _. ⌜ now (bytes .exit) ≡ block k n (bytesOf (bodyOf form n (now (rows .entry)))) ⌝ }
 {
     match form {

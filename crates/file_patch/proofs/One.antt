@@ -1,4 +1,5 @@
--- One block: what is known of it where it is held against a file, and what memory and list are where it is written and listed.
+-- One block: what is known of it where it is held against a file, and what memory and list are where it is written and
+-- listed.
 use mathlib.Core.Path.{_≡_, refl, sym, ap, _∙_}
 use mathlib.Core.Bool.{Bool, true, false, cond}
 use mathlib.Core.List.{List, [], _∷_, _++_, append-assoc}

@@ -90,8 +90,9 @@ part-entries form k file rs = go (decLe (perBlock (rowBytesOf form)) (length rs)
 
 -- ---- the loop
 
--- The parts in front of the spot are mended, k is the next block, and `listed` entries stand in the list: with the blocks and the entries
--- of the rows that are left, memory and list are what they should be, and what stands behind is as it was.
+-- The parts in front of the spot are mended, k is the next block, and `listed` entries stand in the list: with the
+-- blocks and the entries of the rows that are left, memory and list are what they should be, and what stands behind is
+-- as it was.
 pub record Going (form : Form) (text : List ℕ) (n : ℕ) (memory₀ list₀ : List ℕ) (first : ℕ) (memory list : List ℕ) (spot : Spot)
     (listed k : ℕ) : Type 0 where
   pub begun : Begun text spot

@@ -18,8 +18,8 @@ use Rattle.file_survey.proofs.Surveyed.{rows-small}
 use Rattle.file_rewrite.specs.Mending.{Fresh, RowsMended, fileLeft, listLeft}
 use Rattle.file_rewrite.proofs.Going.{differing-behind}
 
--- What is left where block 0 and the blocks of the rows were mended, with `last` entries: the fresh file, and the list but for a tail's
--- entry, for which there is room.
+-- What is left where block 0 and the blocks of the rows were mended, with `last` entries: the fresh file, and the list
+-- but for a tail's entry, for which there is room.
 pub record Left (form : Form) (text : List ℕ) (n : ℕ) (memory list : List ℕ) (last : ℕ) (memory₂ list₂ : List ℕ) : Type 0 where
   pub small : last ≤ 65538
   pub file : memory₂ ≡ fileLeft form text memory

@@ -31,14 +31,16 @@ pub record PartMended (form : Form) (text : List ℕ) (at k n listed : ℕ) (r :
 
 -- ---- all rows
 
--- the blocks of a text's rows can be mended: n bytes are the file, and there is room for its blocks, and behind first entries for theirs
+-- the blocks of a text's rows can be mended: n bytes are the file, and there is room for its blocks, and behind first
+-- entries for theirs
 pub record Fresh (form : Form) (text : List ℕ) (n : ℕ) (memory : List ℕ) (first : ℕ) (list : List ℕ) : Type 0 where
   pub fine : textJudged text ≡ Fine
   pub inside : n ≤ length memory
   pub room : length (freshFile (numberOf form) text) ≤ length memory
   pub list-room : first + length (rowsDiffering form 1 (rowsOf text) (take n memory)) ≤ length list
 
--- and were mended: block 0 and what stands behind the blocks are as before, and so is the list in front of and behind their entries
+-- and were mended: block 0 and what stands behind the blocks are as before, and so is the list in front of and behind
+-- their entries
 pub record RowsMended (form : Form) (text : List ℕ) (n first last : ℕ) (memory after list list-after : List ℕ) : Type 0 where
   pub last-is : last ≡ first + length (rowsDiffering form 1 (rowsOf text) (take n memory))
   pub file-is : after ≡ take blockBytes memory ++ (blocksOf form 1 (rowsOf text) ++ drop (length (freshFile (numberOf form) text)) memory)

@@ -1,4 +1,5 @@
-// The second reading of a mending: the rows of a text, a block at a time, each of which is written and listed where it differs.
+// The second reading of a mending: the rows of a text, a block at a time, each of which is written and listed where it
+// differs.
 use file_parts::put_said;
 use file_patch::mend_block;
 use file_sizes::length_for;
@@ -32,7 +33,9 @@ fn mend_part(
     listed: usize,
 ) -> Step
     requires { ⌜ Begun (now text) spot × PartFits form (now text) (spot .at) k n (now file) listed (now list) ⌝ }
-    ensures { λ r. ⌜ PartMended form (now (text .entry)) (spot .at) k n listed r (now (file .entry)) (now (file .exit)) (now (list .entry)) (now (list .exit)) ⌝ }
+    ensures { λ r. ⌜
+        PartMended form (now (text .entry)) (spot .at) k n listed r (now (file .entry)) (now (file .exit))
+        (now (list .entry)) (now (list .exit)) ⌝ }
 {
     let mut fresh = [0u8; form::BLOCK];
     let part = fresh_part(form, text, spot, k, &mut fresh);
@@ -45,7 +48,8 @@ fn mend_part(
     }
 }
 
-// The blocks of a text's rows, behind so many entries of the list: each that differs is written and listed. How many entries there are then is told.
+// The blocks of a text's rows, behind so many entries of the list: each that differs is written and listed. How many
+// entries there are then is told.
 fn mend_rows(
     form: Form,
     text: &[u8],
@@ -55,7 +59,9 @@ fn mend_rows(
     first: usize,
 ) -> usize
     requires { ⌜ Fresh form (now text) n (now file) first (now list) ⌝ }
-    ensures { λ r. ⌜ RowsMended form (now (text .entry)) n first r (now (file .entry)) (now (file .exit)) (now (list .entry)) (now (list .exit)) ⌝ }
+    ensures { λ r. ⌜
+        RowsMended form (now (text .entry)) n first r (now (file .entry)) (now (file .exit)) (now (list .entry))
+        (now (list .exit)) ⌝ }
 {
     let mut spot = begin();
     let mut listed = first;
@@ -86,8 +92,13 @@ pub fn mend_blocks(
     n: usize,
     list: &mut [u32],
 )
-    requires { ⌜ ((textJudged (now text) ≡ Fine) × (table ≡ freshTable (now text))) × (((length (freshFile (numberOf form) (now text)) ≤ length (now file)) × (n ≤ length (now file))) × (length (listed (freshFile (numberOf form) (now text)) (take n (now file))) ≤ length (now list))) ⌝ }
-    ensures { λ _. ⌜ (now (file .exit) ≡ fileLeft form (now (text .entry)) (now (file .entry))) × (now (list .exit) ≡ listLeft form (now (text .entry)) n (now (file .entry)) (now (list .entry))) ⌝ }
+    requires { ⌜
+        ((textJudged (now text) ≡ Fine) × (table ≡ freshTable (now text)))
+        × (((length (freshFile (numberOf form) (now text)) ≤ length (now file)) × (n ≤ length (now file)))
+        × (length (listed (freshFile (numberOf form) (now text)) (take n (now file))) ≤ length (now list))) ⌝ }
+    ensures { λ _. ⌜
+        (now (file .exit) ≡ fileLeft form (now (text .entry)) (now (file .entry)))
+        × (now (list .exit) ≡ listLeft form (now (text .entry)) n (now (file .entry)) (now (list .entry))) ⌝ }
 {
     let mut fresh = [0u8; form::BLOCK];
     put_said(form, &mut fresh, table);

@@ -16,13 +16,17 @@ ghost use mathlib.Core.List.{_++_};
 ghost use Prim.Native.Nat.{_+_, _*_, _≤_};
 ghost use lib.ListN.{length, take, drop};
 ghost use Rattle.rules_files.specs.Bytes.{bytesOf};
-ghost use Rattle.rules_files.specs.Blocks.{blocksFor, blocksFrom, fileLength};
+ghost use Rattle.rules_files.specs.Blocks.{blocksFor, blocksFrom, fileLength, blockBytes};
 ghost use Rattle.rules_files.specs.Files.{rowBytes, mostRows, encode, storeTold, storeLeaves};
 
 // The blocks of so many rows, behind block 0.
 fn put_rows(rows: &[u32], count: usize, file: &mut [u8])
-    requires { ⌜ ((8 * count ≤ length (now rows)) × (count ≤ mostRows)) × (fileLength rowBytes count ≤ length (now file)) ⌝ }
-    ensures { λ _. ⌜ now (file .exit) ≡ (take 512 (now (file .entry)) ++ blocksFrom rowBytes (blocksFor rowBytes count) 1 count (bytesOf (now (rows .entry)))) ++ drop (fileLength rowBytes count) (now (file .entry)) ⌝ }
+    requires { ⌜
+        ((8 * count ≤ length (now rows)) × (count ≤ mostRows)) × (fileLength rowBytes count ≤ length (now file)) ⌝ }
+    ensures { λ _. ⌜
+        now (file .exit)
+        ≡ (take blockBytes (now (file .entry)) ++ blocksFrom rowBytes (blocksFor rowBytes count) 1 count
+        (bytesOf (now (rows .entry)))) ++ drop (fileLength rowBytes count) (now (file .entry)) ⌝ }
 {
     let mut done = 0;
     let mut k: u32 = 1;
@@ -41,8 +45,12 @@ fn put_rows(rows: &[u32], count: usize, file: &mut [u8])
 
 // The file of a table that is well formed, where there is room for it.
 fn put_file(rows: &[u32], table: Table, file: &mut [u8])
-    requires { ⌜ ((8 * table .count ≤ length (now rows)) × (table .count ≤ mostRows)) × (fileLength rowBytes (table .count) ≤ length (now file)) ⌝ }
-    ensures { λ _. ⌜ now (file .exit) ≡ encode (now (rows .entry)) table ++ drop (fileLength rowBytes (table .count)) (now (file .entry)) ⌝ }
+    requires { ⌜
+        ((8 * table .count ≤ length (now rows)) × (table .count ≤ mostRows))
+        × (fileLength rowBytes (table .count) ≤ length (now file)) ⌝ }
+    ensures { λ _. ⌜
+        now (file .exit)
+        ≡ encode (now (rows .entry)) table ++ drop (fileLength rowBytes (table .count)) (now (file .entry)) ⌝ }
 {
     put_said(Form::Full, &mut file[0..form::BLOCK], table);
     put_rows(rows, table.count as usize, file);
@@ -50,7 +58,8 @@ fn put_file(rows: &[u32], table: Table, file: &mut [u8])
 
 // Store a table: so many bytes of the lent file are written, or none and why.
 pub fn store(rows: &[u32], table: Table, file: &mut [u8]) -> Stored
-    ensures { λ r. ⌜ (r ≡ storeTold (now (rows .entry)) table (length (now (file .entry)))) × (now (file .exit) ≡ storeLeaves (now (rows .entry)) table (now (file .entry))) ⌝ }
+    ensures told { λ r. ⌜ r ≡ storeTold (now (rows .entry)) table (length (now (file .entry))) ⌝ }
+    ensures left { λ _. ⌜ now (file .exit) ≡ storeLeaves (now (rows .entry)) table (now (file .entry)) ⌝ }
 {
     if !well_formed(rows, table) {
         return Stored::Refused(Fault::Outer(Outer::NotWellFormed));

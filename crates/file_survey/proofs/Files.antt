@@ -1,5 +1,5 @@
--- The fresh file is block 0 and the blocks of its rows, and what is listed of it is block 0's entry, those of the rows' blocks, and that
--- of a surplus tail.
+-- The fresh file is block 0 and the blocks of its rows, and what is listed of it is block 0's entry, those of the rows'
+-- blocks, and that of a surplus tail.
 use mathlib.Core.Path.{_≡_, refl, _∙_}
 use mathlib.Core.Bool.{Bool, true, false, cond}
 use mathlib.Core.List.{List, [], _∷_, _++_}

@@ -68,7 +68,8 @@ begins text s fine e f =
 
 -- ---- the loop
 
--- So many rows stand in front of the spot, k is the next block, and `listed` of those in front differ; with what is left they are all.
+-- So many rows stand in front of the spot, k is the next block, and `listed` of those in front differ; with what is
+-- left they are all.
 pub record Holding (form : Form) (text file : List ℕ) (spot : Spot) (count listed k : ℕ) : Type 0 where
   pub begun : Begun text spot
   pub rows : count + length (rowsFrom text (spot .at)) ≡ length (rowsOf text)

@@ -1,5 +1,5 @@
--- What the proofs of this crate use: rows in blocks part behind part, the fresh file and what is listed of it, the reading's loop and one
--- step of it, and what it tells.
+-- What the proofs of this crate use: rows in blocks part behind part, the fresh file and what is listed of it, the
+-- reading's loop and one step of it, and what it tells.
 pub mod Parts
 pub mod Files
 pub mod Holding

@@ -1,4 +1,5 @@
-// The first reading of a mending: the rows of a text, a block at a time, held against those of a file. Its table is told, and how many blocks are to be listed.
+// The first reading of a mending: the rows of a text, a block at a time, held against those of a file. Its table is
+// told, and how many blocks are to be listed.
 use file_parts::put_part;
 use file_parts::put_said;
 use file_patch::count_block;
@@ -19,7 +20,7 @@ ghost use mathlib.Core.Path.{_≡_};
 ghost use lib.ListN.{length};
 ghost use Rattle.rules.specs.declared.Judged.the-variants.{Fine};
 ghost use Rattle.rules.specs.Text.{startPlace, textJudged};
-ghost use Rattle.rules_files.specs.Blocks.{perBlock};
+ghost use Rattle.rules_files.specs.Blocks.{perBlock, blockBytes};
 ghost use Rattle.rules_forms.specs.Shapes.{numberOf, rowBytesOf};
 ghost use Rattle.scan_part.specs.Part.{Begun, PartOf};
 ghost use Rattle.rules_mend.specs.Mend.{freshTable, freshFile, listed};
@@ -54,8 +55,10 @@ pub fn begin() -> Spot
 
 // The next rows of a text as block k.
 pub fn fresh_part(form: Form, text: &[u8], spot: Spot, k: u32, fresh: &mut [u8]) -> Part
-    requires { ⌜ Begun (now text) spot × (length (now fresh) ≡ 512) ⌝ }
-    ensures { λ r. ⌜ PartOf (now (text .entry)) (spot .at) (perBlock (rowBytesOf form)) r × (now (fresh .exit) ≡ rowsBlock form k (rowsAt form (now (text .entry)) (spot .at))) ⌝ }
+    requires { ⌜ Begun (now text) spot × (length (now fresh) ≡ blockBytes) ⌝ }
+    ensures { λ r. ⌜
+        PartOf (now (text .entry)) (spot .at) (perBlock (rowBytesOf form)) r
+        × (now (fresh .exit) ≡ rowsBlock form k (rowsAt form (now (text .entry)) (spot .at))) ⌝ }
 {
     let mut words = [0u32; PART_WORDS];
     let part = read_part(text, spot, block_rows(form), &mut words);
@@ -82,7 +85,8 @@ fn hold_part(form: Form, text: &[u8], spot: Spot, k: u32, file: &[u8]) -> Step
 
 // ---- all rows
 
-// The rows of a text, block by block, held against those of a file. Its table is told, and how many blocks behind block 0 differ.
+// The rows of a text, block by block, held against those of a file. Its table is told, and how many blocks behind block
+// 0 differ.
 fn survey_rows(form: Form, text: &[u8], file: &[u8]) -> Seen
     requires { ⌜ textJudged (now text) ≡ Fine ⌝ }
     ensures { λ r. ⌜ RowsHeld form (now (text .entry)) (now (file .entry)) r ⌝ }
@@ -116,10 +120,13 @@ fn survey_rows(form: Form, text: &[u8], file: &[u8]) -> Seen
     }
 }
 
-// The table of a text, and how many blocks of a file are to be listed: those that differ, and the first of a surplus tail.
+// The table of a text, and how many blocks of a file are to be listed: those that differ, and the first of a surplus
+// tail.
 pub fn survey(form: Form, text: &[u8], file: &[u8]) -> Seen
     requires { ⌜ textJudged (now text) ≡ Fine ⌝ }
-    ensures { λ r. ⌜ (r .table ≡ freshTable (now (text .entry))) × (r .listed ≡ length (listed (freshFile (numberOf form) (now (text .entry))) (now (file .entry)))) ⌝ }
+    ensures { λ r. ⌜
+        (r .table ≡ freshTable (now (text .entry)))
+        × (r .listed ≡ length (listed (freshFile (numberOf form) (now (text .entry))) (now (file .entry)))) ⌝ }
 {
     let held = survey_rows(form, text, file);
     let table = held.table;

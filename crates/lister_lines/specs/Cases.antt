@@ -13,6 +13,7 @@ use Rattle.rules.specs.Scan
 use Rattle.rules.specs.Sets
 use Rattle.rules.specs.Text
 use Rattle.rules.specs.Tree
+use Rattle.rules_decimal.specs.Decimal
 use Rattle.lister_parts.specs.Parts
 use Rattle.lister_lines.specs.Lines
 use Rattle.rules.specs.Text.{bytes}
@@ -74,7 +75,7 @@ cases =
 
 pub right : map (λ (c : Case). listed (c .text)) cases ≡ map (λ (c : Case). c .printed) cases
 unfolding
-    Parts.digits Parts.decimal Parts.signed Parts.spaced Parts.heading Parts.rowLine Parts.nodeLine Parts.refusalLine Parts.lines Lines.room
+    Decimal.digits Decimal.decimal Decimal.signed Parts.spaced Parts.heading Parts.rowLine Parts.nodeLine Parts.refusalLine Parts.lines Lines.room
     Parts.listedRows Parts.listedNodes Lines.listedParse Lines.listedTree Lines.listedScan Lines.listedText Lines.listed Text.front Text.utf8 Text.met
     Text.lineIn Text.charAt Text.validFrom Text.validBytes Text.valid Text.isBlank Text.newlines Text.lineAt Text.columnAt Text.placeAt Text.textJudged Text.moved Text.over Text.along Kinds.isMade Kinds.reserved
     Kinds.signs Kinds.sameBytes Kinds.kindIn Kinds.lengthIn Rows.rowWords Rows.rowIn Rows.rowsIn Rows.wordsOf Rows.bitsOf Rows.valueBits Rows.rowAt Rows.eofRow Rows.rowPlace Rows.every

@@ -24,7 +24,8 @@ pub const MOST_LISTING: usize = 350000;
 
 // The nodes, headed, or why there are none.
 fn list_tree(out: &mut [u8], at: usize, text: &[u8], rows: &[u32], table: Table) -> usize
-    ensures { λ r. ⌜ Adds (listedTree (now (text .entry)) (now (rows .entry)) table) (now (out .entry)) at (now (out .exit)) r ⌝ }
+    ensures { λ r. ⌜
+        Adds (listedTree (now (text .entry)) (now (rows .entry)) table) (now (out .entry)) at (now (out .exit)) r ⌝ }
     ensures { λ _. ⌜ length (listedTree (now (text .entry)) (now (rows .entry)) table) ≤ mostOfNodes ⌝ }
 {
     let mut nodes = [0u32; 16000];

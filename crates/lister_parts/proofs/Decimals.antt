@@ -11,7 +11,7 @@ use borrow.Author.Tests.{lt-ltb, le-ltb, ltb-true, ltb-false}
 use Rattle.io.specs.Digits.{Fewest, glyph}
 use Rattle.io.specs.Digits.{digits as io·digits}
 use Rattle.rules.specs.Text.{bytes}
-use Rattle.lister_parts.specs.Parts.{digit, digits, decimal, signed}
+use Rattle.rules_decimal.specs.Decimal.{digit, digits, decimal, signed}
 
 -- ---- the two equations
 

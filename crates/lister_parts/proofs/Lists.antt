@@ -8,7 +8,8 @@ use native.Mathlib.Omega.{arith}
 use lib.ListN.{length, take, drop, getD}
 use lib.Seq.{take-suc, drop-drop}
 use Rattle.rules.specs.Text.{bytes}
-use Rattle.lister_parts.specs.Parts.{decimal, spaced, lines}
+use Rattle.rules_decimal.specs.Decimal.{decimal}
+use Rattle.lister_parts.specs.Parts.{spaced, lines}
 
 pub spaced-none : spaced [] ≡ []
 unfolding spaced

@@ -12,7 +12,8 @@ use Rattle.rules.specs.Rows.{rowIn, valueBits}
 use Rattle.rules.specs.Text.{bytes}
 use Rattle.laws.specs.Bounds.{Words, none, some}
 use Rattle.laws.proofs.Bounds.{below-take, below-drop, below-at}
-use Rattle.lister_parts.specs.Parts.{decimal, signed, spaced, heading, rowLine, nodeLine, refusalLine, lines, listedRows, listedNodes, mostLines}
+use Rattle.rules_decimal.specs.Decimal.{decimal, signed}
+use Rattle.lister_parts.specs.Parts.{spaced, heading, rowLine, nodeLine, refusalLine, lines, listedRows, listedNodes, mostLines}
 use Rattle.lister_parts.specs.Adds.{mostOfRows, mostOfNodes, mostOfRefusal}
 use Rattle.lister_parts.proofs.Decimals.{decimal-short, signed-low, signed-high}
 

@@ -4,7 +4,8 @@ ghost use mathlib.Core.List.{[], _∷_, _++_};
 ghost use Prim.Native.Nat.{_+_, _*_, _^_};
 ghost use Rattle.lister_parts.specs.Adds.{Adds};
 ghost use Rattle.rules.specs.Text.{bytes as Text·bytes};
-ghost use Rattle.lister_parts.specs.Parts.{decimal, signed, spaced};
+ghost use Rattle.rules_decimal.specs.Decimal.{decimal, signed};
+ghost use Rattle.lister_parts.specs.Parts.{spaced};
 
 // A byte.
 pub fn put(out: &mut [u8], at: usize, byte: u8) -> usize

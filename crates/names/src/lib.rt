@@ -16,7 +16,10 @@ pub fn spelt(text: &[u8], spelling: &[u8], number: u32, other: u32) -> u32
 
 // A number where a text begins with a spelling, and else another.
 pub fn begun(text: &[u8], spelling: &[u8], number: u32, other: u32) -> u32
-    ensures { λ r. ⌜ r ≡ cond (sameBytes (now (spelling .entry)) (take (length (now (spelling .entry))) (now (text .entry)))) number other ⌝ }
+    ensures { λ r. ⌜
+        r
+        ≡ cond (sameBytes (now (spelling .entry)) (take (length (now (spelling .entry))) (now (text .entry))))
+        number other ⌝ }
 {
     let n = spelling.len();
     if text.len() < n {

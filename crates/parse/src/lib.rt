@@ -32,7 +32,8 @@ ghost use Rattle.parse.specs.Program.{TopMet, ProgramMet, AsksTable, Ask
 // A map, an event or a unit at the row.
 fn top(text: &[u8], rows: &[u32], count: u32, nodes: &mut [u32], row: u32, node: u32) -> Got
     requires { ⌜ AsksOpen (now rows) count row node 64 × Spans (now text) (now rows) count ⌝ }
-    ensures { λ r. ⌜ TopMet (now (text .entry)) (now (rows .entry)) count row node (now (nodes .entry)) (now (nodes .exit)) r ⌝ }
+    ensures { λ r. ⌜
+        TopMet (now (text .entry)) (now (rows .entry)) count row node (now (nodes .entry)) (now (nodes .exit)) r ⌝ }
 {
     let k = parse_nodes::kind_at(rows, count, row);
     if k == MAP {
@@ -50,7 +51,8 @@ fn top(text: &[u8], rows: &[u32], count: u32, nodes: &mut [u32], row: u32, node:
 // The program of the rows.
 fn program(text: &[u8], rows: &[u32], count: u32, nodes: &mut [u32]) -> Got
     requires { ⌜ AsksTable (now text) (now rows) count ⌝ }
-    ensures { λ r. ⌜ ProgramMet (now (text .entry)) (now (rows .entry)) count (now (nodes .entry)) (now (nodes .exit)) r ⌝ }
+    ensures { λ r. ⌜
+        ProgramMet (now (text .entry)) (now (rows .entry)) count (now (nodes .entry)) (now (nodes .exit)) r ⌝ }
 {
     let mut s = At {
         row: 0,
@@ -131,8 +133,11 @@ fn outer(why: Outer) -> Parsed
 
 // The nodes of a program that the first pass has come to the end of, into enough room. It is not refused.
 fn written(text: &[u8], rows: &[u32], count: u32, nodes: &mut [u32]) -> Parsed
-    requires { ⌜ AsksWhole (now text) (now rows) count (now nodes) × Accepted (readingOf (now text) (now rows) count) ⌝ }
-    ensures { λ r. ⌜ Final (now (rows .entry)) (readingOf (now (text .entry)) (now (rows .entry)) count) (now (nodes .entry)) (now (nodes .exit)) r ⌝ }
+    requires { ⌜
+        AsksWhole (now text) (now rows) count (now nodes) × Accepted (readingOf (now text) (now rows) count) ⌝ }
+    ensures { λ r. ⌜
+        Final (now (rows .entry)) (readingOf (now (text .entry)) (now (rows .entry)) count) (now (nodes .entry))
+        (now (nodes .exit)) r ⌝ }
 {
     match program(text, rows, count, nodes) {
         Got::Done(t) => Parsed::Nodes(t.node),
@@ -143,7 +148,9 @@ fn written(text: &[u8], rows: &[u32], count: u32, nodes: &mut [u32]) -> Parsed
 // The program of a sound table with no refused ending, into enough room.
 fn twice(text: &[u8], rows: &[u32], count: u32, nodes: &mut [u32]) -> Parsed
     requires { ⌜ AsksWhole (now text) (now rows) count (now nodes) ⌝ }
-    ensures { λ r. ⌜ Final (now (rows .entry)) (readingOf (now (text .entry)) (now (rows .entry)) count) (now (nodes .entry)) (now (nodes .exit)) r ⌝ }
+    ensures { λ r. ⌜
+        Final (now (rows .entry)) (readingOf (now (text .entry)) (now (rows .entry)) count) (now (nodes .entry))
+        (now (nodes .exit)) r ⌝ }
 {
     match program_passed(text, rows, count, &mut nodes[..0]) {
         Passed::To(_) => written(text, rows, count, nodes),
@@ -160,7 +167,10 @@ fn twice(text: &[u8], rows: &[u32], count: u32, nodes: &mut [u32]) -> Parsed
 
 // The nodes of a program.
 pub fn parse(text: &[u8], rows: &[u32], table: Table, nodes: &mut [u32]) -> Parsed
-    ensures { λ r. ⌜ (r ≡ parseTold (now (text .entry)) (now (rows .entry)) table (nodeRoom (now (nodes .entry)))) × (now (nodes .exit) ≡ parseLeaves (now (text .entry)) (now (rows .entry)) table (now (nodes .entry))) ⌝ }
+    ensures told { λ r. ⌜
+        r ≡ parseTold (now (text .entry)) (now (rows .entry)) table (nodeRoom (now (nodes .entry))) ⌝ }
+    ensures left { λ _. ⌜
+        now (nodes .exit) ≡ parseLeaves (now (text .entry)) (now (rows .entry)) table (now (nodes .entry)) ⌝ }
 {
     match rows::judge(text, rows, table) {
         Judged::Refused(why, at) => {

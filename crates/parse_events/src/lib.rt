@@ -5,7 +5,6 @@ use parse_nodes::Words;
 use rules::Syntax;
 use rules::fact;
 use rules::fits;
-use rules::kind;
 use rules::kind::BYTES;
 use rules::kind::COLON;
 use rules::kind::IDENTIFIER;
@@ -71,15 +70,10 @@ fn typed_at(rows: &[u32], count: u32, row: u32, kind: u32) -> Shaped
     ensures { λ r. ⌜ TypeFound (now (rows .entry)) count row r ⌝ }
 {
     let next = row + 1;
+    let element = parse_nodes::type_number(kind);
     let k = parse_nodes::kind_at(rows, count, next);
     if k == LBRACKET {
-        return length_at(
-            rows,
-            count,
-            next + 1,
-            fact::FORM_ARRAY,
-            kind - kind::LAST_UNMADE,
-        );
+        return length_at(rows, count, next + 1, fact::FORM_ARRAY, element);
     }
     if k != SEMICOLON {
         return Shaped::Refused(parse_nodes::wrong(fits::FIELD_ENDS), next);
@@ -87,7 +81,7 @@ fn typed_at(rows: &[u32], count: u32, row: u32, kind: u32) -> Shaped
     Shaped::Done(Shape {
         row: next + 1,
         form: fact::FORM_PLAIN,
-        element: kind - kind::LAST_UNMADE,
+        element,
         length: 0,
     })
 }
@@ -114,7 +108,9 @@ fn shape_at(rows: &[u32], count: u32, row: u32) -> Shaped
 // A field at the row.
 fn field(rows: &[u32], count: u32, nodes: &mut [u32], row: u32, node: u32) -> Got
     requires { ⌜ Asks (now rows) count row node 0 ⌝ }
-    ensures { λ r. ⌜ Answers (λ ts. eventField ts row) (now (rows .entry)) count row node (now (nodes .entry)) (now (nodes .exit)) r ⌝ }
+    ensures { λ r. ⌜
+        Answers (λ ts. eventField ts row) (now (rows .entry)) count row node (now (nodes .entry))
+        (now (nodes .exit)) r ⌝ }
 {
     if parse_nodes::kind_at(rows, count, row) != IDENTIFIER {
         return Got::Refused(parse_nodes::wanted(IDENTIFIER), row as usize);
@@ -156,7 +152,8 @@ fn field(rows: &[u32], count: u32, nodes: &mut [u32], row: u32, node: u32) -> Go
 // The fields of the event whose word is at the row, from the first on up to `}`, and the event's node.
 fn fields(rows: &[u32], count: u32, nodes: &mut [u32], row: u32, start: At) -> Got
     requires { ⌜ AsksFields (now rows) count row start ⌝ }
-    ensures { λ r. ⌜ FieldsMet (now (rows .entry)) count row (start .node) (now (nodes .entry)) (now (nodes .exit)) r ⌝ }
+    ensures { λ r. ⌜
+        FieldsMet (now (rows .entry)) count row (start .node) (now (nodes .entry)) (now (nodes .exit)) r ⌝ }
 {
     let name = row + 1;
     let mut s = start;
@@ -189,7 +186,8 @@ fn fields(rows: &[u32], count: u32, nodes: &mut [u32], row: u32, start: At) -> G
 // The event whose word is at the row.
 pub fn event(rows: &[u32], count: u32, nodes: &mut [u32], row: u32, node: u32) -> Got
     requires { ⌜ AsksOpen (now rows) count row node 0 ⌝ }
-    ensures { λ r. ⌜ Answers (λ ts. eventAt ts row) (now (rows .entry)) count row node (now (nodes .entry)) (now (nodes .exit)) r ⌝ }
+    ensures { λ r. ⌜
+        Answers (λ ts. eventAt ts row) (now (rows .entry)) count row node (now (nodes .entry)) (now (nodes .exit)) r ⌝ }
 {
     match parse_nodes::opened(rows, count, row, node) {
         Got::Done(start) => fields(rows, count, nodes, row, start),

@@ -24,13 +24,13 @@ ghost use mathlib.Core.Path.{_≡_};
 ghost use Prim.Native.Nat.{_+_, _*_, _≤_, _<_};
 ghost use lib.ListN.{length};
 ghost use Rattle.rules.specs.Parse.{inner, atom, prim, unary, mul, add, args, post};
-ghost use Rattle.parse_nodes.specs.Post.{kindWord, stateAt, Answers, Onward, Asks, AsksAt, AsksOpen};
+ghost use Rattle.parse_nodes.specs.Post.{kindWord, stateAt, Answers, Onward, Asks, AsksAt, AsksOpen, mostRows};
 ghost use Rattle.parse_expr.specs.Written.{CallEnd, FieldEnd};
 ghost use Rattle.parse_expr.specs.Lone.{isLone, Leaf};
 
 // The end of a call: s stands behind the receiver, at the dot; m is the next node, and next the row behind the call.
 fn call_end(nodes: &mut [u32], s: At, m: u32, count: u32, next: u32) -> Got
-    requires { ⌜ (s .row ≤ 65536) × ((m ≤ 65537) × (count ≤ 65536)) ⌝ }
+    requires { ⌜ (s .row ≤ 65536) × ((m ≤ mostRows) × (count ≤ 65536)) ⌝ }
     ensures { λ r. ⌜ CallEnd (s .variable) s m count next (now (nodes .entry)) (now (nodes .exit)) r ⌝ }
 {
     if s.variable {
@@ -51,7 +51,7 @@ fn call_end(nodes: &mut [u32], s: At, m: u32, count: u32, next: u32) -> Got
 
 // The state behind a field of what s stands behind, at the dot.
 fn field_end(nodes: &mut [u32], s: At) -> At
-    requires { ⌜ (s .row ≤ 65535) × (s .node ≤ 65537) ⌝ }
+    requires { ⌜ (s .row ≤ 65535) × (s .node ≤ mostRows) ⌝ }
     ensures { λ r. ⌜ FieldEnd s (now (nodes .entry)) (now (nodes .exit)) r ⌝ }
 {
     let name = s.row + 1;
@@ -70,8 +70,9 @@ fn field_end(nodes: &mut [u32], s: At) -> At
 
 // Whether a variable or a number stands at a row, and neither a dot nor an operator of `mul` behind it.
 fn is_lone(rows: &[u32], count: u32, row: u32) -> bool
-    requires { ⌜ (count * 8 ≤ length (now rows)) × (row ≤ 65537) ⌝ }
-    ensures { λ r. ⌜ r ≡ isLone (kindWord (now (rows .entry)) count row) (kindWord (now (rows .entry)) count (row + 1)) ⌝ }
+    requires { ⌜ (count * 8 ≤ length (now rows)) × (row ≤ mostRows) ⌝ }
+    ensures { λ r. ⌜
+        r ≡ isLone (kindWord (now (rows .entry)) count row) (kindWord (now (rows .entry)) count (row + 1)) ⌝ }
 {
     let k = parse_nodes::kind_at(rows, count, row);
     let next = parse_nodes::kind_at(rows, count, row + 1);
@@ -80,7 +81,7 @@ fn is_lone(rows: &[u32], count: u32, row: u32) -> bool
 
 // The state behind the number at a row, or behind a variable if no number stands there.
 fn leaf(rows: &[u32], count: u32, nodes: &mut [u32], row: u32, node: u32) -> At
-    requires { ⌜ (count * 8 ≤ length (now rows)) × ((row ≤ 65537) × (node ≤ 65537)) ⌝ }
+    requires { ⌜ (count * 8 ≤ length (now rows)) × ((row ≤ mostRows) × (node ≤ mostRows)) ⌝ }
     ensures { λ r. ⌜ Leaf (now (rows .entry)) count row node (now (nodes .entry)) (now (nodes .exit)) r ⌝ }
 {
     if parse_nodes::kind_at(rows, count, row) == NUMBER {
@@ -114,7 +115,9 @@ fn unread(row: u32, node: u32) -> At
 // at row `at`, and Eof in front of the first: one call reads them all, so that one answer has room in the frame.
 pub fn add(rows: &[u32], count: u32, nodes: &mut [u32], row: u32, node: u32, left: usize) -> Got
     requires { ⌜ Asks (now rows) count row node left ⌝ }
-    ensures { λ r. ⌜ Answers (λ ts. add ts (inner ts left) row) (now (rows .entry)) count row node (now (nodes .entry)) (now (nodes .exit)) r ⌝ }
+    ensures { λ r. ⌜
+        Answers (λ ts. add ts (inner ts left) row) (now (rows .entry)) count row node (now (nodes .entry))
+        (now (nodes .exit)) r ⌝ }
 {
     let mut s = unread(row, node);
     let mut k = EOF;
@@ -140,7 +143,9 @@ pub fn add(rows: &[u32], count: u32, nodes: &mut [u32], row: u32, node: u32, lef
 // An operand, and further ones behind `*`, `/` and `%`; a lone variable or number is written at once.
 fn mul(rows: &[u32], count: u32, nodes: &mut [u32], row: u32, node: u32, left: usize) -> Got
     requires { ⌜ Asks (now rows) count row node left ⌝ }
-    ensures { λ r. ⌜ Answers (λ ts. mul ts (inner ts left) row) (now (rows .entry)) count row node (now (nodes .entry)) (now (nodes .exit)) r ⌝ }
+    ensures { λ r. ⌜
+        Answers (λ ts. mul ts (inner ts left) row) (now (rows .entry)) count row node (now (nodes .entry))
+        (now (nodes .exit)) r ⌝ }
 {
     if is_lone(rows, count, row) {
         return Got::Done(leaf(rows, count, nodes, row, node));
@@ -169,7 +174,9 @@ fn mul(rows: &[u32], count: u32, nodes: &mut [u32], row: u32, node: u32, left: u
 // An operand behind any number of stars.
 fn unary(rows: &[u32], count: u32, nodes: &mut [u32], row: u32, node: u32, left: usize) -> Got
     requires { ⌜ Asks (now rows) count row node left ⌝ }
-    ensures { λ r. ⌜ Answers (λ ts. unary ts (inner ts left) row) (now (rows .entry)) count row node (now (nodes .entry)) (now (nodes .exit)) r ⌝ }
+    ensures { λ r. ⌜
+        Answers (λ ts. unary ts (inner ts left) row) (now (rows .entry)) count row node (now (nodes .entry))
+        (now (nodes .exit)) r ⌝ }
 {
     if parse_nodes::kind_at(rows, count, row) == STAR {
         if left == 0 {
@@ -190,7 +197,9 @@ fn unary(rows: &[u32], count: u32, nodes: &mut [u32], row: u32, node: u32, left:
 // A number, a variable or a group.
 fn atom(rows: &[u32], count: u32, nodes: &mut [u32], row: u32, node: u32, left: usize) -> Got
     requires { ⌜ Asks (now rows) count row node left ⌝ }
-    ensures { λ r. ⌜ Answers (λ ts. atom ts (inner ts left) row) (now (rows .entry)) count row node (now (nodes .entry)) (now (nodes .exit)) r ⌝ }
+    ensures { λ r. ⌜
+        Answers (λ ts. atom ts (inner ts left) row) (now (rows .entry)) count row node (now (nodes .entry))
+        (now (nodes .exit)) r ⌝ }
 {
     let k = parse_nodes::kind_at(rows, count, row);
     if k == NUMBER {
@@ -232,7 +241,9 @@ fn atom(rows: &[u32], count: u32, nodes: &mut [u32], row: u32, node: u32, left: 
 // An atom with its fields and calls.
 fn prim(rows: &[u32], count: u32, nodes: &mut [u32], row: u32, node: u32, left: usize) -> Got
     requires { ⌜ Asks (now rows) count row node left ⌝ }
-    ensures { λ r. ⌜ Answers (λ ts. prim ts (inner ts left) row) (now (rows .entry)) count row node (now (nodes .entry)) (now (nodes .exit)) r ⌝ }
+    ensures { λ r. ⌜
+        Answers (λ ts. prim ts (inner ts left) row) (now (rows .entry)) count row node (now (nodes .entry))
+        (now (nodes .exit)) r ⌝ }
 {
     let mut s = match atom(rows, count, nodes, row, node, left) {
         Got::Done(t) => t,
@@ -259,7 +270,9 @@ fn prim(rows: &[u32], count: u32, nodes: &mut [u32], row: u32, node: u32, left: 
 // A field or a call behind what s stands behind, whose dot is at s's row.
 fn post(rows: &[u32], count: u32, nodes: &mut [u32], s: At, left: usize) -> Got
     requires { ⌜ AsksAt (now rows) count s left ⌝ }
-    ensures { λ r. ⌜ Onward (λ ts t. post ts (inner ts left) t (s .row)) (now (rows .entry)) count s (now (nodes .entry)) (now (nodes .exit)) r ⌝ }
+    ensures { λ r. ⌜
+        Onward (λ ts t. post ts (inner ts left) t (s .row)) (now (rows .entry)) count s (now (nodes .entry))
+        (now (nodes .exit)) r ⌝ }
 {
     let name = s.row + 1;
     let n = s.node;
@@ -290,7 +303,9 @@ fn post(rows: &[u32], count: u32, nodes: &mut [u32], s: At, left: usize) -> Got
 // Arguments behind the parenthesis at `row`.
 fn args(rows: &[u32], count: u32, nodes: &mut [u32], row: u32, node: u32, left: usize) -> Got
     requires { ⌜ AsksOpen (now rows) count row node left ⌝ }
-    ensures { λ r. ⌜ Answers (λ ts. args ts (inner ts left) row) (now (rows .entry)) count (row + 1) node (now (nodes .entry)) (now (nodes .exit)) r ⌝ }
+    ensures { λ r. ⌜
+        Answers (λ ts. args ts (inner ts left) row) (now (rows .entry)) count (row + 1) node (now (nodes .entry))
+        (now (nodes .exit)) r ⌝ }
 {
     if left == 0 {
         return Got::Refused(Syntax::TooDeep, row as usize);

@@ -5,7 +5,6 @@ use parse_nodes::Words;
 use rules::Syntax;
 use rules::fact;
 use rules::fits;
-use rules::kind;
 use rules::kind::COLON;
 use rules::kind::DOT;
 use rules::kind::EOF;
@@ -31,7 +30,7 @@ ghost use lib.ListN.{length};
 ghost use Rattle.rules.specs.Kinds.{KeywordType, KeywordMax};
 ghost use Rattle.rules.specs.Tree.{mapTypeNumber, lacking, shiftBits};
 ghost use Rattle.rules.specs.Parse.{isTyped};
-ghost use Rattle.parse_nodes.specs.Post.{Asks, AsksOpen};
+ghost use Rattle.parse_nodes.specs.Post.{Asks, AsksOpen, mostRows};
 ghost use Rattle.parse_nodes.specs.Names.{Spans};
 ghost use Rattle.parse_maps.specs.Steps.{bitsAt, AsksRow, ShiftFound, ChainFound, FieldFound, RowsFound, FieldsFound};
 ghost use Rattle.parse_maps.specs.Steps.{mapWritten, MapMet};
@@ -190,7 +189,7 @@ fn typed_field(rows: &[u32], count: u32, f: Facts, kind: u32) -> Found
     if parse_nodes::kind_at(rows, count, end) != SEMICOLON {
         return Found::Refused(parse_nodes::wanted(SEMICOLON), end);
     }
-    let number = t - kind::LAST_UNMADE;
+    let number = parse_nodes::type_number(t);
     let next = end + 1;
     if kind == KEY {
         return Found::Done(Facts {
@@ -330,7 +329,7 @@ fn lacks(f: Facts) -> u32
 
 // The map's node, whose name is at a row, from fields that lack nothing.
 fn map_node(nodes: &mut [u32], node: u32, name: u32, f: Facts)
-    requires { ⌜ (node ≤ 65537) × ((1 ≤ f .limit) × (f .limit ≤ 4294967296)) ⌝ }
+    requires { ⌜ (node ≤ mostRows) × ((1 ≤ f .limit) × (f .limit ≤ 4294967296)) ⌝ }
     ensures { λ _. ⌜ now (nodes .exit) ≡ mapWritten name node (now (nodes .entry)) f ⌝ }
 {
     parse_nodes::store(
@@ -352,7 +351,8 @@ fn map_node(nodes: &mut [u32], node: u32, name: u32, f: Facts)
 // The map whose word is at the row.
 pub fn map(text: &[u8], rows: &[u32], count: u32, nodes: &mut [u32], row: u32, node: u32) -> Got
     requires { ⌜ AsksOpen (now rows) count row node 0 × Spans (now text) (now rows) count ⌝ }
-    ensures { λ r. ⌜ MapMet (now (text .entry)) (now (rows .entry)) count row node (now (nodes .entry)) (now (nodes .exit)) r ⌝ }
+    ensures { λ r. ⌜
+        MapMet (now (text .entry)) (now (rows .entry)) count row node (now (nodes .entry)) (now (nodes .exit)) r ⌝ }
 {
     let first = match parse_nodes::opened(rows, count, row, node) {
         Got::Done(s) => s.row,

@@ -15,6 +15,10 @@ use Rattle.parse_nodes.specs.declared.At.{At}
 use Rattle.parse_nodes.specs.declared.Got.{Got}
 use Rattle.parse_nodes.specs.declared.Got.the-variants.{Done, Refused}
 
+-- the most rows that a text has, Eof's among them, and so the most nodes
+abbrev pub mostRows : ℕ
+mostRows = 65537
+
 -- the kind of row i of n rows that stand in ws, and Eof past the last
 unfoldable pub kindWord : List ℕ → ℕ → ℕ → ℕ
 kindWord ws n i = cond (ltb i n) (getD ws (i * wordsPerRow) 0) Eof

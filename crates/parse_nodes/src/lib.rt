@@ -4,6 +4,7 @@ use rules::fits;
 use rules::kind::DOT;
 use rules::kind::EOF;
 use rules::kind::IDENTIFIER;
+use rules::kind::LAST_UNMADE;
 use rules::kind::LBRACE;
 use rules::limit;
 use rules::node;
@@ -15,9 +16,11 @@ ghost use mathlib.Core.Bool.{true};
 ghost use Prim.Native.Nat.{_+_, _-_, _*_, _^_, _≤_, _<_};
 ghost use lib.ListN.{length, set};
 ghost use lib.Seq.{sets};
+ghost use Rattle.rules.specs.Kinds.{lastUnmade};
+ghost use Rattle.rules.specs.Tree.{typeNumber};
 ghost use Rattle.rules.specs.Nodes.{NodeVariable, NodeNumber, node, factNode, nodeWords, missing};
 ghost use Rattle.rules.specs.Fits.{only, wrong, retold};
-ghost use Rattle.parse_nodes.specs.Post.{kindWord, stateAt, variableAt, countedAt, AsksOpen};
+ghost use Rattle.parse_nodes.specs.Post.{kindWord, stateAt, variableAt, countedAt, AsksOpen, mostRows};
 ghost use Rattle.parse_nodes.specs.Fitting.{retoldAt, dottedWords, onwardWords, Header};
 
 // Where the parser stands: the next row, the next node, the place of what was read and how many things it has if it is a list. Of what was
@@ -63,6 +66,14 @@ pub fn kind_at(rows: &[u32], count: u32, i: u32) -> u32
     }
 }
 
+// The number of a type, 1 to 4, by its kind.
+pub fn type_number(kind: u32) -> u32
+    requires { ⌜ lastUnmade ≤ kind ⌝ }
+    ensures { λ r. ⌜ r ≡ typeNumber kind ⌝ }
+{
+    kind - LAST_UNMADE
+}
+
 // A word, if there is room.
 fn put(nodes: &mut [u32], at: usize, v: u32)
     ensures { λ _. ⌜ now (nodes .exit) ≡ set (now (nodes .entry)) at v ⌝ }
@@ -75,7 +86,12 @@ fn put(nodes: &mut [u32], at: usize, v: u32)
 // A node's words from an index on, one by one, as far as there is room.
 fn store_part(nodes: &mut [u32], at: usize, w: Words)
     requires { ⌜ at ≤ 524296 ⌝ }
-    ensures { λ _. ⌜ now (nodes .exit) ≡ sets (now (nodes .entry)) at (nodeWords (factNode (w .kind) (w .place) (w .name) (w .children) (w .fact0) (w .fact1) (w .fact2) (w .fact3))) ⌝ }
+    ensures { λ _. ⌜
+        now (nodes .exit)
+        ≡ sets (now (nodes .entry)) at
+        (nodeWords
+        (factNode (w .kind) (w .place) (w .name) (w .children) (w .fact0) (w .fact1) (w .fact2)
+        (w .fact3))) ⌝ }
 {
     put(nodes, at, w.kind);
     put(nodes, at + node::PLACE, w.place);
@@ -90,7 +106,12 @@ fn store_part(nodes: &mut [u32], at: usize, w: Words)
 // A node's words from an index on, where there is room for all.
 fn store_whole(nodes: &mut [u32], at: usize, w: Words)
     requires { ⌜ at + 8 ≤ length (now nodes) ⌝ }
-    ensures { λ _. ⌜ now (nodes .exit) ≡ sets (now (nodes .entry)) at (nodeWords (factNode (w .kind) (w .place) (w .name) (w .children) (w .fact0) (w .fact1) (w .fact2) (w .fact3))) ⌝ }
+    ensures { λ _. ⌜
+        now (nodes .exit)
+        ≡ sets (now (nodes .entry)) at
+        (nodeWords
+        (factNode (w .kind) (w .place) (w .name) (w .children) (w .fact0) (w .fact1) (w .fact2)
+        (w .fact3))) ⌝ }
 {
     nodes[at] = w.kind;
     nodes[at + node::PLACE] = w.place;
@@ -104,8 +125,13 @@ fn store_whole(nodes: &mut [u32], at: usize, w: Words)
 
 // Node n, as far as there is room.
 pub fn store(nodes: &mut [u32], n: u32, w: Words)
-    requires { ⌜ n ≤ 65537 ⌝ }
-    ensures { λ _. ⌜ now (nodes .exit) ≡ sets (now (nodes .entry)) (8 * n) (nodeWords (factNode (w .kind) (w .place) (w .name) (w .children) (w .fact0) (w .fact1) (w .fact2) (w .fact3))) ⌝ }
+    requires { ⌜ n ≤ mostRows ⌝ }
+    ensures { λ _. ⌜
+        now (nodes .exit)
+        ≡ sets (now (nodes .entry)) (8 * n)
+        (nodeWords
+        (factNode (w .kind) (w .place) (w .name) (w .children) (w .fact0) (w .fact1) (w .fact2)
+        (w .fact3))) ⌝ }
 {
     let at = node::WORDS * (n as usize);
     if nodes.len() <= at {
@@ -120,8 +146,9 @@ pub fn store(nodes: &mut [u32], n: u32, w: Words)
 
 // Node n with no facts; `name` is a row, or MISSING.
 pub fn close(nodes: &mut [u32], n: u32, kind: u32, place: u32, name: u32, children: u32)
-    requires { ⌜ n ≤ 65537 ⌝ }
-    ensures { λ _. ⌜ now (nodes .exit) ≡ sets (now (nodes .entry)) (8 * n) (nodeWords (node kind place name children)) ⌝ }
+    requires { ⌜ n ≤ mostRows ⌝ }
+    ensures { λ _. ⌜
+        now (nodes .exit) ≡ sets (now (nodes .entry)) (8 * n) (nodeWords (node kind place name children)) ⌝ }
 {
     store(
         nodes,
@@ -141,8 +168,11 @@ pub fn close(nodes: &mut [u32], n: u32, kind: u32, place: u32, name: u32, childr
 
 // The state behind a nameless node that is written at t, over what was read up to t.
 pub fn shut(nodes: &mut [u32], t: At, kind: u32, place: u32, children: u32) -> At
-    requires { ⌜ t .node ≤ 65537 ⌝ }
-    ensures { λ r. ⌜ (r ≡ stateAt (t .row) (t .node + 1) place) × (now (nodes .exit) ≡ sets (now (nodes .entry)) (8 * t .node) (nodeWords (node kind place missing children))) ⌝ }
+    requires { ⌜ t .node ≤ mostRows ⌝ }
+    ensures { λ r. ⌜
+        (r ≡ stateAt (t .row) (t .node + 1) place)
+        × (now (nodes .exit)
+        ≡ sets (now (nodes .entry)) (8 * t .node) (nodeWords (node kind place missing children))) ⌝ }
 {
     let n = t.node;
     close(nodes, n, kind, place, MISSING, children);
@@ -159,8 +189,11 @@ pub fn shut(nodes: &mut [u32], t: At, kind: u32, place: u32, children: u32) -> A
 
 // The state behind a nameless node over what was read up to t, and behind the row that ends it.
 pub fn ended(nodes: &mut [u32], t: At, kind: u32, place: u32, children: u32) -> At
-    requires { ⌜ (t .node ≤ 65537) × (t .row ≤ 65537) ⌝ }
-    ensures { λ r. ⌜ (r ≡ stateAt (t .row + 1) (t .node + 1) place) × (now (nodes .exit) ≡ sets (now (nodes .entry)) (8 * t .node) (nodeWords (node kind place missing children))) ⌝ }
+    requires { ⌜ (t .node ≤ mostRows) × (t .row ≤ mostRows) ⌝ }
+    ensures { λ r. ⌜
+        (r ≡ stateAt (t .row + 1) (t .node + 1) place)
+        × (now (nodes .exit)
+        ≡ sets (now (nodes .entry)) (8 * t .node) (nodeWords (node kind place missing children))) ⌝ }
 {
     let s = shut(nodes, t, kind, place, children);
     At {
@@ -176,8 +209,10 @@ pub fn ended(nodes: &mut [u32], t: At, kind: u32, place: u32, children: u32) -> 
 
 // The state behind a variable at a row.
 pub fn variable(nodes: &mut [u32], row: u32, n: u32) -> At
-    requires { ⌜ (row ≤ 65537) × (n ≤ 65537) ⌝ }
-    ensures { λ r. ⌜ (r ≡ variableAt (row + 1) (n + 1) row) × (now (nodes .exit) ≡ sets (now (nodes .entry)) (8 * n) (nodeWords (node NodeVariable row row 0))) ⌝ }
+    requires { ⌜ (row ≤ mostRows) × (n ≤ mostRows) ⌝ }
+    ensures { λ r. ⌜
+        (r ≡ variableAt (row + 1) (n + 1) row)
+        × (now (nodes .exit) ≡ sets (now (nodes .entry)) (8 * n) (nodeWords (node NodeVariable row row 0))) ⌝ }
 {
     close(nodes, n, node_kind::VARIABLE, row, row, 0);
     At {
@@ -193,8 +228,11 @@ pub fn variable(nodes: &mut [u32], row: u32, n: u32) -> At
 
 // The state behind a number at a row, with its value's words.
 pub fn number(nodes: &mut [u32], row: u32, n: u32, low: u32, high: u32) -> At
-    requires { ⌜ (row ≤ 65537) × (n ≤ 65537) ⌝ }
-    ensures { λ r. ⌜ (r ≡ stateAt (row + 1) (n + 1) row) × (now (nodes .exit) ≡ sets (now (nodes .entry)) (8 * n) (nodeWords (factNode NodeNumber row missing 0 low high 0 0))) ⌝ }
+    requires { ⌜ (row ≤ mostRows) × (n ≤ mostRows) ⌝ }
+    ensures { λ r. ⌜
+        (r ≡ stateAt (row + 1) (n + 1) row)
+        × (now (nodes .exit)
+        ≡ sets (now (nodes .entry)) (8 * n) (nodeWords (factNode NodeNumber row missing 0 low high 0 0))) ⌝ }
 {
     store(
         nodes,

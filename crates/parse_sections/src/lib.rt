@@ -35,7 +35,8 @@ fn kind_of_string(text: &[u8], a: usize, e: usize) -> u32
 // The kind, if there is one, or that of the section whose string is at the row.
 pub fn first_kind(text: &[u8], rows: &[u32], row: u32, kind: u32) -> u32
     requires { ⌜ AsksString (now text) (now rows) row ⌝ }
-    ensures { λ r. ⌜ r ≡ firstOf kind (fromSection (sectionText (spelt (now (text .entry)) (now (rows .entry)) row))) ⌝ }
+    ensures { λ r. ⌜
+        r ≡ firstOf kind (fromSection (sectionText (spelt (now (text .entry)) (now (rows .entry)) row))) ⌝ }
 {
     if kind != NO_SECTION {
         return kind;

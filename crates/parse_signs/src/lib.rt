@@ -17,6 +17,7 @@ ghost use lib.Dec.{eqb};
 ghost use Rattle.rules.specs.Kinds.{Eof};
 ghost use Rattle.rules.specs.Nodes.{binaryNode};
 ghost use Rattle.rules.specs.Parse.{isAdd, isShift, isMul};
+ghost use Rattle.parse_nodes.specs.Post.{mostRows};
 ghost use Rattle.parse_signs.specs.Joined.{Joined};
 
 // Whether a row's kind is `+` or `-`, which stand side by side among the kinds.
@@ -63,7 +64,7 @@ pub fn joins(k: u32, summed: bool) -> bool
 
 // The state behind the operator k with its operands: the first ends at s, the second at t. No operator, Eof, has t alone.
 pub fn joined(nodes: &mut [u32], s: At, t: At, k: u32) -> At
-    requires { ⌜ t .node ≤ 65537 ⌝ }
+    requires { ⌜ t .node ≤ mostRows ⌝ }
     ensures { λ r. ⌜ Joined (eqb k Eof) s t k (now (nodes .entry)) (now (nodes .exit)) r ⌝ }
 {
     if k == EOF {

@@ -25,7 +25,7 @@ ghost use Prim.Native.Nat.{_+_, _*_, _≤_, _<_};
 ghost use lib.ListN.{length};
 ghost use Rattle.rules.specs.Nodes.{declNode, assignNode};
 ghost use Rattle.rules.specs.Parse.{isDeclaring, isAssign, declaring, returning, branching, expression, stmt, body};
-ghost use Rattle.parse_nodes.specs.Post.{Answers, Onward, Asks, AsksAt, AsksOpen};
+ghost use Rattle.parse_nodes.specs.Post.{Answers, Onward, Asks, AsksAt, AsksOpen, mostRows};
 ghost use Rattle.parse_stmt.specs.Bodies.{byLead, assignedTo, NamedEnd, bodyNode, HeadSays, BodyAnswers, AsksElse, Elsewise, HangingIf};
 
 // Whether a row's kind is reg, imm or heap.
@@ -69,7 +69,7 @@ fn assign_node(k: u32) -> u32
 
 // The state behind a named node with one child, over what was read up to t, and behind the row that ends it.
 fn named_end(nodes: &mut [u32], t: At, kind: u32, name: u32) -> At
-    requires { ⌜ (t .node ≤ 65537) × (t .row ≤ 65537) ⌝ }
+    requires { ⌜ (t .node ≤ mostRows) × (t .row ≤ mostRows) ⌝ }
     ensures { λ r. ⌜ NamedEnd t kind name (now (nodes .entry)) (now (nodes .exit)) r ⌝ }
 {
     let n = t.node;
@@ -88,7 +88,9 @@ fn named_end(nodes: &mut [u32], t: At, kind: u32, name: u32) -> At
 // `reg`, `imm` or `heap` at the row: name `=` expression `;`.
 fn declare(rows: &[u32], count: u32, nodes: &mut [u32], row: u32, node: u32, left: usize) -> Got
     requires { ⌜ AsksOpen (now rows) count row node left ⌝ }
-    ensures { λ r. ⌜ Answers (byLead declaring left row) (now (rows .entry)) count row node (now (nodes .entry)) (now (nodes .exit)) r ⌝ }
+    ensures { λ r. ⌜
+        Answers (byLead declaring left row) (now (rows .entry)) count row node (now (nodes .entry))
+        (now (nodes .exit)) r ⌝ }
 {
     let name = row + 1;
     if parse_nodes::kind_at(rows, count, name) != IDENTIFIER {
@@ -117,7 +119,9 @@ fn declare(rows: &[u32], count: u32, nodes: &mut [u32], row: u32, node: u32, lef
 // `return` at the row: expression `;`.
 fn give(rows: &[u32], count: u32, nodes: &mut [u32], row: u32, node: u32, left: usize) -> Got
     requires { ⌜ AsksOpen (now rows) count row node left ⌝ }
-    ensures { λ r. ⌜ Answers (byLead returning left row) (now (rows .entry)) count row node (now (nodes .entry)) (now (nodes .exit)) r ⌝ }
+    ensures { λ r. ⌜
+        Answers (byLead returning left row) (now (rows .entry)) count row node (now (nodes .entry))
+        (now (nodes .exit)) r ⌝ }
 {
     let place = row + 1;
     match parse_expr::add(rows, count, nodes, place, node, left) {
@@ -138,7 +142,8 @@ fn give(rows: &[u32], count: u32, nodes: &mut [u32], row: u32, node: u32, left: 
 // The value and `;` behind the target t, whose sign is at t's row.
 fn assigned(rows: &[u32], count: u32, nodes: &mut [u32], t: At, left: usize) -> Got
     requires { ⌜ AsksAt (now rows) count t left ⌝ }
-    ensures { λ r. ⌜ Onward (assignedTo left (t .row)) (now (rows .entry)) count t (now (nodes .entry)) (now (nodes .exit)) r ⌝ }
+    ensures { λ r. ⌜
+        Onward (assignedTo left (t .row)) (now (rows .entry)) count t (now (nodes .entry)) (now (nodes .exit)) r ⌝ }
 {
     let sign = t.row;
     let n = t.node;
@@ -161,7 +166,9 @@ fn assigned(rows: &[u32], count: u32, nodes: &mut [u32], t: At, left: usize) -> 
 // An expression, or one and `=` or `+=` and another; then `;`.
 fn effect(rows: &[u32], count: u32, nodes: &mut [u32], row: u32, node: u32, left: usize) -> Got
     requires { ⌜ Asks (now rows) count row node left ⌝ }
-    ensures { λ r. ⌜ Answers (byLead expression left row) (now (rows .entry)) count row node (now (nodes .entry)) (now (nodes .exit)) r ⌝ }
+    ensures { λ r. ⌜
+        Answers (byLead expression left row) (now (rows .entry)) count row node (now (nodes .entry))
+        (now (nodes .exit)) r ⌝ }
 {
     match parse_expr::add(rows, count, nodes, row, node, left) {
         Got::Done(t) => {
@@ -190,7 +197,7 @@ pub enum Opened {
 
 // `guard ( name ) {` behind the `if` at the row.
 fn head(rows: &[u32], count: u32, row: u32) -> Opened
-    requires { ⌜ (count * 8 ≤ length (now rows)) × ((row < count) × (count ≤ 65537)) ⌝ }
+    requires { ⌜ (count * 8 ≤ length (now rows)) × ((row < count) × (count ≤ mostRows)) ⌝ }
     ensures { λ r. ⌜ HeadSays (now (rows .entry)) count row r ⌝ }
 {
     let guard = row + 1;
@@ -219,7 +226,9 @@ fn head(rows: &[u32], count: u32, row: u32) -> Opened
 // A statement.
 pub fn stmt(rows: &[u32], count: u32, nodes: &mut [u32], row: u32, node: u32, left: usize) -> Got
     requires { ⌜ Asks (now rows) count row node left ⌝ }
-    ensures { λ r. ⌜ Answers (λ ts. stmt ts left (body ts left) row) (now (rows .entry)) count row node (now (nodes .entry)) (now (nodes .exit)) r ⌝ }
+    ensures { λ r. ⌜
+        Answers (λ ts. stmt ts left (body ts left) row) (now (rows .entry)) count row node (now (nodes .entry))
+        (now (nodes .exit)) r ⌝ }
 {
     let k = parse_nodes::kind_at(rows, count, row);
     if is_declaring(k) {
@@ -237,7 +246,9 @@ pub fn stmt(rows: &[u32], count: u32, nodes: &mut [u32], row: u32, node: u32, le
 // `if` at the row.
 fn branch(rows: &[u32], count: u32, nodes: &mut [u32], row: u32, node: u32, left: usize) -> Got
     requires { ⌜ AsksOpen (now rows) count row node left ⌝ }
-    ensures { λ r. ⌜ Answers (byLead branching left row) (now (rows .entry)) count row node (now (nodes .entry)) (now (nodes .exit)) r ⌝ }
+    ensures { λ r. ⌜
+        Answers (byLead branching left row) (now (rows .entry)) count row node (now (nodes .entry))
+        (now (nodes .exit)) r ⌝ }
 {
     match head(rows, count, row) {
         Opened::Brace(brace) => {
@@ -254,7 +265,7 @@ fn branch(rows: &[u32], count: u32, nodes: &mut [u32], row: u32, node: u32, left
 
 // The state behind an `if` without `else`, whose then body ends at t and whose guard is at `guard`.
 fn hanging_if(nodes: &mut [u32], t: At, guard: u32) -> At
-    requires { ⌜ t .node ≤ 65537 ⌝ }
+    requires { ⌜ t .node ≤ mostRows ⌝ }
     ensures { λ r. ⌜ HangingIf t guard (now (nodes .entry)) (now (nodes .exit)) r ⌝ }
 {
     let s = parse_nodes::shut(nodes, t, node_kind::IF, guard, 2);

@@ -22,7 +22,7 @@ ghost use lib.Dec.{eqb};
 ghost use lib.ListN.{length, take, drop};
 ghost use lib.Seq.{sets};
 ghost use Rattle.rules.specs.Nodes.{NodeUnit, factNode, nodeWords};
-ghost use Rattle.parse_nodes.specs.Post.{stateAt, AsksOpen};
+ghost use Rattle.parse_nodes.specs.Post.{stateAt, AsksOpen, mostRows};
 ghost use Rattle.parse_nodes.specs.Names.{Spans};
 ghost use Rattle.parse_sections.specs.Sections.{unset};
 ghost use Rattle.parse_units.specs.Contents.{Texted, ItemMet, ItemsMet, UnitMet};
@@ -45,7 +45,8 @@ pub enum Went {
 // The contents with the section or the licence, which the word says, at their row.
 fn with_text(text: &[u8], rows: &[u32], nodes: &mut [u32], u: Contents, word: u32) -> Contents
     requires { ⌜ AsksQuoted (now text) (now rows) u word ⌝ }
-    ensures { λ r. ⌜ Texted (now (text .entry)) (now (rows .entry)) u word (now (nodes .entry)) (now (nodes .exit)) r ⌝ }
+    ensures { λ r. ⌜
+        Texted (now (text .entry)) (now (rows .entry)) u word (now (nodes .entry)) (now (nodes .exit)) r ⌝ }
 {
     let here = u.at;
     let string = here.row + 1;
@@ -85,7 +86,8 @@ fn text_item(
     word: u32,
 ) -> Went
     requires { ⌜ AsksText (now text) (now rows) count u word ⌝ }
-    ensures { λ r. ⌜ ItemMet (now (text .entry)) (now (rows .entry)) count u (now (nodes .entry)) (now (nodes .exit)) r ⌝ }
+    ensures { λ r. ⌜
+        ItemMet (now (text .entry)) (now (rows .entry)) count u (now (nodes .entry)) (now (nodes .exit)) r ⌝ }
 {
     let here = u.at;
     let string = here.row + 1;
@@ -102,7 +104,8 @@ fn text_item(
 // A statement, a section or a licence at the contents' row.
 fn item(text: &[u8], rows: &[u32], count: u32, nodes: &mut [u32], u: Contents) -> Went
     requires { ⌜ AsksItem (now text) (now rows) count u ⌝ }
-    ensures { λ r. ⌜ ItemMet (now (text .entry)) (now (rows .entry)) count u (now (nodes .entry)) (now (nodes .exit)) r ⌝ }
+    ensures { λ r. ⌜
+        ItemMet (now (text .entry)) (now (rows .entry)) count u (now (nodes .entry)) (now (nodes .exit)) r ⌝ }
 {
     let here = u.at;
     let row = here.row;
@@ -126,7 +129,8 @@ fn item(text: &[u8], rows: &[u32], count: u32, nodes: &mut [u32], u: Contents) -
 // The contents from the first thing on, up to `}`, which is not taken.
 fn items(text: &[u8], rows: &[u32], count: u32, nodes: &mut [u32], start: At) -> Went
     requires { ⌜ AsksItems (now text) (now rows) count start ⌝ }
-    ensures { λ r. ⌜ ItemsMet (now (text .entry)) (now (rows .entry)) count start (now (nodes .entry)) (now (nodes .exit)) r ⌝ }
+    ensures { λ r. ⌜
+        ItemsMet (now (text .entry)) (now (rows .entry)) count start (now (nodes .entry)) (now (nodes .exit)) r ⌝ }
 {
     let mut u = Contents {
         at: start,
@@ -152,8 +156,14 @@ fn items(text: &[u8], rows: &[u32], count: u32, nodes: &mut [u32], start: At) ->
 
 // The node of the unit whose word is at a row, over its contents, and the state behind it.
 fn unit_node(nodes: &mut [u32], row: u32, u: Contents) -> At
-    requires { ⌜ (row < 65537) × ((u .at .row ≤ 65537) × (u .at .node ≤ 65537)) ⌝ }
-    ensures { λ r. ⌜ (r ≡ stateAt (u .at .row + 1) (u .at .node + 1) row) × (now (nodes .exit) ≡ sets (now (nodes .entry)) (8 * u .at .node) (nodeWords (factNode NodeUnit row (row + 1) (u .at .things) (cond (eqb (u .kind) unset) 10 (u .kind)) (u .licence) 0 0))) ⌝ }
+    requires { ⌜ (row < mostRows) × ((u .at .row ≤ mostRows) × (u .at .node ≤ mostRows)) ⌝ }
+    ensures { λ r. ⌜
+        (r ≡ stateAt (u .at .row + 1) (u .at .node + 1) row)
+        × (now (nodes .exit)
+        ≡ sets (now (nodes .entry)) (8 * u .at .node)
+        (nodeWords
+        (factNode NodeUnit row (row + 1) (u .at .things) (cond (eqb (u .kind) unset) 10 (u .kind))
+        (u .licence) 0 0))) ⌝ }
 {
     let here = u.at;
     let n = here.node;
@@ -185,7 +195,8 @@ fn unit_node(nodes: &mut [u32], row: u32, u: Contents) -> At
 // The unit whose word is at the row.
 pub fn unit(text: &[u8], rows: &[u32], count: u32, nodes: &mut [u32], row: u32, node: u32) -> Got
     requires { ⌜ AsksOpen (now rows) count row node 64 × Spans (now text) (now rows) count ⌝ }
-    ensures { λ r. ⌜ UnitMet (now (text .entry)) (now (rows .entry)) count row node (now (nodes .entry)) (now (nodes .exit)) r ⌝ }
+    ensures { λ r. ⌜
+        UnitMet (now (text .entry)) (now (rows .entry)) count row node (now (nodes .entry)) (now (nodes .exit)) r ⌝ }
 {
     let start = match parse_nodes::opened(rows, count, row, node) {
         Got::Done(s) => s,

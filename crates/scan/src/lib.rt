@@ -35,7 +35,10 @@ fn ending_of(stop: Stop) -> Ending
 // What a scan of so many bytes tells of a walk over them, with room for so many rows.
 fn told(bytes: usize, room: usize, walked: Walked) -> Told
     requires { ⌜ (bytes < 2 ^ 32) × (walked .count < 2 ^ 32) ⌝ }
-    ensures { λ r. ⌜ ((rs : List Row) (e : Endings) → walked ≡ record { count = length rs; stop = Over e } → r ≡ toldOf bytes room rs e) ⌝ }
+    ensures { λ r. ⌜
+        ((rs : List Row) (e : Endings)
+        → walked ≡ record { count = length rs; stop = Over e }
+        → r ≡ toldOf bytes room rs e) ⌝ }
 {
     let count = walked.count;
     let stop = walked.stop;
@@ -51,7 +54,8 @@ fn told(bytes: usize, room: usize, walked: Walked) -> Told
 
 // The rows of a text. No old row is met.
 pub fn scan(text: &[u8], rows: &mut [u32]) -> Told
-    ensures { λ r. ⌜ (r ≡ scanTold (now (text .entry)) (roomOf (now (rows .entry)))) × (now (rows .exit) ≡ scanLeaves (now (text .entry)) (now (rows .entry))) ⌝ }
+    ensures told { λ r. ⌜ r ≡ scanTold (now (text .entry)) (roomOf (now (rows .entry))) ⌝ }
+    ensures left { λ _. ⌜ now (rows .exit) ≡ scanLeaves (now (text .entry)) (now (rows .entry)) ⌝ }
 {
     match judge_text(text) {
         Judged::Refused(why, at) => {

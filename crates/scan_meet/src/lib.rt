@@ -71,8 +71,12 @@ fn starts(old: &[u32], count: usize, i: usize, target: u64) -> bool
 
 // The old rows up to a spot, of which `row` are passed, and whether the next one meets there.
 pub fn find(old: &[u32], olds: Olds, row: usize, text: &[u8], here: Spot) -> Found
-    requires { ⌜ ((olds .count * 8 ≤ length (now old)) × (row ≤ olds .count)) × (Rising (now old) (olds .count) × Passed (now old) (olds .least) (olds .b) row (here .cursor .offset .0)) ⌝ }
-    ensures { λ r. ⌜ Finds (now (old .entry)) (olds .count) (olds .least) (olds .b) row (here .cursor .offset .0) (drop (here .at) (now (text .entry))) r ⌝ }
+    requires { ⌜
+        ((olds .count * 8 ≤ length (now old)) × (row ≤ olds .count))
+        × (Rising (now old) (olds .count) × Passed (now old) (olds .least) (olds .b) row (here .cursor .offset .0)) ⌝ }
+    ensures { λ r. ⌜
+        Finds (now (old .entry)) (olds .count) (olds .least) (olds .b) row (here .cursor .offset .0)
+        (drop (here .at) (now (text .entry))) r ⌝ }
 {
     let offset = wide(here.cursor.offset.0);
     let at = here.at;

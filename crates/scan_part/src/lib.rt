@@ -43,7 +43,11 @@ fn over_at(stop: Stop) -> Next
 // The rows of a text from a spot on, so many at most, and what comes behind them.
 pub fn read_part(text: &[u8], from: Spot, most: usize, rows: &mut [u32]) -> Part
     requires { ⌜ (Begun (now text) from × (1 ≤ most)) × (wordsPerRow * most ≤ length (now rows)) ⌝ }
-    ensures { λ r. ⌜ PartOf (now (text .entry)) (from .at) most r × (now (rows .exit) ≡ wordsOf (partRows (now (text .entry)) (from .at) most) ++ drop (wordsPerRow * r .count) (now (rows .entry))) ⌝ }
+    ensures { λ r. ⌜
+        PartOf (now (text .entry)) (from .at) most r
+        × (now (rows .exit)
+        ≡ wordsOf (partRows (now (text .entry)) (from .at) most) ++ drop (wordsPerRow * r .count)
+        (now (rows .entry))) ⌝ }
 {
     let classes = scan_words::classes::CLASSES;
     let mut here = from;

@@ -12,7 +12,7 @@ use Rattle.rules.specs.Text.{front, notNewline}
 use Rattle.rules.specs.Kinds.{Identifier, reserved, kindIn}
 use Rattle.rules.specs.Lex.{Piece, comment, row, refused, known, decidedAt, isWord, word, lineComment, blockComment, beforeClose}
 use Rattle.rules.specs.declared.Lexical.the-variants.{OpenComment}
-use Rattle.scan_words.specs.Slots.{packedOf, packable}
+use Rattle.scan_words.specs.Words.{packedOf, packable}
 use Rattle.scan_runs.specs.declared.Word.{Word}
 use Rattle.scan_runs.specs.Leaf.{wordFront, packedFront, wordOf}
 use Rattle.scan_runs.proofs.Bodies.{body-line}
@@ -55,9 +55,23 @@ module _ (t : List ℕ) (a : ℕ) (w : Word) (r : w ≡ wordOf a (drop a t)) whe
   unfolding wordOf
   word-end = rw r
 
-  pub word-packed : w .packed ≡ packedOf 0 (take packable wordAt)
+  word-packed : w .packed ≡ packedOf 0 (take packable wordAt)
   unfolding wordOf packedFront
   word-packed = rw r
+
+  -- the bytes from the index to its end are the word's, and what is packed are the first of them
+  word-part : take (w .end - a) (drop a t) ≡ wordAt
+  word-part = let n : w .end - a ≡ front isWord (drop a t) = omega (arith, word-end) in rw n
+
+  pub word-bytes : kindIn reserved Identifier (take (w .end - a) (drop a t)) ≡ kindIn reserved Identifier wordAt
+  word-bytes = ap (kindIn reserved Identifier) word-part
+
+  pub word-lookup : a ≤ length t →
+      ((a ≤ w .end) × (w .end ≤ length t)) × (w .packed ≡ packedOf 0 (take packable (take (w .end - a) (drop a t))))
+  word-lookup l = (
+    (omega (arith, word-end), omega (arith, word-end, front-le isWord (drop a t), length-drop a t)),
+    word-packed ∙ ap (λ (x : List ℕ). packedOf 0 (take packable x)) (sym word-part),
+  )
 
   word-is : word (drop a t) ≡ row (kindIn reserved Identifier wordAt) (w .end - a) 0 (w .end - a)
   unfolding word

@@ -11,7 +11,7 @@ use scan_runs::read_digits;
 use scan_runs::read_quoted;
 use scan_runs::read_word;
 use scan_runs::shown;
-use scan_words::slots::kind_in;
+use scan_words::slots::kind_of;
 ghost use mathlib.Core.Path.{_≡_};
 ghost use mathlib.Core.Bool.{true, false};
 ghost use Prim.Native.Nat.{_+_, _≤_, _<_};
@@ -43,7 +43,7 @@ pub fn word(classes: &[u8; 256], text: &[u8], at: usize, whole: bool) -> Brief
     if !shown(text, end, whole) {
         return told(codes::UNKNOWN, 0);
     }
-    told(kind_in(w.packed), end - at)
+    told(kind_of(w.packed, text, at, end), end - at)
 }
 
 // A number's bits in two's complement.
@@ -62,7 +62,8 @@ fn bits_of(negative: bool, value: u64) -> u64
 // A number of which m bytes, its sign, are behind the index.
 pub fn number(text: &[u8], at: usize, m: usize, negative: bool, whole: bool) -> Brief
     requires { ⌜ (at + m < length (now text)) × (lex.isDigit (getD (now text) (at + m) 0) ≡ true) ⌝ }
-    ensures { λ r. ⌜ r ≡ settled whole (now (text .entry)) at (lex.number negative m (drop m (drop at (now (text .entry))))) ⌝ }
+    ensures { λ r. ⌜
+        r ≡ settled whole (now (text .entry)) at (lex.number negative m (drop m (drop at (now (text .entry))))) ⌝ }
 {
     let hex = (peek(text, at + m) == b'0') & (peek(text, at + m + 1) == b'x');
     let from = if hex { at + m + 2 } else { at + m };
@@ -172,7 +173,8 @@ pub fn dash(text: &[u8], at: usize, whole: bool) -> Brief
 // A string.
 pub fn string(text: &[u8], at: usize, whole: bool) -> Brief
     requires { ⌜ (at < length (now text)) × (getD (now text) at 0 ≡ byte "\"") ⌝ }
-    ensures { λ r. ⌜ r ≡ settled whole (now (text .entry)) at (lex.string false 1 (drop 1 (drop at (now (text .entry))))) ⌝ }
+    ensures { λ r. ⌜
+        r ≡ settled whole (now (text .entry)) at (lex.string false 1 (drop 1 (drop at (now (text .entry))))) ⌝ }
 {
     let q = read_quoted(text, at + 1);
     match q {

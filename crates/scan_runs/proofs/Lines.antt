@@ -7,7 +7,7 @@ use native.Mathlib.Omega.{arith}
 use lib.ListN.{length, drop, getD, length-drop}
 use lib.Seq.{drop-drop}
 use lib.Dec.{eqb, ltb}
-use borrow.Author.Tests.{ltb-true, ltb-false, lt-ltb, le-ltb}
+use borrow.Author.Tests.{eqb-true, eqb-false, eq-eqb, ne-eqb, ltb-true, ltb-false, lt-ltb, le-ltb}
 use Rattle.rules.specs.Text.{front, notNewline}
 use Rattle.laws.proofs.Fronts.{front-le, front-off, front-drop, front-more}
 
@@ -41,3 +41,14 @@ module _ (t : List ℕ) (a k : ℕ) (l : a + k < length t) where
           let s = line-same t a (a + k) (omega arith) (omega (arith, none)) in
           sym (lt-ltb left (k + 1) (omega (arith, s, front-off notNewline t (a + k) l (rw f))))
       by false f = sym (le-ltb left (k + 1) (front-more notNewline t a k none l (rw f)))
+
+  -- the same of a test the other way round
+  pub block-turned : (q : Bool) → q ≡ ltb left k → (q || eqb 10 (getD t (a + k) 0)) ≡ ltb left (k + 1)
+  block-turned q e = ap (λ (p : Bool). q || p) (turned 10 (getD t (a + k) 0)) ∙ block-on q e
+    where
+      turned : (x y : ℕ) → eqb x y ≡ eqb y x
+      turned x y = pick (eqb y x) refl
+        where
+          pick : (p : Bool) → eqb y x ≡ p → eqb x y ≡ p
+          pick true f = eq-eqb x y (sym (eqb-true y x f))
+          pick false f = ne-eqb x y (λ z. eqb-false y x f (sym z))

@@ -1,62 +1,20 @@
 -- Laws of a word at an index: what its bytes come to packed, and that it stands in a line.
 use mathlib.Core.Path.{_≡_, refl, sym, _∙_}
-use mathlib.Core.Bool.{Bool, true, false, cond, _&&_, true≢false}
-use mathlib.Core.List.{List, [], _∷_}
+use mathlib.Core.Bool.{true, false}
+use mathlib.Core.List.{List, []}
 use Prim.Native.Nat.{ℕ, suc, _+_, _-_, _*_, _%_, _^_, _≤_, _<_}
-use native.Mathlib.Decide.{decLt}
 use native.Mathlib.Numerals.{add-one}
 use native.Mathlib.Omega.{arith}
 use lib.ListN.{length, take, drop, getD}
 use lib.Seq.{drop-cons, take-all}
-use lib.Dec.{ltb}
-use borrow.Author.Tests.{ne-eqb, le-leb, lt-leb}
 use Rattle.rules.specs.Text.{front}
-use Rattle.rules.specs.Lex.{isLetter, isDigit, isWord}
-use Rattle.laws.specs.Tests.{allBelow}
-use Rattle.laws.proofs.Tests.{below, true-both}
+use Rattle.rules.specs.Lex.{isWord}
 use Rattle.laws.proofs.Fronts.{front-on, front-off, front-end}
 use Rattle.scan_words.specs.Class.{Digit, Classes}
-use Rattle.scan_words.specs.Slots.{packedOf, packable, plain}
-use Rattle.scan_words.proofs.Packed.{plain-take}
+use Rattle.scan_words.specs.Words.{packedOf, packable}
 use Rattle.scan_words.proofs.Marks.{mark-word, mark-other}
 use Rattle.scan_runs.specs.Leaf.{wordFront, packedFront, wordOf}
 use Rattle.scan_runs.specs.declared.Word.{Word}
-
--- ---- a word's bytes are plain
-
-wordTest : ℕ → Bool
-wordTest b = cond (isWord b) (ltb 0 b && ltb b 256) true
-
-word-tests : allBelow wordTest 256 ≡ true
-unfolding wordTest isWord isLetter isDigit
-word-tests = refl
-
-no-word : (b : ℕ) → 256 ≤ b → isWord b ≡ false
-unfolding isWord isLetter isDigit
-no-word b h =
-    rw (le-leb 65 b (omega arith), lt-leb b 90 (omega arith), le-leb 97 b (omega arith), lt-leb b 122 (omega arith), ne-eqb b 95 (λ e. omega arith), le-leb 48 b (omega arith), lt-leb b 57 (omega arith))
-
-word-plain : (b : ℕ) → isWord b ≡ true → (ltb 0 b && ltb b 256) ≡ true
-unfolding wordTest
-word-plain b e = pick (decLt b 256)
-  where
-    pick : Dec (b < 256) → (ltb 0 b && ltb b 256) ≡ true
-    pick (yes h) = rw e at (below wordTest 256 word-tests b h)
-    pick (no h) = absurd (true≢false (sym e ∙ no-word b (omega arith)))
-
-word-front-plain : (s : List ℕ) → plain (wordFront s) ≡ true
-unfolding plain front
-word-front-plain [] = refl
-word-front-plain (b ∷ s) = pick (isWord b) refl (word-front-plain s)
-  where
-    pick : (q : Bool) → isWord b ≡ q → plain (wordFront s) ≡ true →
-        plain (take (elim q as (λ _. ℕ) [ true ↦ suc (front isWord s) | false ↦ 0 ]) (b ∷ s)) ≡ true
-    pick true e r = true-both {p = ltb 0 b && ltb b 256} {q = plain (wordFront s)} (word-plain b e) r
-    pick false e r = refl
-
--- so are those of them that are packed
-pub words-plain : (s : List ℕ) → plain (take packable (wordFront s)) ≡ true
-words-plain s = plain-take packable (wordFront s) (word-front-plain s)
 
 -- ---- packed from an index on
 

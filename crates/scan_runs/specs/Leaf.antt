@@ -6,7 +6,7 @@ use lib.ListN.{take}
 use lib.Dec.{eqb}
 use Rattle.rules.specs.Text.{front, byte}
 use Rattle.rules.specs.Lex.{isWord, isDigit, isHexDigit, digitValue, spelt, largest, isEscape}
-use Rattle.scan_words.specs.Slots.{packedOf, packable}
+use Rattle.scan_words.specs.Words.{packedOf, packable}
 use Rattle.scan_runs.specs.declared.Word.{Word}
 use Rattle.scan_runs.specs.declared.Digits.{Digits}
 use Rattle.scan_runs.specs.declared.Quoted.{Quoted}
@@ -22,7 +22,7 @@ wordFront s = take (front isWord s) s
 unfoldable pub packedFront : ℕ → ℕ → List ℕ → ℕ
 packedFront v n s = packedOf v (take n (wordFront s))
 
--- of a word's bytes those that fit a number are packed, which tell whether it is reserved
+-- of a word's bytes those that fit a number are packed, which tell the slot of a reserved word
 unfoldable pub wordOf : ℕ → List ℕ → Word
 wordOf at s = record { end = at + front isWord s; packed = packedFront 0 packable s }
 

@@ -2,6 +2,8 @@
 use rules::limit;
 use scan_eights::word_end;
 use scan_words::classes;
+use scan_words::words::ABOVE_BYTE;
+use scan_words::words::BEFORE_LAST;
 ghost use mathlib.Core.Path.{_≡_};
 ghost use mathlib.Core.Bool.{_||_};
 ghost use Prim.Native.Nat.{_+_, _*_, _≤_, _<_};
@@ -33,16 +35,11 @@ pub fn shown(text: &[u8], at: usize, whole: bool) -> bool
     at < text.len()
 }
 
-// A word: where it ends, and its first eight bytes at most, packed into one number.
+// A word: where it ends, and its first eight bytes at most, packed into one number, which tells its slot.
 pub struct Word {
     pub end: usize,
     pub packed: u64,
 }
-
-// What a packed word keeps of the bytes before its last, and what they are worth beside it.
-const BEFORE_LAST: u64 = 72057594037927936;
-
-const ABOVE_BYTE: u64 = 256;
 
 // So many bytes of a word are read one by one and packed; where it goes on, no reserved word is as long.
 const EIGHT: usize = 8;

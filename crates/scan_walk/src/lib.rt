@@ -32,7 +32,10 @@ pub fn walk(
     rows: &mut [u32],
 ) -> Walked
     requires { ⌜ Walkable (now old) olds (now text) begin ⌝ }
-    ensures { λ r. ⌜ (r ≡ walkOf (now (old .entry)) olds (now (text .entry)) begin whole) × (now (rows .exit) ≡ laid (walkRows (now (old .entry)) olds (now (text .entry)) begin whole) (now (rows .entry))) ⌝ }
+    ensures { λ r. ⌜
+        (r ≡ walkOf (now (old .entry)) olds (now (text .entry)) begin whole)
+        × (now (rows .exit)
+        ≡ laid (walkRows (now (old .entry)) olds (now (text .entry)) begin whole) (now (rows .entry))) ⌝ }
 {
     let classes = scan_words::classes::CLASSES;
     let mut here = Spot {

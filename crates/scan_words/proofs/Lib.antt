@@ -1,6 +1,5 @@
 -- The laws that the proofs of this crate share.
 pub mod Lookups
-pub mod Packed
+pub mod Telling
 pub mod Marks
 pub mod Tables
-pub mod Reserved

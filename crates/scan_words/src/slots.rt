@@ -1,104 +1,87 @@
 // The reserved words, by slot.
+use crate::words::ABOVE_BYTE;
+use crate::words::BEFORE_LAST;
+use crate::words::Held;
+use crate::words::word_at;
 use rules::kind;
 ghost use mathlib.Core.Path.{_≡_};
-ghost use mathlib.Core.Bool.{true};
-ghost use mathlib.Core.List.{List};
-ghost use Prim.Native.Nat.{ℕ};
+ghost use Prim.Native.Nat.{_-_, _≤_};
+ghost use lib.ListN.{length, take, drop};
 ghost use Rattle.rules.specs.Kinds.{Identifier, reserved, kindIn};
-ghost use Rattle.scan_words.specs.Slots.{packedOf, plain, slotIn};
+ghost use Rattle.scan_words.specs.Words.{packedOf, packable};
+ghost use Rattle.scan_words.specs.Slots.{heldIn, spells};
 
-// How many slots there are. A word packed is its bytes as one number, the last byte lowest; its slot is what half of that number leaves by
-// so many.
+// How many slots there are. A word packed is its bytes as one number, the last byte lowest; its slot is what half of that
+// number leaves by so many.
 const COUNT: u64 = 45;
 
 const HALF: u64 = 2;
 
-// A slot holds a word packed and its kind, which is below this number.
-const KINDS: u64 = 256;
-
-// An empty slot: no word, and the kind of one that is not reserved.
-const EMPTY: u64 = kind::IDENTIFIER as u64;
-
-// The words, each packed, the bytes of its spelling two digits each, with its kind.
-const UNIT: u64 = 0x756e6974 * KINDS + kind::UNIT as u64;
-
-const SECTION: u64 = 0x73656374696f6e * KINDS + kind::SECTION as u64;
-
-const LICENSE: u64 = 0x6c6963656e7365 * KINDS + kind::LICENSE as u64;
-
-const RETURN: u64 = 0x72657475726e * KINDS + kind::RETURN as u64;
-
-const REG: u64 = 0x726567 * KINDS + kind::REG as u64;
-
-const IMM: u64 = 0x696d6d * KINDS + kind::IMM as u64;
-
-const MAP: u64 = 0x6d6170 * KINDS + kind::MAP as u64;
-
-const TYPE: u64 = 0x74797065 * KINDS + kind::TYPE as u64;
-
-const KEY: u64 = 0x6b6579 * KINDS + kind::KEY as u64;
-
-const VALUE: u64 = 0x76616c7565 * KINDS + kind::VALUE as u64;
-
-const MAX: u64 = 0x6d6178 * KINDS + kind::MAX as u64;
-
-const IF: u64 = 0x6966 * KINDS + kind::IF as u64;
-
-const ELSE: u64 = 0x656c7365 * KINDS + kind::ELSE as u64;
-
-const GUARD: u64 = 0x6775617264 * KINDS + kind::GUARD as u64;
-
-const HEAP: u64 = 0x68656170 * KINDS + kind::HEAP as u64;
-
-const EVENT: u64 = 0x6576656e74 * KINDS + kind::EVENT as u64;
-
-const BYTES: u64 = 0x6279746573 * KINDS + kind::BYTES as u64;
-
-const TYPE_U32: u64 = 0x753332 * KINDS + kind::TYPE_U32 as u64;
-
-const TYPE_U64: u64 = 0x753634 * KINDS + kind::TYPE_U64 as u64;
-
-const TYPE_I32: u64 = 0x693332 * KINDS + kind::TYPE_I32 as u64;
-
-const TYPE_I64: u64 = 0x693634 * KINDS + kind::TYPE_I64 as u64;
-
-// What a slot holds. A `match` of numbers becomes a table beside the code, which is read where it stands.
-fn entry(slot: u64) -> u64
-    ensures { λ r. ⌜ r ≡ slotIn reserved slot ⌝ }
+// What a slot holds: a word of the table, by its place there, or no word. Each place is a constant, so the compiler takes
+// spelling, length and kind out of the arrays, and what is read at run time is a table beside the code, not on the stack.
+fn held(slot: u64) -> Held
+    ensures { λ r. ⌜ r ≡ heldIn reserved slot ⌝ }
 {
     match slot {
-        2 => ELSE,
-        6 => RETURN,
-        11 => SECTION,
-        12 => HEAP,
-        13 => TYPE_I32,
-        14 => UNIT,
-        15 => VALUE,
-        18 => GUARD,
-        19 => TYPE_U32,
-        22 => TYPE,
-        24 => MAP,
-        28 => MAX,
-        29 => KEY,
-        31 => REG,
-        33 => EVENT,
-        35 => BYTES,
-        36 => IF,
-        38 => TYPE_I64,
-        39 => LICENSE,
-        41 => IMM,
-        44 => TYPE_U64,
-        _ => EMPTY,
+        2 => word_at(12), // else
+        6 => word_at(3), // return
+        11 => word_at(1), // section
+        12 => word_at(14), // heap
+        13 => word_at(19), // i32
+        14 => word_at(0), // unit
+        15 => word_at(9), // value
+        18 => word_at(13), // guard
+        19 => word_at(17), // u32
+        22 => word_at(7), // type
+        24 => word_at(6), // map
+        28 => word_at(10), // max
+        29 => word_at(8), // key
+        31 => word_at(4), // reg
+        33 => word_at(15), // event
+        35 => word_at(16), // bytes
+        36 => word_at(11), // if
+        38 => word_at(20), // i64
+        39 => word_at(2), // license
+        41 => word_at(5), // imm
+        44 => word_at(18), // u64
+        _ => Held {
+            spelling: 0,
+            length: 0,
+            kind: kind::IDENTIFIER,
+        },
     }
 }
 
-// The kind of a word that is packed: its slot's, where that word stands there, or an identifier's.
-pub fn kind_in(packed: u64) -> u32
-    ensures { λ r. ⌜ ((w : List ℕ) → plain w ≡ true → packed ≡ packedOf 0 w → r ≡ kindIn reserved Identifier w) ⌝ }
+// Whether the bytes of a text, from an index to another, are the first bytes of a spelling, compared where they stand.
+fn same(spelling: u64, text: &[u8], at: usize, end: usize) -> bool
+    requires { ⌜ (at ≤ end) × (end ≤ length (now text)) ⌝ }
+    ensures { λ r. ⌜ r ≡ spells spelling (take (end - at) (drop at (now (text .entry)))) ⌝ }
 {
-    let held = entry(packed / HALF % COUNT);
-    if held / KINDS == packed {
-        return (held % KINDS) as u32;
+    let mut left = spelling;
+    let mut i = at;
+    while i < end {
+        if text[i] as u64 != left / BEFORE_LAST {
+            return false;
+        }
+        left = left % BEFORE_LAST * ABOVE_BYTE;
+        i += 1;
+    }
+    true
+}
+
+// The kind of a word of a text. Its first eight bytes, packed, tell a slot. If the reserved word there has as many bytes, and
+// the same ones, the kind is that word's, and else an identifier's.
+pub fn kind_of(packed: u64, text: &[u8], at: usize, end: usize) -> u32
+    requires { ⌜ ((at ≤ end) × (end ≤ length (now text)))
+        × (packed ≡ packedOf 0 (take packable (take (end - at) (drop at (now text))))) ⌝ }
+    ensures { λ r. ⌜ r ≡ kindIn reserved Identifier (take (end - at) (drop at (now (text .entry)))) ⌝ }
+{
+    let word = held(packed / HALF % COUNT);
+    if word.length != end - at {
+        return kind::IDENTIFIER;
+    }
+    if same(word.spelling, text, at, end) {
+        return word.kind;
     }
     kind::IDENTIFIER
 }

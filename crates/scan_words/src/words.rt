@@ -1,9 +1,9 @@
-// The reserved words as one table: spellings padded to eight bytes, their lengths and their kinds. The lookup by slot is held to it.
+// The reserved words as one table: spellings padded to eight bytes, their lengths and their kinds. The lookup takes each
+// word from here (`slots::held`).
 use rules::kind;
 ghost use mathlib.Core.Path.{_≡_};
-ghost use mathlib.Core.List.{map};
-ghost use Rattle.rules.specs.Kinds.{reserved};
-ghost use Rattle.scan_words.specs.Words.{padded, long, kindOf};
+ghost use Prim.Native.Nat.{_<_};
+ghost use Rattle.scan_words.specs.Words.{packedOf, heldAt};
 
 const SPELLINGS: [[u8; 8]; 21] = [
     *b"unit    ",
@@ -77,23 +77,43 @@ const KINDS: [u32; 21] = [
     kind::TYPE_I64,
 ];
 
-// The spellings are those of the reserved words, padded.
-pub fn spellings() -> [[u8; 8]; 21]
-    ensures { λ r. ⌜ r ≡ map padded reserved ⌝ }
-{
-    SPELLINGS
+// What a number of eight bytes keeps of those before its last, and what they are worth beside it.
+pub const BEFORE_LAST: u64 = 72057594037927936;
+
+pub const ABOVE_BYTE: u64 = 256;
+
+// A word of the table: its padded spelling as one number, the last byte lowest, its length and its kind.
+pub struct Held {
+    pub spelling: u64,
+    pub length: usize,
+    pub kind: u32,
 }
 
-// The lengths are those of their spellings.
-pub fn lengths() -> [usize; 21]
-    ensures { λ r. ⌜ r ≡ map long reserved ⌝ }
+// Bytes as one number, the last lowest; eight fit.
+fn number(s: &[u8]) -> u64
+    ensures { λ r. ⌜ r ≡ packedOf 0 (now (s .entry)) ⌝ }
 {
-    LENGTHS
+    let mut v: u64 = 0;
+    let mut k = 0;
+    while k < s.len() {
+        v = v % BEFORE_LAST * ABOVE_BYTE + s[k] as u64;
+        k += 1;
+    }
+    v
 }
 
-// The kinds are theirs.
-pub fn kinds() -> [u32; 21]
-    ensures { λ r. ⌜ r ≡ map kindOf reserved ⌝ }
+// A word of the table by its place there.
+pub fn word_at(i: usize) -> Held
+    requires { ⌜ i < 21 ⌝ }
+    ensures { λ r. ⌜ r ≡ heldAt i ⌝ }
 {
-    KINDS
+    let spellings = SPELLINGS;
+    let lengths = LENGTHS;
+    let kinds = KINDS;
+    let spelling = spellings[i];
+    Held {
+        spelling: number(&spelling),
+        length: lengths[i],
+        kind: kinds[i],
+    }
 }

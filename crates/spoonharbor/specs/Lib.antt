@@ -3,5 +3,6 @@ pub mod OuterChange
 pub mod OuterEdit
 pub mod OuterFiles
 pub mod OuterForms
+pub mod OuterMend
 pub mod OuterParse
 pub mod Version

@@ -18,7 +18,15 @@ pub extern "C" fn spoonharbor_change(
     new: &mut [u32],
     answer: &mut [u32; 8],
 )
-    ensures { λ _. ⌜ (now (answer .exit) ≡ toldWords (changeTold (now (old .entry)) (tableOf (now (table .entry))) a b n (now (text .entry)) (roomOf (now (new .entry))))) × (now (new .exit) ≡ changeLeaves (now (old .entry)) (tableOf (now (table .entry))) a b n (now (text .entry)) (now (new .entry))) ⌝ }
+    ensures told { λ _. ⌜
+        now (answer .exit)
+        ≡ toldWords
+        (changeTold (now (old .entry)) (tableOf (now (table .entry))) a b n (now (text .entry))
+        (roomOf (now (new .entry)))) ⌝ }
+    ensures left { λ _. ⌜
+        now (new .exit)
+        ≡ changeLeaves (now (old .entry)) (tableOf (now (table .entry))) a b n (now (text .entry))
+        (now (new .entry)) ⌝ }
 {
     put_told(
         answer,

@@ -43,7 +43,8 @@ pub extern "C" fn spoonharbor_version() -> u32
 // The rows of a text into lent words, and the table or the refusal into the answer.
 #[no_mangle]
 pub extern "C" fn spoonharbor_scan(text: &[u8], rows: &mut [u32], answer: &mut [u32; 8])
-    ensures { λ _. ⌜ (now (answer .exit) ≡ toldWords (scanTold (now (text .entry)) (roomOf (now (rows .entry))))) × (now (rows .exit) ≡ scanLeaves (now (text .entry)) (now (rows .entry))) ⌝ }
+    ensures told { λ _. ⌜ now (answer .exit) ≡ toldWords (scanTold (now (text .entry)) (roomOf (now (rows .entry)))) ⌝ }
+    ensures left { λ _. ⌜ now (rows .exit) ≡ scanLeaves (now (text .entry)) (now (rows .entry)) ⌝ }
 {
     put_told(answer, scan::scan(text, rows));
 }
@@ -69,7 +70,9 @@ pub extern "C" fn spoonharbor_spelling(
     row: u32,
     answer: &mut [u32; 8],
 )
-    ensures { λ _. ⌜ now (answer .exit) ≡ spellingWords (now (text .entry)) (now (rows .entry)) (tableOf (now (table .entry))) row ⌝ }
+    ensures { λ _. ⌜
+        now (answer .exit)
+        ≡ spellingWords (now (text .entry)) (now (rows .entry)) (tableOf (now (table .entry))) row ⌝ }
 {
     match rows::spelling_judge(text, rows, table_of(table), row) {
         Judged::Fine => {
@@ -99,7 +102,14 @@ pub extern "C" fn spoonharbor_parse(
     nodes: &mut [u32],
     answer: &mut [u32; 8],
 )
-    ensures { λ _. ⌜ (now (answer .exit) ≡ parsedWords (parseTold (now (text .entry)) (now (rows .entry)) (tableOf (now (table .entry))) (nodeRoom (now (nodes .entry))))) × (now (nodes .exit) ≡ parseLeaves (now (text .entry)) (now (rows .entry)) (tableOf (now (table .entry))) (now (nodes .entry))) ⌝ }
+    ensures told { λ _. ⌜
+        now (answer .exit)
+        ≡ parsedWords
+        (parseTold (now (text .entry)) (now (rows .entry)) (tableOf (now (table .entry)))
+        (nodeRoom (now (nodes .entry)))) ⌝ }
+    ensures left { λ _. ⌜
+        now (nodes .exit)
+        ≡ parseLeaves (now (text .entry)) (now (rows .entry)) (tableOf (now (table .entry))) (now (nodes .entry)) ⌝ }
 {
     put_parsed(answer, parse::parse(text, rows, table_of(table), nodes));
 }
@@ -117,7 +127,15 @@ pub extern "C" fn spoonharbor_edit(
     new: &mut [u32],
     answer: &mut [u32; 8],
 )
-    ensures { λ _. ⌜ (now (answer .exit) ≡ toldWords (editTold (now (old .entry)) (tableOf (now (table .entry))) a b n start (now (window .entry)) (roomOf (now (new .entry))))) × (now (new .exit) ≡ editLeaves (now (old .entry)) (tableOf (now (table .entry))) a b n start (now (window .entry)) (now (new .entry))) ⌝ }
+    ensures told { λ _. ⌜
+        now (answer .exit)
+        ≡ toldWords
+        (editTold (now (old .entry)) (tableOf (now (table .entry))) a b n start (now (window .entry))
+        (roomOf (now (new .entry)))) ⌝ }
+    ensures left { λ _. ⌜
+        now (new .exit)
+        ≡ editLeaves (now (old .entry)) (tableOf (now (table .entry))) a b n start (now (window .entry))
+        (now (new .entry)) ⌝ }
 {
     put_told(
         answer,
@@ -128,7 +146,8 @@ pub extern "C" fn spoonharbor_edit(
 // Where the window for an edit at a must start.
 #[no_mangle]
 pub extern "C" fn spoonharbor_restart(old: &[u32], table: &[u32; 8], a: u32, answer: &mut [u32; 8])
-    ensures { λ _. ⌜ now (answer .exit) ≡ restartWords (restartTold (now (old .entry)) (tableOf (now (table .entry))) a) ⌝ }
+    ensures { λ _. ⌜
+        now (answer .exit) ≡ restartWords (restartTold (now (old .entry)) (tableOf (now (table .entry))) a) ⌝ }
 {
     put_restart(answer, edit::restart(old, table_of(table), a));
 }
@@ -165,7 +184,11 @@ pub extern "C" fn spoonharbor_store(
     file: &mut [u8],
     answer: &mut [u32; 8],
 )
-    ensures { λ _. ⌜ (now (answer .exit) ≡ storedWords (storeTold (now (rows .entry)) (tableOf (now (table .entry))) (length (now (file .entry))))) × (now (file .exit) ≡ storeLeaves (now (rows .entry)) (tableOf (now (table .entry))) (now (file .entry))) ⌝ }
+    ensures told { λ _. ⌜
+        now (answer .exit)
+        ≡ storedWords (storeTold (now (rows .entry)) (tableOf (now (table .entry))) (length (now (file .entry)))) ⌝ }
+    ensures left { λ _. ⌜
+        now (file .exit) ≡ storeLeaves (now (rows .entry)) (tableOf (now (table .entry))) (now (file .entry)) ⌝ }
 {
     put_stored(answer, file_store::store(rows, table_of(table), file));
 }
@@ -173,7 +196,9 @@ pub extern "C" fn spoonharbor_store(
 // The rows of a file into lent words, and its table or the refusal into the answer.
 #[no_mangle]
 pub extern "C" fn spoonharbor_load(file: &[u8], rows: &mut [u32], answer: &mut [u32; 8])
-    ensures { λ _. ⌜ (now (answer .exit) ≡ loadedWords (loadTold (now (file .entry)) (roomOf (now (rows .entry))))) × (now (rows .exit) ≡ loadLeaves (now (file .entry)) (now (rows .entry))) ⌝ }
+    ensures told { λ _. ⌜
+        now (answer .exit) ≡ loadedWords (loadTold (now (file .entry)) (roomOf (now (rows .entry)))) ⌝ }
+    ensures left { λ _. ⌜ now (rows .exit) ≡ loadLeaves (now (file .entry)) (now (rows .entry)) ⌝ }
 {
     put_loaded(answer, file_load::load(file, rows));
 }
@@ -186,7 +211,11 @@ pub extern "C" fn spoonharbor_load_beside(
     rows: &mut [u32],
     answer: &mut [u32; 8],
 )
-    ensures { λ _. ⌜ (now (answer .exit) ≡ besideWords (besideTold (now (text .entry)) (now (file .entry)) (roomOf (now (rows .entry))))) × (now (rows .exit) ≡ besideLeaves (now (text .entry)) (now (file .entry)) (now (rows .entry))) ⌝ }
+    ensures told { λ _. ⌜
+        now (answer .exit)
+        ≡ besideWords (besideTold (now (text .entry)) (now (file .entry)) (roomOf (now (rows .entry)))) ⌝ }
+    ensures left { λ _. ⌜
+        now (rows .exit) ≡ besideLeaves (now (text .entry)) (now (file .entry)) (now (rows .entry)) ⌝ }
 {
     put_beside(answer, file_beside::load_beside(text, file, rows));
 }
@@ -200,7 +229,11 @@ pub extern "C" fn spoonharbor_move(
     moved: &mut [u8],
     answer: &mut [u32; 8],
 )
-    ensures { λ _. ⌜ (now (answer .exit) ≡ movedWords (moveTold (now (text .entry)) (now (file .entry)) form (length (now (moved .entry))))) × (now (moved .exit) ≡ moveLeaves (now (text .entry)) (now (file .entry)) form (now (moved .entry))) ⌝ }
+    ensures told { λ _. ⌜
+        now (answer .exit)
+        ≡ movedWords (moveTold (now (text .entry)) (now (file .entry)) form (length (now (moved .entry)))) ⌝ }
+    ensures left { λ _. ⌜
+        now (moved .exit) ≡ moveLeaves (now (text .entry)) (now (file .entry)) form (now (moved .entry)) ⌝ }
 {
     put_moved(answer, file_move::move_file(text, file, form, moved));
 }
@@ -216,7 +249,13 @@ pub extern "C" fn spoonharbor_mend(
     blocks: &mut [u32],
     answer: &mut [u32; 8],
 )
-    ensures { λ _. ⌜ (now (answer .exit) ≡ mendedWords (mendTold (now (text .entry)) form (now (file .entry)) size (now (blocks .entry)))) × ((now (file .exit) ≡ mendLeaves (now (text .entry)) form (now (file .entry)) size (now (blocks .entry))) × (now (blocks .exit) ≡ listLeaves (now (text .entry)) form (now (file .entry)) size (now (blocks .entry)))) ⌝ }
+    ensures told { λ _. ⌜
+        now (answer .exit)
+        ≡ mendedWords (mendTold (now (text .entry)) form (now (file .entry)) size (now (blocks .entry))) ⌝ }
+    ensures left { λ _. ⌜
+        now (file .exit) ≡ mendLeaves (now (text .entry)) form (now (file .entry)) size (now (blocks .entry)) ⌝ }
+    ensures listed { λ _. ⌜
+        now (blocks .exit) ≡ listLeaves (now (text .entry)) form (now (file .entry)) size (now (blocks .entry)) ⌝ }
 {
     put_mended(answer, file_mend::mend(text, form, file, size, blocks));
 }

@@ -23,6 +23,9 @@ pub fn store(
     };
     let file = match table.store() {
         Ok(file) => file,
+        Err(refusal) if refusal.reason == Reason::TextTooLong => {
+            return refused(source, &refusal, out).map(Ok);
+        }
         Err(refusal) => {
             writeln!(out, "{}: {refusal}", source.name)?;
             return Ok(Ok(Outcome::Refused));

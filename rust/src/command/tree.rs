@@ -1,7 +1,7 @@
 //! `spoonharbor tree`: a line for each node below its parent, indented, with names spelt.
 
 use super::columns::shown;
-use spoonharbor::{Document, FieldType, Node, NodeKind, Refusal, Row, Type};
+use spoonharbor::{Document, Node, NodeKind, Refusal, Row, Type};
 use std::io::{self, Write};
 
 /// Deeper nodes are indented no further and have their depth before them, so that a long chain of operators stays readable
@@ -21,8 +21,8 @@ pub fn print(document: &Document, out: &mut impl Write) -> io::Result<Result<(),
             continue;
         };
         writeln!(out, "{}{}", indentation(depth), spelt.node(node))?;
-        let children = tree.children(index);
-        waiting.extend(children.into_iter().rev().map(|child| (child, depth + 1)));
+        let children = tree.children(index).rev();
+        waiting.extend(children.map(|child| (child, depth + 1)));
     }
     Ok(Ok(()))
 }
@@ -85,7 +85,7 @@ impl<'a> Spelt<'a> {
                 let license = license.map_or("none".to_string(), |row| self.row(row));
                 format!("unit {name}: kind {}, license {license}", kind.name())
             }
-            NodeKind::EventField(field) => format!("{name}: {}", field_type(field)),
+            NodeKind::EventField(field) => format!("{name}: {field}"),
             NodeKind::Event => format!("event {name}"),
             NodeKind::Map {
                 map_type,
@@ -105,13 +105,5 @@ impl<'a> Spelt<'a> {
             NodeKind::Program => "program".to_string(),
             _ => "another node".to_string(),
         }
-    }
-}
-
-fn field_type(field: FieldType) -> String {
-    match field {
-        FieldType::Plain(element) => element.word().to_string(),
-        FieldType::Bytes(length) => format!("bytes[{length}]"),
-        FieldType::Array(element, length) => format!("{}[{length}]", element.word()),
     }
 }

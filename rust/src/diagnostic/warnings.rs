@@ -216,8 +216,8 @@ impl Unit<'_> {
         let receiver = self
             .tree
             .children(call)
-            .first()
-            .map(|&index| self.tree.nodes()[index]);
+            .next()
+            .map(|index| self.tree.nodes()[index]);
         let name = receiver
             .filter(|node| node.kind == NodeKind::Variable)
             .and_then(|node| node.name);

@@ -1,4 +1,5 @@
--- `restore_block` meets its contract: a block that has no entry stays as it is, and one that has an entry differs and is written.
+-- `restore_block` meets its contract: a block that has no entry stays as it is, and one that has an entry differs and
+-- is written.
 use mathlib.Core.Path.{_≡_, sym, _∙_}
 use Prim.Native.Nat.{_<_}
 use native.Mathlib.Omega.{arith}

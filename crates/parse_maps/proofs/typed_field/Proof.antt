@@ -15,7 +15,7 @@ use Rattle.theory_grammar.proofs.Cases.{field-keying, key-yes, key-end, key-no}
 use Rattle.parse_nodes.specs.Post.{Tells}
 use Rattle.parse_nodes.proofs.Seen.{seen, want-met, want-unmet, type-low}
 use Rattle.parse_maps.proofs.Answers.{answer-no, answer-told}
-use Rattle.parse_maps.proofs.Last.{steps-to, over-key, over-value}
+use Rattle.parse_maps.proofs.Last.{factsAt, steps-to, over-key, over-value}
 use Rattle.parse_maps.proofs.typed_field.Statement.{statement}
 use Rattle.parse_maps.proofs.typed_field.Tie as tie
 
@@ -153,23 +153,24 @@ returns-4 c ts h =
     ∙ want-unmet ts (a .rows .now) (a .count) h (a .f .row + 1 + 1 + 1) (k .result) (k .ensures) Semicolon _ (c .before .if4 .taken))
     (c .wanted2 .ensures)
 
-sub-number : tie.Need-sub-number
-sub-number c = omega (arith, type-low (at-end (ended c) .kind-at2 .result) (known (ended c)))
+type-number-requires : tie.Need-type-number-requires
+type-number-requires c κs = omega (arith, type-low (at-end (ended c) .kind-at2 .result) (known (ended c)))
 
 add-next : tie.Need-add-next
 add-next c = search needs
 
 returns-5 : tie.Need-returns-5
 returns-5 c ts h =
-    let d = c .before in
+    let d = c .before .before in
     let a = behind-end d .args in
     let t : ℕ = at-end (ended d) .kind-at2 .result in
     steps-to (a .f) _ (typed KeywordKey t) (a .f .row + 1 + 1 + 1 + 1) _ (whole d ts h KeywordKey (c .if5 .taken))
-    (over-key (a .f) _ t (type-low t (known (ended d))))
+    (over-key (a .f) _ t (type-low t (known (ended d)))
+    ∙ ap (λ (x : ℕ). factsAt (a .f .row + 1 + 1 + 1 + 1) (a .f .maptype) x (a .f .value) (a .f .limit)) (sym (c .before .type-number .ensures)))
 
 returns-6 : tie.Need-returns-6
 returns-6 c ts h =
-    let d = c .before in
+    let d = c .before .before in
     let s = behind-end d in
     let a = s .args in
     let t : ℕ = at-end (ended d) .kind-at2 .result in
@@ -177,7 +178,8 @@ returns-6 c ts h =
     either-kind (λ x. (x ≡ KeywordKey → ⊥) → x ≡ KeywordValue) (a .kind) KeywordKey KeywordValue (s .pre .1)
     (λ z. absurd (z refl)) (λ z. refl) (c .if5 .left) in
     steps-to (a .f) _ (typed KeywordValue t) (a .f .row + 1 + 1 + 1 + 1) _ (whole d ts h KeywordValue v)
-    (over-value (a .f) _ t (type-low t (known (ended d))))
+    (over-value (a .f) _ t (type-low t (known (ended d)))
+    ∙ ap (λ (x : ℕ). factsAt (a .f .row + 1 + 1 + 1 + 1) (a .f .maptype) (a .f .key) x (a .f .limit)) (sym (c .before .type-number .ensures)))
 
 pub typed-field-spec : {M : Type 1} → statement M
 typed-field-spec =
@@ -195,7 +197,7 @@ typed-field-spec =
     kind-at-requires-3
     wanted-requires-2
     returns-4
-    sub-number
+    type-number-requires
     add-next
     returns-5
     returns-6)

@@ -6,7 +6,7 @@ use lib.ListN.{drop}
 use lib.Dec.{ltb}
 use borrow.Author.Tests.{le-ltb}
 use Rattle.rules.specs.Text.{front, notNewline}
-use Rattle.scan_runs.proofs.Lines.{block-on}
+use Rattle.scan_runs.proofs.Lines.{block-on, block-turned}
 use Rattle.scan_runs.proofs.block_ends_line.Statement.{statement}
 use Rattle.scan_runs.proofs.block_ends_line.Tie as tie
 
@@ -35,7 +35,9 @@ loop-again : tie.Need-loop-again Inv-loop μ-loop
 loop-again c =
     let l = c .before .before .loop in
     let s = c .before .before .before .args in
-    (omega arith, block-on (s .text .now) (s .at) (l .k) (omega arith) (l .found) (l .inv .1))
+    let b = block-on (s .text .now) (s .at) (l .k) (omega arith) (l .found) (l .inv .1) in
+    let d = block-turned (s .text .now) (s .at) (l .k) (omega arith) (l .found) (l .inv .1) in
+    (omega arith, search (b, d))
 
 returns : tie.Need-returns Inv-loop μ-loop
 returns c =

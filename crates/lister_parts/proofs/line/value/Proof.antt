@@ -5,7 +5,7 @@ use mathlib.Core.List.{_++_}
 use native.Mathlib.Omega.{arith}
 use borrow.Author.Needs.{needs}
 use Rattle.rules.specs.Text.{bytes}
-use Rattle.lister_parts.specs.Parts.{decimal}
+use Rattle.rules_decimal.specs.Decimal.{decimal}
 use Rattle.lister_parts.proofs.Adding.{adds-then, adds-same}
 use Rattle.lister_parts.proofs.Decimals.{signed-low, signed-high, negated}
 use Rattle.lister_parts.proofs.line.value.Statement.{statement}

@@ -2,12 +2,8 @@
 use mathlib.Core.Path.{sym, ap, _∙_}
 use Prim.Native.Nat.{ℕ, _-_}
 use native.Mathlib.Omega.{arith}
-use lib.ListN.{take, drop}
 use borrow.Author.Tests.{not-true, not-false}
-use Rattle.scan_words.specs.Slots.{packable}
-use Rattle.scan_words.proofs.Packed.{packed-tells}
-use Rattle.scan_runs.proofs.Words.{words-plain}
-use Rattle.scan_reader.proofs.Settled.{wordAt, word-end, word-packed, word-unknown, word-told}
+use Rattle.scan_reader.proofs.Settled.{word-end, word-bytes, word-lookup, word-unknown, word-told}
 use borrow.Author.Needs.{needs}
 use Rattle.scan_reader.proofs.pieces.word.Statement.{statement}
 use Rattle.scan_reader.proofs.pieces.word.Tie as tie
@@ -29,8 +25,11 @@ returns c =
     ∙ sym (word-unknown (s .args .text .now) (s .args .at) (k .read-word .result) (k .read-word .ensures) (s .args .whole)
     (sym (c .before .before .shown .ensures) ∙ not-true _ (c .before .if1 .taken)))
 
-kind-in-requires : tie.Need-kind-in-requires
-kind-in-requires c κs = search needs
+kind-of-requires : tie.Need-kind-of-requires
+kind-of-requires c κs =
+    let k = c .before .before in
+    let s = k .before .before in
+    word-lookup (s .args .text .now) (s .args .at) (k .read-word .result) (k .read-word .ensures) (s .pre .1)
 
 sub-told : tie.Need-sub-told
 sub-told c =
@@ -52,8 +51,7 @@ returns-2 c =
     let e = k .read-word .ensures in
     c .told2 .ensures
     ∙ ap (λ (x : ℕ). record { size = w .end - a; kind = x; bits = 0 })
-    (c .before .kind-in .ensures (take packable (wordAt t a w e)) (words-plain (drop a t)) (word-packed t a w e)
-    ∙ packed-tells (wordAt t a w e))
+    (c .before .kind-of .ensures ∙ word-bytes t a w e)
     ∙ sym (word-told t a w e (s .args .whole) (sym (d .before .shown .ensures) ∙ not-false _ (d .if1 .left)))
 
 pub word-spec : {M : Type 1} → statement M
@@ -64,7 +62,7 @@ word-spec =
     shown-requires
     told-requires
     returns
-    kind-in-requires
+    kind-of-requires
     sub-told
     told-requires-2
     returns-2)

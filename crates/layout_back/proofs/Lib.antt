@@ -1,0 +1,3 @@
+-- What the proofs of this crate use.
+pub mod Back
+pub mod Decimals

@@ -1,0 +1,3 @@
+-- What the contracts of those that write expressions cite.
+pub mod Parts
+pub mod Written

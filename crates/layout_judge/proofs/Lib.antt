@@ -1,0 +1,4 @@
+-- Laws of what is held against a text, and the calls that hold it.
+pub mod Same
+pub mod Held
+pub mod Read

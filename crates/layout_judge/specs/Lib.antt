@@ -1,0 +1,2 @@
+-- What is held against a text.
+pub mod Judging

@@ -1,0 +1,2 @@
+-- What the contracts of those that write lines cite.
+pub mod Lines

@@ -1,0 +1,2 @@
+-- What the contracts of those that write whole programs cite.
+pub mod Things

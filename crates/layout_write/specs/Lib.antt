@@ -1,0 +1,2 @@
+-- What the contract of the walk over a program cites.
+pub mod Lent

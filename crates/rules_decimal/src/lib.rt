@@ -1,0 +1,1 @@
+// How numbers are written for people: definitions alone.
