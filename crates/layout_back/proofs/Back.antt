@@ -36,11 +36,13 @@ unfolding backed
 wrote-none room at = record { begins = omega arith; room-is = refl }
 
 -- bytes, and then those in front of them
-pub wrote-then : {bs cs room room′ room″ : List ℕ} {at to r : ℕ} → Wrote bs room at room′ to → Wrote cs room′ to room″ r → Wrote (cs ++ bs) room at room″ r
+pub wrote-then : {bs cs room room′ room″ : List ℕ} {at to r : ℕ} → Wrote bs room at room′ to → Wrote cs room′ to room″ r → Wrote
+    (cs ++ bs) room at room″ r
 wrote-then {bs} {cs} {room} {room′} {room″} {at} {to} {r} v w =
     record {
       begins = omega (arith, v .begins, w .begins, length-append cs bs);
-      room-is = w .room-is ∙ ap (λ (l : List ℕ). backed l to cs) (v .room-is) ∙ ap (λ (i : ℕ). backed (backed room at bs) i cs) (v .begins) ∙ sym (backed-append room at cs bs);
+      room-is = w .room-is ∙ ap (λ (l : List ℕ). backed l to cs) (v .room-is) ∙ ap (λ (i : ℕ). backed (backed room at bs) i cs)
+          (v .begins) ∙ sym (backed-append room at cs bs);
     }
 
 -- other words for the bytes
@@ -54,7 +56,8 @@ wrote-long {bs} {room} {room′} {at} {r} w = ap length (w .room-is) ∙ backed-
 -- ---- a room in which there is place for the bytes
 
 -- bytes that end at a place, behind what stands before them
-backed-at : (room : List ℕ) (j : ℕ) (bs : List ℕ) → j + length bs ≤ length room → backed room (j + length bs) bs ≡ take j room ++ (bs ++ drop (j + length bs) room)
+backed-at : (room : List ℕ) (j : ℕ) (bs : List ℕ) → j + length bs ≤ length room → backed room (j + length bs) bs ≡ take j room ++
+    (bs ++ drop (j + length bs) room)
 unfolding backed setBack
 backed-at room j [] h = rw add-zero (sym (take-append-drop j room))
 backed-at room j (b ∷ bs) h =
@@ -63,7 +66,8 @@ backed-at room j (b ∷ bs) h =
     let f : n - length bs ≡ suc j = omega arith in
     let rest : List ℕ = bs ++ drop n room in
     let g : take (suc j) room ≡ take j room ++ (getD room j 0 ∷ []) = take-suc room j 0 (omega arith) in
-    let ih : backed room (suc j + length bs) bs ≡ take (suc j) room ++ (bs ++ drop (suc j + length bs) room) = backed-at room (suc j) bs (omega arith) in
+    let ih : backed room (suc j + length bs) bs ≡ take (suc j) room ++ (bs ++ drop (suc j + length bs) room) = backed-at room (suc j) bs
+    (omega arith) in
     let k : backed room n bs ≡ take (suc j) room ++ rest = rw e ih in
     let m : backed room n bs ≡ take j room ++ (getD room j 0 ∷ rest) =
     k ∙ ap (λ (l : List ℕ). l ++ rest) g ∙ append-assoc (take j room) (getD room j 0 ∷ []) rest in
@@ -116,7 +120,8 @@ bytes-on text i h g v w =
     let d : drop (i - 1) text ≡ getD text (i - 1) 0 ∷ drop (suc (i - 1)) text = drop-cons text (i - 1) 0 (omega arith) in
     wrote-as (sym (d ∙ ap (λ (k : ℕ). getD text (i - 1) 0 ∷ drop k text) e)) (wrote-then v w)
 
-pub bytes-all : (text : List ℕ) (i : ℕ) {room room′ : List ℕ} {at to : ℕ} → i ≤ 0 → Wrote (drop i text) room at room′ to → Wrote text room at room′ to
+pub bytes-all : (text : List ℕ) (i : ℕ) {room room′ : List ℕ} {at to : ℕ} → i ≤ 0 → Wrote (drop i text) room at room′ to
+    → Wrote text room at room′ to
 bytes-all text i h v = let e : i ≡ 0 = omega arith in wrote-as (ap (λ (k : ℕ). drop k text) e) v
 
 pub bytes-begin : (text room : List ℕ) (at : ℕ) → Wrote (drop (length text) text) room at room at
@@ -136,7 +141,8 @@ pub counting-on : {n : ℕ} {room : List ℕ} {at left : ℕ} {room′ room″ :
 counting-on {left = left} h v w =
     record {
       digits = digit (left % 10) ++ v .digits;
-      all = v .all ∙ ap (λ (l : List ℕ). l ++ v .digits) (decimal-more left h) ∙ append-assoc (decimal (left / 10)) (digit (left % 10)) (v .digits);
+      all = v .all ∙ ap (λ (l : List ℕ). l ++ v .digits) (decimal-more left h) ∙ append-assoc (decimal (left / 10)) (digit (left % 10))
+          (v .digits);
       wrote = wrote-then (v .wrote) w;
     }
 

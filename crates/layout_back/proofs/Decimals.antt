@@ -41,7 +41,8 @@ pub decimal-more : (n : ℕ) → 10 ≤ n → decimal n ≡ decimal (n / 10) ++ 
 unfolding decimal
 decimal-more zero h = absurd (omega arith)
 decimal-more (suc m) h =
-    digits-more m (suc m) h ∙ ap (λ (l : List ℕ). l ++ digit (suc m % 10)) (digits-any m (suc m / 10) (suc m / 10) (omega arith) (le-refl (suc m / 10)))
+    digits-more m (suc m) h ∙ ap (λ (l : List ℕ). l ++ digit (suc m % 10))
+    (digits-any m (suc m / 10) (suc m / 10) (omega arith) (le-refl (suc m / 10)))
 
 -- ---- signed numbers
 

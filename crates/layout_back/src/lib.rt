@@ -81,7 +81,8 @@ pub fn number(low: u32, high: u32, room: &mut [u8], at: usize) -> usize
 
 // What a row spells, and a blank.
 pub fn name(text: &[u8], rows: &[u32], row: u32, room: &mut [u8], at: usize) -> usize
-    ensures { λ r. ⌜ ((w : List ℕ) → SpelledAs (now (text .entry)) (now (rows .entry)) row w → Wrote (w ++ (32 ∷ [])) (now (room .entry)) at (now (room .exit)) r) ⌝ }
+    ensures { λ r. ⌜ ((w : List ℕ) → SpelledAs (now (text .entry)) (now (rows .entry)) row w → Wrote (w ++ (32 ∷ []))
+        (now (room .entry)) at (now (room .exit)) r) ⌝ }
 {
     let start = word(rows, row, row::START) as usize;
     let end = word(rows, row, row::END) as usize;

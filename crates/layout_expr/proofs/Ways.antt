@@ -88,14 +88,20 @@ module _ {t rows nodes : List ℕ} where
       → Done m bs room at room′ (record { node = j; at = to })
   num-done k a b w (p-var e s) = absurd (omega (arith, k, e))
   num-done {j = j} {low = low} {high = high} k a b w (p-num e) =
-      record { node = refl; wrote = wrote-as (ap (λ (x : ℕ). signed (numberOf x high) ++ (32 ∷ [])) a ∙ ap (λ (x : ℕ). signed (numberOf (wordOf nodes j 4) x) ++ (32 ∷ [])) b) w }
+      record {
+        node = refl;
+        wrote = wrote-as (ap (λ (x : ℕ). signed (numberOf x high) ++ (32 ∷ [])) a ∙ ap
+            (λ (x : ℕ). signed (numberOf (wordOf nodes j 4) x) ++ (32 ∷ [])) b) w;
+      }
   num-done k a b w (p-star e q) = absurd (omega (arith, k, e))
   num-done k a b w (p-field e q s) = absurd (omega (arith, k, e))
   num-done k a b w (p-call e q u c s) = absurd (omega (arith, k, e))
   num-done k a b w (p-bin x y q u) = absurd (omega (arith, k, x))
 
-  pub star-done : {m j l to at : ℕ} {bs room room′ room″ : List ℕ} {b : Back} → kindOf nodes j ≡ 3 → WroteExpr t rows nodes j 3 room at room′ b
-      → Wrote (bytes "* ") room′ (b .at) room″ to → Part t rows nodes Expr m (suc j) l bs → Done m bs room at room″ (record { node = b .node; at = to })
+  pub star-done : {m j l to at : ℕ} {bs room room′ room″ : List ℕ} {b : Back} → kindOf nodes j ≡ 3
+      → WroteExpr t rows nodes j 3 room at room′ b
+      → Wrote (bytes "* ") room′ (b .at) room″ to → Part t rows nodes Expr m (suc j) l bs → Done m bs room at room″
+      (record { node = b .node; at = to })
   star-done k v w (p-var e s) = absurd (omega (arith, k, e))
   star-done k v w (p-num e) = absurd (omega (arith, k, e))
   star-done k v w (p-star e q) = record { node = v .done q .node; wrote = wrote-then (v .done q .wrote) w }
@@ -149,8 +155,10 @@ module _ {t rows nodes : List ℕ} where
         left = bs;
         rest = bytes ". " ++ ((w ++ bytes " ") ++ (bytes "( " ++ (us ++ bytes ") ")));
         part = subst (λ (i : ℕ). Part t rows nodes Expr m i l bs) (sym (d .node)) q;
-        all = ap (λ (i : ℕ). put i l bs ++ (bytes ". " ++ ((w ++ bytes " ") ++ (bytes "( " ++ (us ++ bytes ") "))))) (sym (call-level (kindOf nodes j) k));
-        wrote = wrote-then (wrote-then (wrote-then (wrote-then w₁ (d .wrote)) w₃) (f w (subst (λ (r : ℕ). SpelledAs t rows r w) (sym a) s))) w₅;
+        all = ap (λ (i : ℕ). put i l bs ++ (bytes ". " ++ ((w ++ bytes " ") ++ (bytes "( " ++ (us ++ bytes ") ")))))
+            (sym (call-level (kindOf nodes j) k));
+        wrote = wrote-then (wrote-then (wrote-then (wrote-then w₁ (d .wrote)) w₃)
+            (f w (subst (λ (r : ℕ). SpelledAs t rows r w) (sym a) s))) w₅;
       }
   call-steps k h a w₁ w₂ w₃ f w₅ (p-bin x y q u) = absurd (omega (arith, k, y))
 
@@ -176,11 +184,14 @@ module _ {t rows nodes : List ℕ} where
 
   -- ---- arguments
 
-  pub arguing-none : {m n c : ℕ} {bs : List ℕ} (room : List ℕ) (at : ℕ) → Part t rows nodes Args m n c bs → Arguing t rows nodes m bs n c room at room at
+  pub arguing-none : {m n c : ℕ} {bs : List ℕ} (room : List ℕ) (at : ℕ) → Part t rows nodes Args m n c bs
+      → Arguing t rows nodes m bs n c room at room at
   arguing-none {bs = bs} room at q = record { us = bs; more = []; part = q; all = sym (append-nil bs); wrote = wrote-none room at }
 
-  on-args : {m end left to r at : ℕ} {bs us more room room′ room″ room‴ : List ℕ} {b : Back} → 1 < left → Part t rows nodes Args m end left us
-      → bs ≡ us ++ more → Wrote more room at room′ to → WroteExpr t rows nodes end 0 room′ to room″ b → Wrote (comma (left - 1)) room″ (b .at) room‴ r
+  on-args : {m end left to r at : ℕ} {bs us more room room′ room″ room‴ : List ℕ} {b : Back} → 1 < left
+      → Part t rows nodes Args m end left us
+      → bs ≡ us ++ more → Wrote more room at room′ to → WroteExpr t rows nodes end 0 room′ to room″ b → Wrote (comma (left - 1)) room″
+      (b .at) room‴ r
       → Arguing t rows nodes m bs (b .node) (left - 1) room at room‴ r
   on-args h p-none e v w u = absurd (omega (arith, h))
   on-args {m = m} {more = more} {b = b} h (p-arg {q = p} {c = c} {l = l} {us = us} {bs = cs} q x) e v w u =
@@ -189,12 +200,14 @@ module _ {t rows nodes : List ℕ} where
       record {
         us = us;
         more = comma c ++ (cs ++ more);
-        part = subst (λ (k : ℕ). Part t rows nodes Args m (b .node) k us) i (subst (λ (n : ℕ). Part t rows nodes Args m n c us) (sym (d .node)) q);
+        part = subst (λ (k : ℕ). Part t rows nodes Args m (b .node) k us) i
+            (subst (λ (n : ℕ). Part t rows nodes Args m n c us) (sym (d .node)) q);
         all = e ∙ append-assoc us (comma c ++ cs) more ∙ ap (λ (ws : List ℕ). us ++ ws) (append-assoc (comma c) cs more);
         wrote = wrote-then (wrote-then v (wrote-as (put-any l cs) (d .wrote))) (wrote-as (ap comma (sym i)) u);
       }
 
-  pub arguing-on : {m end left to r at : ℕ} {bs room room′ room″ room‴ : List ℕ} {b : Back} → 1 < left → Arguing t rows nodes m bs end left room at room′ to
+  pub arguing-on : {m end left to r at : ℕ} {bs room room′ room″ room‴ : List ℕ} {b : Back} → 1 < left
+      → Arguing t rows nodes m bs end left room at room′ to
       → WroteExpr t rows nodes end 0 room′ to room″ b → Wrote (comma (left - 1)) room″ (b .at) room‴ r
       → Arguing t rows nodes m bs (b .node) (left - 1) room at room‴ r
   arguing-on h a w u = on-args h (a .part) (a .all) (a .wrote) w u
@@ -232,17 +245,20 @@ module _ {t rows nodes : List ℕ} where
   level-of (p-call e q u c s) = rw e
   level-of (p-bin x y q u) = refl
 
-  pub spine-none : {m n l : ℕ} {bs : List ℕ} (p : ℕ) (room : List ℕ) (at : ℕ) → Part t rows nodes Expr m n l bs → Spine t rows nodes m (put p l bs) n p 0 room at room at
+  pub spine-none : {m n l : ℕ} {bs : List ℕ} (p : ℕ) (room : List ℕ) (at : ℕ) → Part t rows nodes Expr m n l bs → Spine t rows nodes m
+      (put p l bs) n p 0 room at room at
   unfolding repeated
   spine-none {l = l} {bs = bs} p room at q =
       record { level = l; left = bs; more = []; part = q; all = sym (append-nil (put p l bs)); wrote = wrote-none room at }
 
-  pub spine-shut : {m end takes opens o to r at : ℕ} {full room room′ room″ : List ℕ} → 0 < end → Spine t rows nodes m full end takes opens room at room′ to
+  pub spine-shut : {m end takes opens o to r at : ℕ} {full room room′ room″ : List ℕ} → 0 < end
+      → Spine t rows nodes m full end takes opens room at room′ to
       → o ≡ pairs takes (nodeLevel (kindOf nodes (end - 1))) → Wrote (repeated o (bytes ") ")) room′ to room″ r
       → Shut t rows nodes m full (end - 1) (opens + o) room at room″ r
   spine-shut {m} {end} {takes} {opens} {o} h s e w =
       let i : end ≡ suc (end - 1) = omega arith in
-      let q : Part t rows nodes Expr m (suc (end - 1)) (s .level) (s .left) = subst (λ (n : ℕ). Part t rows nodes Expr m n (s .level) (s .left)) i (s .part) in
+      let q : Part t rows nodes Expr m (suc (end - 1)) (s .level) (s .left) = subst
+      (λ (n : ℕ). Part t rows nodes Expr m n (s .level) (s .left)) i (s .part) in
       record {
         level = s .level;
         left = s .left;
@@ -252,7 +268,8 @@ module _ {t rows nodes : List ℕ} where
         wrote = wrote-then (s .wrote) w;
       }
 
-  pub spine-leaf : {m j opens to r at : ℕ} {full room room′ room″ room‴ : List ℕ} {b : Back} → kindOf nodes j ≤ 3 → Shut t rows nodes m full j opens room at room′ to
+  pub spine-leaf : {m j opens to r at : ℕ} {full room room′ room″ room‴ : List ℕ} {b : Back} → kindOf nodes j ≤ 3
+      → Shut t rows nodes m full j opens room at room′ to
       → WroteLeaf t rows nodes j room′ to room″ b → Wrote (repeated opens (bytes "( ")) room″ (b .at) room‴ r
       → Done m full room at room‴ (record { node = b .node; at = r })
   spine-leaf h s v w =
@@ -260,7 +277,8 @@ module _ {t rows nodes : List ℕ} where
       record { node = d .node; wrote = wrote-as (sym (s .all)) (wrote-then (wrote-then (s .wrote) (d .wrote)) w) }
 
   pub spine-step : {m j k opens to at : ℕ} {full room room′ room″ : List ℕ} {b : Back} → 4 ≤ kindOf nodes j → k ≡ nodeLevel (kindOf nodes j)
-      → Shut t rows nodes m full j opens room at room′ to → WroteStep t rows nodes j room′ to room″ b → Spine t rows nodes m full (b .node) k opens room at room″ (b .at)
+      → Shut t rows nodes m full j opens room at room′ to → WroteStep t rows nodes j room′ to room″ b → Spine t rows nodes m full
+      (b .node) k opens room at room″ (b .at)
   spine-step {j = j} {opens = opens} h e s v =
       let d = v .done h (s .part) in
       let p = put (nodeLevel (kindOf nodes j)) (d .level) (d .left) in

@@ -50,7 +50,8 @@ module _ (t rows nodes : List ℕ) where
         → Part Expr m (suc j) operandLevel (put operandLevel l bs ++ (bytes ". " ++ (w ++ bytes " ")))
     p-call : {m q j l c : ℕ} {bs us w : List ℕ} → kindOf nodes j ≡ NodeCall → Part Expr m q l bs → Part Args q j c us
         → wordOf nodes j atChildren ≡ c → SpelledAs t rows (wordOf nodes j atName) w
-        → Part Expr m (suc j) operandLevel (put operandLevel l bs ++ (bytes ". " ++ ((w ++ bytes " ") ++ (bytes "( " ++ (us ++ bytes ") ")))))
+        → Part Expr m (suc j) operandLevel (put operandLevel l bs ++
+        (bytes ". " ++ ((w ++ bytes " ") ++ (bytes "( " ++ (us ++ bytes ") ")))))
     p-bin : {m q j l r : ℕ} {bs cs : List ℕ} → NodeAdd ≤ kindOf nodes j → kindOf nodes j ≤ NodeShr → Part Expr m q l bs → Part Expr q j r cs
         → Part Expr m (suc j) (nodeLevel (kindOf nodes j))
         (put (nodeLevel (kindOf nodes j)) l bs ++ (operatorOf (kindOf nodes j) ++ put (rightPlace (kindOf nodes j)) r cs))

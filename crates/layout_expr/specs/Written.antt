@@ -27,7 +27,8 @@ module _ (t rows nodes : List ℕ) where
   -- the expression of node j that has no left part, without parentheses
   pub record WroteLeaf (j : ℕ) (room : List ℕ) (at : ℕ) (room′ : List ℕ) (r : Back) : Type 0 where
     pub low : r .node ≤ j
-    pub done : {m l : ℕ} {bs : List ℕ} → kindOf nodes j ≤ NodeDereference → Part t rows nodes Expr m (suc j) l bs → Done m bs room at room′ r
+    pub done : {m l : ℕ} {bs : List ℕ} → kindOf nodes j ≤ NodeDereference → Part t rows nodes Expr m (suc j) l bs
+        → Done m bs room at room′ r
 
   -- what stands behind the left part of the expression bs, at a node of kind k, is written: the left part ends where r says
   pub record Stepped (m k : ℕ) (bs room : List ℕ) (at : ℕ) (room′ : List ℕ) (r : Back) : Type 0 where

@@ -23,7 +23,8 @@ pub fn expr(
     room: &mut [u8],
     at: usize,
 ) -> Back
-    ensures { λ r. ⌜ WroteExpr (now (text .entry)) (now (rows .entry)) (now (nodes .entry)) n place (now (room .entry)) at (now (room .exit)) r ⌝ }
+    ensures { λ r. ⌜ WroteExpr (now (text .entry)) (now (rows .entry)) (now (nodes .entry)) n place (now (room .entry)) at
+        (now (room .exit)) r ⌝ }
 {
     let mut end = n;
     let mut takes = place;
@@ -52,7 +53,8 @@ pub fn expr(
 
 // A variable, a number or a dereference.
 fn leaf(text: &[u8], rows: &[u32], nodes: &[u32], j: u32, room: &mut [u8], at: usize) -> Back
-    ensures { λ r. ⌜ WroteLeaf (now (text .entry)) (now (rows .entry)) (now (nodes .entry)) j (now (room .entry)) at (now (room .exit)) r ⌝ }
+    ensures { λ r. ⌜ WroteLeaf (now (text .entry)) (now (rows .entry)) (now (nodes .entry)) j (now (room .entry)) at
+        (now (room .exit)) r ⌝ }
 {
     let k = layout_back::word(nodes, j, node::KIND);
     if k == node_kind::NUMBER {
@@ -79,7 +81,8 @@ fn leaf(text: &[u8], rows: &[u32], nodes: &[u32], j: u32, room: &mut [u8], at: u
 
 // What stands behind the left part of an operator, a field or a call.
 fn step(text: &[u8], rows: &[u32], nodes: &[u32], j: u32, room: &mut [u8], at: usize) -> Back
-    ensures { λ r. ⌜ WroteStep (now (text .entry)) (now (rows .entry)) (now (nodes .entry)) j (now (room .entry)) at (now (room .exit)) r ⌝ }
+    ensures { λ r. ⌜ WroteStep (now (text .entry)) (now (rows .entry)) (now (nodes .entry)) j (now (room .entry)) at
+        (now (room .exit)) r ⌝ }
 {
     let k = layout_back::word(nodes, j, node::KIND);
     if k == node_kind::CALL {
@@ -102,7 +105,8 @@ fn step(text: &[u8], rows: &[u32], nodes: &[u32], j: u32, room: &mut [u8], at: u
 
 // What stands behind the receiver of a call.
 fn call(text: &[u8], rows: &[u32], nodes: &[u32], j: u32, room: &mut [u8], at: usize) -> Back
-    ensures { λ r. ⌜ WroteCall (now (text .entry)) (now (rows .entry)) (now (nodes .entry)) j (now (room .entry)) at (now (room .exit)) r ⌝ }
+    ensures { λ r. ⌜ WroteCall (now (text .entry)) (now (rows .entry)) (now (nodes .entry)) j (now (room .entry)) at
+        (now (room .exit)) r ⌝ }
 {
     let things = layout_back::word(nodes, j, node::CHILDREN);
     let name = layout_back::word(nodes, j, node::NAME);
@@ -126,7 +130,8 @@ fn args(
     room: &mut [u8],
     at: usize,
 ) -> Back
-    ensures { λ r. ⌜ WroteArgs (now (text .entry)) (now (rows .entry)) (now (nodes .entry)) n things (now (room .entry)) at (now (room .exit)) r ⌝ }
+    ensures { λ r. ⌜ WroteArgs (now (text .entry)) (now (rows .entry)) (now (nodes .entry)) n things (now (room .entry)) at
+        (now (room .exit)) r ⌝ }
 {
     let mut end = n;
     let mut left = things;

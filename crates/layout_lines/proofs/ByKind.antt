@@ -17,7 +17,8 @@ use Rattle.layout_lines.specs.Lines.{mapAt, fieldAt, Line, l-plain, l-as
 
 module _ {t rows nodes : List ℕ} where
   -- an expression at a place that takes everything
-  pub anywhere : {m n l at : ℕ} {bs room room′ : List ℕ} {b : Back} → WroteExpr t rows nodes n 0 room at room′ b → Part t rows nodes Expr m n l bs
+  pub anywhere : {m n l at : ℕ} {bs room room′ : List ℕ} {b : Back} → WroteExpr t rows nodes n 0 room at room′ b
+      → Part t rows nodes Expr m n l bs
       → Done m bs room at room′ b
   anywhere {l = l} {bs = bs} w q = let d = w .done q in record { node = d .node; wrote = wrote-as (put-any l bs) (d .wrote) }
 
@@ -33,7 +34,8 @@ module _ {t rows nodes : List ℕ} where
   plain-done k v w (l-field e s) = absurd (omega (arith, k, e))
   plain-done k v w (l-map e s) = absurd (omega (arith, k, e))
 
-  pub return-done : {m j a r at : ℕ} {bs room room₁ room₂ room₃ : List ℕ} {b : Back} → kindOf nodes j ≡ 19 → Wrote (bytes ";\n") room at room₁ a
+  pub return-done : {m j a r at : ℕ} {bs room room₁ room₂ room₃ : List ℕ} {b : Back} → kindOf nodes j ≡ 19 → Wrote
+      (bytes ";\n") room at room₁ a
       → WroteExpr t rows nodes j 0 room₁ a room₂ b → Wrote (bytes "return ") room₂ (b .at) room₃ r → Line t rows nodes m (suc j) bs
       → Done m bs room at room₃ (record { node = b .node; at = r })
   return-done k v w u (l-plain e q) = absurd (omega (arith, k, e))
@@ -44,7 +46,8 @@ module _ {t rows nodes : List ℕ} where
   return-done k v w u (l-field e s) = absurd (omega (arith, k, e))
   return-done k v w u (l-map e s) = absurd (omega (arith, k, e))
 
-  pub assign-done : {m j k a c at : ℕ} {bs room room₁ room₂ room₃ room₄ : List ℕ} {b d : Back} → (kindOf nodes j ≡ 13 → ⊥) → kindOf nodes j ≤ 15
+  pub assign-done : {m j k a c at : ℕ} {bs room room₁ room₂ room₃ room₄ : List ℕ} {b d : Back} → (kindOf nodes j ≡ 13 → ⊥)
+      → kindOf nodes j ≤ 15
       → k ≡ kindOf nodes j → Wrote (bytes ";\n") room at room₁ a → WroteExpr t rows nodes j 0 room₁ a room₂ b
       → Wrote (assignSign k) room₂ (b .at) room₃ c → WroteExpr t rows nodes (b .node) 0 room₃ c room₄ d → Line t rows nodes m (suc j) bs
       → Done m bs room at room₄ d
@@ -62,7 +65,8 @@ module _ {t rows nodes : List ℕ} where
   pub decl-done : {m j k row a c d r at : ℕ} {bs room room₁ room₂ room₃ room₄ room₅ : List ℕ} {b : Back} → (kindOf nodes j ≡ 13 → ⊥)
       → (kindOf nodes j ≡ 19 → ⊥) → 15 < kindOf nodes j → kindOf nodes j ≤ 19 → k ≡ kindOf nodes j → row ≡ wordOf nodes j 2
       → Wrote (bytes ";\n") room at room₁ a → WroteExpr t rows nodes j 0 room₁ a room₂ b
-      → Wrote (bytes "= ") room₂ (b .at) room₃ c → Named t rows row room₃ c room₄ d → Wrote (declWord k) room₄ d room₅ r → Line t rows nodes m (suc j) bs
+      → Wrote (bytes "= ") room₂ (b .at) room₃ c → Named t rows row room₃ c room₄ d → Wrote (declWord k) room₄ d room₅ r
+      → Line t rows nodes m (suc j) bs
       → Done m bs room at room₅ (record { node = b .node; at = r })
   decl-done g h x y i o v w u f z (l-plain e q) = absurd (g e)
   decl-done g h x y i o v w u f z (l-assign p n q s) = absurd (omega (arith, x, n))
@@ -70,7 +74,8 @@ module _ {t rows nodes : List ℕ} where
       let d = anywhere w q in
       record {
         node = d .node;
-        wrote = wrote-then (wrote-then (wrote-then (wrote-then v (d .wrote)) u) (f l (subst (λ (r : ℕ). SpelledAs t rows r l) (sym o) s))) (wrote-as (ap declWord i) z);
+        wrote = wrote-then (wrote-then (wrote-then (wrote-then v (d .wrote)) u)
+            (f l (subst (λ (r : ℕ). SpelledAs t rows r l) (sym o) s))) (wrote-as (ap declWord i) z);
       }
   decl-done g h x y i o v w u f z (l-return e q) = absurd (h e)
   decl-done g h x y i o v w u f z (l-text p n s) = absurd (omega (arith, y, p))
@@ -103,7 +108,8 @@ module _ {t rows nodes : List ℕ} where
   map-done k f (l-map {w = w} e s) = record { node = refl; wrote = f w s }
 
   pub text-done : {m j r at : ℕ} {bs room room′ : List ℕ} → 19 < kindOf nodes j → (kindOf nodes j ≡ 26 → ⊥) → (kindOf nodes j ≡ 28 → ⊥)
-      → ((w : List ℕ) → SpelledAs t rows (wordOf nodes j 2) w → Wrote (textWord (kindOf nodes j) ++ ((w ++ bytes " ") ++ bytes ";\n")) room at room′ r)
+      → ((w : List ℕ) → SpelledAs t rows (wordOf nodes j 2) w → Wrote
+      (textWord (kindOf nodes j) ++ ((w ++ bytes " ") ++ bytes ";\n")) room at room′ r)
       → Line t rows nodes m (suc j) bs → Done m bs room at room′ (record { node = j; at = r })
   text-done x g h f (l-plain e q) = absurd (omega (arith, x, e))
   text-done x g h f (l-assign p n q s) = absurd (omega (arith, x, n))

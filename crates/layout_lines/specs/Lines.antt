@@ -20,8 +20,10 @@ fieldAt nodes j = fieldWords (wordOf nodes j atFact0) (wordOf nodes j atFact1) (
 module _ (t rows nodes : List ℕ) where
   -- the nodes from m up to n are a line, or a map's lines, and have these bytes
   pub data Line : (m n : ℕ) → List ℕ → Type 0 where
-    l-plain : {m j l : ℕ} {bs : List ℕ} → kindOf nodes j ≡ NodeExpression → Part t rows nodes Expr m j l bs → Line m (suc j) (bs ++ bytes ";\n")
-    l-assign : {m q j l r : ℕ} {bs cs : List ℕ} → NodeAssign ≤ kindOf nodes j → kindOf nodes j ≤ NodeAddAssign → Part t rows nodes Expr m q l bs
+    l-plain : {m j l : ℕ} {bs : List ℕ} → kindOf nodes j ≡ NodeExpression → Part t rows nodes Expr m j l bs → Line m (suc j)
+        (bs ++ bytes ";\n")
+    l-assign : {m q j l r : ℕ} {bs cs : List ℕ} → NodeAssign ≤ kindOf nodes j → kindOf nodes j ≤ NodeAddAssign
+        → Part t rows nodes Expr m q l bs
         → Part t rows nodes Expr q j r cs → Line m (suc j) (bs ++ (assignSign (kindOf nodes j) ++ (cs ++ bytes ";\n")))
     l-decl : {m j l : ℕ} {bs w : List ℕ} → NodeReg ≤ kindOf nodes j → kindOf nodes j ≤ NodeHeap → Part t rows nodes Expr m j l bs
         → SpelledAs t rows (wordOf nodes j atName) w

@@ -14,7 +14,8 @@ ghost use Rattle.layout_lines.specs.Lines.{mapAt, fieldAt, WroteLine, Wr
 
 // A statement but `if`: its last expression, and what its kind has in front of that.
 fn statement(text: &[u8], rows: &[u32], nodes: &[u32], j: u32, room: &mut [u8], at: usize) -> Back
-    ensures { λ r. ⌜ WroteStatement (now (text .entry)) (now (rows .entry)) (now (nodes .entry)) j (now (room .entry)) at (now (room .exit)) r ⌝ }
+    ensures { λ r. ⌜ WroteStatement (now (text .entry)) (now (rows .entry)) (now (nodes .entry)) j (now (room .entry)) at
+        (now (room .exit)) r ⌝ }
 {
     let k = layout_back::word(nodes, j, node::KIND);
     let name = layout_back::word(nodes, j, node::NAME);
@@ -43,7 +44,8 @@ fn statement(text: &[u8], rows: &[u32], nodes: &[u32], j: u32, room: &mut [u8], 
 
 // A section or a licence.
 fn text_line(text: &[u8], rows: &[u32], nodes: &[u32], j: u32, room: &mut [u8], at: usize) -> usize
-    ensures { λ r. ⌜ ((w : List ℕ) → SpelledAs (now (text .entry)) (now (rows .entry)) (wordOf (now (nodes .entry)) j 2) w → Wrote (textWord (kindOf (now (nodes .entry)) j) ++ ((w ++ bytes " ") ++ bytes ";\n")) (now (room .entry)) at (now (room .exit)) r) ⌝ }
+    ensures { λ r. ⌜ ((w : List ℕ) → SpelledAs (now (text .entry)) (now (rows .entry)) (wordOf (now (nodes .entry)) j 2) w → Wrote
+        (textWord (kindOf (now (nodes .entry)) j) ++ ((w ++ bytes " ") ++ bytes ";\n")) (now (room .entry)) at (now (room .exit)) r) ⌝ }
 {
     let k = layout_back::word(nodes, j, node::KIND);
     let name = layout_back::word(nodes, j, node::NAME);
@@ -54,7 +56,8 @@ fn text_line(text: &[u8], rows: &[u32], nodes: &[u32], j: u32, room: &mut [u8], 
 
 // A field of an event.
 fn field_line(text: &[u8], rows: &[u32], nodes: &[u32], j: u32, room: &mut [u8], at: usize) -> usize
-    ensures { λ r. ⌜ ((w : List ℕ) → SpelledAs (now (text .entry)) (now (rows .entry)) (wordOf (now (nodes .entry)) j 2) w → Wrote ((w ++ bytes " ") ++ fieldAt (now (nodes .entry)) j) (now (room .entry)) at (now (room .exit)) r) ⌝ }
+    ensures { λ r. ⌜ ((w : List ℕ) → SpelledAs (now (text .entry)) (now (rows .entry)) (wordOf (now (nodes .entry)) j 2) w → Wrote
+        ((w ++ bytes " ") ++ fieldAt (now (nodes .entry)) j) (now (room .entry)) at (now (room .exit)) r) ⌝ }
 {
     let name = layout_back::word(nodes, j, node::NAME);
     let form = layout_back::word(nodes, j, node::FACT0);
@@ -66,7 +69,9 @@ fn field_line(text: &[u8], rows: &[u32], nodes: &[u32], j: u32, room: &mut [u8],
 
 // A map: what it has by its facts, in braces.
 fn map_line(text: &[u8], rows: &[u32], nodes: &[u32], j: u32, room: &mut [u8], at: usize) -> usize
-    ensures { λ r. ⌜ ((w : List ℕ) → SpelledAs (now (text .entry)) (now (rows .entry)) (wordOf (now (nodes .entry)) j 2) w → Wrote (bytes "map " ++ ((w ++ bytes " ") ++ (bytes "{\n" ++ (mapAt (now (nodes .entry)) j ++ bytes "}\n")))) (now (room .entry)) at (now (room .exit)) r) ⌝ }
+    ensures { λ r. ⌜ ((w : List ℕ) → SpelledAs (now (text .entry)) (now (rows .entry)) (wordOf (now (nodes .entry)) j 2) w → Wrote
+        (bytes "map " ++ ((w ++ bytes " ") ++ (bytes "{\n" ++ (mapAt (now (nodes .entry)) j ++ bytes "}\n")))) (now (room .entry)) at
+        (now (room .exit)) r) ⌝ }
 {
     let name = layout_back::word(nodes, j, node::NAME);
     let kind = layout_back::word(nodes, j, node::FACT0);
@@ -82,7 +87,8 @@ fn map_line(text: &[u8], rows: &[u32], nodes: &[u32], j: u32, room: &mut [u8], a
 
 // The line of node j.
 pub fn line(text: &[u8], rows: &[u32], nodes: &[u32], j: u32, room: &mut [u8], at: usize) -> Back
-    ensures { λ r. ⌜ WroteLine (now (text .entry)) (now (rows .entry)) (now (nodes .entry)) j (now (room .entry)) at (now (room .exit)) r ⌝ }
+    ensures { λ r. ⌜ WroteLine (now (text .entry)) (now (rows .entry)) (now (nodes .entry)) j (now (room .entry)) at
+        (now (room .exit)) r ⌝ }
 {
     let k = layout_back::word(nodes, j, node::KIND);
     if k <= node_kind::RETURN {

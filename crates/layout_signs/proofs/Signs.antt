@@ -17,14 +17,16 @@ pub repeated-add : (n k : ℕ) (bs : List ℕ) → repeated (n + k) bs ≡ repea
 unfolding repeated
 repeated-add zero k bs = ap (λ (i : ℕ). repeated i bs) (zero-add k)
 repeated-add (suc n) k bs =
-    ap (λ (i : ℕ). repeated i bs) (suc-add n k) ∙ ap (λ (l : List ℕ). bs ++ l) (repeated-add n k bs) ∙ sym (append-assoc bs (repeated n bs) (repeated k bs))
+    ap (λ (i : ℕ). repeated i bs) (suc-add n k) ∙ ap (λ (l : List ℕ). bs ++ l) (repeated-add n k bs) ∙ sym
+    (append-assoc bs (repeated n bs) (repeated k bs))
 
 -- an expression at a place, between as many parentheses as it has there
 pub put-is : (p l : ℕ) (bs : List ℕ) → put p l bs ≡ repeated (pairs p l) (bytes "( ") ++ (bs ++ repeated (pairs p l) (bytes ") "))
 unfolding put pairs repeated
 put-is p l bs = go (ltb l p)
   where
-    go : (b : Bool) → cond b (bytes "( " ++ (bs ++ bytes ") ")) bs ≡ repeated (cond b 1 0) (bytes "( ") ++ (bs ++ repeated (cond b 1 0) (bytes ") "))
+    go : (b : Bool) → cond b (bytes "( " ++ (bs ++ bytes ") ")) bs ≡ repeated (cond b 1 0) (bytes "( ") ++
+        (bs ++ repeated (cond b 1 0) (bytes ") "))
     go true = refl
     go false = sym (append-nil bs)
 
@@ -48,7 +50,8 @@ pub repeating-on : {n left : ℕ} {bs room room′ room″ : List ℕ} {at to r 
 unfolding repeated
 repeating-on h v w = record { done = suc (v .done); both = omega (arith, v .both); wrote = wrote-then (v .wrote) w }
 
-pub repeating-all : {n left : ℕ} {bs room room′ : List ℕ} {at to : ℕ} → left ≤ 0 → Repeating n left bs room at room′ to → Wrote (repeated n bs) room at room′ to
+pub repeating-all : {n left : ℕ} {bs room room′ : List ℕ} {at to : ℕ} → left ≤ 0 → Repeating n left bs room at room′ to → Wrote
+    (repeated n bs) room at room′ to
 repeating-all {n} {left} {bs} h v = let e : v .done ≡ n = omega (arith, v .both) in wrote-as (ap (λ (i : ℕ). repeated i bs) e) (v .wrote)
 
 -- the last operator

@@ -33,7 +33,8 @@ module _ {t rows nodes : List ℕ} where
   behind : {s : Sort} {m n c : ℕ} {bs : List ℕ} → (n ≡ 0 → ⊥) → Thing t rows nodes s m n c bs → Thing t rows nodes s m (suc (n - 1)) c bs
   behind {s} {m} {n} {c} {bs} h q = let e : n ≡ suc (n - 1) = omega (arith, h) in subst (λ (i : ℕ). Thing t rows nodes s m i c bs) e q
 
-  unit-is : {m j at : ℕ} {bs room room′ : List ℕ} {b : Back} → kindOf nodes j ≡ 25 → WroteHeaded t rows nodes (bytes "unit ") (suc j) room at room′ b
+  unit-is : {m j at : ℕ} {bs room room′ : List ℕ} {b : Back} → kindOf nodes j ≡ 25 → WroteHeaded t rows nodes (bytes "unit ")
+      (suc j) room at room′ b
       → Thing t rows nodes One m (suc j) 0 bs → Done m bs room at room′ b
   unit-is k w (t-line a b c q) = absurd (b k)
   unit-is k w (t-unit e q s) = w .done refl q s
@@ -41,7 +42,8 @@ module _ {t rows nodes : List ℕ} where
   unit-is k w (t-if e c s q) = absurd (omega (arith, k, e))
   unit-is k w (t-if-else e c s q u) = absurd (omega (arith, k, e))
 
-  event-is : {m j at : ℕ} {bs room room′ : List ℕ} {b : Back} → kindOf nodes j ≡ 27 → WroteHeaded t rows nodes (bytes "event ") (suc j) room at room′ b
+  event-is : {m j at : ℕ} {bs room room′ : List ℕ} {b : Back} → kindOf nodes j ≡ 27 → WroteHeaded t rows nodes (bytes "event ")
+      (suc j) room at room′ b
       → Thing t rows nodes One m (suc j) 0 bs → Done m bs room at room′ b
   event-is k w (t-line a b c q) = absurd (c k)
   event-is k w (t-unit e q s) = absurd (omega (arith, k, e))
@@ -49,7 +51,8 @@ module _ {t rows nodes : List ℕ} where
   event-is k w (t-if e c s q) = absurd (omega (arith, k, e))
   event-is k w (t-if-else e c s q u) = absurd (omega (arith, k, e))
 
-  line-is : {m j at : ℕ} {bs room room′ : List ℕ} {b : Back} → (kindOf nodes j ≡ 20 → ⊥) → (kindOf nodes j ≡ 25 → ⊥) → (kindOf nodes j ≡ 27 → ⊥)
+  line-is : {m j at : ℕ} {bs room room′ : List ℕ} {b : Back} → (kindOf nodes j ≡ 20 → ⊥) → (kindOf nodes j ≡ 25 → ⊥) →
+      (kindOf nodes j ≡ 27 → ⊥)
       → WroteLine t rows nodes j room at room′ b → Thing t rows nodes One m (suc j) 0 bs → Done m bs room at room′ b
   line-is f g h w (t-line a b c q) = w .done q
   line-is f g h w (t-unit e q s) = absurd (g e)
@@ -64,13 +67,16 @@ module _ {t rows nodes : List ℕ} where
       let e : n ≡ suc (n - 1) = omega (arith, h) in subst (λ (i : ℕ). WroteHeaded t rows nodes word i room at room′ b) e w
 
   module _ {m n at : ℕ} {bs room room′ : List ℕ} {b : Back} (h : n ≡ 0 → ⊥) where
-    pub branch-done : kindOf nodes (n - 1) ≡ 20 → WroteBranch t rows nodes (n - 1) room at room′ b → Thing t rows nodes One m n 0 bs → Done m bs room at room′ b
+    pub branch-done : kindOf nodes (n - 1) ≡ 20 → WroteBranch t rows nodes (n - 1) room at room′ b → Thing t rows nodes One m n 0 bs
+        → Done m bs room at room′ b
     branch-done k w q = w .done k (behind h q)
 
-    pub unit-done : kindOf nodes (n - 1) ≡ 25 → WroteHeaded t rows nodes (bytes "unit ") n room at room′ b → Thing t rows nodes One m n 0 bs → Done m bs room at room′ b
+    pub unit-done : kindOf nodes (n - 1) ≡ 25 → WroteHeaded t rows nodes (bytes "unit ") n room at room′ b
+        → Thing t rows nodes One m n 0 bs → Done m bs room at room′ b
     unit-done k w q = unit-is k (headed-at h w) (behind h q)
 
-    pub event-done : kindOf nodes (n - 1) ≡ 27 → WroteHeaded t rows nodes (bytes "event ") n room at room′ b → Thing t rows nodes One m n 0 bs → Done m bs room at room′ b
+    pub event-done : kindOf nodes (n - 1) ≡ 27 → WroteHeaded t rows nodes (bytes "event ") n room at room′ b
+        → Thing t rows nodes One m n 0 bs → Done m bs room at room′ b
     event-done k w q = event-is k (headed-at h w) (behind h q)
 
     pub line-done : (kindOf nodes (n - 1) ≡ 20 → ⊥) → (kindOf nodes (n - 1) ≡ 25 → ⊥) → (kindOf nodes (n - 1) ≡ 27 → ⊥)
@@ -79,7 +85,8 @@ module _ {t rows nodes : List ℕ} where
 
   -- ---- braces
 
-  pub headed-done : {word : List ℕ} {m n j row a r at : ℕ} {bs w room room₁ room₂ room₃ : List ℕ} {b : Back} → n ≡ suc j → row ≡ wordOf nodes (n - 1) 2
+  pub headed-done : {word : List ℕ} {m n j row a r at : ℕ} {bs w room room₁ room₂ room₃ : List ℕ} {b : Back} → n ≡ suc j → row
+      ≡ wordOf nodes (n - 1) 2
       → WroteThing t rows nodes Body n 0 room at room₁ b → Named t rows row room₁ (b .at) room₂ a → Wrote word room₂ a room₃ r
       → Thing t rows nodes Body m (suc j) 0 bs → SpelledAs t rows (wordOf nodes j 2) w
       → Done m (word ++ ((w ++ bytes " ") ++ bs)) room at room₃ (record { node = b .node; at = r })
@@ -89,14 +96,17 @@ module _ {t rows nodes : List ℕ} where
       record { node = d .node; wrote = wrote-then (wrote-then (d .wrote) (f w (spelled-at (i ∙ ap (λ (k : ℕ). wordOf nodes k 2) g) s))) u }
 
   body-is : {m j c a r at : ℕ} {bs room room₁ room₂ room₃ : List ℕ} {b : Back} → c ≡ wordOf nodes j 3 → Wrote (bytes "}\n") room at room₁ a
-      → WroteThing t rows nodes Many j c room₁ a room₂ b → Wrote (bytes "{\n") room₂ (b .at) room₃ r → Thing t rows nodes Body m (suc j) 0 bs
+      → WroteThing t rows nodes Many j c room₁ a room₂ b → Wrote (bytes "{\n") room₂ (b .at) room₃ r → Thing t rows nodes Body m
+      (suc j) 0 bs
       → Done m bs room at room₃ (record { node = b .node; at = r })
   body-is {m = m} {j = j} e v w u (t-body {bs = bs} f q) =
       let d = w .done (subst (λ (k : ℕ). Thing t rows nodes Many m j k bs) (sym (e ∙ f)) q) in
       record { node = d .node; wrote = wrote-then (wrote-then v (d .wrote)) u }
 
-  pub body-done : {m n c a r at : ℕ} {bs room room₁ room₂ room₃ : List ℕ} {b : Back} → (n ≡ 0 → ⊥) → c ≡ wordOf nodes (n - 1) 3 → Wrote (bytes "}\n") room at room₁ a
-      → WroteThing t rows nodes Many (n - 1) c room₁ a room₂ b → Wrote (bytes "{\n") room₂ (b .at) room₃ r → Thing t rows nodes Body m n 0 bs
+  pub body-done : {m n c a r at : ℕ} {bs room room₁ room₂ room₃ : List ℕ} {b : Back} → (n ≡ 0 → ⊥) → c ≡ wordOf nodes (n - 1) 3 → Wrote
+      (bytes "}\n") room at room₁ a
+      → WroteThing t rows nodes Many (n - 1) c room₁ a room₂ b → Wrote (bytes "{\n") room₂ (b .at) room₃ r
+      → Thing t rows nodes Body m n 0 bs
       → Done m bs room at room₃ (record { node = b .node; at = r })
   body-done h e v w u q = body-is e v w u (behind h q)
 
@@ -111,7 +121,8 @@ module _ {t rows nodes : List ℕ} where
   lone-done f k w (t-if-else e c s q u) = absurd (f c)
 
   pub else-done : {m j a at : ℕ} {bs room room₁ room₂ room₃ : List ℕ} {b d : Back} → wordOf nodes j 3 ≡ 3 → kindOf nodes j ≡ 20
-      → WroteThing t rows nodes Body j 0 room at room₁ b → Wrote (bytes "else ") room₁ (b .at) room₂ a → WroteGuarded t rows nodes (b .node) room₂ a room₃ d
+      → WroteThing t rows nodes Body j 0 room at room₁ b → Wrote (bytes "else ") room₁ (b .at) room₂ a → WroteGuarded t rows nodes
+      (b .node) room₂ a room₃ d
       → Thing t rows nodes One m (suc j) 0 bs → Done m bs room at room₃ d
   else-done f k w v z (t-line a b c q) = absurd (a k)
   else-done f k w v z (t-unit e q s) = absurd (omega (arith, k, e))
@@ -126,14 +137,19 @@ module _ {t rows nodes : List ℕ} where
           ≡ bytes "if guard ( " ++ ((l ++ bytes " ") ++ (bytes ") " ++ (bs ++ (bytes "else " ++ cs))))
       else-bytes l bs cs = simp append-assoc
 
-  pub guarded-done : {m n row a c r at : ℕ} {bs w room room₁ room₂ room₃ room₄ : List ℕ} {b : Back} → WroteThing t rows nodes Body n 0 room at room₁ b
+  pub guarded-done : {m n row a c r at : ℕ} {bs w room room₁ room₂ room₃ room₄ : List ℕ} {b : Back}
+      → WroteThing t rows nodes Body n 0 room at room₁ b
       → row ≡ wordOf nodes (b .node - 1) 2 → Wrote (bytes ") ") room₁ (b .at) room₂ a → Named t rows row room₂ a room₃ c
       → Wrote (bytes "if guard ( ") room₃ c room₄ r → SpelledAs t rows (wordOf nodes m 2) w → Thing t rows nodes Body (suc m) n 0 bs
       → Done m (bytes "if guard ( " ++ ((w ++ bytes " ") ++ (bytes ") " ++ bs))) room at room₄ (record { node = b .node - 1; at = r })
   guarded-done {m = m} {w = w} {b = b} v e u f z s q =
       let d = v .done q in
       let g : b .node - 1 ≡ m = omega (arith, d .node) in
-      record { node = g; wrote = wrote-then (wrote-then (wrote-then (d .wrote) u) (f w (spelled-at (e ∙ ap (λ (k : ℕ). wordOf nodes k 2) g) s))) z }
+      record {
+        node = g;
+        wrote = wrote-then (wrote-then (wrote-then (d .wrote) u)
+            (f w (spelled-at (e ∙ ap (λ (k : ℕ). wordOf nodes k 2) g) s))) z;
+      }
 
   pub unguarded : {m n at : ℕ} {bs room room′ : List ℕ} {b : Back} → b .node ≡ 0 → WroteThing t rows nodes Body n 0 room at room′ b
       → Thing t rows nodes Body (suc m) n 0 bs → ⊥
@@ -157,7 +173,8 @@ module _ (t rows nodes : List ℕ) where
     pub goes : {m : ℕ} {bs : List ℕ} → Thing t rows nodes Many m n count bs → Listing m bs end left room at room′ to
 
 module _ {t rows nodes : List ℕ} where
-  pub listing-none : {m n c : ℕ} {bs : List ℕ} (room : List ℕ) (at : ℕ) → Thing t rows nodes Many m n c bs → Listing t rows nodes m bs n c room at room at
+  pub listing-none : {m n c : ℕ} {bs : List ℕ} (room : List ℕ) (at : ℕ) → Thing t rows nodes Many m n c bs
+      → Listing t rows nodes m bs n c room at room at
   listing-none {bs = bs} room at q = record { us = bs; more = []; part = q; all = sym (append-nil bs); wrote = wrote-none room at }
 
   on-list : {m end left to at : ℕ} {bs us more room room′ room″ : List ℕ} {b : Back} → 0 < left → Thing t rows nodes Many m end left us
@@ -170,12 +187,14 @@ module _ {t rows nodes : List ℕ} where
       record {
         us = us;
         more = cs ++ more;
-        part = subst (λ (k : ℕ). Thing t rows nodes Many m (b .node) k us) i (subst (λ (n : ℕ). Thing t rows nodes Many m n c us) (sym (d .node)) q);
+        part = subst (λ (k : ℕ). Thing t rows nodes Many m (b .node) k us) i
+            (subst (λ (n : ℕ). Thing t rows nodes Many m n c us) (sym (d .node)) q);
         all = e ∙ append-assoc us cs more;
         wrote = wrote-then v (d .wrote);
       }
 
-  pub listing-on : {m end left to at : ℕ} {bs room room′ room″ : List ℕ} {b : Back} → 0 < left → Listing t rows nodes m bs end left room at room′ to
+  pub listing-on : {m end left to at : ℕ} {bs room room′ room″ : List ℕ} {b : Back} → 0 < left
+      → Listing t rows nodes m bs end left room at room′ to
       → WroteThing t rows nodes One end 0 room′ to room″ b → Listing t rows nodes m bs (b .node) (left - 1) room at room″ (b .at)
   listing-on h a w = on-list h (a .part) (a .all) (a .wrote) w
 
@@ -195,7 +214,8 @@ module _ {t rows nodes : List ℕ} where
       → WroteThing t rows nodes Many (n - 1) c room at room′ b → Program t rows nodes n bs → Wrote bs room at room′ (b .at)
   program-done {n} {c} {bs = bs} e w p =
       let i : p .last ≡ n - 1 = omega (arith, p .ends) in
-      w .done (subst (λ (k : ℕ). Thing t rows nodes Many 0 (n - 1) k bs) (sym e) (subst (λ (k : ℕ). Thing t rows nodes Many 0 k (wordOf nodes k 3) bs) i (p .things))) .wrote
+      w .done (subst (λ (k : ℕ). Thing t rows nodes Many 0 (n - 1) k bs) (sym e)
+      (subst (λ (k : ℕ). Thing t rows nodes Many 0 k (wordOf nodes k 3) bs) i (p .things))) .wrote
 
   pub no-program : {n : ℕ} {bs : List ℕ} → n ≡ 0 → Program t rows nodes n bs → ⊥
   no-program h p = omega (arith, h, p .ends)

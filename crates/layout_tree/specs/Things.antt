@@ -21,11 +21,13 @@ module _ (t rows nodes : List ℕ) where
         → Line t rows nodes m (suc j) bs → Thing One m (suc j) 0 bs
     t-unit : {m j : ℕ} {bs w : List ℕ} → kindOf nodes j ≡ NodeUnit → Thing Body m (suc j) 0 bs → SpelledAs t rows (wordOf nodes j atName) w
         → Thing One m (suc j) 0 (bytes "unit " ++ ((w ++ bytes " ") ++ bs))
-    t-event : {m j : ℕ} {bs w : List ℕ} → kindOf nodes j ≡ NodeEvent → Thing Body m (suc j) 0 bs → SpelledAs t rows (wordOf nodes j atName) w
+    t-event : {m j : ℕ} {bs w : List ℕ} → kindOf nodes j ≡ NodeEvent → Thing Body m (suc j) 0 bs → SpelledAs t rows
+        (wordOf nodes j atName) w
         → Thing One m (suc j) 0 (bytes "event " ++ ((w ++ bytes " ") ++ bs))
     t-if : {m j : ℕ} {bs w : List ℕ} → kindOf nodes j ≡ NodeIf → wordOf nodes j atChildren ≡ 2 → SpelledAs t rows (wordOf nodes m atName) w
         → Thing Body (suc m) j 0 bs → Thing One m (suc j) 0 (bytes "if guard ( " ++ ((w ++ bytes " ") ++ (bytes ") " ++ bs)))
-    t-if-else : {m q j : ℕ} {bs cs w : List ℕ} → kindOf nodes j ≡ NodeIf → wordOf nodes j atChildren ≡ 3 → SpelledAs t rows (wordOf nodes m atName) w
+    t-if-else : {m q j : ℕ} {bs cs w : List ℕ} → kindOf nodes j ≡ NodeIf → wordOf nodes j atChildren ≡ 3 → SpelledAs t rows
+        (wordOf nodes m atName) w
         → Thing Body (suc m) q 0 bs → Thing Body q j 0 cs
         → Thing One m (suc j) 0 (bytes "if guard ( " ++ ((w ++ bytes " ") ++ (bytes ") " ++ (bs ++ (bytes "else " ++ cs)))))
     t-body : {m j c : ℕ} {bs : List ℕ} → wordOf nodes j atChildren ≡ c → Thing Many m j c bs

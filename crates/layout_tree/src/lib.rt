@@ -7,7 +7,8 @@ ghost use Rattle.layout_tree.specs.Things.{One, Body, Many, WroteThing, 
 
 // The thing that ends in front of node n.
 fn thing(text: &[u8], rows: &[u32], nodes: &[u32], n: u32, room: &mut [u8], at: usize) -> Back
-    ensures { λ r. ⌜ WroteThing (now (text .entry)) (now (rows .entry)) (now (nodes .entry)) One n 0 (now (room .entry)) at (now (room .exit)) r ⌝ }
+    ensures { λ r. ⌜ WroteThing (now (text .entry)) (now (rows .entry)) (now (nodes .entry)) One n 0 (now (room .entry)) at
+        (now (room .exit)) r ⌝ }
 {
     if n == 0 {
         return Back { node: 0, at };
@@ -36,7 +37,8 @@ fn headed(
     room: &mut [u8],
     at: usize,
 ) -> Back
-    ensures { λ r. ⌜ WroteHeaded (now (text .entry)) (now (rows .entry)) (now (nodes .entry)) (now (word .entry)) n (now (room .entry)) at (now (room .exit)) r ⌝ }
+    ensures { λ r. ⌜ WroteHeaded (now (text .entry)) (now (rows .entry)) (now (nodes .entry)) (now (word .entry)) n
+        (now (room .entry)) at (now (room .exit)) r ⌝ }
 {
     if n == 0 {
         return Back { node: 0, at };
@@ -52,7 +54,8 @@ fn headed(
 
 // The things of the node in front of n, in braces.
 fn body(text: &[u8], rows: &[u32], nodes: &[u32], n: u32, room: &mut [u8], at: usize) -> Back
-    ensures { λ r. ⌜ WroteThing (now (text .entry)) (now (rows .entry)) (now (nodes .entry)) Body n 0 (now (room .entry)) at (now (room .exit)) r ⌝ }
+    ensures { λ r. ⌜ WroteThing (now (text .entry)) (now (rows .entry)) (now (nodes .entry)) Body n 0 (now (room .entry)) at
+        (now (room .exit)) r ⌝ }
 {
     if n == 0 {
         return Back { node: 0, at };
@@ -69,7 +72,8 @@ fn body(text: &[u8], rows: &[u32], nodes: &[u32], n: u32, room: &mut [u8], at: u
 
 // The `if` of node j: with three children the last is its second body.
 fn branch(text: &[u8], rows: &[u32], nodes: &[u32], j: u32, room: &mut [u8], at: usize) -> Back
-    ensures { λ r. ⌜ WroteBranch (now (text .entry)) (now (rows .entry)) (now (nodes .entry)) j (now (room .entry)) at (now (room .exit)) r ⌝ }
+    ensures { λ r. ⌜ WroteBranch (now (text .entry)) (now (rows .entry)) (now (nodes .entry)) j (now (room .entry)) at
+        (now (room .exit)) r ⌝ }
 {
     let count = layout_back::word(nodes, j, node::CHILDREN);
     if count != 3 {
@@ -82,7 +86,8 @@ fn branch(text: &[u8], rows: &[u32], nodes: &[u32], j: u32, room: &mut [u8], at:
 
 // An `if` whose first body ends in front of node n; the variable's node stands in front of the body's.
 fn guarded(text: &[u8], rows: &[u32], nodes: &[u32], n: u32, room: &mut [u8], at: usize) -> Back
-    ensures { λ r. ⌜ WroteGuarded (now (text .entry)) (now (rows .entry)) (now (nodes .entry)) n (now (room .entry)) at (now (room .exit)) r ⌝ }
+    ensures { λ r. ⌜ WroteGuarded (now (text .entry)) (now (rows .entry)) (now (nodes .entry)) n (now (room .entry)) at
+        (now (room .exit)) r ⌝ }
 {
     let b = body(text, rows, nodes, n, room, at);
     let end = b.node;
@@ -108,7 +113,8 @@ fn things(
     room: &mut [u8],
     at: usize,
 ) -> Back
-    ensures { λ r. ⌜ WroteThing (now (text .entry)) (now (rows .entry)) (now (nodes .entry)) Many n count (now (room .entry)) at (now (room .exit)) r ⌝ }
+    ensures { λ r. ⌜ WroteThing (now (text .entry)) (now (rows .entry)) (now (nodes .entry)) Many n count (now (room .entry)) at
+        (now (room .exit)) r ⌝ }
 {
     let mut end = n;
     let mut left = count;
@@ -131,7 +137,8 @@ pub fn program(
     room: &mut [u8],
     at: usize,
 ) -> usize
-    ensures { λ r. ⌜ WroteProgram (now (text .entry)) (now (rows .entry)) (now (nodes .entry)) count (now (room .entry)) at (now (room .exit)) r ⌝ }
+    ensures { λ r. ⌜ WroteProgram (now (text .entry)) (now (rows .entry)) (now (nodes .entry)) count (now (room .entry)) at
+        (now (room .exit)) r ⌝ }
 {
     if count == 0 {
         return at;

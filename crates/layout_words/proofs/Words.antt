@@ -46,7 +46,8 @@ pub plain-words : (form type length : ℕ) → form ≡ 1 → bytes ": " ++ (typ
 unfolding fieldWords
 plain-words form type length e = sym (rw (eq-eqb form 1 e))
 
-pub bytes-words : (form type length : ℕ) → form ≡ 2 → bytes ": bytes [ " ++ ((signed length ++ bytes " ") ++ bytes "] ;\n") ≡ fieldWords form type length
+pub bytes-words : (form type length : ℕ) → form ≡ 2 → bytes ": bytes [ " ++ ((signed length ++ bytes " ") ++ bytes "] ;\n")
+    ≡ fieldWords form type length
 unfolding fieldWords
 bytes-words form type length e = sym (rw e)
 

@@ -16,7 +16,8 @@ typeWord n = cond (eqb n 1) (bytes "u32 ") (cond (eqb n 2) (bytes "u64 ") (cond 
 unfoldable pub mapWord : ℕ → List ℕ
 mapWord n =
     cond (eqb n MapHash) (bytes "hash ")
-    (cond (eqb n MapArray) (bytes "array ") (cond (eqb n MapRingbuf) (bytes "ringbuf ") (cond (eqb n MapLruHash) (bytes "lru_hash ") (bytes "prog_array "))))
+    (cond (eqb n MapArray) (bytes "array ") (cond (eqb n MapRingbuf) (bytes "ringbuf ")
+    (cond (eqb n MapLruHash) (bytes "lru_hash ") (bytes "prog_array "))))
 
 -- a declaration, an assignment, a section or licence
 unfoldable pub declWord : ℕ → List ℕ

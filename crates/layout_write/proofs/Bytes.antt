@@ -88,7 +88,8 @@ pub placed-bytes : (p : ℕ) (t u : Tree) → rowsBytes (yield (placed p t u)) �
 unfolding yield put
 placed-bytes p t u = go (ltb (level t) p)
   where
-    go : (b : Bool) → rowsBytes (yield (cond b (group u) u)) ≡ cond b (bytes "( " ++ (rowsBytes (yield u) ++ bytes ") ")) (rowsBytes (yield u))
+    go : (b : Bool) → rowsBytes (yield (cond b (group u) u)) ≡ cond b (bytes "( " ++ (rowsBytes (yield u) ++ bytes ") "))
+        (rowsBytes (yield u))
     go true = rows-cons (sign LParen) (yield u ++ (sign RParen ∷ [])) ∙ rw (lparen-is, rows-snoc (yield u) (sign RParen), rparen-is)
     go false = refl
 
@@ -113,7 +114,8 @@ unfolding level
 level-group t = refl
 
 -- a dot and a name behind an expression
-dotted : (xs : List Tok) (w : List ℕ) (ys : List Tok) → rowsBytes (xs ++ (sign Dot ∷ name w ∷ ys)) ≡ rowsBytes xs ++ (bytes ". " ++ ((w ++ bytes " ") ++ rowsBytes ys))
+dotted : (xs : List Tok) (w : List ℕ) (ys : List Tok) → rowsBytes (xs ++ (sign Dot ∷ name w ∷ ys)) ≡ rowsBytes xs ++
+    (bytes ". " ++ ((w ++ bytes " ") ++ rowsBytes ys))
 dotted xs w ys =
     rows-append xs (sign Dot ∷ name w ∷ ys)
     ∙ ap (λ (l : List ℕ). rowsBytes xs ++ l) (rows-cons (sign Dot) (name w ∷ ys) ∙ rw (dot-is, rows-cons (name w) ys, name-bytes w))
@@ -128,13 +130,26 @@ pub lay-call : (t : Tree) (w : List ℕ) (a : Tree)
 unfolding layout laid yield
 lay-call t w a =
     dotted (yield (placed 4 t (laid t))) w (sign LParen ∷ (yield (laid a) ++ (sign RParen ∷ [])))
-    ∙ rw (placed-bytes 4 t (laid t), rows-cons (sign LParen) (yield (laid a) ++ (sign RParen ∷ [])), lparen-is, rows-snoc (yield (laid a)) (sign RParen), rparen-is)
+    ∙ rw (
+      placed-bytes 4 t (laid t),
+      rows-cons (sign LParen) (yield (laid a) ++ (sign RParen ∷ [])),
+      lparen-is,
+      rows-snoc
+          (yield (laid a)) (sign RParen),
+      rparen-is,
+    )
 
-pub lay-bin : (k : ℕ) (l r : Tree) → layout (bin k l r) ≡ put (leftOf k) (level l) (layout l) ++ (rowBytes (sign k) ++ put (rightOf k) (level r) (layout r))
+pub lay-bin : (k : ℕ) (l r : Tree) → layout (bin k l r) ≡ put (leftOf k) (level l) (layout l) ++
+    (rowBytes (sign k) ++ put (rightOf k) (level r) (layout r))
 unfolding layout laid yield
 lay-bin k l r =
     rows-append (yield (placed (leftOf k) l (laid l))) (sign k ∷ yield (placed (rightOf k) r (laid r)))
-    ∙ rw (placed-bytes (leftOf k) l (laid l), rows-cons (sign k) (yield (placed (rightOf k) r (laid r))), placed-bytes (rightOf k) r (laid r))
+    ∙ rw (
+      placed-bytes (leftOf k) l (laid l),
+      rows-cons (sign k) (yield (placed (rightOf k) r (laid r))),
+      placed-bytes (rightOf k) r
+          (laid r),
+    )
 
 pub lay-none : layout none ≡ []
 unfolding layout laid yield rowsBytes
@@ -157,13 +172,22 @@ ended t = rows-snoc (yield (laid t)) (sign Semicolon) ∙ rw semicolon-is
 
 braced : (t : Tree) → rowsBytes (sign LBrace ∷ (yield (laid t) ++ (sign RBrace ∷ []))) ≡ bytes "{\n" ++ (layout t ++ bytes "}\n")
 unfolding layout
-braced t = rows-cons (sign LBrace) (yield (laid t) ++ (sign RBrace ∷ [])) ∙ rw (lbrace-is, rows-snoc (yield (laid t)) (sign RBrace), rbrace-is)
+braced t = rows-cons (sign LBrace) (yield (laid t) ++ (sign RBrace ∷ [])) ∙ rw
+    (lbrace-is, rows-snoc (yield (laid t)) (sign RBrace), rbrace-is)
 
-pub lay-decl : (k : ℕ) (w : List ℕ) (e : Tree) → layout (decl k w e) ≡ rowBytes (sign k) ++ ((w ++ bytes " ") ++ (bytes "= " ++ (layout e ++ bytes ";\n")))
+pub lay-decl : (k : ℕ) (w : List ℕ) (e : Tree) → layout (decl k w e) ≡ rowBytes (sign k) ++
+    ((w ++ bytes " ") ++ (bytes "= " ++ (layout e ++ bytes ";\n")))
 unfolding layout laid yield
 lay-decl k w e =
     rows-cons (sign k) (name w ∷ sign Equals ∷ (yield (laid e) ++ (sign Semicolon ∷ [])))
-    ∙ rw (rows-cons (name w) (sign Equals ∷ (yield (laid e) ++ (sign Semicolon ∷ []))), name-bytes w, rows-cons (sign Equals) (yield (laid e) ++ (sign Semicolon ∷ [])), equals-is, ended e)
+    ∙ rw (
+      rows-cons (name w) (sign Equals ∷ (yield (laid e) ++ (sign Semicolon ∷ []))),
+      name-bytes w,
+      rows-cons (sign Equals)
+          (yield (laid e) ++ (sign Semicolon ∷ [])),
+      equals-is,
+      ended e,
+    )
 
 pub lay-ret : (e : Tree) → layout (ret e) ≡ bytes "return " ++ (layout e ++ bytes ";\n")
 unfolding layout laid yield rowsBytes rowBytes spelled behind kindOf spellingIn signs reserved
@@ -179,9 +203,11 @@ lay-assign k l r =
     rows-append (yield (laid l)) (sign k ∷ (yield (laid r) ++ (sign Semicolon ∷ [])))
     ∙ rw (rows-cons (sign k) (yield (laid r) ++ (sign Semicolon ∷ [])), ended r)
 
-pub lay-guard : (w : List ℕ) (b e : Tree) → layout (guard w b e) ≡ bytes "if guard ( " ++ ((w ++ bytes " ") ++ (bytes ") " ++ (layout b ++ layout e)))
+pub lay-guard : (w : List ℕ) (b e : Tree) → layout (guard w b e) ≡ bytes "if guard ( " ++
+    ((w ++ bytes " ") ++ (bytes ") " ++ (layout b ++ layout e)))
 unfolding layout laid yield rowsBytes rowBytes spelled behind kindOf spellingIn signs reserved
-lay-guard w b e = ap (λ (l : List ℕ). bytes "if guard ( " ++ ((w ++ bytes " ") ++ (bytes ") " ++ l))) (rows-append (yield (laid b)) (yield (laid e)))
+lay-guard w b e = ap (λ (l : List ℕ). bytes "if guard ( " ++ ((w ++ bytes " ") ++ (bytes ") " ++ l)))
+    (rows-append (yield (laid b)) (yield (laid e)))
 
 pub lay-then : (s : Tree) → layout (thenBody s) ≡ bytes "{\n" ++ (layout s ++ bytes "}\n")
 unfolding layout laid yield
@@ -203,11 +229,13 @@ lay-text k w =
 
 -- ---- declarations
 
-pub lay-unit : (w : List ℕ) (l : Tree) → layout (unit w l) ≡ bytes "unit " ++ ((w ++ bytes " ") ++ (bytes "{\n" ++ (layout l ++ bytes "}\n")))
+pub lay-unit : (w : List ℕ) (l : Tree) → layout (unit w l) ≡ bytes "unit " ++
+    ((w ++ bytes " ") ++ (bytes "{\n" ++ (layout l ++ bytes "}\n")))
 unfolding layout laid yield rowsBytes rowBytes spelled behind kindOf spellingIn signs reserved
 lay-unit w l = ap (λ (x : List ℕ). bytes "unit " ++ ((w ++ bytes " ") ++ x)) (braced l)
 
-pub lay-event : (w : List ℕ) (l : Tree) → layout (event w l) ≡ bytes "event " ++ ((w ++ bytes " ") ++ (bytes "{\n" ++ (layout l ++ bytes "}\n")))
+pub lay-event : (w : List ℕ) (l : Tree) → layout (event w l) ≡ bytes "event " ++
+    ((w ++ bytes " ") ++ (bytes "{\n" ++ (layout l ++ bytes "}\n")))
 unfolding layout laid yield rowsBytes rowBytes spelled behind kindOf spellingIn signs reserved
 lay-event w l = ap (λ (x : List ℕ). bytes "event " ++ ((w ++ bytes " ") ++ x)) (braced l)
 
@@ -215,18 +243,22 @@ pub lay-map : (w : List ℕ) (l : Tree)
     → layout (mapDecl w l) ≡ bytes "map " ++ ((w ++ bytes " ") ++ (bytes "{\n" ++ (rowsBytes (yield (fieldsOf l)) ++ bytes "}\n")))
 unfolding layout laid yield rowsBytes rowBytes spelled behind kindOf spellingIn signs reserved
 lay-map w l =
-    ap (λ (x : List ℕ). bytes "map " ++ ((w ++ bytes " ") ++ (bytes "{\n" ++ x))) (rows-snoc (yield (fieldsOf l)) (sign RBrace) ∙ rw rbrace-is)
+    ap (λ (x : List ℕ). bytes "map " ++ ((w ++ bytes " ") ++ (bytes "{\n" ++ x)))
+    (rows-snoc (yield (fieldsOf l)) (sign RBrace) ∙ rw rbrace-is)
 
-pub lay-plain-field : (w : List ℕ) (t : ℕ) → layout (plainField w t) ≡ (w ++ bytes " ") ++ (bytes ": " ++ (rowBytes (sign t) ++ bytes ";\n"))
+pub lay-plain-field : (w : List ℕ) (t : ℕ) → layout (plainField w t) ≡ (w ++ bytes " ") ++
+    (bytes ": " ++ (rowBytes (sign t) ++ bytes ";\n"))
 unfolding layout laid yield rowsBytes rowBytes spelled behind kindOf spellingIn signs reserved
 lay-plain-field w t = refl
 
-pub lay-bytes-field : (w : List ℕ) (v : ℕ) → layout (bytesField w v) ≡ (w ++ bytes " ") ++ (bytes ": bytes [ " ++ ((signed v ++ bytes " ") ++ bytes "] ;\n"))
+pub lay-bytes-field : (w : List ℕ) (v : ℕ) → layout (bytesField w v) ≡ (w ++ bytes " ") ++
+    (bytes ": bytes [ " ++ ((signed v ++ bytes " ") ++ bytes "] ;\n"))
 unfolding layout laid yield rowsBytes rowBytes spelled behind kindOf spellingIn signs reserved
 lay-bytes-field w v = refl
 
 pub lay-array-field : (w : List ℕ) (t v : ℕ)
-    → layout (arrayField w t v) ≡ (w ++ bytes " ") ++ (bytes ": " ++ (rowBytes (sign t) ++ (bytes "[ " ++ ((signed v ++ bytes " ") ++ bytes "] ;\n"))))
+    → layout (arrayField w t v) ≡ (w ++ bytes " ") ++ (bytes ": " ++
+    (rowBytes (sign t) ++ (bytes "[ " ++ ((signed v ++ bytes " ") ++ bytes "] ;\n"))))
 unfolding layout laid yield rowsBytes rowBytes spelled behind kindOf spellingIn signs reserved
 lay-array-field w t v = refl
 

@@ -209,7 +209,8 @@ unfolding withTyped typedLine yield
 with-typed f n l head h b = go (eqb n 0) refl
   where
     go : (c : Bool) → eqb n 0 ≡ c
-        → rowsBytes (yield (cond c l (seq l (typed f (typeKind n))))) ≡ rowsBytes (yield l) ++ cond c [] (head ++ (typeWord n ++ bytes ";\n"))
+        → rowsBytes (yield (cond c l (seq l (typed f (typeKind n))))) ≡ rowsBytes (yield l) ++ cond c []
+        (head ++ (typeWord n ++ bytes ";\n"))
     go true e = sym (append-nil (rowsBytes (yield l)))
     go false e =
         rows-append (yield l) (yield (typed f (typeKind n)))
@@ -245,5 +246,14 @@ map-lines l h q =
     let k : Tree = withTyped KeywordKey (typedBy KeywordKey l) t in
     let x : Tree = withTyped KeywordValue (typedBy KeywordValue l) k in
     joined x (limit (first v))
-    ∙ rw (with-typed KeywordValue (typedBy KeywordValue l) k (bytes "value : ") head-value (b .typed KeywordValue), with-typed KeywordKey (typedBy KeywordKey l) t (bytes "key : ") head-key (b .typed KeywordKey), type-rows w, max-rows v, map-bytes (typeOf l) some (b .type))
-    (lines-join (bytes "type : . ") (mapWord (typeOf l)) (bytes ";\n") (typedLine (bytes "key : ") (typedBy KeywordKey l)) (typedLine (bytes "value : ") (typedBy KeywordValue l)) (bytes "max : ") ((signed v ++ bytes " ") ++ bytes ";\n"))
+    ∙ rw (
+      with-typed KeywordValue (typedBy KeywordValue l) k (bytes "value : ") head-value
+          (b .typed KeywordValue),
+      with-typed KeywordKey (typedBy KeywordKey l) t (bytes "key : ") head-key
+          (b .typed KeywordKey),
+      type-rows w,
+      max-rows v,
+      map-bytes (typeOf l) some (b .type),
+    )
+    (lines-join (bytes "type : . ") (mapWord (typeOf l)) (bytes ";\n") (typedLine (bytes "key : ") (typedBy KeywordKey l))
+    (typedLine (bytes "value : ") (typedBy KeywordValue l)) (bytes "max : ") ((signed v ++ bytes " ") ++ bytes ";\n"))

@@ -47,7 +47,8 @@ number-is v = div-add-mod' v (2 ^ 32)
 module _ {ts : List Tok} where
   tok-of : {j : ℕ} {x : Tok} {ys : List Tok} → From ts j (x ∷ ys) → getD ts j (sign Eof) ≡ x
   tok-of {j} e =
-      ap (λ (n : ℕ). getD ts n (sign Eof)) (sym (add-zero j)) ∙ sym (getD-drop j ts 0 (sign Eof)) ∙ ap (λ (l : List Tok). getD l 0 (sign Eof)) (e .are)
+      ap (λ (n : ℕ). getD ts n (sign Eof)) (sym (add-zero j)) ∙ sym (getD-drop j ts 0 (sign Eof)) ∙ ap
+      (λ (l : List Tok). getD l 0 (sign Eof)) (e .are)
 
   there : {j : ℕ} {x : Tok} {ys : List Tok} → From ts j (x ∷ ys) → j < length ts
   there {j} {x} {ys} e = omega (arith, sym (length-drop j ts), ap length (e .are))
@@ -57,7 +58,10 @@ module _ {ts : List Tok} where
 
   pub after : (t : Tree) {i : ℕ} {ys : List Tok} → From ts i (yield t ++ ys) → From ts (i + width t) ys
   after t {i} {ys} e =
-      record { are = ap (λ (n : ℕ). drop (i + n) ts) (sym (yield-width t)) ∙ sym (drop-drop (length (yield t)) i ts) ∙ ap (λ (l : List Tok). drop (length (yield t)) l) (e .are) ∙ drop-append-seam (yield t) ys }
+      record {
+        are = ap (λ (n : ℕ). drop (i + n) ts) (sym (yield-width t)) ∙ sym (drop-drop (length (yield t)) i ts) ∙ ap
+            (λ (l : List Tok). drop (length (yield t)) l) (e .are) ∙ drop-append-seam (yield t) ys;
+      }
 
   pub split : (xs zs ys : List Tok) {i : ℕ} → From ts i ((xs ++ zs) ++ ys) → From ts i (xs ++ (zs ++ ys))
   split xs zs ys e = record { are = e .are ∙ append-assoc xs zs ys }
@@ -116,13 +120,17 @@ module _ (t ws nodes : List ℕ) where
 -- ---- one constructor at a time
 
 module _ {t ws nodes : List ℕ} where
-  part-as : {s : PartSort} {m n n′ l l′ : ℕ} {bs bs′ : List ℕ} → n ≡ n′ → l ≡ l′ → bs ≡ bs′ → Part t ws nodes s m n l bs → Part t ws nodes s m n′ l′ bs′
+  part-as : {s : PartSort} {m n n′ l l′ : ℕ} {bs bs′ : List ℕ} → n ≡ n′ → l ≡ l′ → bs ≡ bs′ → Part t ws nodes s m n l bs
+      → Part t ws nodes s m n′ l′ bs′
   part-as {s} {m} {n} {n′} {l} {l′} {bs} {bs′} e f g q =
-      subst (λ (x : List ℕ). Part t ws nodes s m n′ l′ x) g (subst (λ (x : ℕ). Part t ws nodes s m n′ x bs) f (subst (λ (x : ℕ). Part t ws nodes s m x l bs) e q))
+      subst (λ (x : List ℕ). Part t ws nodes s m n′ l′ x) g (subst (λ (x : ℕ). Part t ws nodes s m n′ x bs) f
+      (subst (λ (x : ℕ). Part t ws nodes s m x l bs) e q))
 
-  thing-as : {s : Sort} {m n n′ c c′ : ℕ} {bs bs′ : List ℕ} → n ≡ n′ → c ≡ c′ → bs ≡ bs′ → Thing t ws nodes s m n c bs → Thing t ws nodes s m n′ c′ bs′
+  thing-as : {s : Sort} {m n n′ c c′ : ℕ} {bs bs′ : List ℕ} → n ≡ n′ → c ≡ c′ → bs ≡ bs′ → Thing t ws nodes s m n c bs
+      → Thing t ws nodes s m n′ c′ bs′
   thing-as {s} {m} {n} {n′} {c} {c′} {bs} {bs′} e f g q =
-      subst (λ (x : List ℕ). Thing t ws nodes s m n′ c′ x) g (subst (λ (x : ℕ). Thing t ws nodes s m n′ x bs) f (subst (λ (x : ℕ). Thing t ws nodes s m x c bs) e q))
+      subst (λ (x : List ℕ). Thing t ws nodes s m n′ c′ x) g
+      (subst (λ (x : ℕ). Thing t ws nodes s m n′ x bs) f (subst (λ (x : ℕ). Thing t ws nodes s m x c bs) e q))
 
   pub num-made : {m n i v : ℕ} {ns : List Node} → At nodes m (factNode 2 i 4294967295 0 (v % 2 ^ 32) (v / 2 ^ 32) 0 0 ∷ ns) → suc m ≡ n
       → MadeExpr t ws nodes (num v) m n
@@ -161,7 +169,10 @@ module _ {t ws nodes : List ℕ} where
       → At nodes j (node 11 p r (count a + 1) ∷ ns) → SpelledAs t ws r w → suc j ≡ n → MadeExpr t ws nodes (call u w a) m n
   unfolding level
   call-made {u = u} {a = a} {w = w} x y b s e =
-      record { part = part-as e refl (sym (lay-call u w a)) (p-call (kind-at b) (x .part) (y .part) (children-at b) (spelled-at (name-at b) s)) }
+      record {
+        part = part-as e refl (sym (lay-call u w a)) (p-call (kind-at b) (x .part) (y .part) (children-at b)
+            (spelled-at (name-at b) s));
+      }
 
   pub bin-made : {m n q j p k : ℕ} {l r : Tree} {ns : List Node} → OpOf k → MadeExpr t ws nodes l m q → MadeExpr t ws nodes r q j
       → At nodes j (node (binaryNode k) p 4294967295 2 ∷ ns) → suc j ≡ n → MadeExpr t ws nodes (bin k l r) m n
@@ -172,8 +183,10 @@ module _ {t ws nodes : List ℕ} where
         part =
             part-as e (ap nodeLevel h ∙ o .level)
             (ap (λ (i : ℕ). put (nodeLevel i) (level l) (layout l) ++ (operatorOf i ++ put (rightPlace i) (level r) (layout r))) h
-            ∙ ap (λ (i : ℕ). put i (level l) (layout l) ++ (operatorOf (binaryNode k) ++ put (rightPlace (binaryNode k)) (level r) (layout r))) (o .level)
-            ∙ ap (λ (b : List ℕ). put (leftOf k) (level l) (layout l) ++ (b ++ put (rightPlace (binaryNode k)) (level r) (layout r))) (o .bytes)
+            ∙ ap (λ (i : ℕ). put i (level l) (layout l) ++ (operatorOf (binaryNode k) ++ put (rightPlace (binaryNode k)) (level r)
+            (layout r))) (o .level)
+            ∙ ap (λ (b : List ℕ). put (leftOf k) (level l) (layout l) ++ (b ++ put (rightPlace (binaryNode k)) (level r) (layout r)))
+            (o .bytes)
             ∙ ap (λ (i : ℕ). put (leftOf k) (level l) (layout l) ++ (rowBytes (sign k) ++ put i (level r) (layout r))) (o .right)
             ∙ sym (lay-bin k l r))
             (p-bin (subst (λ (i : ℕ). 4 ≤ i) (sym h) (o .low)) (subst (λ (i : ℕ). i ≤ 10) (sym h) (o .high)) (x .part) (y .part));
@@ -186,9 +199,13 @@ module _ {t ws nodes : List ℕ} where
   pub one-made : {m n : ℕ} {u : Tree} → MadeExpr t ws nodes u m n → MadeArgs t ws nodes (one u) m n
   unfolding count
   one-made {u = u} q =
-      record { part = part-as refl refl (ap (λ (l : List ℕ). l ++ layout u) (comma-none 1 (omega arith)) ∙ sym (lay-one u)) (p-arg p-none (q .part)) }
+      record {
+        part = part-as refl refl (ap (λ (l : List ℕ). l ++ layout u) (comma-none 1 (omega arith)) ∙ sym (lay-one u))
+            (p-arg p-none (q .part));
+      }
 
-  pub more-made : {m q n : ℕ} {a u : Tree} → 1 ≤ count a → MadeArgs t ws nodes a m q → MadeExpr t ws nodes u q n → MadeArgs t ws nodes (more a u) m n
+  pub more-made : {m q n : ℕ} {a u : Tree} → 1 ≤ count a → MadeArgs t ws nodes a m q → MadeExpr t ws nodes u q n → MadeArgs t ws nodes
+      (more a u) m n
   unfolding count
   more-made {a = a} {u = u} h x y =
       record {
@@ -201,7 +218,8 @@ module _ {t ws nodes : List ℕ} where
   -- ---- lines
 
   -- a line of a node that has no braces
-  lined : {m n j k : ℕ} {u : Tree} {bs : List ℕ} → wordOf nodes j 0 ≡ k → (k ≡ 20 → ⊥) → (k ≡ 25 → ⊥) → (k ≡ 27 → ⊥) → suc j ≡ n → bs ≡ layout u
+  lined : {m n j k : ℕ} {u : Tree} {bs : List ℕ} → wordOf nodes j 0 ≡ k → (k ≡ 20 → ⊥) → (k ≡ 25 → ⊥) → (k ≡ 27 → ⊥) → suc j ≡ n → bs
+      ≡ layout u
       → Line t ws nodes m (suc j) bs → MadeOne t ws nodes u m n
   lined h a b c e g q = record { part = thing-as e refl g (t-line (λ f. a (sym h ∙ f)) (λ f. b (sym h ∙ f)) (λ f. c (sym h ∙ f)) q) }
 
@@ -218,12 +236,14 @@ module _ {t ws nodes : List ℕ} where
   pub ret-made : {m n j p : ℕ} {u : Tree} {ns : List Node} → MadeExpr t ws nodes u m j → At nodes j (node 19 p 4294967295 1 ∷ ns)
       → suc j ≡ n → MadeOne t ws nodes (ret u) m n
   ret-made {u = u} q a e =
-      lined (kind-at a) (λ f. omega (arith, f)) (λ f. omega (arith, f)) (λ f. omega (arith, f)) e (sym (lay-ret u)) (l-return (kind-at a) (q .part))
+      lined (kind-at a) (λ f. omega (arith, f)) (λ f. omega (arith, f)) (λ f. omega (arith, f)) e (sym (lay-ret u))
+      (l-return (kind-at a) (q .part))
 
   pub plain-made : {m n j p : ℕ} {u : Tree} {ns : List Node} → MadeExpr t ws nodes u m j → At nodes j (node 13 p 4294967295 1 ∷ ns)
       → suc j ≡ n → MadeOne t ws nodes (plain u) m n
   plain-made {u = u} q a e =
-      lined (kind-at a) (λ f. omega (arith, f)) (λ f. omega (arith, f)) (λ f. omega (arith, f)) e (sym (lay-plain u)) (l-plain (kind-at a) (q .part))
+      lined (kind-at a) (λ f. omega (arith, f)) (λ f. omega (arith, f)) (λ f. omega (arith, f)) e (sym (lay-plain u))
+      (l-plain (kind-at a) (q .part))
 
   pub assign-made : {m n q j p k : ℕ} {l r : Tree} {ns : List Node} → WordOf assignNode assignSign 14 15 k → MadeExpr t ws nodes l m q
       → MadeExpr t ws nodes r q j → At nodes j (node (assignNode k) p 4294967295 2 ∷ ns) → suc j ≡ n → MadeOne t ws nodes (assign k l r) m n
@@ -246,26 +266,31 @@ module _ {t ws nodes : List ℕ} where
       (l-text (subst (λ (i : ℕ). 23 ≤ i) (sym h) (o .lo)) (subst (λ (i : ℕ). i ≤ 24) (sym h) (o .hi)) (spelled-at (name-at a) s))
 
   -- a field of an event with these words behind its name
-  field-line : {m n p x y z : ℕ} {w : List ℕ} {u : Tree} {ns : List Node} → At nodes m (factNode 26 p p 0 x y z 0 ∷ ns) → SpelledAs t ws p w → suc m ≡ n
+  field-line : {m n p x y z : ℕ} {w : List ℕ} {u : Tree} {ns : List Node} → At nodes m (factNode 26 p p 0 x y z 0 ∷ ns)
+      → SpelledAs t ws p w → suc m ≡ n
       → (w ++ bytes " ") ++ fieldWords x y z ≡ layout u → MadeOne t ws nodes u m n
   field-line {w = w} a s e g =
       lined (kind-at a) (λ f. omega (arith, f)) (λ f. omega (arith, f)) (λ f. omega (arith, f)) e
-      (ap (λ (l : List ℕ). (w ++ bytes " ") ++ l) (fields-are (fact0-at a) (fact1-at a) (fact2-at a)) ∙ g) (l-field (kind-at a) (spelled-at (name-at a) s))
+      (ap (λ (l : List ℕ). (w ++ bytes " ") ++ l) (fields-are (fact0-at a) (fact1-at a) (fact2-at a)) ∙ g)
+      (l-field (kind-at a) (spelled-at (name-at a) s))
 
   pub plain-field-made : {m n p k : ℕ} {w : List ℕ} {ns : List Node} → typeWord (typeNumber k) ≡ rowBytes (sign k)
       → At nodes m (factNode 26 p p 0 1 (typeNumber k) 0 0 ∷ ns) → SpelledAs t ws p w → suc m ≡ n → MadeOne t ws nodes (plainField w k) m n
   plain-field-made {k = k} {w = w} o a s e =
       field-line a s e
-      (ap (λ (l : List ℕ). (w ++ bytes " ") ++ l) (sym (plain-words 1 (typeNumber k) 0 refl) ∙ ap (λ (l : List ℕ). bytes ": " ++ (l ++ bytes ";\n")) o)
+      (ap (λ (l : List ℕ). (w ++ bytes " ") ++ l) (sym (plain-words 1 (typeNumber k) 0 refl) ∙ ap
+      (λ (l : List ℕ). bytes ": " ++ (l ++ bytes ";\n")) o)
       ∙ sym (lay-plain-field w k))
 
-  pub bytes-field-made : {m n p v : ℕ} {w : List ℕ} {ns : List Node} → At nodes m (factNode 26 p p 0 2 0 v 0 ∷ ns) → SpelledAs t ws p w → suc m ≡ n
+  pub bytes-field-made : {m n p v : ℕ} {w : List ℕ} {ns : List Node} → At nodes m (factNode 26 p p 0 2 0 v 0 ∷ ns) → SpelledAs t ws p w
+      → suc m ≡ n
       → MadeOne t ws nodes (bytesField w v) m n
   bytes-field-made {v = v} {w = w} a s e =
       field-line a s e (ap (λ (l : List ℕ). (w ++ bytes " ") ++ l) (sym (bytes-words 2 0 v refl)) ∙ sym (lay-bytes-field w v))
 
   pub array-field-made : {m n p k v : ℕ} {w : List ℕ} {ns : List Node} → typeWord (typeNumber k) ≡ rowBytes (sign k)
-      → At nodes m (factNode 26 p p 0 3 (typeNumber k) v 0 ∷ ns) → SpelledAs t ws p w → suc m ≡ n → MadeOne t ws nodes (arrayField w k v) m n
+      → At nodes m (factNode 26 p p 0 3 (typeNumber k) v 0 ∷ ns) → SpelledAs t ws p w → suc m ≡ n → MadeOne t ws nodes
+      (arrayField w k v) m n
   array-field-made {k = k} {v = v} {w = w} o a s e =
       field-line a s e
       (ap (λ (l : List ℕ). (w ++ bytes " ") ++ l)
@@ -284,7 +309,8 @@ module _ {t ws nodes : List ℕ} where
 
   -- ---- braces
 
-  pub body-made : {m n j k p q x y : ℕ} {l : Tree} {ns : List Node} → MadeMany t ws nodes l m j → At nodes j (factNode k p q (count l) x y 0 0 ∷ ns)
+  pub body-made : {m n j k p q x y : ℕ} {l : Tree} {ns : List Node} → MadeMany t ws nodes l m j → At nodes j
+      (factNode k p q (count l) x y 0 0 ∷ ns)
       → suc j ≡ n → MadeBody t ws nodes l m n
   body-made q a e = record { part = thing-as e refl refl (t-body (children-at a) (q .part)) }
 
@@ -293,19 +319,22 @@ module _ {t ws nodes : List ℕ} where
   unit-made {l = l} {w = w} q a s e =
       record { part = thing-as e refl (sym (lay-unit w l)) (t-unit (kind-at a) (body-made q a refl .part) (spelled-at (name-at a) s)) }
 
-  pub event-made : {m n j p : ℕ} {l : Tree} {w : List ℕ} {ns : List Node} → MadeMany t ws nodes l m j → At nodes j (node 27 p p (count l) ∷ ns)
+  pub event-made : {m n j p : ℕ} {l : Tree} {w : List ℕ} {ns : List Node} → MadeMany t ws nodes l m j → At nodes j
+      (node 27 p p (count l) ∷ ns)
       → SpelledAs t ws p w → suc j ≡ n → MadeOne t ws nodes (event w l) m n
   event-made {l = l} {w = w} q a s e =
       record { part = thing-as e refl (sym (lay-event w l)) (t-event (kind-at a) (body-made q a refl .part) (spelled-at (name-at a) s)) }
 
   pub if-made : {m n j p r : ℕ} {b : Tree} {w : List ℕ} {ns ms : List Node} → At nodes m (node 1 r r 0 ∷ ms) → SpelledAs t ws r w
-      → MadeBody t ws nodes b (suc m) j → At nodes j (node 20 p 4294967295 2 ∷ ns) → suc j ≡ n → MadeOne t ws nodes (guard w (thenBody b) none) m n
+      → MadeBody t ws nodes b (suc m) j → At nodes j (node 20 p 4294967295 2 ∷ ns) → suc j ≡ n → MadeOne t ws nodes
+      (guard w (thenBody b) none) m n
   if-made {b = b} {w = w} v s q a e =
       let x : bytes "{\n" ++ (layout b ++ bytes "}\n") ≡ layout (thenBody b) ++ layout none =
       sym (lay-then b) ∙ sym (append-nil (layout (thenBody b))) ∙ ap (λ (l : List ℕ). layout (thenBody b) ++ l) (sym lay-none) in
       record {
         part =
-            thing-as e refl (ap (λ (l : List ℕ). bytes "if guard ( " ++ ((w ++ bytes " ") ++ (bytes ") " ++ l))) x ∙ sym (lay-guard w (thenBody b) none))
+            thing-as e refl (ap (λ (l : List ℕ). bytes "if guard ( " ++ ((w ++ bytes " ") ++ (bytes ") " ++ l))) x ∙ sym
+            (lay-guard w (thenBody b) none))
             (t-if (kind-at a) (children-at a) (spelled-at (name-at v) s) (q .part));
       }
 
@@ -316,9 +345,11 @@ module _ {t ws nodes : List ℕ} where
       record {
         part =
             thing-as e refl
-            (ap (λ (l : List ℕ). bytes "if guard ( " ++ ((w ++ bytes " ") ++ (bytes ") " ++ (l ++ (bytes "else " ++ (bytes "{\n" ++ (layout d ++ bytes "}\n")))))))
+            (ap (λ (l : List ℕ). bytes "if guard ( " ++ ((w ++ bytes " ") ++
+            (bytes ") " ++ (l ++ (bytes "else " ++ (bytes "{\n" ++ (layout d ++ bytes "}\n")))))))
             (sym (lay-then b))
-            ∙ ap (λ (l : List ℕ). bytes "if guard ( " ++ ((w ++ bytes " ") ++ (bytes ") " ++ (layout (thenBody b) ++ l)))) (sym (lay-else d))
+            ∙ ap (λ (l : List ℕ). bytes "if guard ( " ++ ((w ++ bytes " ") ++ (bytes ") " ++ (layout (thenBody b) ++ l))))
+            (sym (lay-else d))
             ∙ sym (lay-guard w (thenBody b) (elseBody d)))
             (t-if-else (kind-at a) (children-at a) (spelled-at (name-at v) s) (x .part) (y .part));
       }

@@ -36,7 +36,8 @@ module _ {nodes : List ℕ} where
         are =
             ap (λ (k : ℕ). drop k nodes) e
             ∙ sym (drop-drop (length ns * 8) (m * 8) nodes)
-            ∙ ap (λ (l : List ℕ). drop (length ns * 8) l) (a .are ∙ ap (λ (l : List ℕ). l ++ a .rest) (words-append ns ms) ∙ append-assoc (wordsOfNodes ns) (wordsOfNodes ms) (a .rest))
+            ∙ ap (λ (l : List ℕ). drop (length ns * 8) l) (a .are ∙ ap (λ (l : List ℕ). l ++ a .rest) (words-append ns ms)
+            ∙ append-assoc (wordsOfNodes ns) (wordsOfNodes ms) (a .rest))
             ∙ drop-at (wordsOfNodes ns) (wordsOfNodes ms ++ a .rest) (length ns * 8) (words-long ns);
       }
 
@@ -52,7 +53,8 @@ module _ {nodes : List ℕ} where
       let e : suc m ≡ m + 1 = omega arith in
       record { rest = b .rest; are = ap (λ (k : ℕ). drop (k * 8) nodes) e ∙ b .are }
 
-  word-at : {m : ℕ} {n : Node} {ns : List Node} (k : ℕ) (a : At nodes m (n ∷ ns)) → wordOf nodes m k ≡ getD (nodeWords n ++ (wordsOfNodes ns ++ a .rest)) k 0
+  word-at : {m : ℕ} {n : Node} {ns : List Node} (k : ℕ) (a : At nodes m (n ∷ ns)) → wordOf nodes m k ≡ getD
+      (nodeWords n ++ (wordsOfNodes ns ++ a .rest)) k 0
   unfolding wordOf wordsOfNodes
   word-at {m} {n} {ns} k a =
       sym (getD-drop (m * 8) nodes k 0) ∙ ap (λ (l : List ℕ). getD l k 0) (a .are ∙ append-assoc (nodeWords n) (wordsOfNodes ns) (a .rest))

@@ -44,18 +44,22 @@ Made t ws nodes Program u m n = m ≡ m
 
 module _ {t ws nodes : List ℕ} {ts : List Tok} {rows : ℕ} (names : Names ts t ws rows) (spans : Spans t ws rows) where
   -- a list whose nodes come one behind the other
-  made : {N : Nt} {d : ℕ} {u : Tree} (i m n : ℕ) (ys : List Tok) → Is true N d u → From ts i (yield u ++ ys) → At nodes m (nodesOf i u) → n ≡ m + size u
+  made : {N : Nt} {d : ℕ} {u : Tree} (i m n : ℕ) (ys : List Tok) → Is true N d u → From ts i (yield u ++ ys) → At nodes m (nodesOf i u)
+      → n ≡ m + size u
       → Made t ws nodes N u m n
   unfolding yield nodesOf size count
   made i m n ys i-num f a e = num-made a (omega (arith, e))
   made i m n ys i-var f a e = var-made a (named names spans f) (omega (arith, e))
-  made i m n ys (i-group {t = u} v) f a e = group-made (made (i + 1) m n (sign RParen ∷ ys) v (split (yield u) (sign RParen ∷ []) ys (next f)) a e)
+  made i m n ys (i-group {t = u} v) f a e = group-made (made (i + 1) m n (sign RParen ∷ ys) v
+      (split (yield u) (sign RParen ∷ []) ys (next f)) a e)
   made i m n ys (i-field {t = u} {w = w} v) f a e =
       let g = split (yield u) (sign Dot ∷ name w ∷ []) ys f in
-      field-made (made i m (m + size u) _ v g (at-left (nodesOf i u) _ a) refl) (at-after i u _ a) (named names spans (next (after u g))) (omega (arith, e))
+      field-made (made i m (m + size u) _ v g (at-left (nodesOf i u) _ a) refl) (at-after i u _ a)
+      (named names spans (next (after u g))) (omega (arith, e))
   made i m n ys (i-bare {t = u} {w = w} v q) f a e =
       let g = split (yield u) (sign Dot ∷ name w ∷ sign LParen ∷ sign RParen ∷ []) ys f in
-      call-made (made i m (m + size u) _ v g (at-left (nodesOf i u) _ a) refl) (bare-made refl) (at-after i u _ a) (named names spans (next (after u g)))
+      call-made (made i m (m + size u) _ v g (at-left (nodesOf i u) _ a) refl) (bare-made refl) (at-after i u _ a)
+      (named names spans (next (after u g)))
       (omega (arith, e))
   made i m n ys (i-call {t = u} {a = b} {w = w} v q x) f a e =
       let g = split (yield u) (sign Dot ∷ name w ∷ sign LParen ∷ (yield b ++ (sign RParen ∷ []))) ys f in
@@ -72,7 +76,8 @@ module _ {t ws nodes : List ℕ} {ts : List Tok} {rows : ℕ} (names : Names ts 
       (made (i + width b + 1) (m + size b) n ys x (next (after b g)) (at-after i b _ a) (omega (arith, e)))
   made i m n ys (i-prim v) f a e = made i m n ys v f a e
   made i m n ys (i-star {t = u} v) f a e =
-      star-made (made (i + 1) m (m + size u) ys v (next f) (at-left (nodesOf (i + 1) u) _ a) refl) (at-after (i + 1) u _ a) (omega (arith, e))
+      star-made (made (i + 1) m (m + size u) ys v (next f) (at-left (nodesOf (i + 1) u) _ a) refl) (at-after (i + 1) u _ a)
+      (omega (arith, e))
   made i m n ys (i-unary v) f a e = made i m n ys v f a e
   made i m n ys (i-mul {k = k} {l = l} {r = r} v b x) f a e =
       let g = split (yield l) (sign k ∷ yield r) ys f in
@@ -102,7 +107,8 @@ module _ {t ws nodes : List ℕ} {ts : List Tok} {rows : ℕ} (names : Names ts 
       ret-made (made (i + 1) m (m + size u) _ v (split (yield u) (sign Semicolon ∷ []) ys (next f)) (at-left (nodesOf (i + 1) u) _ a) refl)
       (at-after (i + 1) u _ a) (omega (arith, e))
   made i m n ys (i-plain {e = u} v) f a e =
-      plain-made (made i m (m + size u) _ v (split (yield u) (sign Semicolon ∷ []) ys f) (at-left (nodesOf i u) _ a) refl) (at-after i u _ a) (omega (arith, e))
+      plain-made (made i m (m + size u) _ v (split (yield u) (sign Semicolon ∷ []) ys f) (at-left (nodesOf i u) _ a) refl)
+      (at-after i u _ a) (omega (arith, e))
   made i m n ys (i-assign {k = k} {l = l} {r = r} b v x) f a e =
       let g = split (yield l) (sign k ∷ (yield r ++ (sign Semicolon ∷ []))) ys f in
       let h = at-after i l _ a in
@@ -116,7 +122,8 @@ module _ {t ws nodes : List ℕ} {ts : List Tok} {rows : ℕ} (names : Names ts 
       let h = at-next _ _ a in
       let k = at-left (nodesOf (i + 5) (thenBody b)) _ h in
       if-made a (named names spans s)
-      (body-made (made (i + 5 + 1) (suc m) (suc m + size b) _ v (split (yield b) (sign RBrace ∷ []) _ (next g)) (at-left (nodesOf (i + 5 + 1) b) _ k) refl)
+      (body-made (made (i + 5 + 1) (suc m) (suc m + size b) _ v (split (yield b) (sign RBrace ∷ []) _ (next g))
+      (at-left (nodesOf (i + 5 + 1) b) _ k) refl)
       (at-after (i + 5 + 1) b _ k) (omega arith))
       (at-after (i + 5) (thenBody b) _ h) (omega (arith, e))
   made i m n ys (i-if-else {w = w} {b = b} {e = d} v x) f a e =
@@ -129,22 +136,26 @@ module _ {t ws nodes : List ℕ} {ts : List Tok} {rows : ℕ} (names : Names ts 
       let y = at-after (i + 5) (thenBody b) _ h in
       let z = at-left (nodesOf o (elseBody d)) _ y in
       if-else-made a (named names spans s)
-      (body-made (made (i + 5 + 1) (suc m) (suc m + size b) _ v (split (yield b) (sign RBrace ∷ []) _ (next g)) (at-left (nodesOf (i + 5 + 1) b) _ k) refl)
+      (body-made (made (i + 5 + 1) (suc m) (suc m + size b) _ v (split (yield b) (sign RBrace ∷ []) _ (next g))
+      (at-left (nodesOf (i + 5 + 1) b) _ k) refl)
       (at-after (i + 5 + 1) b _ k) (omega arith))
-      (body-made (made (o + 2) (suc m + size (thenBody b)) (suc m + size (thenBody b) + size d) _ x (split (yield d) (sign RBrace ∷ []) ys (second p))
+      (body-made (made (o + 2) (suc m + size (thenBody b)) (suc m + size (thenBody b) + size d) _ x
+      (split (yield d) (sign RBrace ∷ []) ys (second p))
       (at-left (nodesOf (o + 2) d) _ z) refl)
       (at-after (o + 2) d _ z) (omega arith))
       (at-after o (elseBody d) _ y) (omega (arith, e))
   made i m n ys i-no-stmts f a e = none-made (omega (arith, e))
   made i m n ys (i-stmts {l = l} {s = s} v x) f a e =
       let g = split (yield l) (yield s) ys f in
-      seq-made (made i m (m + size l) _ v g (at-left (nodesOf i l) _ a) refl) (made (i + width l) (m + size l) n ys x (after l g) (at-after i l _ a) (omega (arith, e)))
+      seq-made (made i m (m + size l) _ v g (at-left (nodesOf i l) _ a) refl)
+      (made (i + width l) (m + size l) n ys x (after l g) (at-after i l _ a) (omega (arith, e)))
   made i m n ys (i-stmt v) f a e = made i m n ys v f a e
   made i m n ys (i-text {k = k} b) f a e = text-made (text-word k b) a (quoted names spans (next f)) (omega (arith, e))
   made i m n ys i-no-items f a e = none-made (omega (arith, e))
   made i m n ys (i-items {l = l} {s = s} v x) f a e =
       let g = split (yield l) (yield s) ys f in
-      seq-made (made i m (m + size l) _ v g (at-left (nodesOf i l) _ a) refl) (made (i + width l) (m + size l) n ys x (after l g) (at-after i l _ a) (omega (arith, e)))
+      seq-made (made i m (m + size l) _ v g (at-left (nodesOf i l) _ a) refl)
+      (made (i + width l) (m + size l) n ys x (after l g) (at-after i l _ a) (omega (arith, e)))
   made i m n ys i-first f a e = refl
   made i m n ys (i-shifted v b q) f a e = refl
   made i m n ys (i-type q) f a e = refl
@@ -158,21 +169,26 @@ module _ {t ws nodes : List ℕ} {ts : List Tok} {rows : ℕ} (names : Names ts 
   made i m n ys i-no-event-fields f a e = none-made (omega (arith, e))
   made i m n ys (i-event-fields {l = l} {s = s} v x) f a e =
       let g = split (yield l) (yield s) ys f in
-      seq-made (made i m (m + size l) _ v g (at-left (nodesOf i l) _ a) refl) (made (i + width l) (m + size l) n ys x (after l g) (at-after i l _ a) (omega (arith, e)))
+      seq-made (made i m (m + size l) _ v g (at-left (nodesOf i l) _ a) refl)
+      (made (i + width l) (m + size l) n ys x (after l g) (at-after i l _ a) (omega (arith, e)))
   made i m n ys (i-unit {w = w} {l = l} v) f a e =
       let g = split (yield l) (sign RBrace ∷ []) ys (third f) in
-      unit-made (made (i + 3) m (m + size l) _ v g (at-left (nodesOf (i + 3) l) _ a) refl) (at-after (i + 3) l _ a) (named names spans (next f)) (omega (arith, e))
+      unit-made (made (i + 3) m (m + size l) _ v g (at-left (nodesOf (i + 3) l) _ a) refl) (at-after (i + 3) l _ a)
+      (named names spans (next f)) (omega (arith, e))
   made i m n ys (i-map {l = l} v q) f a e = map-made (map-lines l v (q refl)) a (named names spans (next f)) (omega (arith, e))
   made i m n ys (i-event {w = w} {l = l} v) f a e =
       let g = split (yield l) (sign RBrace ∷ []) ys (third f) in
-      event-made (made (i + 3) m (m + size l) _ v g (at-left (nodesOf (i + 3) l) _ a) refl) (at-after (i + 3) l _ a) (named names spans (next f)) (omega (arith, e))
+      event-made (made (i + 3) m (m + size l) _ v g (at-left (nodesOf (i + 3) l) _ a) refl) (at-after (i + 3) l _ a)
+      (named names spans (next f)) (omega (arith, e))
   made i m n ys i-no-decls f a e = none-made (omega (arith, e))
   made i m n ys (i-decls {l = l} {s = s} v x) f a e =
       let g = split (yield l) (yield s) ys f in
-      seq-made (made i m (m + size l) _ v g (at-left (nodesOf i l) _ a) refl) (made (i + width l) (m + size l) n ys x (after l g) (at-after i l _ a) (omega (arith, e)))
+      seq-made (made i m (m + size l) _ v g (at-left (nodesOf i l) _ a) refl)
+      (made (i + width l) (m + size l) n ys x (after l g) (at-after i l _ a) (omega (arith, e)))
   made i m n ys (i-program v) f a e = refl
 
-of-program : {t ws nodes : List ℕ} {n d : ℕ} {u : Tree} (rest : List ℕ) → Is true Program d u → Names (yield u) t ws (length (yield u)) → Spans t ws (length (yield u))
+of-program : {t ws nodes : List ℕ} {n d : ℕ} {u : Tree} (rest : List ℕ) → Is true Program d u → Names (yield u) t ws (length (yield u))
+    → Spans t ws (length (yield u))
     → n ≡ size u → nodes ≡ treeWords 0 u ++ rest → Things.Program t ws nodes n (layout u)
 unfolding size nodesOf yield treeWords
 of-program {t} {ws} {nodes} {n} rest (i-program {l = l} v) names spans e w =

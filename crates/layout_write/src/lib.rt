@@ -13,7 +13,8 @@ pub fn write(
     room: &mut [u8],
     at: usize,
 ) -> usize
-    ensures { λ r. ⌜ ((u : Tree) → Lent (now (text .entry)) (now (rows .entry)) (now (nodes .entry)) count u → Wrote (layout u) (now (room .entry)) at (now (room .exit)) r) ⌝ }
+    ensures { λ r. ⌜ ((u : Tree) → Lent (now (text .entry)) (now (rows .entry)) (now (nodes .entry)) count u → Wrote (layout u)
+        (now (room .entry)) at (now (room .exit)) r) ⌝ }
 {
     layout_tree::program(text, rows, nodes, count, room, at)
 }

@@ -41,7 +41,8 @@ same-length : tie.Need-same-length Inv-loop μ-loop
 same-length c = wrote-long (c .before .loop .inv .1)
 
 returns : tie.Need-returns Inv-loop μ-loop
-returns c = let a = c .before .before .before .before .args in bytes-all (a .text .now) (c .before .loop .i) (omega arith) (c .before .loop .inv .1)
+returns c = let a = c .before .before .before .before .args in bytes-all (a .text .now) (c .before .loop .i) (omega arith)
+    (c .before .loop .inv .1)
 
 pub bytes-spec : {M : Type 1} → statement M
 bytes-spec =

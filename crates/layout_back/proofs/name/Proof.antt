@@ -32,7 +32,14 @@ same-length : tie.Need-same-length
 same-length c = search needs
 
 returns : tie.Need-returns
-returns c = λ w s. absurd (omega (arith, s .order, c .before .before .before .before .before .before .word .ensures, c .before .before .before .before .before .word2 .ensures, c .if1 .taken))
+returns c = λ w s. absurd (omega (
+  arith,
+  s .order,
+  c .before .before .before .before .before .before .word .ensures,
+  c .before .before .before .before .before .word2
+      .ensures,
+  c .if1 .taken,
+))
 
 same-length-2 : tie.Need-same-length-2
 same-length-2 c = search needs
@@ -54,8 +61,12 @@ same-length-3 c = search needs
 
 returns-3 : tie.Need-returns-3
 returns-3 c = λ w s.
-    let e = spelled-part (c .before .before .before .before .before .before .before .before .before .before .before .before .before .before .before .before .args .text .now) (c .before .before .before .before .before .before .before .before .before .before .before .before .word .ensures) (c .before .before .before .before .before .before .before .before .before .before .before .word2 .ensures) (s .is) in
-    wrote-then (c .before .before .before .before .before .before .before .before .before .put .ensures) (wrote-as e (c .before .before .bytes .ensures))
+    let e = spelled-part (c .before .before .before .before .before .before .before .before .before .before .before .before .before
+    .before .before .before .args .text .now)
+    (c .before .before .before .before .before .before .before .before .before .before .before .before .word .ensures)
+    (c .before .before .before .before .before .before .before .before .before .before .before .word2 .ensures) (s .is) in
+    wrote-then (c .before .before .before .before .before .before .before .before .before .put .ensures)
+    (wrote-as e (c .before .before .bytes .ensures))
 
 pub name-spec : {M : Type 1} → statement M
 name-spec =

@@ -18,7 +18,8 @@ same-length : tie.Need-same-length
 same-length c = search needs
 
 returns : tie.Need-returns
-returns c = wrote-as (sym (signed-low (c .before .before .before .before .before .before .args .bits) (omega arith))) (c .before .before .decimal .ensures)
+returns c = wrote-as (sym (signed-low (c .before .before .before .before .before .before .args .bits) (omega arith)))
+    (c .before .before .decimal .ensures)
 
 sub-decimal : tie.Need-sub-decimal
 sub-decimal c = search needs
@@ -39,7 +40,8 @@ returns-2 : tie.Need-returns-2
 returns-2 c =
     let n = c .before .before .before .before .before .before .before .before .before .before .args .bits in
     let e : 18446744073709551615 - n + 1 ≡ 2 ^ 64 - n = omega arith in
-    wrote-as (ap (λ (k : ℕ). bytes "-" ++ decimal k) e ∙ sym (signed-high n (omega arith))) (wrote-then (c .before .before .before .before .before .before .decimal2 .ensures) (c .before .before .put .ensures))
+    wrote-as (ap (λ (k : ℕ). bytes "-" ++ decimal k) e ∙ sym (signed-high n (omega arith)))
+    (wrote-then (c .before .before .before .before .before .before .decimal2 .ensures) (c .before .before .put .ensures))
 
 pub signed-spec : {M : Type 1} → statement M
 signed-spec =

@@ -28,8 +28,12 @@ same-length c = search needs
 
 returns : tie.Need-returns
 returns c = λ w s.
-    let x = fields-are (c .before .before .before .before .before .before .before .before .before .before .word2 .ensures) (c .before .before .before .before .before .before .before .before .before .word3 .ensures) (c .before .before .before .before .before .before .before .before .word4 .ensures) in
-    wrote-then (wrote-as x (c .before .before .before .before .before .before .field-words .ensures)) (c .before .before .name .ensures w (spelled-at (c .before .before .before .before .before .before .before .before .before .before .before .word .ensures) s))
+    let x = fields-are (c .before .before .before .before .before .before .before .before .before .before .word2 .ensures)
+    (c .before .before .before .before .before .before .before .before .before .word3 .ensures)
+    (c .before .before .before .before .before .before .before .before .word4 .ensures) in
+    wrote-then (wrote-as x (c .before .before .before .before .before .before .field-words .ensures))
+    (c .before .before .name .ensures w (spelled-at
+    (c .before .before .before .before .before .before .before .before .before .before .before .word .ensures) s))
 
 pub field-line-spec : {M : Type 1} → statement M
 field-line-spec =

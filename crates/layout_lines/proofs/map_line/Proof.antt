@@ -49,9 +49,24 @@ same-length c = search needs
 
 returns : tie.Need-returns
 returns c = λ w s.
-    let x = lines-are (c .before .before .before .before .before .before .before .before .before .before .before .before .before .before .before .before .before .before .before .before .before .before .before .before .before .before .word2 .ensures) (c .before .before .before .before .before .before .before .before .before .before .before .before .before .before .before .before .before .before .before .before .before .before .before .before .before .word3 .ensures) (c .before .before .before .before .before .before .before .before .before .before .before .before .before .before .before .before .before .before .before .before .before .before .before .before .word4 .ensures) (c .before .before .before .before .before .before .before .before .before .before .before .before .before .before .before .before .before .before .before .before .before .before .before .word5 .ensures) in
-    let n = c .before .before .before .before .before .before .before .name .ensures w (spelled-at (c .before .before .before .before .before .before .before .before .before .before .before .before .before .before .before .before .before .before .before .before .before .before .before .before .before .before .before .word .ensures) s) in
-    wrote-then (wrote-then (wrote-then (wrote-then (c .before .before .before .before .before .before .before .before .before .before .before .before .before .before .before .before .before .before .before .before .bytes .ensures) (wrote-as x (c .before .before .before .before .before .before .before .before .before .before .before .before .before .before .before .before .map-lines .ensures))) (c .before .before .before .before .before .before .before .before .before .before .before .bytes2 .ensures)) n) (c .before .before .bytes3 .ensures)
+    let x = lines-are (c .before .before .before .before .before .before .before .before .before .before .before .before .before .before
+    .before .before .before .before .before .before .before .before .before .before .before .before .word2 .ensures)
+    (c .before .before .before .before .before .before .before .before .before .before .before .before .before .before .before
+    .before .before .before .before .before .before .before .before .before .before .word3 .ensures)
+    (c .before .before .before .before .before .before .before .before .before .before .before .before .before .before .before
+    .before .before .before .before .before .before .before .before .before .word4 .ensures)
+    (c .before .before .before .before .before .before .before .before .before .before .before .before .before .before .before
+    .before .before .before .before .before .before .before .before .word5 .ensures) in
+    let n = c .before .before .before .before .before .before .before .name .ensures w
+    (spelled-at (c .before .before .before .before .before .before .before .before .before .before .before .before .before .before
+    .before .before .before .before .before .before .before .before .before .before .before .before .before .word .ensures) s) in
+    wrote-then (wrote-then (wrote-then (wrote-then
+    (c .before .before .before .before .before .before .before .before .before .before .before .before .before .before .before
+    .before .before .before .before .before .bytes .ensures)
+    (wrote-as x (c .before .before .before .before .before .before .before .before .before .before .before .before .before .before
+    .before .before .map-lines .ensures)))
+    (c .before .before .before .before .before .before .before .before .before .before .before .bytes2 .ensures)) n)
+    (c .before .before .bytes3 .ensures)
 
 pub map-line-spec : {M : Type 1} → statement M
 map-line-spec =

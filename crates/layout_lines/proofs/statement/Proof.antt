@@ -29,7 +29,11 @@ returns : tie.Need-returns
 returns c =
     let k = c .before .before .before .before .before .before .before .before .before .before .before .word .ensures in
     let v = c .before .before .before .expr .ensures in
-    record { low = v .low; done = λ h q. plain-done (sym k ∙ c .if1 .taken) (c .before .before .before .before .before .before .before .bytes .ensures) v q }
+    record {
+      low = v .low;
+      done = λ h q. plain-done (sym k ∙ c .if1 .taken)
+          (c .before .before .before .before .before .before .before .bytes .ensures) v q;
+    }
 
 slice-aggregate-bytes-2 : tie.Need-slice-aggregate-bytes-2
 slice-aggregate-bytes-2 c = search needs
@@ -42,9 +46,15 @@ same-length-2 c = search needs
 
 returns-2 : tie.Need-returns-2
 returns-2 c =
-    let k = c .before .before .before .before .before .before .before .before .before .before .before .before .before .before .before .before .before .word .ensures in
+    let k = c .before .before .before .before .before .before .before .before .before .before .before .before .before .before .before
+    .before .before .word .ensures in
     let v = c .before .before .before .before .before .before .before .before .before .expr .ensures in
-    record { low = v .low; done = λ h q. return-done (sym k ∙ c .before .before .before .before .before .if2 .taken) (c .before .before .before .before .before .before .before .before .before .before .before .before .before .bytes .ensures) v (c .before .before .bytes2 .ensures) q }
+    record {
+      low = v .low;
+      done = λ h q. return-done (sym k ∙ c .before .before .before .before .before .if2 .taken)
+          (c .before .before .before .before .before .before .before .before .before .before .before .before .before .bytes .ensures) v
+          (c .before .before .bytes2 .ensures) q;
+    }
 
 assign-sign-requires : tie.Need-assign-sign-requires
 assign-sign-requires c κs = search needs
@@ -57,12 +67,16 @@ same-length-3 c = search needs
 
 returns-3 : tie.Need-returns-3
 returns-3 c =
-    let k = c .before .before .before .before .before .before .before .before .before .before .before .before .before .before .before .before .before .before .before .before .before .word .ensures in
+    let k = c .before .before .before .before .before .before .before .before .before .before .before .before .before .before .before
+    .before .before .before .before .before .before .word .ensures in
     let v = c .before .before .before .before .before .before .before .before .before .before .before .before .before .expr .ensures in
     let w = c .before .before .expr2 .ensures in
     record {
       low = omega (arith, v .low, w .low);
-      done = λ h q. assign-done (λ e. c .before .before .before .before .before .before .before .before .before .before .if1 .left (k ∙ e)) (subst (λ (n : ℕ). n ≤ 15) k (c .before .before .before .before .before .before .before .before .if3 .taken)) k (c .before .before .before .before .before .before .before .before .before .before .before .before .before .before .before .before .before .bytes .ensures) v (c .before .before .before .before .before .before .assign-sign .ensures) w q;
+      done = λ h q. assign-done (λ e. c .before .before .before .before .before .before .before .before .before .before .if1 .left
+          (k ∙ e)) (subst (λ (n : ℕ). n ≤ 15) k (c .before .before .before .before .before .before .before .before .if3 .taken)) k
+          (c .before .before .before .before .before .before .before .before .before .before .before .before .before .before .before
+          .before .before .bytes .ensures) v (c .before .before .before .before .before .before .assign-sign .ensures) w q;
     }
 
 slice-aggregate-bytes-3 : tie.Need-slice-aggregate-bytes-3
@@ -82,12 +96,24 @@ same-length-4 c = search needs
 
 returns-4 : tie.Need-returns-4
 returns-4 c =
-    let k = c .before .before .before .before .before .before .before .before .before .before .before .before .before .before .before .before .before .before .before .before .before .before .before .before .before .before .word .ensures in
-    let v = c .before .before .before .before .before .before .before .before .before .before .before .before .before .before .before .before .before .before .expr .ensures in
+    let k = c .before .before .before .before .before .before .before .before .before .before .before .before .before .before .before
+    .before .before .before .before .before .before .before .before .before .before .before .word .ensures in
+    let v = c .before .before .before .before .before .before .before .before .before .before .before .before .before .before .before
+    .before .before .before .expr .ensures in
     record {
       low = v .low;
-      done = λ h q. decl-done (λ e. c .before .before .before .before .before .before .before .before .before .before .before .before .before .before .before .if1 .left (k ∙ e)) (λ e. c .before .before .before .before .before .before .before .before .before .before .before .before .before .before .if2 .left (k ∙ e)) (subst (λ (n : ℕ). 15 < n) k (c .before .before .before .before .before .before .before .before .before .before .before .before .before .if3 .left)) h k (c .before .before .before .before .before .before .before .before .before .before .before .before .before .before .before .before .before .before .before .before .before .before .before .before .before .word2 .ensures)
-          (c .before .before .before .before .before .before .before .before .before .before .before .before .before .before .before .before .before .before .before .before .before .before .bytes .ensures) v (c .before .before .before .before .before .before .before .before .before .before .bytes3 .ensures) (c .before .before .before .before .before .before .name .ensures) (c .before .before .decl-word .ensures) q;
+      done = λ h q. decl-done
+          (λ e. c .before .before .before .before .before .before .before .before .before .before .before .before .before .before
+          .before .if1 .left (k ∙ e))
+          (λ e. c .before .before .before .before .before .before .before .before .before .before .before .before .before .before .if2
+          .left (k ∙ e)) (subst (λ (n : ℕ). 15 < n) k
+          (c .before .before .before .before .before .before .before .before .before .before .before .before .before .if3 .left)) h k
+          (c .before .before .before .before .before .before .before .before .before .before .before .before .before .before .before
+          .before .before .before .before .before .before .before .before .before .before .word2 .ensures)
+          (c .before .before .before .before .before .before .before .before .before .before .before .before .before .before .before
+          .before .before .before .before .before .before .before .bytes .ensures) v
+          (c .before .before .before .before .before .before .before .before .before .before .bytes3 .ensures)
+          (c .before .before .before .before .before .before .name .ensures) (c .before .before .decl-word .ensures) q;
     }
 
 pub statement-spec : {M : Type 1} → statement M

@@ -30,8 +30,13 @@ same-length c = search needs
 
 returns : tie.Need-returns
 returns c = λ w s.
-    let n = c .before .before .before .before .before .before .name .ensures w (spelled-at (c .before .before .before .before .before .before .before .before .before .before .before .before .before .word2 .ensures) s) in
-    wrote-then (wrote-then (c .before .before .before .before .before .before .before .before .before .before .bytes .ensures) n) (wrote-as (ap textWord (c .before .before .before .before .before .before .before .before .before .before .before .before .before .before .word .ensures)) (c .before .before .text-word .ensures))
+    let n = c .before .before .before .before .before .before .name .ensures w
+    (spelled-at (c .before .before .before .before .before .before .before .before .before .before .before .before .before .word2
+    .ensures) s) in
+    wrote-then (wrote-then (c .before .before .before .before .before .before .before .before .before .before .bytes .ensures) n)
+    (wrote-as (ap textWord
+    (c .before .before .before .before .before .before .before .before .before .before .before .before .before .before .word
+    .ensures)) (c .before .before .text-word .ensures))
 
 pub text-line-spec : {M : Type 1} → statement M
 text-line-spec =

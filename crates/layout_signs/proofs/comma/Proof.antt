@@ -19,7 +19,8 @@ same-length : tie.Need-same-length
 same-length c = search needs
 
 returns-2 : tie.Need-returns-2
-returns-2 c = wrote-as (sym (comma-one (c .before .before .before .before .before .before .before .args .things) (c .before .before .before .before .before .if1 .left))) (c .before .before .bytes .ensures)
+returns-2 c = wrote-as (sym (comma-one (c .before .before .before .before .before .before .before .args .things)
+    (c .before .before .before .before .before .if1 .left))) (c .before .before .bytes .ensures)
 
 pub comma-spec : {M : Type 1} → statement M
 comma-spec =

@@ -95,7 +95,12 @@ same-length-7 : tie.Need-same-length-7
 same-length-7 c = search needs
 
 returns-7 : tie.Need-returns-7
-returns-7 c = wrote-as (operator-last _ (c .before .before .before .before .before .before .before .before .before .before .if1 .left) (c .before .before .before .before .before .before .before .before .before .if2 .left) (c .before .before .before .before .before .before .before .before .if3 .left) (c .before .before .before .before .before .before .before .if4 .left) (c .before .before .before .before .before .before .if5 .left) (c .before .before .before .before .before .if6 .left)) (c .before .before .bytes7 .ensures)
+returns-7 c = wrote-as (operator-last _ (c .before .before .before .before .before .before .before .before .before .before .if1 .left)
+    (c .before .before .before .before .before .before .before .before .before .if2 .left)
+    (c .before .before .before .before .before .before .before .before .if3 .left)
+    (c .before .before .before .before .before .before .before .if4 .left)
+    (c .before .before .before .before .before .before .if5 .left) (c .before .before .before .before .before .if6 .left))
+    (c .before .before .bytes7 .ensures)
 
 pub operator-spec : {M : Type 1} → statement M
 operator-spec =

@@ -43,7 +43,8 @@ same-length-3 : tie.Need-same-length-3
 same-length-3 c = search needs
 
 returns-3 : tie.Need-returns-3
-returns-3 c = wrote-as (decl-last _ (c .before .before .before .before .before .before .if1 .left) (c .before .before .before .before .before .if2 .left)) (c .before .before .bytes3 .ensures)
+returns-3 c = wrote-as (decl-last _ (c .before .before .before .before .before .before .if1 .left)
+    (c .before .before .before .before .before .if2 .left)) (c .before .before .bytes3 .ensures)
 
 pub decl-word-spec : {M : Type 1} → statement M
 decl-word-spec =

@@ -24,7 +24,10 @@ same-length : tie.Need-same-length
 same-length c = search needs
 
 returns : tie.Need-returns
-returns c = wrote-as (plain-words _ _ _ (c .before .before .before .before .before .before .before .before .before .before .before .before .before .before .if1 .taken)) (wrote-then (wrote-then (c .before .before .before .before .before .before .before .before .before .before .before .bytes .ensures) (c .before .before .before .before .before .before .before .type-word .ensures)) (c .before .before .bytes2 .ensures))
+returns c = wrote-as (plain-words _ _ _
+    (c .before .before .before .before .before .before .before .before .before .before .before .before .before .before .if1 .taken))
+    (wrote-then (wrote-then (c .before .before .before .before .before .before .before .before .before .before .before .bytes .ensures)
+    (c .before .before .before .before .before .before .before .type-word .ensures)) (c .before .before .bytes2 .ensures))
 
 slice-aggregate-bytes-3 : tie.Need-slice-aggregate-bytes-3
 slice-aggregate-bytes-3 c = search needs
@@ -47,7 +50,10 @@ same-length-2 c = search needs
 returns-2 : tie.Need-returns-2
 returns-2 c =
     let n = wrote-as (low-only _) (c .before .before .before .before .before .before .before .before .number .ensures) in
-    wrote-as (bytes-words _ _ _ (c .before .before .before .before .before .if2 .taken)) (wrote-then (wrote-then (c .before .before .before .before .before .before .before .before .before .before .before .before .bytes3 .ensures) n) (c .before .before .bytes4 .ensures))
+    wrote-as (bytes-words _ _ _ (c .before .before .before .before .before .if2 .taken))
+    (wrote-then (wrote-then
+    (c .before .before .before .before .before .before .before .before .before .before .before .before .bytes3 .ensures) n)
+    (c .before .before .bytes4 .ensures))
 
 slice-aggregate-bytes-5 : tie.Need-slice-aggregate-bytes-5
 slice-aggregate-bytes-5 c = search needs
@@ -69,9 +75,18 @@ same-length-3 c = search needs
 
 returns-3 : tie.Need-returns-3
 returns-3 c =
-    let n = wrote-as (low-only _) (c .before .before .before .before .before .before .before .before .before .before .before .before .before .before .before .before .before .number .ensures) in
-    wrote-as (array-words _ _ _ (c .before .before .before .before .before .before .before .before .before .before .before .before .before .before .before .before .before .before .before .before .before .before .before .before .if1 .left) (c .before .before .before .before .before .before .before .before .before .before .before .before .before .before .if2 .left))
-    (wrote-then (wrote-then (wrote-then (wrote-then (c .before .before .before .before .before .before .before .before .before .before .before .before .before .before .before .before .before .before .before .before .before .bytes3 .ensures) n) (c .before .before .before .before .before .before .before .before .before .before .before .bytes5 .ensures)) (c .before .before .before .before .before .before .before .type-word2 .ensures)) (c .before .before .bytes6 .ensures))
+    let n = wrote-as (low-only _)
+    (c .before .before .before .before .before .before .before .before .before .before .before .before .before .before .before
+    .before .before .number .ensures) in
+    wrote-as (array-words _ _ _
+    (c .before .before .before .before .before .before .before .before .before .before .before .before .before .before .before
+    .before .before .before .before .before .before .before .before .before .if1 .left)
+    (c .before .before .before .before .before .before .before .before .before .before .before .before .before .before .if2 .left))
+    (wrote-then (wrote-then (wrote-then (wrote-then
+    (c .before .before .before .before .before .before .before .before .before .before .before .before .before .before .before
+    .before .before .before .before .before .before .bytes3 .ensures) n)
+    (c .before .before .before .before .before .before .before .before .before .before .before .bytes5 .ensures))
+    (c .before .before .before .before .before .before .before .type-word2 .ensures)) (c .before .before .bytes6 .ensures))
 
 pub field-words-spec : {M : Type 1} → statement M
 field-words-spec =

@@ -51,17 +51,41 @@ bytes-requires-4 c κs = search needs
 
 same-length : tie.Need-same-length
 same-length c =
-    c .before .before .bytes4 .kept .1 .0 ∙ c .before .before .before .before .before .before .before .map-word .kept .1 .0 ∙ c .before .before .before .before .before .before .before .before .before .before .before .bytes3 .kept .1 .0 ∙ c .before .before .before .before .before .before .before .before .before .before .before .before .before .before .before .before .typed2 .kept .1 .1 .0
-    ∙ c .before .before .before .before .before .before .before .before .before .before .before .before .before .before .before .before .before .before .before .before .before .typed .kept .1 .1 .0 ∙ c .before .before .before .before .before .before .before .before .before .before .before .before .before .before .before .before .before .before .before .before .before .before .before .before .before .before .bytes2 .kept .1 .0 ∙ c .before .before .before .before .before .before .before .before .before .before .before .before .before .before .before .before .before .before .before .before .before .before .before .before .before .before .before .before .before .before .before .number .kept .1 .1 .0 ∙ c .before .before .before .before .before .before .before .before .before .before .before .before .before .before .before .before .before .before .before .before .before .before .before .before .before .before .before .before .before .before .before .before .before .before .before .bytes .kept .1 .0
+    c .before .before .bytes4 .kept .1 .0 ∙ c .before .before .before .before .before .before .before .map-word .kept .1 .0
+    ∙ c .before .before .before .before .before .before .before .before .before .before .before .bytes3 .kept .1 .0
+    ∙ c .before .before .before .before .before .before .before .before .before .before .before .before .before .before .before
+    .before .typed2 .kept .1 .1 .0
+    ∙ c .before .before .before .before .before .before .before .before .before .before .before .before .before .before .before .before
+    .before .before .before .before .before .typed .kept .1 .1 .0
+    ∙ c .before .before .before .before .before .before .before .before .before .before .before .before .before .before .before
+    .before .before .before .before .before .before .before .before .before .before .before .bytes2 .kept .1 .0
+    ∙ c .before .before .before .before .before .before .before .before .before .before .before .before .before .before .before
+    .before .before .before .before .before .before .before .before .before .before .before .before .before .before .before .before
+    .number .kept .1 .1 .0
+    ∙ c .before .before .before .before .before .before .before .before .before .before .before .before .before .before .before
+    .before .before .before .before .before .before .before .before .before .before .before .before .before .before .before .before
+    .before .before .before .before .bytes .kept .1 .0
 
 returns : tie.Need-returns
 unfolding mapLines
 returns c =
-    let n = wrote-as (low-only _) (c .before .before .before .before .before .before .before .before .before .before .before .before .before .before .before .before .before .before .before .before .before .before .before .before .before .before .before .before .before .before .before .number .ensures) in
+    let n = wrote-as (low-only _)
+    (c .before .before .before .before .before .before .before .before .before .before .before .before .before .before .before
+    .before .before .before .before .before .before .before .before .before .before .before .before .before .before .before .before
+    .number .ensures) in
     wrote-then
     (wrote-then
     (wrote-then
-    (wrote-then (wrote-then (wrote-then (wrote-then (c .before .before .before .before .before .before .before .before .before .before .before .before .before .before .before .before .before .before .before .before .before .before .before .before .before .before .before .before .before .before .before .before .before .before .before .bytes .ensures) n) (c .before .before .before .before .before .before .before .before .before .before .before .before .before .before .before .before .before .before .before .before .before .before .before .before .before .before .bytes2 .ensures)) (c .before .before .before .before .before .before .before .before .before .before .before .before .before .before .before .before .before .before .before .before .before .typed .ensures)) (c .before .before .before .before .before .before .before .before .before .before .before .before .before .before .before .before .typed2 .ensures))
+    (wrote-then (wrote-then (wrote-then (wrote-then
+    (c .before .before .before .before .before .before .before .before .before .before .before .before .before .before .before
+    .before .before .before .before .before .before .before .before .before .before .before .before .before .before .before .before
+    .before .before .before .before .bytes .ensures) n)
+    (c .before .before .before .before .before .before .before .before .before .before .before .before .before .before .before
+    .before .before .before .before .before .before .before .before .before .before .before .bytes2 .ensures))
+    (c .before .before .before .before .before .before .before .before .before .before .before .before .before .before .before
+    .before .before .before .before .before .before .typed .ensures))
+    (c .before .before .before .before .before .before .before .before .before .before .before .before .before .before .before
+    .before .typed2 .ensures))
     (c .before .before .before .before .before .before .before .before .before .before .before .bytes3 .ensures))
     (c .before .before .before .before .before .before .before .map-word .ensures))
     (c .before .before .bytes4 .ensures)

@@ -69,7 +69,10 @@ same-length-5 : tie.Need-same-length-5
 same-length-5 c = search needs
 
 returns-5 : tie.Need-returns-5
-returns-5 c = wrote-as (map-last _ (c .before .before .before .before .before .before .before .before .if1 .left) (c .before .before .before .before .before .before .before .if2 .left) (c .before .before .before .before .before .before .if3 .left) (c .before .before .before .before .before .if4 .left)) (c .before .before .bytes5 .ensures)
+returns-5 c = wrote-as (map-last _ (c .before .before .before .before .before .before .before .before .if1 .left)
+    (c .before .before .before .before .before .before .before .if2 .left)
+    (c .before .before .before .before .before .before .if3 .left) (c .before .before .before .before .before .if4 .left))
+    (c .before .before .bytes5 .ensures)
 
 pub map-word-spec : {M : Type 1} → statement M
 map-word-spec =

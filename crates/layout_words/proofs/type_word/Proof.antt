@@ -56,7 +56,9 @@ same-length-4 : tie.Need-same-length-4
 same-length-4 c = search needs
 
 returns-4 : tie.Need-returns-4
-returns-4 c = wrote-as (type-last _ (c .before .before .before .before .before .before .before .if1 .left) (c .before .before .before .before .before .before .if2 .left) (c .before .before .before .before .before .if3 .left)) (c .before .before .bytes4 .ensures)
+returns-4 c = wrote-as (type-last _ (c .before .before .before .before .before .before .before .if1 .left)
+    (c .before .before .before .before .before .before .if2 .left) (c .before .before .before .before .before .if3 .left))
+    (c .before .before .bytes4 .ensures)
 
 pub type-word-spec : {M : Type 1} → statement M
 type-word-spec =

@@ -6,7 +6,8 @@ use Rattle.layout_words.proofs.typed.Statement.{statement}
 use Rattle.layout_words.proofs.typed.Tie as tie
 
 returns : tie.Need-returns
-returns c = let a = c .before .before .before .args in wrote-as (typed-none (a .head .now) (a .n) (c .if1 .taken)) (wrote-none (a .room .now) (a .at))
+returns c = let a = c .before .before .before .args in wrote-as (typed-none (a .head .now) (a .n) (c .if1 .taken))
+    (wrote-none (a .room .now) (a .at))
 
 slice-aggregate-bytes : tie.Need-slice-aggregate-bytes
 slice-aggregate-bytes c = search needs
@@ -24,7 +25,10 @@ same-length : tie.Need-same-length
 same-length c = search needs
 
 returns-2 : tie.Need-returns-2
-returns-2 c = wrote-as (typed-one _ _ (c .before .before .before .before .before .before .before .before .before .before .before .before .before .if1 .left)) (wrote-then (wrote-then (c .before .before .before .before .before .before .before .before .before .before .bytes .ensures) (c .before .before .before .before .before .before .type-word .ensures)) (c .before .before .bytes2 .ensures))
+returns-2 c = wrote-as (typed-one _ _
+    (c .before .before .before .before .before .before .before .before .before .before .before .before .before .if1 .left))
+    (wrote-then (wrote-then (c .before .before .before .before .before .before .before .before .before .before .bytes .ensures)
+    (c .before .before .before .before .before .before .type-word .ensures)) (c .before .before .bytes2 .ensures))
 
 pub typed-spec : {M : Type 1} → statement M
 typed-spec =

@@ -20,10 +20,15 @@ abbrev pub μ-loop : lts.MeasureT-loop
 μ-loop text rows nodes n things room₀ at end₀ left₀ to₀ room end left to = left
 
 pub loop-holds : (t : ℕ) → lts.Need-loop-holds (cs t) (args-at t) args.Post Inv-loop μ-loop
-loop-holds t c = let a = c .before .before .before .before .args in record { fit = record { few = omega arith; long = refl }; goes = λ q. arguing-none (a .room .now) (a .at) q }
+loop-holds t c = let a = c .before .before .before .before .args in
+    record { fit = record { few = omega arith; long = refl }; goes = λ q. arguing-none (a .room .now) (a .at) q }
 
 pub expr-requires : (t : ℕ) → lts.Need-expr-requires (cs t) (args-at t) args.Post Inv-loop μ-loop
-expr-requires t c κs = (omega (arith, c .before .before .before .before .before .before .before .pre .0, c .before .before .loop .inv .fit .few), tt)
+expr-requires t c κs = (
+  omega
+      (arith, c .before .before .before .before .before .before .before .pre .0, c .before .before .loop .inv .fit .few),
+  tt,
+)
 
 pub sub-left : (t : ℕ) → lts.Need-sub-left (cs t) (args-at t) args.Post Inv-loop μ-loop
 sub-left t c = search needs
@@ -39,7 +44,11 @@ loop-again t c =
     let l = c .before .before .before .before .before .before .before .before .before .loop in
     let v = c .before .before .before .before .before .before .expr in
     record {
-      fit = record { few = omega (arith, l .inv .fit .few, v .ensures .low); long = c .before .before .comma .kept .1 .0 ∙ v .kept .1 .1 .1 .1 .1 .0 ∙ l .inv .fit .long };
+      fit = record {
+        few = omega (arith, l .inv .fit .few, v .ensures .low);
+        long = c .before .before .comma .kept .1 .0
+            ∙ v .kept .1 .1 .1 .1 .1 .0 ∙ l .inv .fit .long;
+      };
       goes = λ q. arguing-on (omega arith) (l .inv .goes q) (v .ensures) (c .before .before .comma .ensures);
     }
 
@@ -47,4 +56,8 @@ pub same-length : (t : ℕ) → lts.Need-same-length (cs t) (args-at t) args.Pos
 same-length t c = c .before .loop .inv .fit .long
 
 pub returns : (t : ℕ) → lts.Need-returns (cs t) (args-at t) args.Post Inv-loop μ-loop
-returns t c = record { low = omega (arith, c .before .loop .inv .fit .few); done = λ q. arguing-all (omega arith) (c .before .loop .inv .goes q) }
+returns t c = record {
+  low = omega (arith, c .before .loop .inv .fit .few);
+  done = λ q. arguing-all (omega arith)
+      (c .before .loop .inv .goes q);
+}

@@ -12,7 +12,16 @@ use Rattle.layout_back.proofs.word.Reads as word-reads
 use Rattle.layout_expr.proofs.+args+call+expr+leaf+step.Proof.Measures.{args-below, call-at}
 
 abbrev pub cs : ℕ → lts.Claims
-cs t = (word-reads.Asked, word-reads.Learnt, bytes-reads.Asked, bytes-reads.Learnt, args-below t, args.Post, name-reads.Asked, name-reads.Learnt)
+cs t = (
+  word-reads.Asked,
+  word-reads.Learnt,
+  bytes-reads.Asked,
+  bytes-reads.Learnt,
+  args-below t,
+  args.Post,
+  name-reads.Asked,
+  name-reads.Learnt,
+)
 
 pub word-requires : (t : ℕ) → lts.Need-word-requires (cs t) (call-at t) call.Post
 word-requires t c κs = search needs
@@ -27,7 +36,11 @@ pub bytes-requires : (t : ℕ) → lts.Need-bytes-requires (cs t) (call-at t) ca
 bytes-requires t c κs = search needs
 
 pub args-requires : (t : ℕ) → lts.Need-args-requires (cs t) (call-at t) call.Post
-args-requires t c κs = (omega (arith, c .before .before .before .before .before .before .before .before .before .before .before .before .pre .0), tt)
+args-requires t c κs = (
+  omega
+      (arith, c .before .before .before .before .before .before .before .before .before .before .before .before .pre .0),
+  tt,
+)
 
 pub slice-aggregate-bytes-2 : (t : ℕ) → lts.Need-slice-aggregate-bytes-2 (cs t) (call-at t) call.Post
 slice-aggregate-bytes-2 t c = search needs
@@ -49,8 +62,17 @@ same-length t c = search needs
 
 pub returns : (t : ℕ) → lts.Need-returns (cs t) (call-at t) call.Post
 returns t c =
-    let v = c .before .before .before .before .before .before .before .before .before .before .before .before .before .before .before .before .args2 in
+    let v = c .before .before .before .before .before .before .before .before .before .before .before .before .before .before .before
+    .before .args2 in
     record {
       low = v .ensures .low;
-      done = λ k q. call-steps k (c .before .before .before .before .before .before .before .before .before .before .before .before .before .before .before .before .before .before .before .before .before .before .before .before .word .ensures) (c .before .before .before .before .before .before .before .before .before .before .before .before .before .before .before .before .before .before .before .before .before .before .before .word2 .ensures) (c .before .before .before .before .before .before .before .before .before .before .before .before .before .before .before .before .before .before .before .before .bytes .ensures) (v .ensures) (c .before .before .before .before .before .before .before .before .before .before .before .bytes2 .ensures) (c .before .before .before .before .before .before .before .name .ensures) (c .before .before .bytes3 .ensures) q;
+      done = λ k q. call-steps k
+          (c .before .before .before .before .before .before .before .before .before .before .before .before .before .before .before
+          .before .before .before .before .before .before .before .before .before .word .ensures)
+          (c .before .before .before .before .before .before .before .before .before .before .before .before .before .before .before
+          .before .before .before .before .before .before .before .before .word2 .ensures)
+          (c .before .before .before .before .before .before .before .before .before .before .before .before .before .before .before
+          .before .before .before .before .before .bytes .ensures) (v .ensures)
+          (c .before .before .before .before .before .before .before .before .before .before .before .bytes2 .ensures)
+          (c .before .before .before .before .before .before .before .name .ensures) (c .before .before .bytes3 .ensures) q;
     }

@@ -14,7 +14,18 @@ use Rattle.layout_back.proofs.word.Reads as word-reads
 use Rattle.layout_expr.proofs.+args+call+expr+leaf+step.Proof.Measures.{expr-below, leaf-at}
 
 abbrev pub cs : ℕ → lts.Claims
-cs t = (word-reads.Asked, word-reads.Learnt, number-reads.Asked, number-reads.Learnt, expr-below t, expr.Post, bytes-reads.Asked, bytes-reads.Learnt, name-reads.Asked, name-reads.Learnt)
+cs t = (
+  word-reads.Asked,
+  word-reads.Learnt,
+  number-reads.Asked,
+  number-reads.Learnt,
+  expr-below t,
+  expr.Post,
+  bytes-reads.Asked,
+  bytes-reads.Learnt,
+  name-reads.Asked,
+  name-reads.Learnt,
+)
 
 pub word-requires : (t : ℕ) → lts.Need-word-requires (cs t) (leaf-at t) leaf.Post
 word-requires t c κs = search needs
@@ -34,7 +45,12 @@ same-length t c = search needs
 pub returns : (t : ℕ) → lts.Need-returns (cs t) (leaf-at t) leaf.Post
 returns t c =
     let k = c .before .before .before .before .before .before .before .word .ensures in
-    record { low = omega arith; done = λ h q. num-done (sym k ∙ c .before .before .before .before .before .before .if1 .taken) (c .before .before .before .before .before .word2 .ensures) (c .before .before .before .before .word3 .ensures) (c .before .before .number .ensures) q }
+    record {
+      low = omega arith;
+      done = λ h q. num-done (sym k ∙ c .before .before .before .before .before .before .if1 .taken)
+          (c .before .before .before .before .before .word2 .ensures) (c .before .before .before .before .word3 .ensures)
+          (c .before .before .number .ensures) q;
+    }
 
 pub expr-requires : (t : ℕ) → lts.Need-expr-requires (cs t) (leaf-at t) leaf.Post
 expr-requires t c κs = (omega (arith, c .before .before .before .before .before .before .before .before .pre .0), tt)
@@ -52,7 +68,11 @@ pub returns-2 : (t : ℕ) → lts.Need-returns-2 (cs t) (leaf-at t) leaf.Post
 returns-2 t c =
     let k = c .before .before .before .before .before .before .before .before .before .before .before .word .ensures in
     let v = c .before .before .before .before .before .before .before .expr .ensures in
-    record { low = v .low; done = λ h q. star-done (sym k ∙ c .before .before .before .before .before .before .before .before .before .if2 .taken) v (c .before .before .bytes .ensures) q }
+    record {
+      low = v .low;
+      done = λ h q. star-done (sym k
+          ∙ c .before .before .before .before .before .before .before .before .before .if2 .taken) v (c .before .before .bytes .ensures) q;
+    }
 
 pub word-requires-4 : (t : ℕ) → lts.Need-word-requires-4 (cs t) (leaf-at t) leaf.Post
 word-requires-4 t c κs = search needs
@@ -68,5 +88,7 @@ returns-3 t c =
     let k = c .before .before .before .before .before .before .before .word .ensures in
     record {
       low = omega arith;
-      done = λ h q. var-done (λ e. c .before .before .before .before .before .before .if1 .left (k ∙ e)) (λ e. c .before .before .before .before .before .if2 .left (k ∙ e)) h (c .before .before .before .before .word4 .ensures) (c .before .before .name .ensures) q;
+      done = λ h q. var-done (λ e. c .before .before .before .before .before .before .if1 .left (k ∙ e))
+          (λ e. c .before .before .before .before .before .if2 .left (k ∙ e)) h (c .before .before .before .before .word4 .ensures)
+          (c .before .before .name .ensures) q;
     }

@@ -17,7 +17,22 @@ use Rattle.layout_signs.proofs.right.Reads as right-reads
 use Rattle.layout_expr.proofs.+args+call+expr+leaf+step.Proof.Measures.{call-below, expr-below, step-at}
 
 abbrev pub cs : ℕ → lts.Claims
-cs t = (word-reads.Asked, word-reads.Learnt, call-below t, call.Post, name-reads.Asked, name-reads.Learnt, bytes-reads.Asked, bytes-reads.Learnt, right-reads.Asked, right-reads.Learnt, expr-below t, expr.Post, operator-reads.Asked, operator-reads.Learnt)
+cs t = (
+  word-reads.Asked,
+  word-reads.Learnt,
+  call-below t,
+  call.Post,
+  name-reads.Asked,
+  name-reads.Learnt,
+  bytes-reads.Asked,
+  bytes-reads.Learnt,
+  right-reads.Asked,
+  right-reads.Learnt,
+  expr-below t,
+  expr.Post,
+  operator-reads.Asked,
+  operator-reads.Learnt,
+)
 
 pub word-requires : (t : ℕ) → lts.Need-word-requires (cs t) (step-at t) step.Post
 word-requires t c κs = search needs
@@ -31,7 +46,11 @@ same-length t c = search needs
 pub returns : (t : ℕ) → lts.Need-returns (cs t) (step-at t) step.Post
 returns t c =
     let v = c .before .before .call .ensures in
-    record { low = v .low; done = λ h q. v .done (sym (c .before .before .before .before .before .word .ensures) ∙ c .before .before .before .before .if1 .taken) q }
+    record {
+      low = v .low;
+      done = λ h q. v .done (sym (c .before .before .before .before .before .word .ensures)
+          ∙ c .before .before .before .before .if1 .taken) q;
+    }
 
 pub word-requires-2 : (t : ℕ) → lts.Need-word-requires-2 (cs t) (step-at t) step.Post
 word-requires-2 t c κs = search needs
@@ -51,7 +70,13 @@ same-length-2 t c = search needs
 pub returns-2 : (t : ℕ) → lts.Need-returns-2 (cs t) (step-at t) step.Post
 returns-2 t c =
     let k = c .before .before .before .before .before .before .before .before .before .before .before .before .word .ensures in
-    record { low = omega arith; done = λ h q. field-steps (sym k ∙ c .before .before .before .before .before .before .before .before .before .before .if2 .taken) (c .before .before .before .before .before .before .before .before .before .word2 .ensures) (c .before .before .before .before .before .before .before .name .ensures) (c .before .before .bytes .ensures) q }
+    record {
+      low = omega arith;
+      done = λ h q. field-steps (sym k
+          ∙ c .before .before .before .before .before .before .before .before .before .before .if2 .taken)
+          (c .before .before .before .before .before .before .before .before .before .word2 .ensures)
+          (c .before .before .before .before .before .before .before .name .ensures) (c .before .before .bytes .ensures) q;
+    }
 
 pub right-requires : (t : ℕ) → lts.Need-right-requires (cs t) (step-at t) step.Post
 right-requires t c κs = search needs
@@ -71,5 +96,8 @@ returns-3 t c =
     let v = c .before .before .before .before .before .before .expr .ensures in
     record {
       low = v .low;
-      done = λ h q. bin-steps (λ e. c .before .before .before .before .before .before .before .before .before .before .if1 .left (k ∙ e)) (λ e. c .before .before .before .before .before .before .before .before .before .if2 .left (k ∙ e)) h (c .before .before .before .before .before .before .before .before .right .ensures ∙ ap rightPlace k) k v (c .before .before .operator .ensures) q;
+      done = λ h q. bin-steps (λ e. c .before .before .before .before .before .before .before .before .before .before .if1 .left
+          (k ∙ e)) (λ e. c .before .before .before .before .before .before .before .before .before .if2 .left (k ∙ e)) h
+          (c .before .before .before .before .before .before .before .before .right .ensures ∙ ap rightPlace k) k v
+          (c .before .before .operator .ensures) q;
     }

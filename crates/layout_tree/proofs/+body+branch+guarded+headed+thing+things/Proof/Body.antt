@@ -29,7 +29,15 @@ pub bytes-requires : (t : ℕ) → lts.Need-bytes-requires (cs t) (body-at t) bo
 bytes-requires t c κs = search needs
 
 pub things-requires : (t : ℕ) → lts.Need-things-requires (cs t) (body-at t) body.Post
-things-requires t c κs = (omega (arith, c .before .before .before .before .before .before .before .before .before .before .before .before .pre .0, c .before .before .before .before .before .before .before .if1 .left), tt)
+things-requires t c κs = (
+  omega (
+    arith,
+    c .before .before .before .before .before .before .before .before .before .before .before .before .pre .0,
+    c .before .before
+        .before .before .before .before .before .if1 .left,
+  ),
+  tt,
+)
 
 pub slice-aggregate-bytes-2 : (t : ℕ) → lts.Need-slice-aggregate-bytes-2 (cs t) (body-at t) body.Post
 slice-aggregate-bytes-2 t c = search needs
@@ -45,5 +53,9 @@ returns-2 t c =
     let v = c .before .before .before .before .before .before .before .things .ensures in
     record {
       low = omega (arith, v .low);
-      done = λ q. body-done (c .before .before .before .before .before .before .before .before .before .before .before .before .before .before .before .if1 .left) (c .before .before .before .before .before .before .before .before .before .before .before .before .before .before .word .ensures) (c .before .before .before .before .before .before .before .before .before .before .before .bytes .ensures) v (c .before .before .bytes2 .ensures) q;
+      done = λ q. body-done
+          (c .before .before .before .before .before .before .before .before .before .before .before .before .before .before .before
+          .if1 .left) (c .before .before .before .before .before .before .before .before .before .before .before .before .before .before
+          .word .ensures) (c .before .before .before .before .before .before .before .before .before .before .before .bytes .ensures) v
+          (c .before .before .bytes2 .ensures) q;
     }

@@ -27,7 +27,11 @@ same-length t c = search needs
 pub returns : (t : ℕ) → lts.Need-returns (cs t) (branch-at t) branch.Post
 returns t c =
     let v = c .before .before .guarded .ensures in
-    record { low = v .low; done = λ k q. lone-done (λ e. c .before .before .before .before .if1 .taken (c .before .before .before .before .before .word .ensures ∙ e)) k v q }
+    record {
+      low = v .low;
+      done = λ k q. lone-done (λ e. c .before .before .before .before .if1 .taken
+          (c .before .before .before .before .before .word .ensures ∙ e)) k v q;
+    }
 
 pub body-requires : (t : ℕ) → lts.Need-body-requires (cs t) (branch-at t) branch.Post
 body-requires t c κs = (omega (arith, c .before .before .before .before .before .before .before .pre .0), tt)
@@ -39,7 +43,15 @@ pub bytes-requires : (t : ℕ) → lts.Need-bytes-requires (cs t) (branch-at t) 
 bytes-requires t c κs = search needs
 
 pub guarded-requires-2 : (t : ℕ) → lts.Need-guarded-requires-2 (cs t) (branch-at t) branch.Post
-guarded-requires-2 t c κs = (omega (arith, c .before .before .before .before .before .before .before .before .before .before .before .before .before .before .before .before .pre .0, c .before .before .before .before .before .before .before .before .body .ensures .low), tt)
+guarded-requires-2 t c κs = (
+  omega (
+    arith,
+    c .before .before .before .before .before .before .before .before .before .before .before .before .before .before .before
+        .before .pre .0,
+    c .before .before .before .before .before .before .before .before .body .ensures .low,
+  ),
+  tt,
+)
 
 pub same-length-2 : (t : ℕ) → lts.Need-same-length-2 (cs t) (branch-at t) branch.Post
 same-length-2 t c = search needs
@@ -50,5 +62,8 @@ returns-2 t c =
     let w = c .before .before .guarded2 .ensures in
     record {
       low = omega (arith, v .low, w .low);
-      done = λ k q. else-done (sym (c .before .before .before .before .before .before .before .before .before .before .before .before .before .before .word .ensures) ∙ c .before .before .before .before .before .before .before .before .before .before .before .before .before .if1 .left) k v (c .before .before .before .before .before .before .bytes .ensures) w q;
+      done = λ k q. else-done (sym
+          (c .before .before .before .before .before .before .before .before .before .before .before .before .before .before .word
+          .ensures) ∙ c .before .before .before .before .before .before .before .before .before .before .before .before .before .if1
+          .left) k v (c .before .before .before .before .before .before .bytes .ensures) w q;
     }

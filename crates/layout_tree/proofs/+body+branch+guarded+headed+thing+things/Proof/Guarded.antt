@@ -12,7 +12,16 @@ use Rattle.layout_back.proofs.word.Reads as word-reads
 use Rattle.layout_tree.proofs.+body+branch+guarded+headed+thing+things.Proof.Measures.{body-below, guarded-at}
 
 abbrev pub cs : ℕ → lts.Claims
-cs t = (body-below t, body.Post, word-reads.Asked, word-reads.Learnt, bytes-reads.Asked, bytes-reads.Learnt, name-reads.Asked, name-reads.Learnt)
+cs t = (
+  body-below t,
+  body.Post,
+  word-reads.Asked,
+  word-reads.Learnt,
+  bytes-reads.Asked,
+  bytes-reads.Learnt,
+  name-reads.Asked,
+  name-reads.Learnt,
+)
 
 pub body-requires : (t : ℕ) → lts.Need-body-requires (cs t) (guarded-at t) guarded.Post
 body-requires t c κs = (omega (arith, c .before .before .before .before .before .pre .0), tt)
@@ -54,8 +63,12 @@ same-length-2 t c = search needs
 
 pub returns-2 : (t : ℕ) → lts.Need-returns-2 (cs t) (guarded-at t) guarded.Post
 returns-2 t c =
-    let v = c .before .before .before .before .before .before .before .before .before .before .before .before .before .before .before .before .before .before .body .ensures in
+    let v = c .before .before .before .before .before .before .before .before .before .before .before .before .before .before .before
+    .before .before .before .body .ensures in
     record {
       low = omega (arith, v .low);
-      done = λ s q. guarded-done v (c .before .before .before .before .before .before .before .before .before .before .before .before .before .before .word .ensures) (c .before .before .before .before .before .before .before .before .before .before .before .bytes .ensures) (c .before .before .before .before .before .before .before .name .ensures) (c .before .before .bytes2 .ensures) s q;
+      done = λ s q. guarded-done v
+          (c .before .before .before .before .before .before .before .before .before .before .before .before .before .before .word
+          .ensures) (c .before .before .before .before .before .before .before .before .before .before .before .bytes .ensures)
+          (c .before .before .before .before .before .before .before .name .ensures) (c .before .before .bytes2 .ensures) s q;
     }

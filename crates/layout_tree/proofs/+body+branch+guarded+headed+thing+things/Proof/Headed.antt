@@ -12,7 +12,16 @@ use Rattle.layout_back.proofs.word.Reads as word-reads
 use Rattle.layout_tree.proofs.+body+branch+guarded+headed+thing+things.Proof.Measures.{body-below, headed-at}
 
 abbrev pub cs : ℕ → lts.Claims
-cs t = (word-reads.Asked, word-reads.Learnt, body-below t, body.Post, name-reads.Asked, name-reads.Learnt, bytes-reads.Asked, bytes-reads.Learnt)
+cs t = (
+  word-reads.Asked,
+  word-reads.Learnt,
+  body-below t,
+  body.Post,
+  name-reads.Asked,
+  name-reads.Learnt,
+  bytes-reads.Asked,
+  bytes-reads.Learnt,
+)
 
 pub returns : (t : ℕ) → lts.Need-returns (cs t) (headed-at t) headed.Post
 returns t c = record { low = omega arith; done = λ e q s. absurd (omega (arith, e, c .if1 .taken)) }
@@ -38,4 +47,9 @@ same-length t c = search needs
 pub returns-2 : (t : ℕ) → lts.Need-returns-2 (cs t) (headed-at t) headed.Post
 returns-2 t c =
     let v = c .before .before .before .before .before .before .before .before .before .before .body .ensures in
-    record { low = v .low; done = λ e q s. headed-done e (c .before .before .before .before .before .before .before .before .before .before .before .before .word .ensures) v (c .before .before .before .before .before .before .name .ensures) (c .before .before .bytes .ensures) q s }
+    record {
+      low = v .low;
+      done = λ e q s. headed-done e
+          (c .before .before .before .before .before .before .before .before .before .before .before .before .word .ensures) v
+          (c .before .before .before .before .before .before .name .ensures) (c .before .before .bytes .ensures) q s;
+    }

@@ -25,7 +25,11 @@ pub word-requires : (t : ℕ) → lts.Need-word-requires (cs t) (thing-at t) thi
 word-requires t c κs = search needs
 
 pub branch-requires : (t : ℕ) → lts.Need-branch-requires (cs t) (thing-at t) thing.Post
-branch-requires t c κs = (omega (arith, c .before .before .before .before .before .before .before .before .pre .0, c .before .before .before .if1 .left), tt)
+branch-requires t c κs = (
+  omega
+      (arith, c .before .before .before .before .before .before .before .before .pre .0, c .before .before .before .if1 .left),
+  tt,
+)
 
 pub same-length : (t : ℕ) → lts.Need-same-length (cs t) (thing-at t) thing.Post
 same-length t c = search needs
@@ -33,7 +37,11 @@ same-length t c = search needs
 pub returns-2 : (t : ℕ) → lts.Need-returns-2 (cs t) (thing-at t) thing.Post
 returns-2 t c =
     let v = c .before .before .branch .ensures in
-    record { low = omega (arith, v .low); done = λ q. branch-done (c .before .before .before .before .before .before .if1 .left) (sym (c .before .before .before .before .before .word .ensures) ∙ c .before .before .before .before .if2 .taken) v q }
+    record {
+      low = omega (arith, v .low);
+      done = λ q. branch-done (c .before .before .before .before .before .before .if1 .left)
+          (sym (c .before .before .before .before .before .word .ensures) ∙ c .before .before .before .before .if2 .taken) v q;
+    }
 
 pub slice-aggregate-headed : (t : ℕ) → lts.Need-slice-aggregate-headed (cs t) (thing-at t) thing.Post
 slice-aggregate-headed t c = search needs
@@ -47,13 +55,22 @@ same-length-2 t c = search needs
 pub returns-3 : (t : ℕ) → lts.Need-returns-3 (cs t) (thing-at t) thing.Post
 returns-3 t c =
     let v = c .before .before .headed .ensures in
-    record { low = v .low; done = λ q. unit-done (c .before .before .before .before .before .before .before .before .if1 .left) (sym (c .before .before .before .before .before .before .before .word .ensures) ∙ c .before .before .before .before .before .if3 .taken) v q }
+    record {
+      low = v .low;
+      done = λ q. unit-done (c .before .before .before .before .before .before .before .before .if1 .left)
+          (sym (c .before .before .before .before .before .before .before .word .ensures)
+          ∙ c .before .before .before .before .before .if3 .taken) v q;
+    }
 
 pub slice-aggregate-headed-2 : (t : ℕ) → lts.Need-slice-aggregate-headed-2 (cs t) (thing-at t) thing.Post
 slice-aggregate-headed-2 t c = search needs
 
 pub headed-requires-2 : (t : ℕ) → lts.Need-headed-requires-2 (cs t) (thing-at t) thing.Post
-headed-requires-2 t c κs = (omega (arith, c .before .before .before .before .before .before .before .before .before .before .before .pre .0), tt)
+headed-requires-2 t c κs = (
+  omega
+      (arith, c .before .before .before .before .before .before .before .before .before .before .before .pre .0),
+  tt,
+)
 
 pub same-length-3 : (t : ℕ) → lts.Need-same-length-3 (cs t) (thing-at t) thing.Post
 same-length-3 t c = search needs
@@ -61,7 +78,12 @@ same-length-3 t c = search needs
 pub returns-4 : (t : ℕ) → lts.Need-returns-4 (cs t) (thing-at t) thing.Post
 returns-4 t c =
     let v = c .before .before .headed2 .ensures in
-    record { low = v .low; done = λ q. event-done (c .before .before .before .before .before .before .before .before .before .if1 .left) (sym (c .before .before .before .before .before .before .before .before .word .ensures) ∙ c .before .before .before .before .before .if4 .taken) v q }
+    record {
+      low = v .low;
+      done = λ q. event-done (c .before .before .before .before .before .before .before .before .before .if1 .left)
+          (sym (c .before .before .before .before .before .before .before .before .word .ensures)
+          ∙ c .before .before .before .before .before .if4 .taken) v q;
+    }
 
 pub line-requires : (t : ℕ) → lts.Need-line-requires (cs t) (thing-at t) thing.Post
 line-requires t c κs = search needs
@@ -74,5 +96,11 @@ returns-5 t c =
     let v = c .before .before .line .ensures in
     record {
       low = omega (arith, v .low);
-      done = λ q. line-done (c .before .before .before .before .before .before .before .before .if1 .left) (λ e. c .before .before .before .before .before .before .if2 .left (c .before .before .before .before .before .before .before .word .ensures ∙ e)) (λ e. c .before .before .before .before .before .if3 .left (c .before .before .before .before .before .before .before .word .ensures ∙ e)) (λ e. c .before .before .before .before .if4 .left (c .before .before .before .before .before .before .before .word .ensures ∙ e)) v q;
+      done = λ q. line-done (c .before .before .before .before .before .before .before .before .if1 .left)
+          (λ e. c .before .before .before .before .before .before .if2 .left
+          (c .before .before .before .before .before .before .before .word .ensures ∙ e))
+          (λ e. c .before .before .before .before .before .if3 .left
+          (c .before .before .before .before .before .before .before .word .ensures ∙ e))
+          (λ e. c .before .before .before .before .if4 .left
+          (c .before .before .before .before .before .before .before .word .ensures ∙ e)) v q;
     }

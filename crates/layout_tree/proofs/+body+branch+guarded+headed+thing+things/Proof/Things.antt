@@ -19,10 +19,15 @@ abbrev pub μ-loop : lts.MeasureT-loop
 μ-loop text rows nodes n count room₀ at end₀ left₀ to₀ room end left to = left
 
 pub loop-holds : (t : ℕ) → lts.Need-loop-holds (cs t) (things-at t) things.Post Inv-loop μ-loop
-loop-holds t c = let a = c .before .before .before .before .args in record { few = omega arith; long = refl; goes = λ q. listing-none (a .room .now) (a .at) q }
+loop-holds t c = let a = c .before .before .before .before .args in
+    record { few = omega arith; long = refl; goes = λ q. listing-none (a .room .now) (a .at) q }
 
 pub thing-requires : (t : ℕ) → lts.Need-thing-requires (cs t) (things-at t) things.Post Inv-loop μ-loop
-thing-requires t c κs = (omega (arith, c .before .before .before .before .before .before .before .pre .0, c .before .before .loop .inv .few), tt)
+thing-requires t c κs = (
+  omega
+      (arith, c .before .before .before .before .before .before .before .pre .0, c .before .before .loop .inv .few),
+  tt,
+)
 
 pub sub-left : (t : ℕ) → lts.Need-sub-left (cs t) (things-at t) things.Post Inv-loop μ-loop
 sub-left t c = search needs

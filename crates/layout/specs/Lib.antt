@@ -1,0 +1,2 @@
+-- What the contracts of laying out cite.
+pub mod Laying
