@@ -229,33 +229,29 @@ fn trees_follow_edits() {
     }
 }
 
-/// A document goes up to the limit and back.
+/// A document goes over the limit and back.
 #[test]
 fn documents_reach_the_limit() {
     let mut random = Random::new(24);
     let text = long_text(&mut random, LONGEST_TEXT - 1_000, " // 0.1°\n");
     let mut document = Document::open(text).unwrap();
-    let mut refused = 0;
+    let mut over = 0;
     for _ in 0..300 {
         let at = random.below(document.text().len() + 1);
         let at = edge(document.text(), at);
         let new = text_of(compare::generate::programs::text(&mut random, 10));
         let new = format!("*/ {new} /*°");
-        let room = LONGEST_TEXT - document.text().len();
-        match document.replace(at..at, &new) {
-            Ok(()) => assert!(new.len() <= room),
-            Err(refusal) => {
-                assert_eq!(refusal.number(), 1);
-                assert!(new.len() > room);
-                refused += 1;
-                let end = document.text().len();
-                let kept = edge(document.text(), end - 400);
-                document.replace(kept..end, "").unwrap();
-            }
-        }
+        document.replace(at..at, &new).unwrap();
         assert_eq!(document, Document::open(document.text()).unwrap());
+        if document.text().len() > LONGEST_TEXT {
+            assert_eq!(document.refusal().unwrap().number(), 1);
+            over += 1;
+            let kept = edge(document.text(), LONGEST_TEXT - 400);
+            document.replace(kept.., "").unwrap();
+            assert_eq!(document, Document::open(document.text()).unwrap());
+        }
     }
-    assert!(refused > 0);
+    assert!(over > 0);
 }
 
 /// A document hands out the spellings that the library's own call tells, of every row and of the one behind the last.
