@@ -17,7 +17,7 @@ use scan_stop::{Stop, lacks};
 use scan_walk::walk;
 
 // An edit of a table: old bytes a to b become n new ones, so many rows are kept, and reading restarts at a place.
-#[derive(Drop)]
+#[derive(Clone, Copy)]
 pub struct Job {
     pub table: Table,
     pub a: u32,

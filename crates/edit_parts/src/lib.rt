@@ -9,7 +9,7 @@ use rows::shape::wide;
 use rules::{Cursor, Ending, Outer, Table, Told};
 
 // What stands behind the kept rows: so many rows and the ending; or there was no room for all of them.
-#[derive(Drop)]
+#[derive(Clone, Copy)]
 pub enum Tail {
     Rows(usize, Ending),
     Full,

@@ -18,7 +18,7 @@ use rules_forms::{Apart, Beside, Form};
 use scan_place::pass;
 
 // Whether the rows looked at agree with the text, and the place of the last of them.
-#[derive(Drop)]
+#[derive(Clone, Copy)]
 pub struct Counted {
     pub here: Cursor,
     pub agree: bool,

@@ -37,7 +37,7 @@ const LINE_AT: usize = OFFSET_AT + form::WORD;
 const COLUMN_AT: usize = LINE_AT + form::WORD;
 
 // What the blocks behind block 0 tell: the number of the first that is not sound, or whether so many rows stand.
-#[derive(Drop)]
+#[derive(Clone, Copy)]
 pub enum Blocks {
     Bad(u32),
     Sound(bool),

@@ -22,14 +22,14 @@ use scan_reader::Spot;
 const PART_WORDS: usize = short::ROWS * row::WORDS;
 
 // What a first reading tells: the table of the text, and how many blocks are to be listed.
-#[derive(Drop)]
+#[derive(Clone, Copy)]
 pub struct Seen {
     pub table: Table,
     pub listed: usize,
 }
 
 // What is told of a part of the rows: what was read, and how many entries there are.
-#[derive(Drop)]
+#[derive(Clone, Copy)]
 pub struct Step {
     pub part: Part,
     pub listed: usize,

@@ -6,7 +6,7 @@ use layout_signs::{STARRED, SUM};
 use rules::{node, node_kind};
 
 // Where the nodes and where the bytes begin of what was written.
-#[derive(Drop)]
+#[derive(Clone, Copy)]
 pub struct Back {
     pub node: u32,
     pub at: usize,

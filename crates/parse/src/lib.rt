@@ -63,7 +63,7 @@ fn program(text: &[u8], rows: &[u32], count: u32, nodes: &mut [u32]) -> Got
 }
 
 // How far the first pass comes: behind what it reads, or why not and the row where.
-#[derive(Drop)]
+#[derive(Clone, Copy)]
 pub enum Passed {
     To(u32),
     Refused(Syntax, usize),

@@ -10,7 +10,7 @@ use rules::kind::{
 use rules::{Syntax, fact, fits, node_kind, row};
 
 // A field's facts and the row behind it.
-#[derive(Drop)]
+#[derive(Clone, Copy)]
 pub struct Shape {
     pub row: u32,
     pub form: u32,
@@ -19,7 +19,7 @@ pub struct Shape {
 }
 
 // A field's shape, or why there is none and the row where.
-#[derive(Drop)]
+#[derive(Clone, Copy)]
 pub enum Shaped {
     Done(Shape),
     Refused(Syntax, u32),

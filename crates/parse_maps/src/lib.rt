@@ -16,7 +16,7 @@ use rules::kind::{
 use rules::{Syntax, fact, fits, limit, node_kind, row};
 
 // What the fields so far give, 0 for none, `limit` one more than max; and the next row.
-#[derive(Drop)]
+#[derive(Clone, Copy)]
 pub struct Facts {
     pub row: u32,
     pub maptype: u32,
@@ -26,21 +26,21 @@ pub struct Facts {
 }
 
 // What the fields give with one field more, or why not and the row where.
-#[derive(Drop)]
+#[derive(Clone, Copy)]
 pub enum Found {
     Done(Facts),
     Refused(Syntax, u32),
 }
 
 // The value of a max so far, and the next row.
-#[derive(Drop)]
+#[derive(Clone, Copy)]
 pub struct Sum {
     pub row: u32,
     pub bits: u64,
 }
 
 // The value of a max with one shift more, or why not and the row where.
-#[derive(Drop)]
+#[derive(Clone, Copy)]
 pub enum Summed {
     Done(Sum),
     Refused(Syntax, u32),

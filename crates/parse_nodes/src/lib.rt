@@ -14,7 +14,7 @@ use rules::{Syntax, fits, limit, node, node_kind, row};
 
 // Where the parser stands: the next row, the next node, the place of what was read and how many things it has if it is a list. Of what was
 // read, or of its last thing: whether it is a variable, a sum, an `if` without `else`.
-#[derive(Drop)]
+#[derive(Clone, Copy)]
 pub struct At {
     pub row: u32,
     pub node: u32,
@@ -27,14 +27,14 @@ pub struct At {
 
 // What was read, or why not and the row where. That row is as wide as the last two fields of a state, so that both answers are passed on
 // by the same moves.
-#[derive(Drop)]
+#[derive(Clone, Copy)]
 pub enum Got {
     Done(At),
     Refused(Syntax, usize),
 }
 
 // The words of a node.
-#[derive(Drop)]
+#[derive(Clone, Copy)]
 pub struct Words {
     pub kind: u32,
     pub place: u32,

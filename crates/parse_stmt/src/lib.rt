@@ -171,7 +171,7 @@ fn effect(rows: &[u32], count: u32, nodes: &mut [u32], row: u32, node: u32, left
 }
 
 // What stands behind `if`: guard ( name ) and the row of a brace, or why not.
-#[derive(Drop)]
+#[derive(Clone, Copy)]
 pub enum Opened {
     Brace(u32),
     Refused(Syntax, u32),

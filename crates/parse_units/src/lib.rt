@@ -16,7 +16,7 @@ use rules::{Syntax, limit, node, node_kind};
 
 // Where the parser stands in a unit's contents, the kind that the first section gives (NO_SECTION while there is none), and the row of the
 // last licence's string.
-#[derive(Drop)]
+#[derive(Clone, Copy)]
 pub struct Contents {
     pub at: At,
     pub kind: u32,
@@ -24,7 +24,7 @@ pub struct Contents {
 }
 
 // The contents with one thing more, or why not and the row where.
-#[derive(Drop)]
+#[derive(Clone, Copy)]
 pub enum Went {
     Done(Contents),
     Refused(Syntax, usize),

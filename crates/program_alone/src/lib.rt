@@ -9,7 +9,7 @@ use rows::shape;
 use rules::{Cursor, Ending, Judged, Reason, Table};
 
 // The text is a program; or why not, where, and the kind that 21 found.
-#[derive(Drop)]
+#[derive(Clone, Copy)]
 pub enum Alone {
     Program,
     Refused(Reason, Cursor, u32),

@@ -11,7 +11,7 @@ use rules::node::MISSING;
 
 // What was given out and checked: the last head, how many, the least row of a name that the one before it had too, or MISSING; and whether
 // each check held.
-#[derive(Drop)]
+#[derive(Clone, Copy)]
 pub struct Given {
     pub last: u32,
     pub count: u32,

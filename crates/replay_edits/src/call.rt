@@ -13,7 +13,7 @@ use rules::{Table, row};
 
 // The window is so many bytes from a start on, so many words are lent for rows; and the number, place, count and length that are
 // expected.
-#[derive(Drop)]
+#[derive(Clone, Copy)]
 struct Call {
     start: u32,
     size: u32,

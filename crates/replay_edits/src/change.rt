@@ -13,7 +13,7 @@ pub const WORDS: usize = 2500;
 const LAST_ROW: usize = WORDS - row::WORDS;
 
 // What kind of edit it is; old bytes a to b become n others.
-#[derive(Drop)]
+#[derive(Clone, Copy)]
 pub struct Edit {
     pub kind: u32,
     pub a: u32,

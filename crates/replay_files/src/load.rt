@@ -15,7 +15,7 @@ use rules::row;
 const KINDS: usize = STORES - DAMAGES;
 
 // What happened to the file; so many of its bytes are lent, and so many words for rows.
-#[derive(Drop)]
+#[derive(Clone, Copy)]
 struct Call {
     damage: u32,
     size: u32,

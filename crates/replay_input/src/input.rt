@@ -7,7 +7,7 @@ use rules::limit;
 pub const LOST: usize = 18446744073709551615;
 
 // A number, or one that is not said, and the place behind it.
-#[derive(Drop)]
+#[derive(Clone, Copy)]
 pub struct Word {
     pub value: u64,
     pub said: bool,

@@ -3,14 +3,14 @@ use crate::input::{LOST, count, letter};
 use rules::limit;
 
 // A number below 2^32, and the place behind it.
-#[derive(Drop)]
+#[derive(Clone, Copy)]
 pub struct Small {
     pub value: u32,
     pub next: usize,
 }
 
 // Where a stretch of the sample starts and ends.
-#[derive(Drop)]
+#[derive(Clone, Copy)]
 pub struct Part {
     pub from: usize,
     pub end: usize,

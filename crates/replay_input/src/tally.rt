@@ -11,7 +11,7 @@ const WRITTEN: u64 = 20;
 
 // The place in the sample; the edit, table or case of it that is read, and the call of that; for each thing that has a counter how many
 // were held against the sample and how many agree; how many differences there are.
-#[derive(Drop)]
+#[derive(Clone, Copy)]
 pub struct Tally {
     pub at: usize,
     pub item: u64,

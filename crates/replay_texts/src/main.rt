@@ -13,7 +13,7 @@ mod text;
 mod tree;
 
 // What was counted of the cases that were read, and how many of them differ, with the numbers of the first few.
-#[derive(Drop)]
+#[derive(Clone, Copy)]
 struct Run {
     tally: Tally,
     differing: u64,

@@ -8,7 +8,7 @@ use replay_input::tally::Tally;
 use rules::{Cursor, Ending, Parsed, Reason, Syntax, Table, node, node_kind};
 
 // What was counted, and the next of our own nodes.
-#[derive(Drop)]
+#[derive(Clone, Copy)]
 struct Walk {
     tally: Tally,
     node: usize,

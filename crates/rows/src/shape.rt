@@ -7,7 +7,7 @@ use rules::{Column, Cursor, Line, Offset, kind, limit, row};
 use std::num::wrapping_sub_u64;
 
 // A row is eight words.
-#[derive(Drop)]
+#[derive(Clone, Copy)]
 pub struct Row {
     pub kind: u32,
     pub start: u32,

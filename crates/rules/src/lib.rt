@@ -11,17 +11,17 @@ ghost use Rattle.std.specs.Prelude.{◌≡◌};
 ghost use Rattle.rules.specs.Text.{start_place, moved, along, Roomy};
 
 // Line, column and offset are three counters and never stand in for one another.
-#[derive(Drop)]
+#[derive(Clone, Copy)]
 pub struct Offset(pub u32);
 
-#[derive(Drop)]
+#[derive(Clone, Copy)]
 pub struct Line(pub u32);
 
-#[derive(Drop)]
+#[derive(Clone, Copy)]
 pub struct Column(pub u32);
 
 // A place of a text, and the cursor of whoever reads it.
-#[derive(Drop)]
+#[derive(Clone, Copy)]
 pub struct Cursor {
     pub offset: Offset,
     pub line: Line,
@@ -76,7 +76,7 @@ impl Cursor {
 }
 
 // Why a text cannot be read on.
-#[derive(Drop)]
+#[derive(Clone, Copy)]
 pub enum Lexical {
     NoRowBegins,
     LoneSign,
@@ -88,14 +88,14 @@ pub enum Lexical {
 }
 
 // How a table ends.
-#[derive(Drop)]
+#[derive(Clone, Copy)]
 pub enum Ending {
     None,
     Refused(Lexical, Cursor),
 }
 
 // What stands beside a table's rows.
-#[derive(Drop)]
+#[derive(Clone, Copy)]
 pub struct Table {
     pub count: u32,
     pub length: u32,
@@ -103,7 +103,7 @@ pub struct Table {
 }
 
 // Refusals 1 to 7: what is wrong with what a call was lent, or lacks.
-#[derive(Drop)]
+#[derive(Clone, Copy)]
 pub enum Outer {
     TextTooLong,
     BadByte,
@@ -115,35 +115,35 @@ pub enum Outer {
 }
 
 // What a scan or an edit tells: the rows are written and this stands beside them, or the call is refused and so many rows are written.
-#[derive(Drop)]
+#[derive(Clone, Copy)]
 pub enum Told {
     Rows(Table),
     Refused(Outer, Cursor, u32),
 }
 
 // Whether a call has what it asks for, or why it is refused and where.
-#[derive(Drop)]
+#[derive(Clone, Copy)]
 pub enum Judged {
     Fine,
     Refused(Outer, Cursor),
 }
 
 // Where the window of an edit starts.
-#[derive(Drop)]
+#[derive(Clone, Copy)]
 pub enum Restart {
     At(Cursor),
     Refused(Outer),
 }
 
 // A number that was asked for: a set's size, or 1 for a member and 0 for none.
-#[derive(Drop)]
+#[derive(Clone, Copy)]
 pub enum Asked {
     Is(u32),
     Refused(Outer),
 }
 
 // Why rows are no program. The kinds that would have fitted, a bit for each: 0 to 31, and from 32 on; a map's field, 1 to 4.
-#[derive(Drop)]
+#[derive(Clone, Copy)]
 pub enum Syntax {
     Wanted(u32, u32),
     NotTopLevel,
@@ -160,7 +160,7 @@ pub enum Syntax {
 }
 
 // Why a parse is refused.
-#[derive(Drop)]
+#[derive(Clone, Copy)]
 pub enum Reason {
     Outer(Outer),
     Lexical(Lexical),
@@ -168,7 +168,7 @@ pub enum Reason {
 }
 
 // What a parse tells: so many nodes are written, or why not and where, and for 21 the kind that was found (else 0).
-#[derive(Drop)]
+#[derive(Clone, Copy)]
 pub enum Parsed {
     Nodes(u32),
     Refused(Reason, Cursor, u32),

@@ -5,28 +5,28 @@ use rules::Table;
 use rules_files::Fault;
 
 // The two forms: rows of eight words, or of six without line and column.
-#[derive(Drop)]
+#[derive(Clone, Copy)]
 pub enum Form {
     Full,
     Short,
 }
 
 // Why a file is not read beside a text, or not moved: what is wrong with the file itself, or 45, the text is another.
-#[derive(Drop)]
+#[derive(Clone, Copy)]
 pub enum Apart {
     File(Fault),
     OtherText,
 }
 
 // What a reading beside the text tells: the rows are written and this stands beside them, or why nothing is.
-#[derive(Drop)]
+#[derive(Clone, Copy)]
 pub enum Beside {
     Rows(Table),
     Refused(Apart),
 }
 
 // What a move tells: so many bytes are written, or why none is.
-#[derive(Drop)]
+#[derive(Clone, Copy)]
 pub enum Moved {
     Bytes(u32),
     Refused(Apart),

@@ -3,7 +3,7 @@
 use rules::{Cursor, Reason};
 
 // The rules: 60, max is zero; 61, a ringbuf has a key or a value; 62, a ringbuf's size; 63, a key's size; 64, a value's size.
-#[derive(Drop)]
+#[derive(Clone, Copy)]
 pub enum Breach {
     MaxZero,
     RingbufTyped,
@@ -13,14 +13,14 @@ pub enum Breach {
 }
 
 // Why a program is refused: as without the rules, or by one of them.
-#[derive(Drop)]
+#[derive(Clone, Copy)]
 pub enum Unloaded {
     Unread(Reason),
     Broken(Breach),
 }
 
 // So many nodes are written; or why none is, where, and the kind that 21 found.
-#[derive(Drop)]
+#[derive(Clone, Copy)]
 pub enum Profiled {
     Nodes(u32),
     Refused(Unloaded, Cursor, u32),

@@ -3,7 +3,7 @@ use rules::Cursor;
 use rules_files::Fault;
 
 // So many bytes are the file now and so many blocks are listed, or why nothing is done, and where.
-#[derive(Drop)]
+#[derive(Clone, Copy)]
 pub enum Mended {
     Blocks(u32, u32),
     Refused(Fault, Cursor),

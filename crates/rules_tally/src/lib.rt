@@ -2,7 +2,7 @@
 
 // Twenty counts of a program, or of several together: units of each of the eleven kinds, maps of each of the five types, events,
 // statements, the sum of all max values, and the methods that each unit's kind allows, added up.
-#[derive(Drop)]
+#[derive(Clone, Copy)]
 pub struct Tally {
     pub units: [u64; 11],
     pub maps: [u64; 5],
@@ -13,28 +13,28 @@ pub struct Tally {
 }
 
 // How a tallying went: all is counted, or 3.
-#[derive(Drop)]
+#[derive(Clone, Copy)]
 pub enum Counting {
     Whole,
     NotNodes,
 }
 
 // The nodes' tally, which is empty beside 3.
-#[derive(Drop)]
+#[derive(Clone, Copy)]
 pub struct Tallied {
     pub how: Counting,
     pub tally: Tally,
 }
 
 // How a joining went: all is added, or 70.
-#[derive(Drop)]
+#[derive(Clone, Copy)]
 pub enum Joining {
     Whole,
     CountTooLarge,
 }
 
 // Both tallies together, or beside 70 the first.
-#[derive(Drop)]
+#[derive(Clone, Copy)]
 pub struct Joined {
     pub how: Joining,
     pub tally: Tally,

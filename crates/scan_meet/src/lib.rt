@@ -10,7 +10,7 @@ use scan_blanks::is_blank;
 use scan_reader::Spot;
 
 // The old rows that a walk may meet: so many, those before the first are passed, and what stood at x stands at x + least - b, from least on.
-#[derive(Drop)]
+#[derive(Clone, Copy)]
 pub struct Olds {
     pub count: usize,
     pub first: usize,
@@ -19,7 +19,7 @@ pub struct Olds {
 }
 
 // So many old rows are passed, and whether the next one meets.
-#[derive(Drop)]
+#[derive(Clone, Copy)]
 pub struct Found {
     pub row: usize,
     pub met: bool,

@@ -14,14 +14,14 @@ use scan_stop::{Stop, finish};
 use scan_walk::spots::behind;
 
 // Where the reading goes on behind a part, or the ending that the text has.
-#[derive(Drop)]
+#[derive(Clone, Copy)]
 pub enum Next {
     On(Spot),
     Over(Ending),
 }
 
 // So many rows were written, and what comes behind them.
-#[derive(Drop)]
+#[derive(Clone, Copy)]
 pub struct Part {
     pub count: usize,
     pub next: Next,

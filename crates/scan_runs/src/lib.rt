@@ -31,7 +31,7 @@ pub fn shown(text: &[u8], at: usize, whole: bool) -> bool
 }
 
 // A word: where it ends, and its first eight bytes at most, packed into one number, which tells its slot.
-#[derive(Drop)]
+#[derive(Clone, Copy)]
 pub struct Word {
     pub end: usize,
     pub packed: u64,
@@ -197,7 +197,7 @@ fn longer(value: u64, digit: u8, hex: bool) -> u64
 }
 
 // A run of digits: where it ends, and what it spells.
-#[derive(Drop)]
+#[derive(Clone, Copy)]
 pub struct Digits {
     pub end: usize,
     pub value: u64,
@@ -241,7 +241,7 @@ fn escapes(b: u8) -> bool
 }
 
 // A string behind its opening quote: closed by the quote at an index; open at a newline or the end; or a backslash that escapes nothing.
-#[derive(Drop)]
+#[derive(Clone, Copy)]
 pub enum Quoted {
     Closed(usize),
     Open(usize),

@@ -9,7 +9,7 @@ use scan_reader::{Brief, codes};
 
 // How a walk stops: at a place where an old row, by its number, meets, with so many comments in the gap before it; the text is over, with
 // its ending; or more bytes must be shown.
-#[derive(Drop)]
+#[derive(Clone, Copy)]
 pub enum Stop {
     Met(Cursor, usize, u32),
     Over(Ending),
@@ -17,7 +17,7 @@ pub enum Stop {
 }
 
 // How many rows were passed, and how the walk stopped.
-#[derive(Drop)]
+#[derive(Clone, Copy)]
 pub struct Walked {
     pub count: usize,
     pub stop: Stop,

@@ -63,7 +63,7 @@ pub const BEFORE_LAST: u64 = 72057594037927936;
 pub const ABOVE_BYTE: u64 = 256;
 
 // A word of the table: its padded spelling as one number, the last byte lowest, its length and its kind.
-#[derive(Drop)]
+#[derive(Clone, Copy)]
 pub struct Held {
     pub spelling: u64,
     pub length: usize,
