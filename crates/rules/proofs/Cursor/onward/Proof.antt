@@ -5,10 +5,10 @@ use borrow.Author.Rules.{rules}
 use Rattle.rules.proofs.Cursor.onward.Statement.{statement}
 use Rattle.rules.proofs.Cursor.onward.Tie as tie
 
-add_t4 : tie.Need-overflow-add-t4
+add_t4 : tie.Need-overflow_add-result
 add_t4 c = search rules
 
-add_t6 : tie.Need-overflow-add-t6
+add_t6 : tie.Need-overflow_add-result-2
 add_t6 c = search rules
 
 returns : tie.Need-returns
