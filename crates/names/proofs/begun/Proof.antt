@@ -8,20 +8,20 @@ use borrow.Author.Rules.{rules}
 use Rattle.names.proofs.begun.Statement.{statement}
 use Rattle.names.proofs.begun.Tie as tie
 
-returns : tie.Need-returns
+returns : tie.Need-returns-then-text-n
 returns c = let a = c.before.before.before.args in rw (too_short a.spelling.now a.text.now (omega arith))
 
-slice_aggregate_same : tie.Need-slice-aggregate-same
+slice_aggregate_same : tie.Need-slice_bounds-same-end
 slice_aggregate_same c = sym (length-take-le _ _ (omega arith))
 
 same_requires : tie.Need-same-requires
 same_requires c κs = search rules
 
-returns_2 : tie.Need-returns-2
-returns_2 c = rw (sym (same_says _ _ _ c.before.same.ensures) ∙ c.if2.true)
+returns_2 : tie.Need-returns-then-same
+returns_2 c = rw (sym (same_says _ _ _ c.before.same.ensures) ∙ c.if-same.true)
 
-returns_3 : tie.Need-returns-3
-returns_3 c = rw (sym (same_says _ _ _ c.before.same.ensures) ∙ c.if2.false)
+returns_3 : tie.Need-returns
+returns_3 c = rw (sym (same_says _ _ _ c.before.same.ensures) ∙ c.if-same.false)
 
 pub begun_spec : {M : Type 1} → statement M
 begun_spec = tie.close (tie.spec returns slice_aggregate_same same_requires returns_2 returns_3)

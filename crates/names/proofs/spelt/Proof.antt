@@ -8,11 +8,11 @@ use Rattle.names.proofs.spelt.Tie as tie
 same_requires : tie.Need-same-requires
 same_requires c κs = search rules
 
-returns : tie.Need-returns
-returns c = rw (sym (same_says _ _ _ c.before.same.ensures) ∙ c.if1.true)
+returns : tie.Need-returns-then-same
+returns c = rw (sym (same_says _ _ _ c.before.same.ensures) ∙ c.if-same.true)
 
-returns_2 : tie.Need-returns-2
-returns_2 c = rw (sym (same_says _ _ _ c.before.same.ensures) ∙ c.if1.false)
+returns_2 : tie.Need-returns
+returns_2 c = rw (sym (same_says _ _ _ c.before.same.ensures) ∙ c.if-same.false)
 
 pub spelt_spec : {M : Type 1} → statement M
 spelt_spec = tie.close (tie.spec same_requires returns returns_2)

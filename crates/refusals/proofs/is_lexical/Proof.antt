@@ -13,13 +13,13 @@ most_by : (p : Bool) (m n : ℕ) → (p ≡ true → m ≤ n) → (p ≡ false �
 most_by true m n f g = sym (le-leb m n (f refl))
 most_by false m n f g = sym (lt-leb m n (g refl))
 
-returns : tie.Need-returns
-returns c = rw (lt-leb 11 c.before.args.number (omega (arith, c.if1.true)))
+returns : tie.Need-returns-then-number-lt11
+returns c = rw (lt-leb 11 c.before.args.number (omega (arith, c.if-number-lt11.true)))
 
-returns_2 : tie.Need-returns-2
+returns_2 : tie.Need-returns
 returns_2 c =
     let n = c.before.args.number in
-    rw (le-leb 11 n (omega (arith, c.if1.false)))
+    rw (le-leb 11 n (omega (arith, c.if-number-lt11.false)))
     (most_by _ n 17 (λ e. omega (arith, leb-true, ltb-true)) (λ e. omega (arith, leb-false, ltb-false)))
 
 pub is_lexical_spec : {M : Type 1} → statement M

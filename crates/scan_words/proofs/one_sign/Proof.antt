@@ -17,26 +17,26 @@ last : (b : ℕ) → maybe_two b ≡ true → is_lone b ≡ false → (b ≡ 43 
 unfolding maybe_two
 last b h l p q r s = eqb-true b 37 (left (eqb b 37) (is_lone b) (rw (ne_eqb b 43 p, ne_eqb b 45 q, ne_eqb b 42 r, ne_eqb b 47 s) at h) l)
 
-returns : tie.Need-returns
+returns : tie.Need-returns-in-43
 unfolding kind_in signs same_bytes
-returns c = rw c.match.keys1
+returns c = rw c.in-43.is
 
-returns_2 : tie.Need-returns-2
+returns_2 : tie.Need-returns-in-45
 unfolding kind_in signs same_bytes
-returns_2 c = rw c.match.keys2
+returns_2 c = rw c.in-45.is
 
-returns_3 : tie.Need-returns-3
+returns_3 : tie.Need-returns-in-42
 unfolding kind_in signs same_bytes
-returns_3 c = rw c.match.keys3
+returns_3 c = rw c.in-42.is
 
-returns_4 : tie.Need-returns-4
+returns_4 : tie.Need-returns-in-47
 unfolding kind_in signs same_bytes
-returns_4 c = rw c.match.keys4
+returns_4 c = rw c.in-47.is
 
-returns_5 : tie.Need-returns-5
+returns_5 : tie.Need-returns-in_default
 unfolding kind_in signs same_bytes
 returns_5 c =
-    let r = c.match.rest in
+    let r = c.in_default.in_default-own.rest in
     rw (last c.before.args.b c.before.requires.0 c.before.requires.1 r.0.0.0.1 r.0.0.1 r.0.1 r.1)
 
 pub one_sign_spec : {M : Type 1} → statement M

@@ -40,54 +40,54 @@ none b x h = no_entry signs Eof (b ∷ x ∷ [])
 followed_requires : tie.Need-followed-requires
 followed_requires c κs = search rules
 
-followed_requires_2 : tie.Need-followed-requires-2
+followed_requires_2 : tie.Need-followed-requires-in-45
 followed_requires_2 c κs = search rules
 
-followed_requires_3 : tie.Need-followed-requires-3
+followed_requires_3 : tie.Need-followed-requires-in-42
 followed_requires_3 c κs = search rules
 
-followed_requires_4 : tie.Need-followed-requires-4
+followed_requires_4 : tie.Need-followed-requires-in-47
 followed_requires_4 c κs = search rules
 
-followed_requires_5 : tie.Need-followed-requires-5
+followed_requires_5 : tie.Need-followed-requires-in-37
 followed_requires_5 c κs = search rules
 
-followed_requires_6 : tie.Need-followed-requires-6
+followed_requires_6 : tie.Need-followed-requires-in-62
 followed_requires_6 c κs = search rules
 
-followed_requires_7 : tie.Need-followed-requires-7
+followed_requires_7 : tie.Need-followed-requires-in-60
 followed_requires_7 c κs = search rules
 
-returns : tie.Need-returns
+returns : tie.Need-returns-in-43
 unfolding kind_in signs same_bytes
-returns c = c.followed.ensures ∙ rw c.before.match.keys1 (sym (second (eqb 61 c.before.before.args.x) 36 Eof))
+returns c = c.followed.ensures ∙ rw c.before.in-43.is (sym (second (eqb 61 c.before.before.args.x) 36 Eof))
 
-returns_2 : tie.Need-returns-2
+returns_2 : tie.Need-returns-in-45
 unfolding kind_in signs same_bytes
-returns_2 c = c.followed2.ensures ∙ rw c.before.match.keys2 (sym (second (eqb 61 c.before.before.args.x) 37 Eof))
+returns_2 c = c.followed-in-45.ensures ∙ rw c.before.in-45.is (sym (second (eqb 61 c.before.before.args.x) 37 Eof))
 
-returns_3 : tie.Need-returns-3
+returns_3 : tie.Need-returns-in-42
 unfolding kind_in signs same_bytes
-returns_3 c = c.followed3.ensures ∙ rw c.before.match.keys3 (sym (second (eqb 61 c.before.before.args.x) 38 Eof))
+returns_3 c = c.followed-in-42.ensures ∙ rw c.before.in-42.is (sym (second (eqb 61 c.before.before.args.x) 38 Eof))
 
-returns_4 : tie.Need-returns-4
+returns_4 : tie.Need-returns-in-47
 unfolding kind_in signs same_bytes
-returns_4 c = c.followed4.ensures ∙ rw c.before.match.keys4 (sym (second (eqb 61 c.before.before.args.x) 39 Eof))
+returns_4 c = c.followed-in-47.ensures ∙ rw c.before.in-47.is (sym (second (eqb 61 c.before.before.args.x) 39 Eof))
 
-returns_5 : tie.Need-returns-5
+returns_5 : tie.Need-returns-in-37
 unfolding kind_in signs same_bytes
-returns_5 c = c.followed5.ensures ∙ rw c.before.match.keys5 (sym (second (eqb 61 c.before.before.args.x) 40 Eof))
+returns_5 c = c.followed-in-37.ensures ∙ rw c.before.in-37.is (sym (second (eqb 61 c.before.before.args.x) 40 Eof))
 
-returns_6 : tie.Need-returns-6
+returns_6 : tie.Need-returns-in-62
 unfolding kind_in signs same_bytes
-returns_6 c = c.followed6.ensures ∙ rw c.before.match.keys6 (sym (second (eqb 62 c.before.before.args.x) 46 Eof))
+returns_6 c = c.followed-in-62.ensures ∙ rw c.before.in-62.is (sym (second (eqb 62 c.before.before.args.x) 46 Eof))
 
-returns_7 : tie.Need-returns-7
+returns_7 : tie.Need-returns-in-60
 unfolding kind_in signs same_bytes
-returns_7 c = c.followed7.ensures ∙ rw c.before.match.keys7 (sym (second (eqb 60 c.before.before.args.x) 47 Eof))
+returns_7 c = c.followed-in-60.ensures ∙ rw c.before.in-60.is (sym (second (eqb 60 c.before.before.args.x) 47 Eof))
 
-returns_8 : tie.Need-returns-8
-returns_8 c = sym (none c.before.args.b c.before.args.x c.match.rest)
+returns_8 : tie.Need-returns-in_default
+returns_8 c = sym (none c.before.args.b c.before.args.x c.in_default.in_default-own.rest)
 
 pub two_sign_spec : {M : Type 1} → statement M
 two_sign_spec =

@@ -8,42 +8,42 @@ use Rattle.scan_words.proofs.Telling.{packed_on, packed_end}
 use Rattle.scan_words.proofs.words.number.Statement.{statement}
 use Rattle.scan_words.proofs.words.number.Tie as tie
 
-abbrev invariant_loop : tie.invariant-loop
+abbrev invariant_loop : tie.invariant-loop-k
 invariant_loop s v₀ k₀ v k = (k ≤ length s) × (packed_of v (drop k s) ≡ packed_of 0 s)
 
-abbrev decreases_loop : tie.decreases-loop
+abbrev decreases_loop : tie.decreases-loop-k
 decreases_loop s v₀ k₀ v k = length s - k
 
-loop_holds : tie.Need-loop-init invariant_loop decreases_loop
+loop_holds : tie.Need-loop-k-init invariant_loop decreases_loop
 loop_holds c = (omega arith, refl)
 
-shared_slice_read_v : tie.Need-shared-slice-read-v invariant_loop decreases_loop
+shared_slice_read_v : tie.Need-bounds-s-k invariant_loop decreases_loop
 shared_slice_read_v c = omega arith
 
-mul_v : tie.Need-overflow-mul-v invariant_loop decreases_loop
+mul_v : tie.Need-overflow_mul-v invariant_loop decreases_loop
 mul_v c = omega arith
 
-cast_v : tie.Need-overflow-cast-v invariant_loop decreases_loop
-cast_v c = omega (arith, (c.shared-slice-known.given c.before.before.loop.k).fits)
+cast_v : tie.Need-overflow_cast-v invariant_loop decreases_loop
+cast_v c = omega (arith, (c.shared_slice_known-1.given c.before.before.loop-k.k).fits)
 
-add_v : tie.Need-overflow-add-v invariant_loop decreases_loop
-add_v c = omega (arith, (c.shared-slice-known.given c.before.before.loop.k).fits)
+add_v : tie.Need-overflow_add-v invariant_loop decreases_loop
+add_v c = omega (arith, (c.shared_slice_known-1.given c.before.before.loop-k.k).fits)
 
-add_k : tie.Need-overflow-add-k invariant_loop decreases_loop
+add_k : tie.Need-overflow_add-k invariant_loop decreases_loop
 add_k c = omega arith
 
-loop_less : tie.Need-loop-smaller invariant_loop decreases_loop
+loop_less : tie.Need-loop-k-smaller invariant_loop decreases_loop
 loop_less c = omega arith
 
-loop_again : tie.Need-loop-preserved invariant_loop decreases_loop
+loop_again : tie.Need-loop-k-preserved invariant_loop decreases_loop
 loop_again c =
-    let l = c.before.before.loop in
-    (omega arith, sym (packed_on _ l.k l.v c.before.loop-test.true) ∙ l.invariant.1)
+    let l = c.before.before.loop-k in
+    (omega arith, sym (packed_on _ l.k l.v c.before.loop-k-test.true) ∙ l.invariant.1)
 
 returns : tie.Need-returns invariant_loop decreases_loop
 returns c =
-    let l = c.before.loop in
-    sym (packed_end _ l.k l.v c.loop-test.false) ∙ l.invariant.1
+    let l = c.before.loop-k in
+    sym (packed_end _ l.k l.v c.loop-k-test.false) ∙ l.invariant.1
 
 pub number_spec : {M : Type 1} → statement M
 number_spec =

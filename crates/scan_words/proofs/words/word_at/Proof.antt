@@ -7,29 +7,29 @@ use borrow.Author.Rules.{rules}
 use Rattle.scan_words.proofs.words.word_at.Statement.{statement}
 use Rattle.scan_words.proofs.words.word_at.Tie as tie
 
-mul_spelling : tie.Need-overflow-mul-spelling
+mul_spelling : tie.Need-offset_bounds-spellings-i
 mul_spelling c = search rules
 
-array_copy_out_spelling : tie.Need-array-copy-out-spelling
+array_copy_out_spelling : tie.Need-bounds-spellings-i
 array_copy_out_spelling c = search rules
 
-slice_aggregate_number : tie.Need-slice-aggregate-number
+slice_aggregate_number : tie.Need-slice_bounds-number-end
 unfolding reserved
 slice_aggregate_number c = sym (padded_eight c.before.before.args.i c.before.before.requires)
 
 number_requires : tie.Need-number-requires
 number_requires c κs = search rules
 
-mul_t30 : tie.Need-overflow-mul-t30
+mul_t30 : tie.Need-offset_bounds-lengths-i
 mul_t30 c = search rules
 
-array_read_t38 : tie.Need-array-read-t38
+array_read_t38 : tie.Need-bounds-lengths-i
 array_read_t38 c = search rules
 
-mul_t39 : tie.Need-overflow-mul-t39
+mul_t39 : tie.Need-offset_bounds-kinds-i
 mul_t39 c = search rules
 
-array_read_t42 : tie.Need-array-read-t42
+array_read_t42 : tie.Need-bounds-kinds-i
 array_read_t42 c = search rules
 
 returns : tie.Need-returns
