@@ -16,22 +16,22 @@ there : (ws : List ℕ) (i k : ℕ) → get_or ws (i * 8 + k) 0 ≡ word_of ws i
 unfolding word_of
 there ws i k = refl
 
-mul_at : tie.Need-overflow-mul-at
+mul_at : tie.Need-overflow_mul-at
 mul_at c = search rules
 
-add_at : tie.Need-overflow-add-at
+add_at : tie.Need-overflow_add-at
 add_at c = search rules
 
-returns : tie.Need-returns
-returns c = let a = c.before.args in past a.words.now a.i a.k c.if1.true
+returns : tie.Need-returns-then-words-at
+returns c = let a = c.before.args in past a.words.now a.i a.k c.if-words-at.true
 
-mul_result : tie.Need-overflow-mul-result
+mul_result : tie.Need-offset_bounds-words-at
 mul_result c = search rules
 
-shared_slice_read_result : tie.Need-shared-slice-read-result
+shared_slice_read_result : tie.Need-bounds-words-at
 shared_slice_read_result c = search rules
 
-returns_2 : tie.Need-returns-2
+returns_2 : tie.Need-returns
 returns_2 c = let a = c.before.before.args in there a.words.now a.i a.k
 
 pub word_spec : {M : Type 1} → statement M

@@ -15,33 +15,33 @@ use Rattle.scan_place.proofs.window_bytes.Tie as tie
 at_valid : (w : List ℕ) (v : ℕ) (q : Bool) → v ≡ valid_bytes w → q ≡ is_cut (drop v w) → is_cut (drop (valid_bytes w) w) ≡ q
 at_valid w v q e f = ap (λ (k : ℕ). is_cut (drop k w)) (sym e) ∙ sym f
 
-valid_bytes_requires : tie.Need-valid-bytes-requires
+valid_bytes_requires : tie.Need-valid_bytes-valid-requires
 valid_bytes_requires c κs = tt
 
-returns : tie.Need-returns
+returns : tie.Need-returns-then-whole
 returns c =
     let w = c.before.before.before.args.window.now in
-    c.before.valid-bytes.ensures ∙ sym (ap (λ (q : Bool). window_bytes q w) c.if1.true ∙ window_whole w)
+    c.before.valid_bytes-valid.ensures ∙ sym (ap (λ (q : Bool). window_bytes q w) c.if-whole.true ∙ window_whole w)
 
-is_cut_requires : tie.Need-is-cut-requires
+is_cut_requires : tie.Need-is_cut-requires
 is_cut_requires c κs =
     let w = c.before.before.before.args.window.now in
-    omega (arith, c.before.valid-bytes.ensures, valid_le w)
+    omega (arith, c.before.valid_bytes-valid.ensures, valid_le w)
 
-returns_2 : tie.Need-returns-2
+returns_2 : tie.Need-returns-then-is_cut
 returns_2 c =
     let v = c.before.before.before in
     let w = v.before.before.args.window.now in
-    sym (ap (λ (q : Bool). window_bytes q w) c.before.before.if1.false
-    ∙ window_cut w (at_valid w _ _ v.valid-bytes.ensures c.before.is_cut.ensures ∙ c.if2.true))
+    sym (ap (λ (q : Bool). window_bytes q w) c.before.before.if-whole.false
+    ∙ window_cut w (at_valid w _ _ v.valid_bytes-valid.ensures c.before.is_cut.ensures ∙ c.if-is_cut.true))
 
-returns_3 : tie.Need-returns-3
+returns_3 : tie.Need-returns
 returns_3 c =
     let v = c.before.before.before in
     let w = v.before.before.args.window.now in
-    v.valid-bytes.ensures
-    ∙ sym (ap (λ (q : Bool). window_bytes q w) c.before.before.if1.false
-    ∙ window_broken w (at_valid w _ _ v.valid-bytes.ensures c.before.is_cut.ensures ∙ c.if2.false))
+    v.valid_bytes-valid.ensures
+    ∙ sym (ap (λ (q : Bool). window_bytes q w) c.before.before.if-whole.false
+    ∙ window_broken w (at_valid w _ _ v.valid_bytes-valid.ensures c.before.is_cut.ensures ∙ c.if-is_cut.false))
 
 pub window_bytes_spec : {M : Type 1} → statement M
 window_bytes_spec =
