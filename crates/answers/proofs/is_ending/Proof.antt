@@ -7,16 +7,16 @@ use Rattle.answers.specs.Layout.{is_ending}
 use Rattle.answers.proofs.is_ending.Statement.{statement}
 use Rattle.answers.proofs.is_ending.Tie as tie
 
-returns : tie.Need-returns
+returns : tie.Need-returns-then-number-eq0
 unfolding is_ending
-returns c = rw (eq-eqb c.before.args.number 0 (omega (arith, c.if1.true)))
+returns c = rw (eq-eqb c.before.args.number 0 (omega (arith, c.if-number-eq0.true)))
 
-is_lexical_requires : tie.Need-is-lexical-requires
+is_lexical_requires : tie.Need-is_lexical-requires
 is_lexical_requires c κs = search rules
 
-returns_2 : tie.Need-returns-2
+returns_2 : tie.Need-returns
 unfolding is_ending
-returns_2 c = rw (ne_eqb c.before.before.args.number 0 (λ e. c.before.if1.false (omega (arith, e)))) c.is-lexical.ensures
+returns_2 c = rw (ne_eqb c.before.before.args.number 0 (λ e. c.before.if-number-eq0.false (omega (arith, e)))) c.is_lexical.ensures
 
 pub is_ending_spec : {M : Type 1} → statement M
 is_ending_spec = tie.close (tie.spec returns is_lexical_requires returns_2)

@@ -4,26 +4,26 @@ use borrow.Author.Rules.{rules}
 use Rattle.answers.proofs.put_asked.Statement.{statement}
 use Rattle.answers.proofs.put_asked.Tie as tie
 
-enum_known_asked : tie.Need-enum-known-asked
+enum_known_asked : tie.Need-enum_known-asked
 enum_known_asked c = search rules
 
-no_place_requires : tie.Need-no-place-requires
+no_place_requires : tie.Need-no_place-requires
 no_place_requires c κs = search rules
 
 put_requires : tie.Need-put-requires
 put_requires c κs = search rules
 
-enum_known_asked_2 : tie.Need-enum-known-asked-2
+enum_known_asked_2 : tie.Need-enum_known-asked-in-Refused-1
 enum_known_asked_2 c = search rules
 
-put_outer_requires : tie.Need-put-outer-requires
+put_outer_requires : tie.Need-put_outer-requires
 put_outer_requires c κs = search rules
 
-returns : tie.Need-returns
-returns c = rw c.before.before.before.before.asked.given.1 (c.put.ensures ∙ rw c.before.no_place.ensures)
+returns : tie.Need-returns-in-Is
+returns c = rw c.before.before.before.in-Is.is (c.put.ensures ∙ rw c.before.no_place.ensures)
 
-returns_2 : tie.Need-returns-2
-returns_2 c = rw c.before.before.before.asked2.given.1 c.put-outer.ensures
+returns_2 : tie.Need-returns-in-Refused
+returns_2 c = rw c.before.before.in-Refused.is c.put_outer.ensures
 
 pub put_asked_spec : {M : Type 1} → statement M
 put_asked_spec =

@@ -4,44 +4,44 @@ use borrow.Author.Rules.{rules}
 use Rattle.answers.proofs.put_told.Statement.{statement}
 use Rattle.answers.proofs.put_told.Tie as tie
 
-enum_known_told : tie.Need-enum-known-told
+enum_known_told : tie.Need-enum_known-told
 enum_known_told c = search rules
 
-enum_told : tie.Need-enum-told
+enum_told : tie.Need-enum_told-1
 enum_told c = search rules
 
-no_place_requires : tie.Need-no-place-requires
+no_place_requires : tie.Need-no_place-requires
 no_place_requires c κs = search rules
 
 put_requires : tie.Need-put-requires
 put_requires c κs = search rules
 
-enum_known_ending : tie.Need-enum-known-ending
+enum_known_ending : tie.Need-enum_known-ending
 enum_known_ending c = search rules
 
-lexical_number_requires : tie.Need-lexical-number-requires
+lexical_number_requires : tie.Need-lexical_number-requires
 lexical_number_requires c κs = search rules
 
-put_requires_2 : tie.Need-put-requires-2
+put_requires_2 : tie.Need-put-requires-in-Refused-ending
 put_requires_2 c κs = search rules
 
-enum_known_told_2 : tie.Need-enum-known-told-2
+enum_known_told_2 : tie.Need-enum_known-told-in-Refused-told
 enum_known_told_2 c = search rules
 
-outer_number_requires : tie.Need-outer-number-requires
+outer_number_requires : tie.Need-outer_number-requires
 outer_number_requires c κs = search rules
 
-put_requires_3 : tie.Need-put-requires-3
+put_requires_3 : tie.Need-put-requires-in-Refused
 put_requires_3 c κs = search rules
 
-returns : tie.Need-returns
-returns c = rw (c.before.before.before.before.before.before.told.given.1, c.before.before.before.enum_told.given.1) (c.put.ensures ∙ rw c.before.no_place.ensures)
+returns : tie.Need-returns-in-None
+returns c = rw (c.before.before.before.before.in-Rows.is, c.before.before.before.in-None.is) (c.put.ensures ∙ rw c.before.no_place.ensures)
 
-returns_2 : tie.Need-returns-2
-returns_2 c = rw (c.before.before.before.before.before.before.before.told.given.1, c.before.before.before.before.ending.given.1) (c.put2.ensures ∙ rw c.before.lexical-number.ensures)
+returns_2 : tie.Need-returns-in-Refused-ending
+returns_2 c = rw (c.before.before.before.before.in-Rows.is, c.before.before.before.in-Refused-ending.is) (c.put-in-Refused-ending.ensures ∙ rw c.before.lexical_number.ensures)
 
-returns_3 : tie.Need-returns-3
-returns_3 c = rw c.before.before.before.before.told2.given.1 (c.put3.ensures ∙ rw c.before.outer-number.ensures)
+returns_3 : tie.Need-returns-in-Refused
+returns_3 c = rw c.before.before.before.in-Refused.is (c.put-in-Refused.ensures ∙ rw c.before.outer_number.ensures)
 
 pub put_told_spec : {M : Type 1} → statement M
 put_told_spec =

@@ -10,34 +10,34 @@ use borrow.Author.Rules.{rules}
 use Rattle.methods.proofs.allows.Statement.{statement}
 use Rattle.methods.proofs.allows.Tie as tie
 
-returns : tie.Need-returns
+returns : tie.Need-returns-then-kind-gt-LAST_KIND
 unfolding member_asked
-returns c = rw (lt-leb c.before.args.kind 10 c.if1.true)
+returns c = rw (lt-leb c.before.args.kind 10 c.if-kind-gt-LAST_KIND.true)
 
-returns_2 : tie.Need-returns-2
+returns_2 : tie.Need-returns-then-method-gt-LAST_METHOD
 unfolding member_asked
-returns_2 c = rw (le-leb c.before.before.args.kind 10 c.before.if1.false, lt-leb c.before.before.args.method 15 c.if2.true)
+returns_2 c = rw (le-leb c.before.before.args.kind 10 c.before.if-kind-gt-LAST_KIND.false, lt-leb c.before.before.args.method 15 c.if-method-gt-LAST_METHOD.true)
 
-mul_mask : tie.Need-overflow-mul-mask
+mul_mask : tie.Need-offset_bounds-kind
 mul_mask c = search rules
 
-array_read_mask : tie.Need-array-read-mask
+array_read_mask : tie.Need-bounds-kind
 array_read_mask c = search rules
 
-cast_t12 : tie.Need-overflow-cast-t12
+cast_t12 : tie.Need-overflow_cast-result
 cast_t12 c = search rules
 
-shr_t13 : tie.Need-overflow-shr-t13
+shr_t13 : tie.Need-overflow_shr-result
 shr_t13 c = search rules
 
-cast_t14 : tie.Need-overflow-cast-t14
+cast_t14 : tie.Need-overflow_cast-result-2
 cast_t14 c = omega (arith, mask_part c.before.before.args.kind (omega arith) (2 ^ c.before.before.args.method))
 
-returns_3 : tie.Need-returns-3
+returns_3 : tie.Need-returns
 unfolding member_asked
 returns_3 c =
     let a = c.before.before.args in
-    rw (le-leb a.kind 10 c.before.if1.false, le-leb a.method 15 c.if2.false)
+    rw (le-leb a.kind 10 c.before.if-kind-gt-LAST_KIND.false, le-leb a.method 15 c.if-method-gt-LAST_METHOD.false)
     (ap Is (mask_bit a.kind (omega arith) a.method (omega arith)))
 
 pub allows_spec : {M : Type 1} → statement M

@@ -7,49 +7,49 @@ use Rattle.parse_nodes.proofs.store_part.Tie as tie
 put_requires : tie.Need-put-requires
 put_requires c κs = search rules
 
-add_put : tie.Need-overflow-add-put
+add_put : tie.Need-overflow_add-at
 add_put c = search rules
 
 put_requires_2 : tie.Need-put-requires-2
 put_requires_2 c κs = search rules
 
-add_put_2 : tie.Need-overflow-add-put-2
+add_put_2 : tie.Need-overflow_add-at-2
 add_put_2 c = search rules
 
 put_requires_3 : tie.Need-put-requires-3
 put_requires_3 c κs = search rules
 
-add_put_3 : tie.Need-overflow-add-put-3
+add_put_3 : tie.Need-overflow_add-at-3
 add_put_3 c = search rules
 
 put_requires_4 : tie.Need-put-requires-4
 put_requires_4 c κs = search rules
 
-add_put_4 : tie.Need-overflow-add-put-4
+add_put_4 : tie.Need-overflow_add-at-4
 add_put_4 c = search rules
 
 put_requires_5 : tie.Need-put-requires-5
 put_requires_5 c κs = search rules
 
-add_put_5 : tie.Need-overflow-add-put-5
+add_put_5 : tie.Need-overflow_add-at-5
 add_put_5 c = search rules
 
 put_requires_6 : tie.Need-put-requires-6
 put_requires_6 c κs = search rules
 
-add_put_6 : tie.Need-overflow-add-put-6
+add_put_6 : tie.Need-overflow_add-at-6
 add_put_6 c = search rules
 
 put_requires_7 : tie.Need-put-requires-7
 put_requires_7 c κs = search rules
 
-add_put_7 : tie.Need-overflow-add-put-7
+add_put_7 : tie.Need-overflow_add-at-7
 add_put_7 c = search rules
 
 put_requires_8 : tie.Need-put-requires-8
 put_requires_8 c κs = search rules
 
-same_length : tie.Need-same-length
+same_length : tie.Need-shape_of-nodes
 same_length c = search rules
 
 -- from a word that is written back to the one in front of it there are four places
@@ -64,8 +64,8 @@ returns c =
     let p2 = p3.before.before.before.before in
     let p1 = p2.before.before.before.before in
     let a = p1.before.before.before.args in
-    sets_eight a.nodes.now _ _ _ _ _ _ _ _ a.at a.w.kind _ _ _ _ _ _ _ p1.put.ensures p2.put2.ensures
-    p3.put3.ensures p4.put4.ensures p5.put5.ensures p6.put6.ensures p7.put7.ensures p8.put8.ensures
+    sets_eight a.nodes.now _ _ _ _ _ _ _ _ a.at a.w.kind _ _ _ _ _ _ _ p1.put.ensures p2.put-2.ensures
+    p3.put-3.ensures p4.put-4.ensures p5.put-5.ensures p6.put-6.ensures p7.put-7.ensures p8.put-8.ensures
 
 pub store_part_spec : {M : Type 1} → statement M
 store_part_spec =

@@ -9,7 +9,7 @@ use Rattle.parse_nodes.proofs.unended.Tie as tie
 onward_requires : tie.Need-onward-requires
 onward_requires c κs = search rules
 
-add_wrong : tie.Need-overflow-add-wrong
+add_wrong : tie.Need-overflow_add-onward
 add_wrong c =
     let a = c.before.before.args in
     let h = onward_low a.rows.now a.count a.s.summed a.s.row in

@@ -13,7 +13,7 @@ use Rattle.parse_nodes.proofs.wanted.Tie as tie
 bit : (k : ℕ) → k ≤ 52 → 1 * 2 ^ k % 2 ^ 64 ≡ 2 ^ k
 bit k h = let e : 1 * 2 ^ k ≡ 2 ^ k = omega arith in rw e (mod-eq_of_lt (pow-lt {i = k} {j = 64} (omega arith)))
 
-shl_wrong : tie.Need-overflow-shl-wrong
+shl_wrong : tie.Need-overflow_shl-kind
 shl_wrong c = search rules
 
 wrong_requires : tie.Need-wrong-requires
