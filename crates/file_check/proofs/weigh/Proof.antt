@@ -12,79 +12,79 @@ use Rattle.file_check.proofs.Added.{total_more}
 use Rattle.file_check.proofs.weigh.Statement.{statement}
 use Rattle.file_check.proofs.weigh.Tie as tie
 
-abbrev invariant_loop : tie.invariant-loop
+abbrev invariant_loop : tie.invariant-loop-j
 invariant_loop sums below sum₀ place₀ j₀ sum place j =
     (j ≤ 64) × ((place ≡ j + 1) × ((sum ≡ check (take j sums) + 64 * total (take j below)) × (sum ≤ 8388480 * j)))
 
-abbrev decreases_loop : tie.decreases-loop
+abbrev decreases_loop : tie.decreases-loop-j
 decreases_loop sums below sum₀ place₀ j₀ sum place j = 64 - j
 
-loop_holds : tie.Need-loop-init invariant_loop decreases_loop
+loop_holds : tie.Need-loop-j-init invariant_loop decreases_loop
 unfolding check sum_from total
 loop_holds c = (omega arith, (refl, (refl, omega arith)))
 
-mul_wide_sum : tie.Need-overflow-mul-wide-sum invariant_loop decreases_loop
+mul_wide_sum : tie.Need-offset_bounds-sums-j invariant_loop decreases_loop
 mul_wide_sum c = omega arith
 
-shared_slice_read_wide_sum : tie.Need-shared-slice-read-wide-sum invariant_loop decreases_loop
+shared_slice_read_wide_sum : tie.Need-bounds-sums-j invariant_loop decreases_loop
 shared_slice_read_wide_sum c = omega arith
 
-wide_sum_requires : tie.Need-wide-sum-requires invariant_loop decreases_loop
+wide_sum_requires : tie.Need-wide_sum-requires invariant_loop decreases_loop
 wide_sum_requires c κs = tt
 
 -- a sum times its place
-product : (c : tie.After-wide-sum invariant_loop decreases_loop) → c.wide-sum.result * c.before.before.before.loop.place ≤ 65535 * 64
+product : (c : tie.After-wide_sum invariant_loop decreases_loop) → c.wide_sum.result * c.before.before.before.loop-j.place ≤ 65535 * 64
 product c =
-    let l = c.before.before.before.loop in
+    let l = c.before.before.before.loop-j in
     let f : l.place ≤ 64 = omega arith in
-    mul-le-mul c.wide-sum.ensures.1 f
+    mul-le-mul c.wide_sum.ensures.1 f
 
-mul_sum : tie.Need-overflow-mul-sum invariant_loop decreases_loop
+mul_sum : tie.Need-overflow_mul-sum invariant_loop decreases_loop
 mul_sum c = omega (arith, product c)
 
-mul_wide_sum_2 : tie.Need-overflow-mul-wide-sum-2 invariant_loop decreases_loop
+mul_wide_sum_2 : tie.Need-offset_bounds-below-j invariant_loop decreases_loop
 mul_wide_sum_2 c = omega arith
 
-shared_slice_read_wide_sum_2 : tie.Need-shared-slice-read-wide-sum-2 invariant_loop decreases_loop
+shared_slice_read_wide_sum_2 : tie.Need-bounds-below-j invariant_loop decreases_loop
 shared_slice_read_wide_sum_2 c = omega arith
 
-wide_sum_requires_2 : tie.Need-wide-sum-requires-2 invariant_loop decreases_loop
+wide_sum_requires_2 : tie.Need-wide_sum-requires-in-loop-j invariant_loop decreases_loop
 wide_sum_requires_2 c κs = tt
 
-mul_sum_2 : tie.Need-overflow-mul-sum-2 invariant_loop decreases_loop
+mul_sum_2 : tie.Need-overflow_mul-sum-in-loop-j invariant_loop decreases_loop
 mul_sum_2 c = omega arith
 
-add_sum : tie.Need-overflow-add-sum invariant_loop decreases_loop
-add_sum c = omega (arith, product c.before.before, c.wide-sum2.ensures.1)
+add_sum : tie.Need-overflow_add-sum invariant_loop decreases_loop
+add_sum c = omega (arith, product c.before.before, c.wide_sum-in-loop-j.ensures.1)
 
-add_sum_2 : tie.Need-overflow-add-sum-2 invariant_loop decreases_loop
-add_sum_2 c = omega (arith, product c.before.before, c.wide-sum2.ensures.1, c.before.before.before.before.before.loop.invariant)
+add_sum_2 : tie.Need-overflow_add-sum-in-loop-j invariant_loop decreases_loop
+add_sum_2 c = omega (arith, product c.before.before, c.wide_sum-in-loop-j.ensures.1, c.before.before.before.before.before.loop-j.invariant)
 
-add_place : tie.Need-overflow-add-place invariant_loop decreases_loop
+add_place : tie.Need-overflow_add-place invariant_loop decreases_loop
 add_place c = omega arith
 
-add_j : tie.Need-overflow-add-j invariant_loop decreases_loop
+add_j : tie.Need-overflow_add-j invariant_loop decreases_loop
 add_j c = omega arith
 
-loop_less : tie.Need-loop-smaller invariant_loop decreases_loop
+loop_less : tie.Need-loop-j-smaller invariant_loop decreases_loop
 loop_less c = omega arith
 
-loop_again : tie.Need-loop-preserved invariant_loop decreases_loop
+loop_again : tie.Need-loop-j-preserved invariant_loop decreases_loop
 loop_again c =
     let a = c.before.before.before.before.before in
-    let l = a.loop in
+    let l = a.loop-j in
     let s = a.before.before.before in
-    let w = c.before.before.wide-sum.ensures.0 in
+    let w = c.before.before.wide_sum.ensures.0 in
     let p = l.invariant.1.0 in
     let f = check_more s.args.sums.now l.j (omega (arith, s.requires)) in
     let g = total_more s.args.below.now l.j (omega (arith, s.requires)) in
-    let m : c.before.before.wide-sum.result * l.place ≡ get_or s.args.sums.now l.j 0 * (l.j + 1) = rw (w, p) in
-    let b = c.wide-sum2.ensures in
+    let m : c.before.before.wide_sum.result * l.place ≡ get_or s.args.sums.now l.j 0 * (l.j + 1) = rw (w, p) in
+    let b = c.wide_sum-in-loop-j.ensures in
     (omega arith, (omega arith, (omega (arith, f, g, m, l.invariant.1.1.0, b.0), omega (arith, product c.before.before, b.1, l.invariant))))
 
 returns : tie.Need-returns invariant_loop decreases_loop
 returns c =
-    let l = c.before.loop in
+    let l = c.before.loop-j in
     let s = c.before.before.before.before in
     let f = take_all l.j s.args.sums.now (omega (arith, s.requires)) in
     let g = take_all l.j s.args.below.now (omega (arith, s.requires)) in

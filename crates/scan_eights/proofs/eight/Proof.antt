@@ -8,88 +8,88 @@ use Rattle.scan_eights.proofs.eight.Tie as tie
 wide_requires : tie.Need-wide-requires
 wide_requires c κs = search rules
 
-add_wide : tie.Need-overflow-add-wide
+add_wide : tie.Need-overflow_add-at
 add_wide c = search rules
 
 wide_requires_2 : tie.Need-wide-requires-2
 wide_requires_2 c κs = search rules
 
-mul_first : tie.Need-overflow-mul-first
+mul_first : tie.Need-overflow_mul-first
 mul_first c = search rules
 
-add_first : tie.Need-overflow-add-first
+add_first : tie.Need-overflow_add-first
 add_first c = search rules
 
-add_wide_2 : tie.Need-overflow-add-wide-2
+add_wide_2 : tie.Need-overflow_add-at-2
 add_wide_2 c = search rules
 
 wide_requires_3 : tie.Need-wide-requires-3
 wide_requires_3 c κs = search rules
 
-mul_first_2 : tie.Need-overflow-mul-first-2
+mul_first_2 : tie.Need-overflow_mul-first-2
 mul_first_2 c = search rules
 
-add_wide_3 : tie.Need-overflow-add-wide-3
+add_wide_3 : tie.Need-overflow_add-at-3
 add_wide_3 c = search rules
 
 wide_requires_4 : tie.Need-wide-requires-4
 wide_requires_4 c κs = search rules
 
-mul_first_3 : tie.Need-overflow-mul-first-3
+mul_first_3 : tie.Need-overflow_mul-first-3
 mul_first_3 c = search rules
 
-add_first_2 : tie.Need-overflow-add-first-2
+add_first_2 : tie.Need-overflow_add-first-2
 add_first_2 c = search rules
 
-add_first_3 : tie.Need-overflow-add-first-3
+add_first_3 : tie.Need-overflow_add-first-3
 add_first_3 c = search rules
 
-add_wide_4 : tie.Need-overflow-add-wide-4
+add_wide_4 : tie.Need-overflow_add-at-4
 add_wide_4 c = search rules
 
 wide_requires_5 : tie.Need-wide-requires-5
 wide_requires_5 c κs = search rules
 
-mul_second : tie.Need-overflow-mul-second
+mul_second : tie.Need-overflow_mul-second
 mul_second c = search rules
 
-add_wide_5 : tie.Need-overflow-add-wide-5
+add_wide_5 : tie.Need-overflow_add-at-5
 add_wide_5 c = search rules
 
 wide_requires_6 : tie.Need-wide-requires-6
 wide_requires_6 c κs = search rules
 
-mul_second_2 : tie.Need-overflow-mul-second-2
+mul_second_2 : tie.Need-overflow_mul-second-2
 mul_second_2 c = search rules
 
-add_second : tie.Need-overflow-add-second
+add_second : tie.Need-overflow_add-second
 add_second c = search rules
 
-add_wide_6 : tie.Need-overflow-add-wide-6
+add_wide_6 : tie.Need-overflow_add-at-6
 add_wide_6 c = search rules
 
 wide_requires_7 : tie.Need-wide-requires-7
 wide_requires_7 c κs = search rules
 
-mul_second_3 : tie.Need-overflow-mul-second-3
+mul_second_3 : tie.Need-overflow_mul-second-3
 mul_second_3 c = search rules
 
-add_wide_7 : tie.Need-overflow-add-wide-7
+add_wide_7 : tie.Need-overflow_add-at-7
 add_wide_7 c = search rules
 
 wide_requires_8 : tie.Need-wide-requires-8
 wide_requires_8 c κs = search rules
 
-mul_second_4 : tie.Need-overflow-mul-second-4
+mul_second_4 : tie.Need-overflow_mul-second-4
 mul_second_4 c = search rules
 
-add_second_2 : tie.Need-overflow-add-second-2
+add_second_2 : tie.Need-overflow_add-second-2
 add_second_2 c = search rules
 
-add_second_3 : tie.Need-overflow-add-second-3
+add_second_3 : tie.Need-overflow_add-second-3
 add_second_3 c = search rules
 
-add_result : tie.Need-overflow-add-result
+add_result : tie.Need-overflow_add-result
 add_result c = search rules
 
 returns : tie.Need-returns

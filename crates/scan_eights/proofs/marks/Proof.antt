@@ -37,46 +37,46 @@ low_xor {m} {n} h k = record { lt = xor_lt 63 m n h.lt k.lt }
 low_sum : {m n : ℕ} → Low m → Low n → Fits w64 (m + n)
 low_sum h k = omega arith
 
-mul_low : tie.Need-overflow-mul-low
+mul_low : tie.Need-overflow_mul-low
 mul_low c = search rules
 
-mul_small : tie.Need-overflow-mul-small
+mul_small : tie.Need-overflow_mul-small
 mul_small c = search rules
 
-mul_letter : tie.Need-overflow-mul-letter
+mul_letter : tie.Need-overflow_mul-letter
 mul_letter c = search rules
 
-add_letter : tie.Need-overflow-add-letter
+add_letter : tie.Need-overflow_add-letter
 add_letter c = low_sum (low_or (low_and c.args.x (low refl)) (low refl)) (low refl)
 
-mul_letter_2 : tie.Need-overflow-mul-letter-2
+mul_letter_2 : tie.Need-overflow_mul-letter-2
 mul_letter_2 c = search rules
 
-add_letter_2 : tie.Need-overflow-add-letter-2
+add_letter_2 : tie.Need-overflow_add-letter-2
 add_letter_2 c = low_sum (low_or (low_and c.args.x (low refl)) (low refl)) (low refl)
 
-mul_digit : tie.Need-overflow-mul-digit
+mul_digit : tie.Need-overflow_mul-digit
 mul_digit c = search rules
 
-add_digit : tie.Need-overflow-add-digit
+add_digit : tie.Need-overflow_add-digit
 add_digit c = low_sum (low_and c.args.x (low refl)) (low refl)
 
-mul_digit_2 : tie.Need-overflow-mul-digit-2
+mul_digit_2 : tie.Need-overflow_mul-digit-2
 mul_digit_2 c = search rules
 
-add_digit_2 : tie.Need-overflow-add-digit-2
+add_digit_2 : tie.Need-overflow_add-digit-2
 add_digit_2 c = low_sum (low_and c.args.x (low refl)) (low refl)
 
-mul_other : tie.Need-overflow-mul-other
+mul_other : tie.Need-overflow_mul-other
 mul_other c = search rules
 
-mul_other_2 : tie.Need-overflow-mul-other-2
+mul_other_2 : tie.Need-overflow_mul-other-2
 mul_other_2 c = search rules
 
-add_other : tie.Need-overflow-add-other
+add_other : tie.Need-overflow_add-other
 add_other c = low_sum (low_xor (low_and c.args.x (low refl)) (low refl)) (low refl)
 
-mul_result : tie.Need-overflow-mul-result
+mul_result : tie.Need-overflow_mul-result
 mul_result c = search rules
 
 returns : tie.Need-returns

@@ -5,14 +5,14 @@ use borrow.Author.Rules.{rules}
 use Rattle.scan_eights.proofs.wide.Statement.{statement}
 use Rattle.scan_eights.proofs.wide.Tie as tie
 
-shared_slice_read_result : tie.Need-shared-slice-read-result
+shared_slice_read_result : tie.Need-bounds-text-at
 shared_slice_read_result c = search rules
 
-cast_result : tie.Need-overflow-cast-result
-cast_result c = omega (arith, (c.shared-slice-known.given c.before.args.at).fits)
+cast_result : tie.Need-overflow_cast-result
+cast_result c = omega (arith, (c.shared_slice_known-1.given c.before.args.at).fits)
 
 returns : tie.Need-returns
-returns c = (refl, (c.shared-slice-known.given c.before.args.at).fits)
+returns c = (refl, (c.shared_slice_known-1.given c.before.args.at).fits)
 
 pub wide_spec : {M : Type 1} → statement M
 wide_spec = tie.close (tie.spec shared_slice_read_result cast_result returns)

@@ -13,73 +13,73 @@ use Rattle.scan_eights.proofs.Ends.{eight_long, eight_on, eight_stop}
 use Rattle.scan_eights.proofs.word_end.Statement.{statement}
 use Rattle.scan_eights.proofs.word_end.Tie as tie
 
-abbrev invariant_loop : tie.invariant-loop
+abbrev invariant_loop : tie.invariant-loop-i
 invariant_loop classes text at i₀ i = (i ≤ length text) × (i + front is_word (drop i text) ≡ i₀ + front is_word (drop i₀ text))
 
-abbrev decreases_loop : tie.decreases-loop
+abbrev decreases_loop : tie.decreases-loop-i
 decreases_loop classes text at i₀ i = length text - i
 
 -- ---- the eight bytes that a turn looks at
 
-abbrev at_loop : tie.After-marks invariant_loop decreases_loop → tie.At-loop invariant_loop decreases_loop
+abbrev at_loop : tie.After-marks-m invariant_loop decreases_loop → tie.At-loop-i invariant_loop decreases_loop
 at_loop c = c.before.before.before
 
-abbrev text : tie.After-marks invariant_loop decreases_loop → List ℕ
+abbrev text : tie.After-marks-m invariant_loop decreases_loop → List ℕ
 text c = (at_loop c).before.before.args.text.now
 
-inside : (c : tie.After-marks invariant_loop decreases_loop) → (at_loop c).loop.i + 8 ≤ length (text c)
+inside : (c : tie.After-marks-m invariant_loop decreases_loop) → (at_loop c).loop-i.i + 8 ≤ length (text c)
 inside c = omega arith
 
-marks_are : (c : tie.After-marks invariant_loop decreases_loop) → c.marks.result ≡ number_of (map end_mark (take 8 (drop (at_loop c).loop.i (text c))))
+marks_are : (c : tie.After-marks-m invariant_loop decreases_loop) → c.marks-m.result ≡ number_of (map end_mark (take 8 (drop (at_loop c).loop-i.i (text c))))
 marks_are c =
     let l = at_loop c in
-    let i = l.loop.i in
-    let u = below_from 256 (text c) (λ k. (l.before.shared-slice-known.given k).fits) in
-    c.marks.ensures (take 8 (drop i (text c))) (eight_long (text c) i (inside c)) (below_take 8 (below_drop i u)) c.before.eight.ensures
+    let i = l.loop-i.i in
+    let u = below_from 256 (text c) (λ k. (l.before.shared_slice_known-1.given k).fits) in
+    c.marks-m.ensures (take 8 (drop i (text c))) (eight_long (text c) i (inside c)) (below_take 8 (below_drop i u)) c.before.eight.ensures
 
 -- ---- the needs
 
-loop_holds : tie.Need-loop-init invariant_loop decreases_loop
+loop_holds : tie.Need-loop-i-init invariant_loop decreases_loop
 loop_holds c = (c.before.requires.1, refl)
 
-sub_loop : tie.Need-overflow-sub-loop invariant_loop decreases_loop
+sub_loop : tie.Need-overflow_sub-text invariant_loop decreases_loop
 sub_loop c = omega arith
 
 eight_requires : tie.Need-eight-requires invariant_loop decreases_loop
 eight_requires c κs = omega arith
 
-marks_requires : tie.Need-marks-requires invariant_loop decreases_loop
+marks_requires : tie.Need-marks-m-requires invariant_loop decreases_loop
 marks_requires c κs = tt
 
-cast_result : tie.Need-overflow-cast-result invariant_loop decreases_loop
-cast_result c = omega (arith, trailing_le 64 c.before.marks.result)
+cast_result : tie.Need-overflow_cast-result invariant_loop decreases_loop
+cast_result c = omega (arith, trailing_le 64 c.before.marks-m.result)
 
-add_result : tie.Need-overflow-add-result invariant_loop decreases_loop
-add_result c = let h = inside c.before in omega (arith, trailing_le 64 c.before.marks.result)
+add_result : tie.Need-overflow_add-result invariant_loop decreases_loop
+add_result c = let h = inside c.before in omega (arith, trailing_le 64 c.before.marks-m.result)
 
-returns : tie.Need-returns invariant_loop decreases_loop
+returns : tie.Need-returns-then-m-ne0 invariant_loop decreases_loop
 returns c =
     let k = c.before in
-    let l = (at_loop k).loop in
-    omega (arith, eight_stop (text k) l.i (inside k) k.marks.result (marks_are k) c.if1.true, l.inv.1)
+    let l = (at_loop k).loop-i in
+    omega (arith, eight_stop (text k) l.i (inside k) k.marks-m.result (marks_are k) c.if-m-ne0.true, l.invariant.1)
 
-add_i : tie.Need-overflow-add-i invariant_loop decreases_loop
+add_i : tie.Need-overflow_add-i invariant_loop decreases_loop
 add_i c = omega arith
 
-loop_less : tie.Need-loop-smaller invariant_loop decreases_loop
+loop_less : tie.Need-loop-i-smaller invariant_loop decreases_loop
 loop_less c = omega arith
 
-loop_again : tie.Need-loop-preserved invariant_loop decreases_loop
+loop_again : tie.Need-loop-i-preserved invariant_loop decreases_loop
 loop_again c =
     let k = c.before in
-    let l = (at_loop k).loop in
-    (inside k, omega (arith, eight_on (text k) l.i (inside k) k.marks.result (marks_are k) c.if1.false, l.inv.1))
+    let l = (at_loop k).loop-i in
+    (inside k, omega (arith, eight_on (text k) l.i (inside k) k.marks-m.result (marks_are k) c.if-m-ne0.false, l.invariant.1))
 
-end_by_one_requires : tie.Need-end-by-one-requires invariant_loop decreases_loop
-end_by_one_requires c κs = (c.before.before.before.requires.0, c.before.loop.invariant.0)
+end_by_one_requires : tie.Need-end_by_one-requires invariant_loop decreases_loop
+end_by_one_requires c κs = (c.before.before.before.requires.0, c.before.loop-i.invariant.0)
 
-returns_2 : tie.Need-returns-2 invariant_loop decreases_loop
-returns_2 c = omega (arith, c.end-by-one.ensures, c.before.before.loop.invariant.1)
+returns_2 : tie.Need-returns invariant_loop decreases_loop
+returns_2 c = omega (arith, c.end_by_one.ensures, c.before.before.loop-i.invariant.1)
 
 pub word_end_spec : {M : Type 1} → statement M
 word_end_spec =
