@@ -118,13 +118,7 @@ pub fn counter(first: usize, n: u32, most: usize) -> usize {
 // How many of a thing were held against the sample, and how many agree.
 pub fn line(rt: &impl Print, name: &[u8], tally: Tally, what: usize) -> io::Result<()> {
     if what < COUNTERS {
-        two(
-            rt,
-            name,
-            tally.seen[what],
-            b", agreed ",
-            tally.agreed[what],
-        )?;
+        two(rt, name, tally.seen[what], b", agreed ", tally.agreed[what])?;
     }
     Ok(())
 }
