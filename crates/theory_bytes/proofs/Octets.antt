@@ -23,6 +23,7 @@ mem_each : (p : List Range → Bool) (lines : List (List Range)) → each p line
 unfolding each
 mem_each p (q ∷ lines) h (Memᴰ.head e) = rw e (both_true (p q) (each p lines) h).0
 mem_each p (q ∷ lines) h (Memᴰ.tail m) = mem_each p lines (both_true (p q) (each p lines) h).1 m
+mem_each p [] h {rs} m = elim m [ ]
 
 -- the first ranges of two lines are apart
 apart : List Range → List Range → Bool
@@ -75,6 +76,7 @@ mem_line (q ∷ lines) h {rs} (Memᴰ.tail m) b l =
     let n : eqb (met q (b ∷ [])) 1 ≡ false
     = false_by (eqb (met q (b ∷ [])) 1) (λ e. apart_out q rs b (mem_each (apart q) lines i.0 m) e l) in
     rw n (mem_line lines i.1 m b l)
+mem_line [] h {rs} m b l = elim m [ ]
 
 -- A first byte lies in one line alone: the one that the rules take.
 pub one_line : {rs : List Range} → Memᴰ rs utf8 → (b : ℕ) → eqb (met rs (b ∷ [])) 1 ≡ true → line_of b ≡ rs

@@ -260,6 +260,7 @@ quiet_nowhere h e (quiet_stops d) s = nowhere s
 quiet_undecided : {meet : ℕ → Bool} {hi d : ℕ} {l : Reading} → d < hi → Quiet meet hi l → Decided d l → ⊥
 quiet_undecided h (quiet_put c q) (behind x) = quiet_undecided h q x
 quiet_undecided h (quiet_stops g) (here e) = omega arith
+quiet_undecided h quiet_ends x = elim x [ ]
 
 pub quiet_shows : {meet : ℕ → Bool} {hi : ℕ} {l : Reading} → Quiet meet hi l → Meets meet hi l → ⊥
 quiet_shows q (row_starts m h e s) = quiet_nowhere h e q s

@@ -98,7 +98,7 @@ module _ (T : List ℕ) where
   eof_last_lem : {lo : ℕ} {l : Reading} → Well T lo l → read_ending l ≡ ending.None → eof_last (length T) (read_rows l) ≡ true
   unfolding read_rows read_ending eof_last is_eof eof_row row_at place_at
   eof_last_lem (well_row {t = t} {k = k} {x = x} {l = l} c a h f w) e =
-      eof_put _ (length T) (read_rows l) (not_eof c t (t + k) x f) (eof_last_lem w e)
+      eof_put (row_at (place_at T t) c x.kind (t + k) x.bits) (length T) (read_rows l) (not_eof c t (t + k) x f) (eof_last_lem w e)
   eof_last_lem (well_eof {n = n} c a h) e = eq-eqb n (length T) h
   eof_last_lem (well_stops a h) e = absurd (let z : ◌≡◌ {A = ℕ} 0 1 = cc in let y : ⊥ = omega arith in y)
 

@@ -37,6 +37,7 @@ member_none = elim [ ]
 
 member_one : {k j : ℕ} → Member k (j ∷ []) → k ≡ j
 member_one here = refl
+member_one (there m) = elim m [ ]
 
 -- ---- blocks
 

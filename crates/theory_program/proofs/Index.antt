@@ -98,6 +98,7 @@ before_other (x ∷ a) (y ∷ b) e f = other_byte x y a b e f (before_other a b)
 head_before : {d : Declared} {es : List Declared} → Rises (d ∷ es) → (e : Declared) → Among e es → comes_before d.name e.name ≡ true
 head_before (r_more h r) e here = h
 head_before {d = d} (r_more {e = x} h r) e (later m) = before_onward d.name x.name e.name h (head_before r e m)
+head_before r_one e m = elim m [ ]
 
 tail_rises : {d : Declared} {es : List Declared} → Rises (d ∷ es) → Rises es
 tail_rises r_one = r_none

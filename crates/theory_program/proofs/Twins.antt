@@ -243,6 +243,7 @@ placed_keeps x d (e ∷ es) (later m) = go (comes_before d.name e.name) (placed_
     go : (b : Bool) → Among x (placed_in d es) → Among x (cond b (d ∷ e ∷ es) (e ∷ placed_in d es))
     go true k = later (later m)
     go false k = later k
+placed_keeps x d [] m = elim m [ ]
 
 among_case : (B : Type 0) (x e : Declared) (es : List Declared) → (x ≡ e → B) → (Among x es → B) → Among x (e ∷ es) → B
 among_case B x e es f g here = f refl
@@ -264,6 +265,7 @@ rising_each : (x : Declared) (ds : List Declared) → Among x ds → Among x (ri
 unfolding rising
 rising_each x (d ∷ ds) here = placed_among d (rising ds)
 rising_each x (d ∷ ds) (later m) = placed_keeps x d (rising ds) (rising_each x ds m)
+rising_each x [] m = elim m [ ]
 
 rising_only : (x : Declared) (ds : List Declared) → Among x (rising ds) → Among x ds
 unfolding rising

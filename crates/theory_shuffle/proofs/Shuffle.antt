@@ -123,6 +123,7 @@ unfolding entry_at
 place_of d (e ∷ es) y here = record { at = 0; inside = omega arith; is = refl }
 place_of d (e ∷ es) y (later m) =
     let p : Place d es y = place_of d es y m in record { at = suc p.at; inside = omega (arith, p.inside); is = p.is }
+place_of d [] y m = elim m [ ]
 
 at_replaced : (d : Declared) (es : List Declared) (i : ℕ) (x : Declared) → i < length es → entry_at d (replaced es i x) i ≡ x
 unfolding entry_at replaced

@@ -10,26 +10,26 @@ use Rattle.file_sizes.proofs.length_for.Statement.{statement}
 use Rattle.file_sizes.proofs.length_for.Tie as tie
 
 -- the blocks behind block 0 are those of the rows
-blocks : (c : tie.After-block-rows) → let s = c.before in let m = c.block-rows.result in
+blocks : (c : tie.After-block_rows-most) → let s = c.before in let m = c.block_rows-most.result in
     (s.args.n + (m - 1)) / m ≡ blocks_for (row_bytes_of s.args.form) s.args.n
-blocks c = let s = c.before in blocks_by s.args.form s.args.n c.block-rows.result c.block-rows.ensures
+blocks c = let s = c.before in blocks_by s.args.form s.args.n c.block_rows-most.result c.block_rows-most.ensures
 
-block_rows_requires : tie.Need-block-rows-requires
+block_rows_requires : tie.Need-block_rows-most-requires
 block_rows_requires c κs = search rules
 
-sub_result : tie.Need-overflow-sub-result
-sub_result c = omega (arith, c.block-rows.ensures, some_rows c.before.args.form)
+sub_result : tie.Need-overflow_sub-result
+sub_result c = omega (arith, c.block_rows-most.ensures, some_rows c.before.args.form)
 
-add_result : tie.Need-overflow-add-result
-add_result c = omega (arith, c.block-rows.ensures, few_rows c.before.args.form)
+add_result : tie.Need-overflow_add-result
+add_result c = omega (arith, c.block_rows-most.ensures, few_rows c.before.args.form)
 
-div_result : tie.Need-nonzero-div-result
-div_result c = omega (arith, c.block-rows.ensures, some_rows c.before.args.form)
+div_result : tie.Need-nonzero_div-result
+div_result c = omega (arith, c.block_rows-most.ensures, some_rows c.before.args.form)
 
-add_result_2 : tie.Need-overflow-add-result-2
+add_result_2 : tie.Need-overflow_add-result-2
 add_result_2 c = let s = c.before in rw (blocks c) (omega (arith, few_blocks s.args.form s.args.n))
 
-mul_result : tie.Need-overflow-mul-result
+mul_result : tie.Need-overflow_mul-result
 mul_result c = let s = c.before in rw (blocks c) (omega (arith, few_blocks s.args.form s.args.n))
 
 returns : tie.Need-returns

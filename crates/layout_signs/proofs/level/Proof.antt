@@ -4,36 +4,36 @@ use Rattle.layout_signs.specs.Levels.{node_level}
 use Rattle.layout_signs.proofs.level.Statement.{statement}
 use Rattle.layout_signs.proofs.level.Tie as tie
 
-returns : tie.Need-returns
+returns : tie.Need-returns-then-k
 unfolding node_level
-returns c = rw c.if1.true
+returns c = rw c.if-k.true
 
-returns_2 : tie.Need-returns-2
+returns_2 : tie.Need-returns-then-k-2
 unfolding node_level
-returns_2 c = rw (c.before.if1.false, c.if2.true)
+returns_2 c = rw (c.before.if-k.false, c.if-k-2.true)
 
-returns_3 : tie.Need-returns-3
+returns_3 : tie.Need-returns-then-k-3
 unfolding node_level
-returns_3 c = rw (c.before.before.if1.false, c.before.if2.false, c.if3.true)
+returns_3 c = rw (c.before.before.if-k.false, c.before.if-k-2.false, c.if-k-3.true)
 
-returns_4 : tie.Need-returns-4
+returns_4 : tie.Need-returns-then-k-eq-DEREFERENCE
 unfolding node_level
 returns_4 c = rw (
-  c.before.before.before.if1.false,
-  c.before.before.if2.false,
-  c.before.if3.false,
+  c.before.before.before.if-k.false,
+  c.before.before.if-k-2.false,
+  c.before.if-k-3.false,
   eq-eqb
-      c.before.before.before.before.args.k 3 c.if4.true,
+      c.before.before.before.before.args.k 3 c.if-k-eq-DEREFERENCE.true,
 )
 
-returns_5 : tie.Need-returns-5
+returns_5 : tie.Need-returns
 unfolding node_level
 returns_5 c = rw (
-  c.before.before.before.if1.false,
-  c.before.before.if2.false,
-  c.before.if3.false,
+  c.before.before.before.if-k.false,
+  c.before.before.if-k-2.false,
+  c.before.if-k-3.false,
   ne_eqb
-      c.before.before.before.before.args.k 3 c.if4.false,
+      c.before.before.before.before.args.k 3 c.if-k-eq-DEREFERENCE.false,
 )
 
 pub level_spec : {M : Type 1} → statement M

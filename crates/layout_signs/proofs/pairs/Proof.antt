@@ -5,13 +5,13 @@ use Rattle.layout_signs.specs.Levels.{pairs}
 use Rattle.layout_signs.proofs.pairs.Statement.{statement}
 use Rattle.layout_signs.proofs.pairs.Tie as tie
 
-returns : tie.Need-returns
+returns : tie.Need-returns-then-level-place
 unfolding pairs
-returns c = (rw (lt-ltb _ _ c.if1.true), omega arith)
+returns c = (rw (lt-ltb _ _ c.if-level-place.true), omega arith)
 
-returns_2 : tie.Need-returns-2
+returns_2 : tie.Need-returns
 unfolding pairs
-returns_2 c = (rw (le-ltb _ _ c.if1.false), omega arith)
+returns_2 c = (rw (le-ltb _ _ c.if-level-place.false), omega arith)
 
 pub pairs_spec : {M : Type 1} → statement M
 pairs_spec = tie.close (tie.spec returns returns_2)

@@ -37,34 +37,34 @@ behind (suc (suc (suc zero))) h = refl
 behind (suc (suc (suc (suc zero)))) h = refl
 behind (suc (suc (suc (suc (suc d))))) h = absurd (omega arith)
 
-returns : tie.Need-returns
+returns : tie.Need-returns-then-k-eq-SHL
 unfolding binary_node
-returns c = rw c.if1.true
+returns c = rw c.if-k-eq-SHL.true
 
-returns_2 : tie.Need-returns-2
+returns_2 : tie.Need-returns-then-k
 unfolding binary_node
 returns_2 c =
     let k = c.before.before.args.k in
-    let e = c.if2.true in
+    let e = c.if-k.true in
     rw (
       outside k Plus (omega arith) (omega arith) e,
       outside k Minus (omega arith) (omega arith) e,
       outside k Star (omega arith) (omega arith) e,
       outside k Slash (omega arith) (omega arith) e,
       outside k Percent (omega arith) (omega arith) e,
-      ne_eqb k Shl c.before.if1.false,
+      ne_eqb k Shl c.before.if-k-eq-SHL.false,
     )
 
-sub_result : tie.Need-overflow-sub-result
-sub_result c = (inside c.before.before.args.k c.if2.false).0
+sub_result : tie.Need-overflow_sub-result
+sub_result c = (inside c.before.before.args.k c.if-k.false).0
 
-add_result : tie.Need-overflow-add-result
+add_result : tie.Need-overflow_add-result
 add_result c = search rules
 
-returns_3 : tie.Need-returns-3
+returns_3 : tie.Need-returns
 returns_3 c =
     let k = c.before.before.args.k in
-    let b = inside k c.if2.false in
+    let b = inside k c.if-k.false in
     behind (k - Plus) (omega (arith, b.0, b.1)) ∙ ap binary_node (omega (arith, b.0))
 
 pub binary_node_spec : {M : Type 1} → statement M

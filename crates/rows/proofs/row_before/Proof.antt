@@ -4,24 +4,24 @@ use Rattle.rows.proofs.Tables.{before_first, before_next}
 use Rattle.rows.proofs.row_before.Statement.{statement}
 use Rattle.rows.proofs.row_before.Tie as tie
 
-no_row_requires : tie.Need-no-row-requires
+no_row_requires : tie.Need-no_row-requires
 no_row_requires c κs = search rules
 
-returns : tie.Need-returns
+returns : tie.Need-returns-then-i-eq0
 returns c =
     let a = c.before.before.before.args in
-    c.no_row.ensures ∙ sym (before_first a.rows.now a.i c.before.if1.true)
+    c.no_row.ensures ∙ sym (before_first a.rows.now a.i c.before.if-i-eq0.true)
 
-sub_row_at : tie.Need-overflow-sub-row-at
+sub_row_at : tie.Need-overflow_sub-i
 sub_row_at c = search rules
 
-row_at_requires : tie.Need-row-at-requires
+row_at_requires : tie.Need-row_at-requires
 row_at_requires c κs = search rules
 
-returns_2 : tie.Need-returns-2
+returns_2 : tie.Need-returns
 returns_2 c =
     let a = c.before.before.before.args in
-    c.row_at.ensures ∙ sym (before_next a.rows.now a.i c.before.if1.false)
+    c.row_at.ensures ∙ sym (before_next a.rows.now a.i c.before.if-i-eq0.false)
 
 pub row_before_spec : {M : Type 1} → statement M
 row_before_spec = tie.close (tie.spec no_row_requires returns sub_row_at row_at_requires returns_2)

@@ -5,73 +5,73 @@ use Rattle.rows.proofs.Judging.{told, part_fine, part_refused}
 use Rattle.rows.proofs.spelling.Statement.{statement}
 use Rattle.rows.proofs.spelling.Tie as tie
 
-spelling_judge_requires : tie.Need-spelling-judge-requires
+spelling_judge_requires : tie.Need-spelling_judge-verdict-requires
 spelling_judge_requires c κs = search rules
 
-enum_told : tie.Need-enum-told
+enum_told : tie.Need-enum_told-1
 enum_told c = search rules
 
 -- the row that was read lies in the text
-placed : (c : tie.After-row-at) →
-    (c.row_at.result.start ≤ c.row_at.result.end) × (c.row_at.result.end ≤ length c.before.before.before.before.before.before.args.text.now)
+placed : (c : tie.After-row_at-r) →
+    (c.row_at-r.result.start ≤ c.row_at-r.result.end) × (c.row_at-r.result.end ≤ length c.before.before.before.before.before.args.text.now)
 placed c =
-    let j = c.before.before.before in
+    let j = c.before.before in
     let a = j.before.before.before.args in
-    let f = told a.text.now a.rows.now a.table a.row (sym j.spelling-judge.ensures ∙ c.before.enum_told.given.1) in
-    let s = ap (λ (r : Row). r.start) c.row_at.ensures in
-    let e = ap (λ (r : Row). r.end) c.row_at.ensures in
+    let f = told a.text.now a.rows.now a.table a.row (sym j.spelling_judge-verdict.ensures ∙ c.before.in-Fine.is) in
+    let s = ap (λ (r : Row). r.start) c.row_at-r.ensures in
+    let e = ap (λ (r : Row). r.end) c.row_at-r.ensures in
     (omega (arith, f.ordered), omega (arith, f.within))
 
 -- the part of a text that a row says
 cut : (t : List ℕ) {q r : Row} → q ≡ r → take (q.end - q.start) (drop q.start t) ≡ take (r.end - r.start) (drop r.start t)
 cut t e = ap (λ (x : Row). take (x.end - x.start) (drop x.start t)) e
 
-row_at_requires : tie.Need-row-at-requires
+row_at_requires : tie.Need-row_at-r-requires
 row_at_requires c κs =
-    let j = c.before.before in
+    let j = c.before in
     let a = j.before.before.before.args in
-    (told a.text.now a.rows.now a.table a.row (sym j.spelling-judge.ensures ∙ c.enum_told.given.1)).lent
+    (told a.text.now a.rows.now a.table a.row (sym j.spelling_judge-verdict.ensures ∙ c.in-Fine.is)).lent
 
-cast_start : tie.Need-overflow-cast-start
+cast_start : tie.Need-overflow_cast-start
 cast_start c = search rules
 
-cast_end : tie.Need-overflow-cast-end
+cast_end : tie.Need-overflow_cast-end
 cast_end c = search rules
 
-sub_result : tie.Need-overflow-sub-result
+sub_result : tie.Need-slice_bounds-result-count
 sub_result c = (placed c.before.before).0
 
-part_result_start : tie.Need-slice-bounds-result-start
+part_result_start : tie.Need-slice_bounds-result-start
 part_result_start c = (placed c.before.before).0
 
-part_result_end : tie.Need-slice-bounds-result-end
+part_result_end : tie.Need-slice_bounds-result-end
 part_result_end c = (placed c.before.before).1
 
-enum_told_2 : tie.Need-enum-told-2
+enum_told_2 : tie.Need-enum_told-in-Refused
 enum_told_2 c = search rules
 
-sub_result_2 : tie.Need-overflow-sub-result-2
+sub_result_2 : tie.Need-slice_bounds-result-count-in-Refused
 sub_result_2 c = search rules
 
-part_result_start_2 : tie.Need-slice-bounds-result-start-2
+part_result_start_2 : tie.Need-slice_bounds-result-start-in-Refused
 part_result_start_2 c = search rules
 
-part_result_end_2 : tie.Need-slice-bounds-result-end-2
+part_result_end_2 : tie.Need-slice_bounds-result-end-in-Refused
 part_result_end_2 c = search rules
 
-returns : tie.Need-returns
+returns : tie.Need-returns-in-Fine
 returns c =
     let r = c.before.before.before in
-    let j = r.before.before.before in
+    let j = r.before.before in
     let a = j.before.before.before.args in
-    cut a.text.now r.row_at.ensures ∙ sym (part_fine a.text.now a.rows.now a.table a.row (sym j.spelling-judge.ensures ∙ r.before.enum_told.given.1))
+    cut a.text.now r.row_at-r.ensures ∙ sym (part_fine a.text.now a.rows.now a.table a.row (sym j.spelling_judge-verdict.ensures ∙ r.before.in-Fine.is))
 
-returns_2 : tie.Need-returns-2
+returns_2 : tie.Need-returns-in-Refused
 returns_2 c =
     let m = c.before in
-    let j = m.before.before in
+    let j = m.before in
     let a = j.before.before.before.args in
-    sym (part_refused a.text.now a.rows.now a.table a.row _ _ (sym j.spelling-judge.ensures ∙ m.enum-told2.given.1))
+    sym (part_refused a.text.now a.rows.now a.table a.row _ _ (sym j.spelling_judge-verdict.ensures ∙ m.in-Refused.is))
 
 pub spelling_spec : {M : Type 1} → statement M
 spelling_spec =

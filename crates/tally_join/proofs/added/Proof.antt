@@ -6,13 +6,13 @@ use Rattle.tally_join.proofs.Adds.{fitting}
 use Rattle.tally_join.proofs.added.Statement.{statement}
 use Rattle.tally_join.proofs.added.Tie as tie
 
-slice_aggregate_add_each : tie.Need-slice-aggregate-add-each
+slice_aggregate_add_each : tie.Need-slice_bounds-add_each-end
 slice_aggregate_add_each c = search rules
 
-slice_aggregate_add_each_2 : tie.Need-slice-aggregate-add-each-2
+slice_aggregate_add_each_2 : tie.Need-slice_bounds-add_each-end-2
 slice_aggregate_add_each_2 c = search rules
 
-add_each_requires : tie.Need-add-each-requires
+add_each_requires : tie.Need-add_each-requires
 add_each_requires c κs =
     let s = c.before.before.before.before in
     record {
@@ -20,13 +20,13 @@ add_each_requires c κs =
       fit = (fitting s.args.a s.args.b s.requires).units;
     }
 
-slice_aggregate_add_each_3 : tie.Need-slice-aggregate-add-each-3
+slice_aggregate_add_each_3 : tie.Need-slice_bounds-add_each-end-3
 slice_aggregate_add_each_3 c = search rules
 
-slice_aggregate_add_each_4 : tie.Need-slice-aggregate-add-each-4
+slice_aggregate_add_each_4 : tie.Need-slice_bounds-add_each-end-4
 slice_aggregate_add_each_4 c = search rules
 
-add_each_requires_2 : tie.Need-add-each-requires-2
+add_each_requires_2 : tie.Need-add_each-requires-2
 add_each_requires_2 c κs =
     let s = c.before.before.before.before.before.before.before.before.before.before in
     record {
@@ -34,29 +34,29 @@ add_each_requires_2 c κs =
       fit = (fitting s.args.a s.args.b s.requires).maps;
     }
 
-add_t18 : tie.Need-overflow-add-t18
+add_t18 : tie.Need-overflow_add-result
 add_t18 c =
     let s = c.before.before.before.before.before.before.before.before.before.before.before.before.before.before in
     record { fits = (fitting s.args.a s.args.b s.requires).events }
 
-add_t19 : tie.Need-overflow-add-t19
+add_t19 : tie.Need-overflow_add-result-2
 add_t19 c =
     let s = c.before.before.before.before.before.before.before.before.before.before.before.before.before.before.before.before in
     record { fits = (fitting s.args.a s.args.b s.requires).statements }
 
-add_t20 : tie.Need-overflow-add-t20
+add_t20 : tie.Need-overflow_add-result-3
 add_t20 c =
     let s = c.before.before.before.before.before.before.before.before.before.before.before.before.before.before.before.before.before.before in
     record { fits = (fitting s.args.a s.args.b s.requires).max }
 
-add_t21 : tie.Need-overflow-add-t21
+add_t21 : tie.Need-overflow_add-result-4
 add_t21 c =
     let s = c.before.before.before.before.before.before.before.before.before.before.before.before.before.before.before.before.before.before.before.before in
     record { fits = (fitting s.args.a s.args.b s.requires).methods }
 
 returns : tie.Need-returns
 unfolding sum
-returns c = rw (c.before.before.before.before.before.before.before.before.before.before.before.before.before.before.before.add-each.ensures, c.before.before.before.before.before.before.before.before.before.add-each2.ensures)
+returns c = rw (c.before.before.before.before.before.before.before.before.before.before.before.before.before.before.before.add_each.ensures, c.before.before.before.before.before.before.before.before.before.add_each-2.ensures)
 
 pub added_spec : {M : Type 1} → statement M
 added_spec =

@@ -4,7 +4,7 @@ use Rattle.tally_join.proofs.Adds.{room_left}
 use Rattle.tally_join.proofs.fit.Statement.{statement}
 use Rattle.tally_join.proofs.fit.Tie as tie
 
-sub_result : tie.Need-overflow-sub-result
+sub_result : tie.Need-overflow_sub-result
 sub_result c = search rules
 
 returns : tie.Need-returns

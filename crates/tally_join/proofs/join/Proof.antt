@@ -6,21 +6,21 @@ use Rattle.rules_tally.specs.Calls.{joined}
 use Rattle.tally_join.proofs.join.Statement.{statement}
 use Rattle.tally_join.proofs.join.Tie as tie
 
-sums_fit_requires : tie.Need-sums-fit-requires
+sums_fit_requires : tie.Need-sums_fit-requires
 sums_fit_requires c κs = search rules
 
-returns : tie.Need-returns
+returns : tie.Need-returns-then-not-sums_fit
 unfolding joined
-returns c = rw (sym c.before.sums-fit.ensures ∙ not-true c.before.sums-fit.result c.if1.true)
+returns c = rw (sym c.before.sums_fit.ensures ∙ not-true c.before.sums_fit.result c.if-not-sums_fit.true-raw)
 
 added_requires : tie.Need-added-requires
-added_requires c κs = sym c.before.sums-fit.ensures ∙ not-false c.before.sums-fit.result c.if1.false
+added_requires c κs = sym c.before.sums_fit.ensures ∙ not-false c.before.sums_fit.result c.if-not-sums_fit.false-raw
 
-returns_2 : tie.Need-returns-2
+returns_2 : tie.Need-returns
 unfolding joined
 returns_2 c =
     let d = c.before in
-    rw (sym d.before.sums-fit.ensures ∙ not-false d.before.sums-fit.result d.if1.false, c.added.ensures)
+    rw (sym d.before.sums_fit.ensures ∙ not-false d.before.sums_fit.result d.if-not-sums_fit.false-raw, c.added.ensures)
 
 pub join_spec : {M : Type 1} → statement M
 join_spec = tie.close (tie.spec sums_fit_requires returns added_requires returns_2)

@@ -17,99 +17,99 @@ last true = refl
 last false = refl
 
 -- what each test showed
-units_fit : (c : tie.Else1) → all_fit (add_each c.before.before.before.before.before.before.args.a.units c.before.before.before.before.before.before.args.b.units) ≡ true
-units_fit c = sym c.before.all_fit.ensures ∙ not-false c.before.all_fit.result c.if1.false
+units_fit : (c : tie.Else-not-all_fit) → all_fit (add_each c.before.before.before.before.before.before.args.a.units c.before.before.before.before.before.before.args.b.units) ≡ true
+units_fit c = sym c.before.all_fit.ensures ∙ not-false c.before.all_fit.result c.if-not-all_fit.false-raw
 
-abbrev first : tie.Else1 → Tally
+abbrev first : tie.Else-not-all_fit → Tally
 first c = c.before.before.before.before.before.before.args.a
 
-abbrev second : tie.Else1 → Tally
+abbrev second : tie.Else-not-all_fit → Tally
 second c = c.before.before.before.before.before.before.args.b
 
-abbrev units_on : tie.Else2 → tie.Else1
+abbrev units_on : tie.Else-not-all_fit-2 → tie.Else-not-all_fit
 units_on c = c.before.before.before.before.before.before
 
-maps_fit : (c : tie.Else2) → all_fit (add_each (first (units_on c)).maps (second (units_on c)).maps) ≡ true
-maps_fit c = sym c.before.all-fit2.ensures ∙ not-false c.before.all-fit2.result c.if2.false
+maps_fit : (c : tie.Else-not-all_fit-2) → all_fit (add_each (first (units_on c)).maps (second (units_on c)).maps) ≡ true
+maps_fit c = sym c.before.all_fit-2.ensures ∙ not-false c.before.all_fit-2.result c.if-not-all_fit-2.false-raw
 
-events_fit : (c : tie.Else3) → ltb ((first (units_on c.before.before)).events + (second (units_on c.before.before)).events) (2 ^ 64) ≡ true
-events_fit c = sym c.before.fit.ensures ∙ not-false c.before.fit.result c.if3.false
+events_fit : (c : tie.Else-not-fit) → ltb ((first (units_on c.before.before)).events + (second (units_on c.before.before)).events) (2 ^ 64) ≡ true
+events_fit c = sym c.before.fit.ensures ∙ not-false c.before.fit.result c.if-not-fit.false-raw
 
-statements_fit : (c : tie.Else4)
+statements_fit : (c : tie.Else-not-fit-2)
     → ltb ((first (units_on c.before.before.before.before)).statements + (second (units_on c.before.before.before.before)).statements) (2 ^ 64) ≡ true
-statements_fit c = sym c.before.fit2.ensures ∙ not-false c.before.fit2.result c.if4.false
+statements_fit c = sym c.before.fit-2.ensures ∙ not-false c.before.fit-2.result c.if-not-fit-2.false-raw
 
-max_fit : (c : tie.Else5)
+max_fit : (c : tie.Else-not-fit-3)
     → ltb ((first (units_on c.before.before.before.before.before.before)).max + (second (units_on c.before.before.before.before.before.before)).max) (2 ^ 64) ≡ true
-max_fit c = sym c.before.fit3.ensures ∙ not-false c.before.fit3.result c.if5.false
+max_fit c = sym c.before.fit-3.ensures ∙ not-false c.before.fit-3.result c.if-not-fit-3.false-raw
 
-slice_aggregate_all_fit : tie.Need-slice-aggregate-all-fit
+slice_aggregate_all_fit : tie.Need-slice_bounds-all_fit-end
 slice_aggregate_all_fit c = search rules
 
-slice_aggregate_all_fit_2 : tie.Need-slice-aggregate-all-fit-2
+slice_aggregate_all_fit_2 : tie.Need-slice_bounds-all_fit-end-2
 slice_aggregate_all_fit_2 c = search rules
 
-all_fit_requires : tie.Need-all-fit-requires
+all_fit_requires : tie.Need-all_fit-requires
 all_fit_requires c κs = sym (slice_aggregate_all_fit c.before) ∙ slice_aggregate_all_fit_2 c
 
-returns : tie.Need-returns
+returns : tie.Need-returns-then-not-all_fit
 returns c =
     let a = c.before.before.before.before.before.before.args in
-    let e = sym c.before.all_fit.ensures ∙ not-true c.before.all_fit.result c.if1.true in
+    let e = sym c.before.all_fit.ensures ∙ not-true c.before.all_fit.result c.if-not-all_fit.true-raw in
     rw (parts_fit a.a a.b, e)
 
-slice_aggregate_all_fit_3 : tie.Need-slice-aggregate-all-fit-3
+slice_aggregate_all_fit_3 : tie.Need-slice_bounds-all_fit-end-3
 slice_aggregate_all_fit_3 c = search rules
 
-slice_aggregate_all_fit_4 : tie.Need-slice-aggregate-all-fit-4
+slice_aggregate_all_fit_4 : tie.Need-slice_bounds-all_fit-end-4
 slice_aggregate_all_fit_4 c = search rules
 
-all_fit_requires_2 : tie.Need-all-fit-requires-2
+all_fit_requires_2 : tie.Need-all_fit-requires-2
 all_fit_requires_2 c κs = sym (slice_aggregate_all_fit_3 c.before) ∙ slice_aggregate_all_fit_4 c
 
-returns_2 : tie.Need-returns-2
+returns_2 : tie.Need-returns-then-not-all_fit-2
 returns_2 c =
     let u = c.before.before.before.before.before.before in
-    let e = sym c.before.all-fit2.ensures ∙ not-true c.before.all-fit2.result c.if2.true in
+    let e = sym c.before.all_fit-2.ensures ∙ not-true c.before.all_fit-2.result c.if-not-all_fit-2.true-raw in
     rw (parts_fit (first u) (second u), units_fit u, e)
 
 fit_requires : tie.Need-fit-requires
 fit_requires c κs = search rules
 
-returns_3 : tie.Need-returns-3
+returns_3 : tie.Need-returns-then-not-fit
 returns_3 c =
     let m = c.before.before in
     let u = units_on m in
-    let e = sym c.before.fit.ensures ∙ not-true c.before.fit.result c.if3.true in
+    let e = sym c.before.fit.ensures ∙ not-true c.before.fit.result c.if-not-fit.true-raw in
     rw (parts_fit (first u) (second u), units_fit u, maps_fit m, e)
 
 fit_requires_2 : tie.Need-fit-requires-2
 fit_requires_2 c κs = search rules
 
-returns_4 : tie.Need-returns-4
+returns_4 : tie.Need-returns-then-not-fit-2
 returns_4 c =
     let v = c.before.before in
     let m = v.before.before in
     let u = units_on m in
-    let e = sym c.before.fit2.ensures ∙ not-true c.before.fit2.result c.if4.true in
+    let e = sym c.before.fit-2.ensures ∙ not-true c.before.fit-2.result c.if-not-fit-2.true-raw in
     rw (parts_fit (first u) (second u), units_fit u, maps_fit m, events_fit v, e)
 
 fit_requires_3 : tie.Need-fit-requires-3
 fit_requires_3 c κs = search rules
 
-returns_5 : tie.Need-returns-5
+returns_5 : tie.Need-returns-then-not-fit-3
 returns_5 c =
     let t = c.before.before in
     let v = t.before.before in
     let m = v.before.before in
     let u = units_on m in
-    let e = sym c.before.fit3.ensures ∙ not-true c.before.fit3.result c.if5.true in
+    let e = sym c.before.fit-3.ensures ∙ not-true c.before.fit-3.result c.if-not-fit-3.true-raw in
     rw (parts_fit (first u) (second u), units_fit u, maps_fit m, events_fit v, statements_fit t, e)
 
 fit_requires_4 : tie.Need-fit-requires-4
 fit_requires_4 c κs = search rules
 
-returns_6 : tie.Need-returns-6
+returns_6 : tie.Need-returns
 returns_6 c =
     let x = c.before in
     let t = x.before.before in
@@ -117,7 +117,7 @@ returns_6 c =
     let m = v.before.before in
     let u = units_on m in
     rw (parts_fit (first u) (second u), units_fit u, maps_fit m, events_fit v, statements_fit t, max_fit x)
-    (c.fit4.ensures ∙ sym (last (ltb ((first u).methods + (second u).methods) (2 ^ 64))))
+    (c.fit-4.ensures ∙ sym (last (ltb ((first u).methods + (second u).methods) (2 ^ 64))))
 
 pub sums_fit_spec : {M : Type 1} → statement M
 sums_fit_spec =

@@ -5,28 +5,28 @@ use Rattle.tally_steps.specs.Steps.{with_map}
 use Rattle.tally_steps.proofs.with_map.Statement.{statement}
 use Rattle.tally_steps.proofs.with_map.Tie as tie
 
-sub_at : tie.Need-overflow-sub-at
+sub_at : tie.Need-overflow_sub-at
 sub_at c = search rules
 
-cast_at : tie.Need-overflow-cast-at
+cast_at : tie.Need-overflow_cast-at
 cast_at c = search rules
 
-mul_t : tie.Need-overflow-mul-t
+mul_t : tie.Need-offset_bounds-t-at
 mul_t c = search rules
 
-element_copy_out_t : tie.Need-element-copy-out-t
+element_copy_out_t : tie.Need-bounds-t-at
 element_copy_out_t c = search rules
 
-add_t : tie.Need-overflow-add-t
+add_t : tie.Need-overflow_add-t
 add_t c = search rules
 
-mul_t_2 : tie.Need-overflow-mul-t-2
+mul_t_2 : tie.Need-offset_bounds-t-at-2
 mul_t_2 c = search rules
 
-element_write_t : tie.Need-element-write-t
+element_write_t : tie.Need-bounds-t-at-2
 element_write_t c = search rules
 
-add_t_2 : tie.Need-overflow-add-t-2
+add_t_2 : tie.Need-overflow_add-t-2
 add_t_2 c = search rules
 
 returns : tie.Need-returns

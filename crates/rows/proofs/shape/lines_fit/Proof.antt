@@ -11,7 +11,7 @@ wide_requires c κs = search rules
 wide_requires_2 : tie.Need-wide-requires-2
 wide_requires_2 c κs = search rules
 
-wrapping_sub_u64_requires : tie.Need-wrapping-sub-u64-requires
+wrapping_sub_u64_requires : tie.Need-wrapping_sub_u64-left-requires
 wrapping_sub_u64_requires c κs = search rules
 
 wide_requires_3 : tie.Need-wide-requires-3
@@ -20,7 +20,7 @@ wide_requires_3 c κs = search rules
 wide_requires_4 : tie.Need-wide-requires-4
 wide_requires_4 c κs = search rules
 
-wrapping_sub_u64_requires_2 : tie.Need-wrapping-sub-u64-requires-2
+wrapping_sub_u64_requires_2 : tie.Need-wrapping_sub_u64-right-requires
 wrapping_sub_u64_requires_2 c κs = search rules
 
 returns : tie.Need-returns
@@ -34,13 +34,13 @@ returns c =
     let s = x.before in
     let p = s.args.p in
     let q = s.args.q in
-    let a = left.wrapping-sub-u64 in
-    let b = c.wrapping-sub-u642 in
+    let a = left.wrapping_sub_u64-left in
+    let b = c.wrapping_sub_u64-right in
     let same = over_same q.column.0 q.offset.0 a.result p.column.0 p.offset.0 b.result
-    (omega (arith, s.well-formed)) (omega (arith, s.well-formed)) (omega (arith, s.well-formed)) (omega (arith, s.well-formed))
-    (omega (arith, a.type-inv)) (omega (arith, b.type-inv))
-    (rw (x.wide.ensures, y.wide2.ensures) at a.ensures)
-    (rw (u.wide3.ensures, v.wide4.ensures) at b.ensures) in
+    (omega (arith, s.well_formed)) (omega (arith, s.well_formed)) (omega (arith, s.well_formed)) (omega (arith, s.well_formed))
+    (omega (arith, a.type_inv)) (omega (arith, b.type_inv))
+    (rw (x.wide.ensures, y.wide-2.ensures) at a.ensures)
+    (rw (u.wide-3.ensures, v.wide-4.ensures) at b.ensures) in
     rw (same, eqb_swap q.line.0 p.line.0)
 
 pub lines_fit_spec : {M : Type 1} → statement M

@@ -7,67 +7,67 @@ use Rattle.rows.proofs.shape.row_stands.Tie as tie
 
 -- ---- the place at the entry, from behind the gap's words
 
-abbrev start : tie.After-wide8 → tie.Start
+abbrev start : tie.After-wide-7 → tie.Start
 start c = c.before.before.before.before.before.before.before.before.before.before.before.before.before.before
 
-wide_requires : tie.Need-wide-requires
+wide_requires : tie.Need-wide-start-requires
 wide_requires c κs = search rules
 
-own_length_requires : tie.Need-own-length-requires
+own_length_requires : tie.Need-own_length-requires
 own_length_requires c κs = search rules
 
-wide_requires_2 : tie.Need-wide-requires-2
+wide_requires_2 : tie.Need-wide-requires
 wide_requires_2 c κs = search rules
 
-add_shortest : tie.Need-overflow-add-shortest
+add_shortest : tie.Need-overflow_add-shortest
 add_shortest c = search rules
 
-wide_requires_3 : tie.Need-wide-requires-3
+wide_requires_3 : tie.Need-wide-requires-2
 wide_requires_3 c κs = search rules
 
-wrapping_sub_u64_requires : tie.Need-wrapping-sub-u64-requires
+wrapping_sub_u64_requires : tie.Need-wrapping_sub_u64-over-requires
 wrapping_sub_u64_requires c κs = search rules
 
-value_fits_requires : tie.Need-value-fits-requires
+value_fits_requires : tie.Need-value_fits-requires
 value_fits_requires c κs = search rules
 
-own_length_requires_2 : tie.Need-own-length-requires-2
+own_length_requires_2 : tie.Need-own_length-requires-2
 own_length_requires_2 c κs = search rules
 
-wide_requires_4 : tie.Need-wide-requires-4
+wide_requires_4 : tie.Need-wide-requires-3
 wide_requires_4 c κs = search rules
 
-wide_requires_5 : tie.Need-wide-requires-5
+wide_requires_5 : tie.Need-wide-requires-4
 wide_requires_5 c κs = search rules
 
-wrapping_sub_u64_requires_2 : tie.Need-wrapping-sub-u64-requires-2
+wrapping_sub_u64_requires_2 : tie.Need-wrapping_sub_u64-line-requires
 wrapping_sub_u64_requires_2 c κs = search rules
 
-wide_requires_6 : tie.Need-wide-requires-6
+wide_requires_6 : tie.Need-wide-requires-5
 wide_requires_6 c κs = search rules
 
-wrapping_sub_u64_requires_3 : tie.Need-wrapping-sub-u64-requires-3
+wrapping_sub_u64_requires_3 : tie.Need-wrapping_sub_u64-column-requires
 wrapping_sub_u64_requires_3 c κs = search rules
 
-wide_requires_7 : tie.Need-wide-requires-7
+wide_requires_7 : tie.Need-wide-requires-6
 wide_requires_7 c κs = search rules
 
-wide_requires_8 : tie.Need-wide-requires-8
+wide_requires_8 : tie.Need-wide-requires-7
 wide_requires_8 c κs = search rules
 
-mul_gap : tie.Need-overflow-mul-gap
-mul_gap c = omega (arith, c.wide8.ensures, (start c).well-formed)
+mul_gap : tie.Need-overflow_mul-gap
+mul_gap c = omega (arith, c.wide-7.ensures, (start c).well_formed)
 
-add_gap : tie.Need-overflow-add-gap
-add_gap c = omega (arith, c.wide8.ensures, c.before.wide7.ensures, (start c).well-formed)
+add_gap : tie.Need-overflow_add-gap
+add_gap c = omega (arith, c.wide-7.ensures, c.before.wide-6.ensures, (start c).well_formed)
 
-row_place_requires : tie.Need-row-place-requires
+row_place_requires : tie.Need-row_place-from-requires
 row_place_requires c κs = search rules
 
-row_place_requires_2 : tie.Need-row-place-requires-2
+row_place_requires_2 : tie.Need-row_place-to-requires
 row_place_requires_2 c κs = search rules
 
-lines_fit_requires : tie.Need-lines-fit-requires
+lines_fit_requires : tie.Need-lines_fit-requires
 lines_fit_requires c κs = search rules
 
 returns : tie.Need-returns
@@ -89,16 +89,16 @@ returns c =
     let o1 = w2.before in
     let w1 = o1.before in
     let s = w1.before in
-    rw (c.lines_fit.ensures, to.row-place2.ensures, from.row-place.ensures, w8.wide8.ensures, w7.wide7.ensures)
-    (rw (v.value-fits.ensures, w4.wide4.ensures, o2.own-length2.ensures, w1.wide.ensures)
+    rw (c.lines_fit.ensures, to.row_place-to.ensures, from.row_place-from.ensures, w8.wide-7.ensures, w7.wide-6.ensures)
+    (rw (v.value_fits.ensures, w4.wide-3.ensures, o2.own_length-2.ensures, w1.wide-start.ensures)
     (row_stands s.requires.1 (as_row s.args.r) (as_row s.args.q)
-    over.wrapping-sub-u64.result line.wrapping-sub-u642.result column.wrapping-sub-u643.result
-    s.requires.0 (omega (arith, s.well-formed)) (omega (arith, s.well-formed)) (omega (arith, s.well-formed)) (omega (arith, s.well-formed))
-    (omega (arith, o1.own-length.ensures, o1.own-length.type-inv)) (omega (arith, o2.own-length2.ensures, o2.own-length2.type-inv))
-    (omega (arith, over.wrapping-sub-u64.type-inv)) (omega (arith, line.wrapping-sub-u642.type-inv)) (omega (arith, column.wrapping-sub-u643.type-inv))
-    (rw (w3.wide3.ensures, w2.wide2.ensures, o1.own-length.ensures, w1.wide.ensures) at over.wrapping-sub-u64.ensures)
-    (rw w5.wide5.ensures at line.wrapping-sub-u642.ensures)
-    (rw w6.wide6.ensures at column.wrapping-sub-u643.ensures)))
+    over.wrapping_sub_u64-over.result line.wrapping_sub_u64-line.result column.wrapping_sub_u64-column.result
+    s.requires.0 (omega (arith, s.well_formed)) (omega (arith, s.well_formed)) (omega (arith, s.well_formed)) (omega (arith, s.well_formed))
+    (omega (arith, o1.own_length.ensures, o1.own_length.type_inv)) (omega (arith, o2.own_length-2.ensures, o2.own_length-2.type_inv))
+    (omega (arith, over.wrapping_sub_u64-over.type_inv)) (omega (arith, line.wrapping_sub_u64-line.type_inv)) (omega (arith, column.wrapping_sub_u64-column.type_inv))
+    (rw (w3.wide-2.ensures, w2.wide.ensures, o1.own_length.ensures, w1.wide-start.ensures) at over.wrapping_sub_u64-over.ensures)
+    (rw w5.wide-4.ensures at line.wrapping_sub_u64-line.ensures)
+    (rw w6.wide-5.ensures at column.wrapping_sub_u64-column.ensures)))
 
 pub row_stands_spec : {M : Type 1} → statement M
 row_stands_spec =
