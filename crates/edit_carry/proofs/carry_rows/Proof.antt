@@ -95,7 +95,7 @@ loop_again c =
     let f = carry_row a.o a.p in
     let lent = take (length l.loop-i.new - l.loop-i.i * 8) (drop (l.loop-i.i * 8) l.loop-i.new) in
     let put = c.before.before.put_row in
-    let e = carried_step a.comments f ws a.new.now l.loop-i.i (omega (arith, l.loop-i.invariant.0)) l.loop-i.new put.new.0
+    let e = carried_step a.comments f ws a.new.now l.loop-i.i (omega (arith, l.loop-i.invariant.0)) l.loop-i.new put.new.words
     l.loop-i.invariant.2 (put.ensures ∙ ap (λ (z : Row). row_words z ++ drop 8 lent) (moved_row k)) in
     (omega arith, ap length e ∙ carried_length a.comments f ws a.new.now (l.loop-i.i + 1) (omega (arith, l.loop-i.invariant.0)), e)
 

@@ -53,7 +53,7 @@ loop_again c =
     let l = d.before.loop-i in
     let t = d.before.before.before.args.text.now in
     let e : (eqb (get_or t l.i 0) 42 && eqb (get_or t (l.i + 1) 0) 47) ≡ false =
-    ⊎_elim (λ w. rw w.0.taken (ne_eqb _ 47 (λ q. w.2.left (w.1.ensures ∙ q)))) (λ w. rw (ne_eqb _ _ w.left)) c.if-text-i-eq42.branch in
+    elim c.if-text-i-eq42.branch [ ] in
     (omega arith, omega (arith, body_on t l.i d.loop-i-test.true e, l.invariant.1))
 
 returns_2 : tie.Need-returns invariant_loop decreases_loop

@@ -15,7 +15,7 @@ decreases_loop classes text at i₀ packed₀ i packed = length text - i
 -- ---- the places on the way, as they are seen from behind the class of a byte: the loop's turn, and the function's entry
 
 abbrev turn : tie.After-class-1 invariant_loop decreases_loop → tie.At-loop-i invariant_loop decreases_loop
-turn c = c.before.before.before
+turn c = c.before.before.before.before
 
 abbrev start : tie.After-class-1 invariant_loop decreases_loop → tie.Start invariant_loop decreases_loop
 start c = (turn c).before.before
@@ -40,7 +40,7 @@ returns : tie.Need-returns-then-class-gt-DIGIT invariant_loop decreases_loop
 returns c =
     let k = c.before in
     let l = (turn k).loop-i in
-    packing_stop (start k).requires.0 _ _ l.packed l.i l.invariant k.before.before.loop-i-test.true (fits k) c.if-class-gt-DIGIT.true
+    packing_stop (start k).requires.0 _ _ l.packed l.i l.invariant k.loop-i-test.true (fits k) c.if-class-gt-DIGIT.true
 
 mul_packed : tie.Need-overflow_mul-packed invariant_loop decreases_loop
 mul_packed c = omega arith
@@ -64,7 +64,7 @@ returns_2 : tie.Need-returns-then-i-at-eq-EIGHT invariant_loop decreases_loop
 returns_2 c =
     let k = c.before.before.before in
     let l = (turn k).loop-i in
-    packing_full (start k).requires.0 _ _ l.packed l.i l.invariant k.before.before.loop-i-test.true (fits k)
+    packing_full (start k).requires.0 _ _ l.packed l.i l.invariant k.loop-i-test.true (fits k)
     c.before.before.if-class-gt-DIGIT.false (omega (arith, c.before.if-i-at-eq-EIGHT.true)) c.word_end.ensures
 
 loop_less : tie.Need-loop-i-smaller invariant_loop decreases_loop
@@ -74,7 +74,7 @@ loop_again : tie.Need-loop-i-preserved invariant_loop decreases_loop
 loop_again c =
     let k = c.before.before in
     let l = (turn k).loop-i in
-    packing_on (start k).requires.0 _ _ l.packed l.i l.invariant k.before.before.loop-i-test.true (fits k)
+    packing_on (start k).requires.0 _ _ l.packed l.i l.invariant k.loop-i-test.true (fits k)
     c.before.if-class-gt-DIGIT.false (λ e. c.if-i-at-eq-EIGHT.false (omega arith))
 
 returns_3 : tie.Need-returns invariant_loop decreases_loop
