@@ -1,7 +1,6 @@
 -- `body_end` meets its contract: the end of the comment's body is the same from every index on the way.
 use mathlib.Core.Path.{◌≡◌, refl, sym, ◌∙◌}
 use mathlib.Core.Bool.{false, ◌&&◌}
-use mathlib.Core.Logic.{⊎_elim}
 use Prim.Native.Nat.{◌+◌, ◌-◌, ◌≤◌}
 use native.Mathlib.Omega.{arith}
 use lib.ListN.{length, drop, get_or}
@@ -10,6 +9,7 @@ use borrow.Author.Tests.{ne_eqb}
 use Rattle.rules.specs.Lex.{before_close}
 use Rattle.scan_runs.proofs.Bodies.{body_stop, body_on, body_end}
 use Rattle.scan_runs.proofs.body_end.Statement.{statement}
+use Rattle.scan_runs.proofs.body_end.Lts as lts
 use Rattle.scan_runs.proofs.body_end.Tie as tie
 
 abbrev invariant_loop : tie.invariant-loop-i
@@ -53,7 +53,10 @@ loop_again c =
     let l = d.before.loop-i in
     let t = d.before.before.before.args.text.now in
     let e : (eqb (get_or t l.i 0) 42 && eqb (get_or t (l.i + 1) 0) 47) ≡ false =
-    elim c.if-text-i-eq42.branch [ ] in
+    elim c.if-text-i-eq42.branch [
+      lts.then-text-i-eq42+else-peek-eq47 w ↦ rw w.if-text-i-eq42.true (ne_eqb _ 47 (λ q. w.if-peek-eq47.false (w.peek.ensures ∙ q))) |
+      lts.else-text-i-eq42 w ↦ rw (ne_eqb _ _ w.if-text-i-eq42.false)
+    ] in
     (omega arith, omega (arith, body_on t l.i d.loop-i-test.true e, l.invariant.1))
 
 returns_2 : tie.Need-returns invariant_loop decreases_loop
