@@ -77,7 +77,7 @@ returns_4 c =
     let g = at_filler i in
     let h = at_rows g in
     let a = (start h).args in
-    let number = sym h.half_at.ensures ∙ g.before.if-half_at-k.left in
+    let number = sym h.half_at.ensures ∙ g.before.if-half_at-k.false in
     let rows = sym g.half_at-2.ensures ∙ i.before.if-half_at-n.false in
     let f = sym (filler_is i) ∙ not-false i.is_filler.result e.if-not-is_filler.false-raw in
     rw (c.before.word_at.ensures, c.check_of.ensures)

@@ -13,7 +13,7 @@ abbrev at_sum : tie.After-put_word → tie.After-check_of-sum
 at_sum c = c.before.before
 
 abbrev at_filler : tie.After-check_of-sum → tie.After-put_filler
-at_filler c = c.before.before.before.before
+at_filler c = c.before.before.before
 
 abbrev at_rows : tie.After-put_filler → tie.After-put_half-2
 at_rows c = c.before.before.before.before

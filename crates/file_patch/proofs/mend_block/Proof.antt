@@ -16,10 +16,10 @@ use Rattle.file_patch.proofs.mend_block.Tie as tie
 -- ---- the places on the way: the function's entry, and where the block was held
 
 abbrev at_right : tie.Then-is_right → tie.Start
-at_right c = c.before.before.before.before.before.before
+at_right c = c.before.before.before.before.before
 
 abbrev at_wrong : tie.Else-is_right → tie.Start
-at_wrong c = c.before.before.before.before.before.before
+at_wrong c = c.before.before.before.before.before
 
 abbrev differing : tie.After-restore_block → tie.Else-is_right
 differing c = c.before.before
@@ -46,9 +46,7 @@ slice_reshare_prefix_is_right : tie.Need-slice_bounds-is_right-end
 slice_reshare_prefix_is_right c = search rules
 
 slice_aggregate_is_right : tie.Need-slice_bounds-is_right-end-2
-slice_aggregate_is_right c =
-    let s = c.before.before.before.before in
-    sym (length-take-le s.args.n s.args.memory.now s.requires.1.0)
+slice_aggregate_is_right c = sym (length-take-le c.args.n c.args.memory.now c.requires.1.0)
 
 is_right_requires : tie.Need-is_right-requires
 is_right_requires c κs = search rules

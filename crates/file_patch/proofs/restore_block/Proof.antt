@@ -13,10 +13,10 @@ use Rattle.file_patch.proofs.restore_block.Tie as tie
 -- ---- the function's entry, as it is seen from both ends
 
 abbrev at_right : tie.Then-count_block-eq0 → tie.Start
-at_right c = c.before.before.before.before.before
+at_right c = c.before.before.before.before
 
 abbrev at_wrong : tie.Else-count_block-eq0 → tie.Start
-at_wrong c = c.before.before.before.before.before
+at_wrong c = c.before.before.before.before
 
 count_block_requires : tie.Need-count_block-requires
 count_block_requires c κs = search rules
