@@ -54,8 +54,8 @@ returns c =
     let g = at_number h in
     let s = at_start g in
     let a = s.args in
-    seal_put a.k a.n a.size a.bytes.now g.put_half.last.0 h.put_half-2.last.0 f.put_filler.last.0
-    w.put_word.last.0 s.requires.0 s.requires.1 g.put_half.ensures h.put_half-2.ensures f.put_filler.ensures
+    seal_put a.k a.n a.size a.bytes.now g.put_half.new.bytes h.put_half-2.new.bytes f.put_filler.new.bytes
+    w.put_word.new.bytes s.requires.0 s.requires.1 g.put_half.ensures h.put_half-2.ensures f.put_filler.ensures
     k.check_of-sum.result k.check_of-sum.ensures w.put_word.ensures
 
 pub seal_spec : {M : Type 1} → statement M
