@@ -23,8 +23,8 @@ use Rattle.layout_expr.proofs.+args_call_expr_leaf_step.Proof.Step as step_proof
 use Rattle.layout_expr.proofs.+args_call_expr_leaf_step.{statement}
 use Rattle.layout_expr.proofs.+args_call_expr_leaf_step.Tie.{close}
 
-pub +args-call-expr-leaf-step-spec : {M : Type 1} → statement M
-+args-call-expr-leaf-step-spec =
+pub +args_call_expr_leaf_step_spec : {M : Type 1} → statement M
++args_call_expr_leaf_step_spec =
     close μ-args μ-call μ-expr μ-leaf μ-step
     (λ t. args_lts.spec (args_proof.cs t) (args_at t) args.Post args_proof.InvLoop args_proof.μ-loop (args_proof.loop_holds t)
     (args_proof.expr_requires t) (args_proof.sub_left t) (args_proof.comma_requires t) (args_proof.loop_less t)
