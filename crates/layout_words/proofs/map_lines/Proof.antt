@@ -33,30 +33,20 @@ bytes_requires_4 c κs = search rules
 
 same_length : tie.Need-shape_of-room
 same_length c =
-    c.before.before.bytes.auto.1.0 ∙ c.before.before.before.before.before.before.before.map_word-to.auto.1.0
-    ∙ c.before.before.before.before.before.before.before.before.before.before.before.bytes-end.auto.1.0
-    ∙ c.before.before.before.before.before.before.before.before.before.before.before.before.before.before.before.before.typed-keyed.auto.1.1.0
-    ∙ c.before.before.before.before.before.before.before.before.before.before.before.before.before.before.before.before.before.before.before.before.before.type_inv.kept.1.1.0
-    ∙ c.before.before.before.before.before.before.before.before.before.before.before.before.before.before.before.before.before.before.before.before.before.before.before.before.before.before.bytes-most.auto.1.0
-    ∙ c.before.before.before.before.before.before.before.before.before.before.before.before.before.before.before.before.before.before.before.before.before.before.before.before.before.before.before.before.before.before.before.number-number.auto.1.1.0
-    ∙ c.before.before.before.before.before.before.before.before.before.before.before.before.before.before.before.before.before.before.before.before.before.before.before.before.before.before.before.before.before.before.before.before.before.before.before.bytes-last.auto.1.0
+    c.bytes.auto.room ∙ c.map_word-to.auto.room ∙ c.bytes-end.auto.room ∙ c.typed-keyed.auto.room
+    ∙ c.typed-valued.auto.room ∙ c.bytes-most.auto.room ∙ c.number-number.auto.room ∙ c.bytes-last.auto.room
 
 returns : tie.Need-returns
 unfolding map_lines
 returns c =
-    let n = wrote_as (low_only _)
-    c.before.before.before.before.before.before.before.before.before.before.before.before.before.before.before.before.before.before.before.before.before.before.before.before.before.before.before.before.before.before.before.number-number.ensures in
+    let n = wrote_as (low_only _) c.number-number.ensures in
     wrote_then
     (wrote_then
     (wrote_then
-    (wrote_then (wrote_then (wrote_then (wrote_then
-    c.before.before.before.before.before.before.before.before.before.before.before.before.before.before.before.before.before.before.before.before.before.before.before.before.before.before.before.before.before.before.before.before.before.before.before.bytes-last.ensures n)
-    c.before.before.before.before.before.before.before.before.before.before.before.before.before.before.before.before.before.before.before.before.before.before.before.before.before.before.bytes-most.ensures)
-    c.before.before.before.before.before.before.before.before.before.before.before.before.before.before.before.before.before.before.before.before.before.type_inv.ensures)
-    c.before.before.before.before.before.before.before.before.before.before.before.before.before.before.before.before.typed-keyed.ensures)
-    c.before.before.before.before.before.before.before.before.before.before.before.bytes-end.ensures)
-    c.before.before.before.before.before.before.before.map_word-to.ensures)
-    c.before.before.bytes.ensures
+    (wrote_then (wrote_then (wrote_then (wrote_then c.bytes-last.ensures n) c.bytes-most.ensures) c.typed-valued.ensures) c.typed-keyed.ensures)
+    c.bytes-end.ensures)
+    c.map_word-to.ensures)
+    c.bytes.ensures
 
 pub map_lines_spec : {M : Type 1} → statement M
 map_lines_spec =

@@ -11,7 +11,7 @@ use Rattle.program_move.proofs.move_first.Tie as tie
 
 -- ---- the places on the way, as they are seen from the function's entry
 
-abbrev entry : tie.After-slice_known-2-1 → tie.Start
+abbrev entry : tie.After-slice_known-2-1-unread → tie.Start
 entry c = c.before.before
 
 abbrev behind_name : tie.After-move_row → tie.Start
