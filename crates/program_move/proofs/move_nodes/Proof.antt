@@ -78,7 +78,7 @@ move_first_requires c κs =
       words = next_lent _ _ _ d.loop-at.at d.loop-at.nodes g;
       last = (asked d).last;
       within = next_within _ _ _ d.loop-at.at d.loop-at.nodes g (asked d).last (asked d).within;
-      fits = (asked d).ranges;
+      fits = (asked d).fits;
     }
 
 add_at : tie.Need-overflow_add-at invariant_loop decreases_loop
@@ -94,7 +94,7 @@ loop_again c ns rest n e =
     let f = c.before.before.move_first in
     let k = (entry d).args.by in
     let g = going_next ns rest k d.loop-at.at d.loop-at.nodes (d.loop-at.invariant ns rest n e) (omega (arith, i.loop-at-test)) in
-    next_back ns rest k d.loop-at.at d.loop-at.nodes g f.new.0 f.ensures
+    next_back ns rest k d.loop-at.at d.loop-at.nodes g f.new.nodes f.ensures
 
 same_length : tie.Need-shape_of-nodes invariant_loop decreases_loop
 same_length c =
