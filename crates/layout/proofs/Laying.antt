@@ -24,6 +24,7 @@ use Rattle.rules_layout.specs.declared.Unlaid.TheVariants.{NotItsTree}
 use Rattle.rules_layout.specs.declared.LaidOut.{LaidOut}
 use Rattle.rules_layout.specs.declared.LaidOut.TheVariants as out
 use Rattle.rules_layout.specs.Bytes.{layout}
+use Rattle.rules_layout.proofs.Told.{layout_told_by}
 use Rattle.rules_layout.specs.Layout.{is_whole, begins, is_scan, is_scanned, is_tree, is_read, reading, room_told, layout_told, laid_of, layout_leaves}
 use Rattle.laws.proofs.Tests.{both_true}
 use Rattle.laws.proofs.Spelled.{same_eq}
@@ -171,8 +172,9 @@ module _ (t ws : List ℕ) (tbl : Table) (nodes : List ℕ) (count : ℕ) where
 
   told_by : (room : ℕ) {b : Bool} → (is_scanned t ws tbl && is_parsed t ws tbl nodes count) ≡ b
       → layout_told t ws tbl nodes count room ≡ cond b (room_told (laid_of (reading t)) room) (out.Refused NotItsTree)
-  unfolding layout_told
-  told_by room h = ap (λ (b : Bool). cond b (room_told (laid_of (reading t)) room) (out.Refused NotItsTree)) (tests_are ∙ h)
+  told_by room h =
+      layout_told_by t ws tbl nodes count room
+      ∙ ap (λ (b : Bool). cond b (room_told (laid_of (reading t)) room) (out.Refused NotItsTree)) (tests_are ∙ h)
 
   pub refused : (room : List ℕ) → (is_scanned t ws tbl && is_parsed t ws tbl nodes count) ≡ false
       → (out.Refused NotItsTree ≡ layout_told t ws tbl nodes count (length room)) × (room ≡ layout_leaves t ws tbl nodes count room)

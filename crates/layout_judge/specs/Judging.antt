@@ -3,7 +3,8 @@ use Rattle.std.specs.Prelude.{Bool, false, ◌&&◌, List, ℕ, eqb}
 use Rattle.rules.specs.declared.Parsed.TheVariants as parsed
 use Rattle.rules.specs.declared.Table.{Table}
 use Rattle.rules.specs.Calls.{parse_told, reading}
-use Rattle.rules_layout.specs.Layout.{is_whole, is_read}
+use Rattle.rules_layout.specs.Layout.{is_whole}
+pub use Rattle.rules_layout.specs.Layout.{is_scanned, is_read}
 
 -- no refusal ends two tables, of as many rows and of texts as long
 unfoldable pub same_table : Table → Table → Bool

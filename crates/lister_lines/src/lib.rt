@@ -1,7 +1,6 @@
 // The listing: a text's rows, then its nodes or its refusal, as bytes.
 ghost use Rattle.std.specs.Prelude.{◌≡◌, ◌++◌, ◌≤◌, length, drop};
-ghost use Rattle.io.specs.Counts.{IsPrefixLen};
-ghost use Rattle.lister_parts.specs.Adds.{Adds, most_of_nodes, most_listing};
+ghost use Rattle.lister_parts.specs.Adds.{Adds, IsPrefixLen, most_of_nodes, most_listing};
 ghost use Rattle.lister_lines.specs.Lines.{listed_tree, listed_text, listed};
 
 use lister_parts::{list_nodes, list_rows, refusal_line};

@@ -1,8 +1,7 @@
 -- Laws of bytes that are written one behind the other.
 use Rattle.std.proofs.Common.{◌≡◌, ℕ, ◌+◌, ◌<◌, ◌≤◌, List, [], ◌∷◌, ◌++◌, length, take, drop, set, sym, refl, ap, ◌∙◌, append_assoc, append-nil, add-one, arith, length-append, length-drop, drop_of_length-le, length-take, length-take-le, take_all, drop-cons}
 use lib.Seq.{take-nil, take-append-le, set_at}
-use Rattle.io.specs.Counts.{IsPrefixLen}
-use Rattle.lister_parts.specs.Adds.{over, Shows, Adds}
+use Rattle.lister_parts.specs.Adds.{over, Shows, Adds, IsPrefixLen}
 
 pub adds_none : (out : List ℕ) (at : ℕ) → Adds [] out at out at
 adds_none out at = record { more = λ old done s. rw append-nil s }

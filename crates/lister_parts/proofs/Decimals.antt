@@ -1,8 +1,8 @@
--- Laws of numbers in decimal: how long they are, and what `io::decimal` writes.
+-- Laws of numbers in decimal: how long they are, and what `itoa` writes.
 use Rattle.std.proofs.Common.{◌≡◌, ℕ, zero, suc, ◌+◌, ◌-◌, ◌/◌, ◌%◌, ◌^◌, ◌<◌, ◌≤◌, Bool, true, false, ltb, [], ◌∷◌, length, sym, refl, ap, ◌∙◌, mod-lt, mod-eq_of_lt, pow-suc, arith, length-append, ltb-false, ltb-true, lt-ltb}
 use native.Mathlib.Nat.{one-le-pow}
-use Rattle.io.specs.Digits.{IsDigitCount, hex_digit_ascii}
-use Rattle.io.specs.Digits.{last_digits as io·digits}
+use Rattle.std.proofs.lemmas.Fmt.{decimal_by_steps}
+use Rattle.std.specs.Fmt.{decimal as std·decimal}
 use Rattle.rules_decimal.specs.Decimal.{digit, decimal}
 use Rattle.theory_decimal.proofs.Decimals.{decimal_one, decimal_more}
 
@@ -25,28 +25,11 @@ decimal_short (suc k) n h = by (ltb n 10) refl (decimal_short k (n / 10))
         let g : n / 10 < 10 ^ suc k = omega arith in
         omega (arith, decimal_longer n (ltb-false n 10 e), f g)
 
--- ---- what `io::decimal` writes
+-- ---- what `itoa` writes
 
-glyph_digit : (d : ℕ) → d < 10 → hex_digit_ascii d ∷ [] ≡ digit d
-glyph_digit d h = rw (lt-ltb d 10 h)
-
-fewest_decimal : (k n : ℕ) → IsDigitCount 10 1 n (suc k) → io·digits 10 (suc k) n ≡ decimal n
-fewest_decimal zero n f = let h : n < 10 = omega (arith, f.1) in rw (mod-eq_of_lt h) (glyph_digit n h ∙ sym (decimal_one n h))
-fewest_decimal (suc k) n f =
-    let e : suc (suc k) - 1 ≡ suc k = omega arith in
-    let s : 10 ^ suc k ≤ n = rw e at (f.2 (omega arith)) in
-    let t : n < 10 ^ suc (suc k) = f.1 in
-    let p = pow-suc 10 k in
-    let q = pow-suc 10 (suc k) in
-    let u : 1 ≤ 10 ^ k = one-le-pow k 10 (omega arith) in
-    let g : 10 ≤ n = omega arith in
-    let d : suc k - 1 ≡ k = omega arith in
-    let few : IsDigitCount 10 1 (n / 10) (suc k) = (omega arith, omega arith, λ _. rw d (omega arith)) in
-    rw (decimal_more n g, ← glyph_digit (n % 10) (mod-lt n {m = 10} (omega arith)), ← fewest_decimal k (n / 10) few)
-
-pub io_decimal : (k n : ℕ) → IsDigitCount 10 1 n k → io·digits 10 k n ≡ decimal n
-io_decimal zero n f = absurd (omega (arith, f.0))
-io_decimal (suc k) n f = fewest_decimal k n f
+-- the library's `decimal` is ours
+pub std_decimal : (n : ℕ) → n < 2 ^ 64 → std·decimal n ≡ decimal n
+std_decimal = decimal_by_steps (λ n ds. ds ≡ decimal n) (λ n h. sym (decimal_one n h)) (λ n ds h e. rw (decimal_more n h, e))
 
 -- ---- negative numbers
 

@@ -6,6 +6,8 @@ ghost use Rattle.rules.specs.Text.{bytes as Text·bytes};
 ghost use Rattle.rules_decimal.specs.Decimal.{decimal, signed};
 ghost use Rattle.lister_parts.specs.Parts.{spaced};
 
+use itoa::Buffer;
+
 // A byte.
 pub fn put(out: &mut [u8], at: usize, byte: u8) -> usize
     ensures { Adds (byte ∷ []) out.old at out.new result }
@@ -34,9 +36,8 @@ pub fn bytes(out: &mut [u8], at: usize, text: &[u8]) -> usize
 pub fn number(out: &mut [u8], at: usize, n: u64) -> usize
     ensures { Adds (decimal n) out.old at out.new result }
 {
-    let mut digits = [0u8; 20];
-    let k = io::decimal(n, &mut digits);
-    bytes(out, at, &digits[..k])
+    let mut digits = Buffer::new();
+    bytes(out, at, digits.format(n).as_bytes())
 }
 
 // A blank, then a word in decimal.

@@ -10,6 +10,7 @@ use replay_input::tally;
 use replay_input::tally::{Tally, counter, difference};
 use replay_input::words::words_read;
 use rules::{Table, row};
+use std::io;
 
 // The window is so many bytes from a start on, so many words are lent for rows; and the number, place, count and length that are
 // expected.
@@ -58,18 +59,37 @@ fn writes(number: u32) -> bool {
 
 // Six words that were told against those that are expected: what differs is written. Call 0 of an edit is the question where its window
 // starts.
-pub fn words_compared(tally: Tally, ours: &[u32; 6], theirs: &[u32; 6]) -> Tally {
-    tally::words_compared(tally, b"edit ", ours, theirs)
+pub fn words_compared(
+    rt: &impl Print,
+    tally: Tally,
+    ours: &[u32; 6],
+    theirs: &[u32; 6],
+) -> io::Result<Tally> {
+    tally::words_compared(rt, tally, b"edit ", ours, theirs)
 }
 
 // Memory behind a call against so many rows and what was there: what differs is written.
-fn memory_compared(tally: Tally, memory: &[u32; WORDS], rows: &[u32; WORDS], count: u32) -> Tally {
+fn memory_compared(
+    rt: &impl Print,
+    tally: Tally,
+    memory: &[u32; WORDS],
+    rows: &[u32; WORDS],
+    count: u32,
+) -> io::Result<Tally> {
     let i = first_changed(memory, rows, count);
     if i < WORDS {
         let theirs = expected(rows, count, i);
-        difference(tally, b"edit ", b": word of memory ", i, memory[i], theirs);
+        difference(
+            rt,
+            tally,
+            b"edit ",
+            b": word of memory ",
+            i,
+            memory[i],
+            theirs,
+        )?;
     }
-    tally.up_to(ROWS, count, i / row::WORDS, i < WORDS)
+    Ok(tally.up_to(ROWS, count, i / row::WORDS, i < WORDS))
 }
 
 // One call more, of this kind of edit, of which a number is expected; it agrees if it has no difference more.
@@ -82,6 +102,7 @@ fn counted(before: Tally, now: Tally, kind: u32, number: u32) -> Tally {
 
 // The edit of a call as a change by the whole new text, where the call writes rows: the same is expected of it.
 fn change_compared(
+    rt: &impl Print,
     tally: Tally,
     old: &[u32; WORDS],
     table: Table,
@@ -89,21 +110,22 @@ fn change_compared(
     call: Call,
     text: &[u8],
     rows: &[u32; WORDS],
-) -> Tally {
+) -> io::Result<Tally> {
     let theirs = call.told;
     if !writes(theirs[0]) {
-        return tally;
+        return Ok(tally);
     }
     let mut memory = [UNTOUCHED; WORDS];
     let lent = lent_words(&mut memory, call.words as usize);
     let told = edit_change::change(old, table, edit.a, edit.b, edit.n, text, lent);
-    let told_too = words_compared(tally, &told_words(told), &theirs);
-    let now = memory_compared(told_too, &memory, rows, theirs[4]);
-    now.held(CHANGES, tally.differences == now.differences)
+    let told_too = words_compared(rt, tally, &told_words(told), &theirs)?;
+    let now = memory_compared(rt, told_too, &memory, rows, theirs[4])?;
+    Ok(now.held(CHANGES, tally.differences == now.differences))
 }
 
 // The sample's next call, and its edit as a change.
 fn call_compared(
+    rt: &impl Print,
     sample: &[u8],
     tally: Tally,
     old: &[u32; WORDS],
@@ -112,10 +134,10 @@ fn call_compared(
     text: &[u8; BYTES],
     size: usize,
     rows: &[u32; WORDS],
-) -> Tally {
+) -> io::Result<Tally> {
     let call = call_at(sample, tally.at);
     if call.next == LOST {
-        return tally.moved(LOST);
+        return Ok(tally.moved(LOST));
     }
     let mut memory = [UNTOUCHED; WORDS];
     let start = call.start;
@@ -124,15 +146,16 @@ fn call_compared(
     let told = edit::edit(old, table, edit.a, edit.b, edit.n, start, shown, lent);
     let begun = tally.moved(call.next).next_call();
     let theirs = call.told;
-    let told_too = words_compared(begun, &told_words(told), &theirs);
-    let now = memory_compared(told_too, &memory, rows, theirs[4]);
+    let told_too = words_compared(rt, begun, &told_words(told), &theirs)?;
+    let now = memory_compared(rt, told_too, &memory, rows, theirs[4])?;
     let held = counted(begun, now, edit.kind, theirs[0]);
     let new = replay_input::first(text, size as u64);
-    change_compared(held, old, table, edit, call, new, rows)
+    change_compared(rt, held, old, table, edit, call, new, rows)
 }
 
 // The sample's calls of an edit.
 pub fn calls_compared(
+    rt: &impl Print,
     sample: &[u8],
     tally: Tally,
     old: &[u32; WORDS],
@@ -141,16 +164,14 @@ pub fn calls_compared(
     text: &[u8; BYTES],
     size: usize,
     rows: &[u32; WORDS],
-) -> Tally {
+) -> io::Result<Tally> {
     let calls = count(sample, letter(sample, tally.at, b'C'));
     let mut now = tally.moved(calls.next);
-    let mut i: u64 = 0;
-    while i < calls.value {
+    for _ in 0..calls.value {
         if now.at == LOST {
-            return now;
+            return Ok(now);
         }
-        now = call_compared(sample, now, old, table, edit, text, size, rows);
-        i += 1;
+        now = call_compared(rt, sample, now, old, table, edit, text, size, rows)?;
     }
-    now
+    Ok(now)
 }

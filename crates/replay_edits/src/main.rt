@@ -12,6 +12,7 @@ use replay_input::words::words_read;
 use replay_input::{SAMPLE, lines, part};
 use report::RESTARTS;
 use rules::Table;
+use std::io;
 
 mod call;
 mod change;
@@ -30,25 +31,26 @@ fn scanned_first(text: &[u8; BYTES], size: usize, rows: &mut [u32; WORDS]) {
 
 // The restart place of an edit at a against the sample's.
 fn restart_compared(
+    rt: &impl Print,
     sample: &[u8],
     tally: Tally,
     old: &[u32; WORDS],
     table: Table,
     a: u32,
-) -> Tally {
+) -> io::Result<Tally> {
     let mut theirs = [0u32; 6];
     let next = words_read(sample, letter(sample, tally.at, b'S'), &mut theirs, 4);
     if next == LOST {
-        return tally.moved(LOST);
+        return Ok(tally.moved(LOST));
     }
     let ours = words::restart_words(edit::restart(old, table, a));
     let begun = tally.moved(next);
-    let now = words_compared(begun, &ours, &theirs);
-    now.held(RESTARTS, begun.differences == now.differences)
+    let now = words_compared(rt, begun, &ours, &theirs)?;
+    Ok(now.held(RESTARTS, begun.differences == now.differences))
 }
 
 // The sample's next edit: its restart place and its calls.
-fn edit_compared(sample: &[u8], tally: Tally) -> Tally {
+fn edit_compared(rt: &impl Print, sample: &[u8], tally: Tally) -> io::Result<Tally> {
     let mut old = [0u32; WORDS];
     let mut rows = [0u32; WORDS];
     let mut text = [0u8; BYTES];
@@ -64,46 +66,46 @@ fn edit_compared(sample: &[u8], tally: Tally) -> Tally {
     );
     scanned_first(&text, size, &mut rows);
     let begun = restart_compared(
+        rt,
         sample,
         tally.moved(new.end).next_item(),
         &old,
         table,
         edit.a,
-    );
+    )?;
     let now = begun.moved(change::rows_read(sample, begun.at, &mut rows));
-    calls_compared(sample, now, &old, table, edit, &text, size, &rows)
+    calls_compared(rt, sample, now, &old, table, edit, &text, size, &rows)
 }
 
 // So many edits, as far as the sample can be read.
-fn edits(sample: &[u8], at: usize, size: u64) -> Tally {
+fn edits(rt: &impl Print, sample: &[u8], at: usize, size: u64) -> io::Result<Tally> {
     let mut tally = Tally::start(at);
-    let mut i: u64 = 0;
-    while i < size {
-        let now = edit_compared(sample, tally);
+    for _ in 0..size {
+        let now = edit_compared(rt, sample, tally)?;
         if now.at == LOST {
-            return tally;
+            return Ok(tally);
         }
         tally = now;
-        i += 1;
     }
-    tally
+    Ok(tally)
 }
 
 // The counts of a sample.
-fn replay(sample: &[u8]) {
+fn replay(rt: &impl Print, sample: &[u8]) -> io::Result<()> {
     let size = replay_input::headed(sample, b"spoonharbor-edits");
-    let tally = edits(sample, size.next, size.value);
-    lines::two(b"edits ", tally.item, b" of ", size.value);
+    let tally = edits(rt, sample, size.next, size.value)?;
+    lines::two(rt, b"edits ", tally.item, b" of ", size.value)?;
     lines::one(
+        rt,
         b"bytes behind the last edit ",
         replay_input::rest(sample, tally.at),
-    );
-    report::counts(tally);
+    )?;
+    report::counts(rt, tally)
 }
 
 // The counts of the sample on standard input.
-fn main() {
+fn main(rt: HostRuntime) -> io::Result<()> {
     let mut sample = [0u8; SAMPLE];
-    let size = replay_input::filled(&mut sample);
-    replay(replay_input::shown(&sample, size));
+    let size = replay_input::filled(&rt, &mut sample)?;
+    replay(&rt, replay_input::shown(&sample, size))
 }

@@ -8,6 +8,7 @@ use replay_input::tally::Tally;
 use replay_input::words::words_read;
 use replay_input::{SAMPLE, lines};
 use rules::row;
+use std::io;
 use store::stores_compared;
 
 mod load;
@@ -26,19 +27,20 @@ fn first_rows(rows: &[u32], size: u32) -> &[u32] {
 
 // The sample's stores and loads of a table with so many rows.
 fn calls_compared(
+    rt: &impl Print,
     sample: &[u8],
     tally: Tally,
     table: &[u32; 8],
     rows: &[u32; ROW_WORDS],
     size: u32,
     file: &[u8; BYTES],
-) -> Tally {
-    let now = stores_compared(sample, tally, table, first_rows(rows, size), file);
-    loads_compared(sample, now, rows, file)
+) -> io::Result<Tally> {
+    let now = stores_compared(rt, sample, tally, table, first_rows(rows, size), file)?;
+    loads_compared(rt, sample, now, rows, file)
 }
 
 // The sample's next table, with its calls.
-fn table_compared(sample: &[u8], tally: Tally) -> Tally {
+fn table_compared(rt: &impl Print, sample: &[u8], tally: Tally) -> io::Result<Tally> {
     let mut table = [0u32; 8];
     let mut rows = [0u32; ROW_WORDS];
     let mut file = [0u8; BYTES];
@@ -46,39 +48,38 @@ fn table_compared(sample: &[u8], tally: Tally) -> Tally {
     let listed = table::rows_read(sample, told, &mut rows);
     let written = file_read(sample, listed.next, &mut file);
     let begun = tally.moved(written.next).next_item();
-    calls_compared(sample, begun, &table, &rows, listed.value, &file)
+    calls_compared(rt, sample, begun, &table, &rows, listed.value, &file)
 }
 
 // So many tables, as far as the sample can be read.
-fn tables(sample: &[u8], at: usize, size: u64) -> Tally {
+fn tables(rt: &impl Print, sample: &[u8], at: usize, size: u64) -> io::Result<Tally> {
     let mut tally = Tally::start(at);
-    let mut i: u64 = 0;
-    while i < size {
-        let now = table_compared(sample, tally);
+    for _ in 0..size {
+        let now = table_compared(rt, sample, tally)?;
         if now.at == LOST {
-            return tally;
+            return Ok(tally);
         }
         tally = now;
-        i += 1;
     }
-    tally
+    Ok(tally)
 }
 
 // The counts of a sample.
-fn replay(sample: &[u8]) {
+fn replay(rt: &impl Print, sample: &[u8]) -> io::Result<()> {
     let size = replay_input::headed(sample, b"spoonharbor-files");
-    let tally = tables(sample, size.next, size.value);
-    lines::two(b"tables ", tally.item, b" of ", size.value);
+    let tally = tables(rt, sample, size.next, size.value)?;
+    lines::two(rt, b"tables ", tally.item, b" of ", size.value)?;
     lines::one(
+        rt,
         b"bytes behind the last table ",
         replay_input::rest(sample, tally.at),
-    );
-    report::counts(tally);
+    )?;
+    report::counts(rt, tally)
 }
 
 // The counts of the sample on standard input.
-fn main() {
+fn main(rt: HostRuntime) -> io::Result<()> {
     let mut sample = [0u8; SAMPLE];
-    let size = replay_input::filled(&mut sample);
-    replay(replay_input::shown(&sample, size));
+    let size = replay_input::filled(&rt, &mut sample)?;
+    replay(&rt, replay_input::shown(&sample, size))
 }

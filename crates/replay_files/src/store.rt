@@ -11,6 +11,7 @@ use replay_input::part::bounded;
 use replay_input::tally::{Tally, counter, difference};
 use replay_input::words::words_read;
 use rules_files::form;
+use std::io;
 
 // Byte i of memory behind a call that wrote so many bytes of a file.
 fn expected(file: &[u8; BYTES], size: usize, i: usize) -> u8 {
@@ -41,65 +42,74 @@ fn first_changed(memory: &[u8; BYTES], file: &[u8; BYTES], size: usize) -> usize
 }
 
 // Memory behind a call against so many blocks of a file and what was there: what differs is written.
-fn memory_compared(tally: Tally, memory: &[u8; BYTES], file: &[u8; BYTES], blocks: u32) -> Tally {
+fn memory_compared(
+    rt: &impl Print,
+    tally: Tally,
+    memory: &[u8; BYTES],
+    file: &[u8; BYTES],
+    blocks: u32,
+) -> io::Result<Tally> {
     let size = blocks as usize * form::BLOCK;
     let i = first_changed(memory, file, size);
     if i < BYTES {
         difference(
+            rt,
             tally,
             b"table ",
             b": byte ",
             i,
             wide(memory[i]),
             wide(expected(file, size, i)),
-        );
+        )?;
     }
-    tally.up_to(BLOCKS, blocks, i / form::BLOCK, i < BYTES)
+    Ok(tally.up_to(BLOCKS, blocks, i / form::BLOCK, i < BYTES))
 }
 
 // The sample's next store of a table.
 fn store_compared(
+    rt: &impl Print,
     sample: &[u8],
     tally: Tally,
     table: &[u32; 8],
     rows: &[u32],
     file: &[u8; BYTES],
-) -> Tally {
+) -> io::Result<Tally> {
     let room = bounded(sample, tally.at, BYTES);
     let mut theirs = [0u32; 8];
     let next = words_read(sample, room.next, &mut theirs, 8);
     if next == LOST {
-        return tally.moved(LOST);
+        return Ok(tally.moved(LOST));
     }
     let mut memory = [UNTOUCHED_BYTE; BYTES];
     let mut ours = [0u32; 8];
     let lent = lent_bytes(&mut memory, room.value as usize);
     put_stored(&mut ours, store(rows, table_of(table), lent));
     let begun = tally.moved(next).next_call();
-    let told_too = words_compared(begun, &ours, &theirs);
-    let now = memory_compared(told_too, &memory, file, theirs[COUNT]);
+    let told_too = words_compared(rt, begun, &ours, &theirs)?;
+    let now = memory_compared(rt, told_too, &memory, file, theirs[COUNT])?;
     let agrees = begun.differences == now.differences;
-    now.held(STORES, agrees)
-        .held(counter(0, theirs[NUMBER], DAMAGES), agrees)
+    Ok(
+        now.held(STORES, agrees)
+            .held(counter(0, theirs[NUMBER], DAMAGES), agrees),
+    )
 }
 
 // The sample's stores of a table.
 pub fn stores_compared(
+    rt: &impl Print,
     sample: &[u8],
     tally: Tally,
     table: &[u32; 8],
     rows: &[u32],
     file: &[u8; BYTES],
-) -> Tally {
+) -> io::Result<Tally> {
     let calls = count(sample, letter(sample, tally.at, b'S'));
     let mut now = tally.moved(calls.next);
-    let mut i: u64 = 0;
-    while i < calls.value {
+    for _ in 0..calls.value {
         if now.at == LOST {
-            return now;
+            return Ok(now);
         }
-        now = store_compared(sample, now, table, rows, file);
-        i += 1;
+        now = store_compared(rt, sample, now, table, rows, file)?;
     }
-    now
+    Ok(now)
 }

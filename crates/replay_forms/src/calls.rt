@@ -10,6 +10,7 @@ use replay_input::input::LOST;
 use replay_input::memory::{UNTOUCHED, UNTOUCHED_BYTE, lent_bytes, lent_words, put};
 use replay_input::tally::{Tally, counter, words_compared};
 use replay_input::words::words_read;
+use std::io;
 
 // A call's words: its kind, the form that is asked for, how many bytes or words are lent, and how many words for a list; then ten
 // that are expected.
@@ -90,18 +91,26 @@ fn told_by(text: &[u8], file: &[u8], call: &[u32; CALL]) -> [u32; WORDS] {
 }
 
 // The sample's next call.
-pub fn call_compared(sample: &[u8], tally: Tally, text: &[u8], file: &[u8]) -> Tally {
+pub fn call_compared(
+    rt: &impl Print,
+    sample: &[u8],
+    tally: Tally,
+    text: &[u8],
+    file: &[u8],
+) -> io::Result<Tally> {
     let mut call = [0u32; CALL];
     let next = words_read(sample, tally.at, &mut call, CALL);
     if next == LOST {
-        return tally.moved(LOST);
+        return Ok(tally.moved(LOST));
     }
     let begun = tally.moved(next).next_call();
     let ours = told_by(text, file, &call);
-    let now = words_compared(begun, b"case ", &ours, &call[EXPECTED..]);
+    let now = words_compared(rt, begun, b"case ", &ours, &call[EXPECTED..])?;
     if now.differences != begun.differences {
-        return now;
+        return Ok(now);
     }
-    now.held(counter(0, call[EXPECTED], NUMBERS), true)
-        .held(counter(NUMBERS, call[KIND], KINDS), true)
+    Ok(
+        now.held(counter(0, call[EXPECTED], NUMBERS), true)
+            .held(counter(NUMBERS, call[KIND], KINDS), true),
+    )
 }

@@ -6,66 +6,70 @@ use replay_input::file::{BYTES, file_read, first_bytes};
 use replay_input::input::{LOST, count, letter};
 use replay_input::tally::Tally;
 use replay_input::{SAMPLE, lines, part};
+use std::io;
 
 mod answer;
 mod calls;
 mod report;
 
 // The sample's calls of a text and a file.
-fn calls_compared(sample: &[u8], tally: Tally, text: &[u8], file: &[u8]) -> Tally {
+fn calls_compared(
+    rt: &impl Print,
+    sample: &[u8],
+    tally: Tally,
+    text: &[u8],
+    file: &[u8],
+) -> io::Result<Tally> {
     let calls = count(sample, letter(sample, tally.at, b'C'));
     let mut now = tally.moved(calls.next);
-    let mut i: u64 = 0;
-    while i < calls.value {
+    for _ in 0..calls.value {
         if now.at == LOST {
-            return now;
+            return Ok(now);
         }
-        now = call_compared(sample, now, text, file);
-        i += 1;
+        now = call_compared(rt, sample, now, text, file)?;
     }
-    now
+    Ok(now)
 }
 
 // The sample's next text and file, with its calls.
-fn case_compared(sample: &[u8], tally: Tally) -> Tally {
+fn case_compared(rt: &impl Print, sample: &[u8], tally: Tally) -> io::Result<Tally> {
     let mut bytes = [0u8; BYTES];
     let shown = part::part_at(sample, tally.at, b'P');
     let written = file_read(sample, shown.end, &mut bytes);
     let begun = tally.moved(written.next).next_item();
     let text = part::bytes_of(sample, shown);
-    calls_compared(sample, begun, text, first_bytes(&bytes, written.value))
+    calls_compared(rt, sample, begun, text, first_bytes(&bytes, written.value))
 }
 
 // So many cases, as far as the sample can be read.
-fn cases(sample: &[u8], at: usize, size: u64) -> Tally {
+fn cases(rt: &impl Print, sample: &[u8], at: usize, size: u64) -> io::Result<Tally> {
     let mut tally = Tally::start(at);
-    let mut i: u64 = 0;
-    while i < size {
-        let now = case_compared(sample, tally);
+    for _ in 0..size {
+        let now = case_compared(rt, sample, tally)?;
         if now.at == LOST {
-            return tally;
+            return Ok(tally);
         }
         tally = now;
-        i += 1;
     }
-    tally
+    Ok(tally)
 }
 
 // The counts of a sample.
-fn replay(sample: &[u8]) {
+fn replay(rt: &impl Print, sample: &[u8]) -> io::Result<()> {
     let size = replay_input::headed(sample, b"spoonharbor-forms");
-    let tally = cases(sample, size.next, size.value);
-    lines::two(b"cases ", tally.item, b" of ", size.value);
+    let tally = cases(rt, sample, size.next, size.value)?;
+    lines::two(rt, b"cases ", tally.item, b" of ", size.value)?;
     lines::one(
+        rt,
         b"bytes behind the last case ",
         replay_input::rest(sample, tally.at),
-    );
-    report::counts(tally);
+    )?;
+    report::counts(rt, tally)
 }
 
 // The counts of the sample on standard input.
-fn main() {
+fn main(rt: HostRuntime) -> io::Result<()> {
     let mut sample = [0u8; SAMPLE];
-    let size = replay_input::filled(&mut sample);
-    replay(replay_input::shown(&sample, size));
+    let size = replay_input::filled(&rt, &mut sample)?;
+    replay(&rt, replay_input::shown(&sample, size))
 }

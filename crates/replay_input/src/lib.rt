@@ -1,7 +1,8 @@
 // What the programs that replay a stored sample share: its words and files, what calls tell as such words and leave in lent memory,
 // counters, and lines of numbers.
 use input::{LOST, Word};
-use libc::STDIN_FILENO;
+use std::io;
+use std::io::Read;
 
 pub mod file;
 pub mod input;
@@ -16,8 +17,17 @@ pub mod words;
 pub const SAMPLE: usize = 2000000;
 
 // Standard input at the front of memory: how many bytes were read.
-pub fn filled(sample: &mut [u8; SAMPLE]) -> usize {
-    io::read_full(STDIN_FILENO, sample)
+pub fn filled(rt: &impl Input, sample: &mut [u8; SAMPLE]) -> io::Result<usize> {
+    let mut input = rt.reader();
+    let mut size = 0;
+    while size < sample.len() {
+        let n = input.read(&mut sample[size..])?;
+        if n == 0 {
+            break;
+        }
+        size += n;
+    }
+    Ok(size)
 }
 
 // The first so many bytes of it.

@@ -1,26 +1,26 @@
 // Lines of standard output: numbers behind the words that say what they are.
-use libc::STDOUT_FILENO;
+use std::io;
 
 // A number behind some words.
-pub fn told(name: &[u8], n: u64) {
-    io::write_all(STDOUT_FILENO, name);
-    io::print_decimal(STDOUT_FILENO, n);
+pub fn told(rt: &impl Print, name: &[u8], n: u64) -> io::Result<()> {
+    rt.write_all(name)?;
+    print!(rt; "{n}")
 }
 
 // The end of a line.
-pub fn end() {
-    io::write_all(STDOUT_FILENO, b"\n");
+pub fn end(rt: &impl Print) -> io::Result<()> {
+    rt.write_all(b"\n")
 }
 
 // A number behind some words, and a newline.
-pub fn one(name: &[u8], a: u64) {
-    told(name, a);
-    end();
+pub fn one(rt: &impl Print, name: &[u8], a: u64) -> io::Result<()> {
+    told(rt, name, a)?;
+    end(rt)
 }
 
 // Two numbers behind some words each, and a newline.
-pub fn two(first: &[u8], a: u64, second: &[u8], b: u64) {
-    told(first, a);
-    told(second, b);
-    end();
+pub fn two(rt: &impl Print, first: &[u8], a: u64, second: &[u8], b: u64) -> io::Result<()> {
+    told(rt, first, a)?;
+    told(rt, second, b)?;
+    end(rt)
 }

@@ -2,6 +2,7 @@
 use crate::lines::{told, two};
 use crate::more;
 use crate::words::first_other;
+use std::io;
 
 // How many counters there are; as a counter it is none.
 pub const COUNTERS: usize = 56;
@@ -115,29 +116,30 @@ pub fn counter(first: usize, n: u32, most: usize) -> usize {
 }
 
 // How many of a thing were held against the sample, and how many agree.
-pub fn line(name: &[u8], tally: Tally, what: usize) {
+pub fn line(rt: &impl Print, name: &[u8], tally: Tally, what: usize) -> io::Result<()> {
     if what < COUNTERS {
-        two(name, tally.seen[what], b", agreed ", tally.agreed[what]);
+        two(rt, name, tally.seen[what], b", agreed ", tally.agreed[what])?;
     }
+    Ok(())
 }
 
 // How many calls of which number i is expected were held against the sample, and how many agree; nothing where there are none.
-fn number_line(tally: Tally, i: usize) {
+fn number_line(rt: &impl Print, tally: Tally, i: usize) -> io::Result<()> {
     if i < COUNTERS {
         if 0 < tally.seen[i] {
-            told(b"expected ", i as u64);
-            line(b": ", tally, i);
+            told(rt, b"expected ", i as u64)?;
+            line(rt, b": ", tally, i)?;
         }
     }
+    Ok(())
 }
 
 // The calls by the number that is expected of them, from a first one on.
-pub fn numbers(tally: Tally, first: usize, most: usize) {
-    let mut i = first;
-    while i < most {
-        number_line(tally, i);
-        i += 1;
+pub fn numbers(rt: &impl Print, tally: Tally, first: usize, most: usize) -> io::Result<()> {
+    for i in first..most {
+        number_line(rt, tally, i)?;
     }
+    Ok(())
 }
 
 // Whether the next difference is written: the first few are.
@@ -146,23 +148,38 @@ fn is_written(tally: Tally) -> bool {
 }
 
 // Part i of what a call of the item told or left is one number, and another is expected.
-pub fn difference(tally: Tally, item: &[u8], part: &[u8], i: usize, ours: u32, theirs: u32) {
+pub fn difference(
+    rt: &impl Print,
+    tally: Tally,
+    item: &[u8],
+    part: &[u8],
+    i: usize,
+    ours: u32,
+    theirs: u32,
+) -> io::Result<()> {
     if is_written(tally) {
-        told(item, tally.item);
-        told(b", call ", tally.call);
-        told(part, i as u64);
-        two(b" is ", ours as u64, b", expected ", theirs as u64);
+        told(rt, item, tally.item)?;
+        told(rt, b", call ", tally.call)?;
+        told(rt, part, i as u64)?;
+        two(rt, b" is ", ours as u64, b", expected ", theirs as u64)?;
     }
+    Ok(())
 }
 
 // Words that a call told against as many that are expected: what differs first is written.
-pub fn words_compared(tally: Tally, item: &[u8], ours: &[u32], theirs: &[u32]) -> Tally {
+pub fn words_compared(
+    rt: &impl Print,
+    tally: Tally,
+    item: &[u8],
+    ours: &[u32],
+    theirs: &[u32],
+) -> io::Result<Tally> {
     let i = first_other(ours, theirs);
     if i < ours.len() {
         if i < theirs.len() {
-            difference(tally, item, b": word ", i, ours[i], theirs[i]);
-            return tally.differs();
+            difference(rt, tally, item, b": word ", i, ours[i], theirs[i])?;
+            return Ok(tally.differs());
         }
     }
-    tally
+    Ok(tally)
 }

@@ -8,6 +8,7 @@ use replay_input::tally::{Tally, counter, difference, words_compared};
 use replay_input::told::table_of;
 use replay_input::words::words_read;
 use rules::{Parsed, Table};
+use std::io;
 
 // A call's words: what is changed, at which place, to what, how many bytes are lent; then the number and the length that are expected.
 const CALL: usize = 6;
@@ -142,47 +143,64 @@ fn first_changed(memory: &[u8; BYTES], layout: &[u8], size: usize) -> usize {
 }
 
 // Memory behind a call against so many bytes of a layout and what was there: what differs is written.
-fn memory_compared(tally: Tally, memory: &[u8; BYTES], layout: &[u8], size: usize) -> Tally {
+fn memory_compared(
+    rt: &impl Print,
+    tally: Tally,
+    memory: &[u8; BYTES],
+    layout: &[u8],
+    size: usize,
+) -> io::Result<Tally> {
     let i = first_changed(memory, layout, size);
     if i < BYTES {
         let ours = widened(memory[i]);
         let theirs = widened(expected(layout, size, i));
-        difference(tally, b"case ", b": byte ", i, ours, theirs);
-        return tally.differs();
+        difference(rt, tally, b"case ", b": byte ", i, ours, theirs)?;
+        return Ok(tally.differs());
     }
-    tally
+    Ok(tally)
 }
 
 // What a call told and left against what is expected.
 fn answer_compared(
+    rt: &impl Print,
     begun: Tally,
     text: &[u8],
     layout: &[u8],
     call: &[u32; CALL],
     scratch: &mut [u32; SCRATCH],
-) -> Tally {
+) -> io::Result<Tally> {
     let mut memory = [UNTOUCHED_BYTE; BYTES];
     let lent = lent_bytes(&mut memory, wide(call[ROOM]));
     let ours = told_by(text, call, scratch, lent);
-    let told = words_compared(begun, b"case ", &ours, &expected_words(call));
-    let now = memory_compared(told, &memory, layout, wide(call[LENGTH]));
+    let told = words_compared(rt, begun, b"case ", &ours, &expected_words(call))?;
+    let now = memory_compared(rt, told, &memory, layout, wide(call[LENGTH]))?;
     let agrees = begun.differences == now.differences;
-    now.held(counter(0, call[EXPECTED], NUMBERS), agrees)
-        .held(counter(NUMBERS, call[WHAT], FORGED), agrees)
+    Ok(
+        now.held(counter(0, call[EXPECTED], NUMBERS), agrees)
+            .held(counter(NUMBERS, call[WHAT], FORGED), agrees),
+    )
 }
 
 // The sample's next call.
 pub fn call_compared(
+    rt: &impl Print,
     sample: &[u8],
     tally: Tally,
     text: &[u8],
     layout: &[u8],
     scratch: &mut [u32; SCRATCH],
-) -> Tally {
+) -> io::Result<Tally> {
     let mut call = [0u32; CALL];
     let next = words_read(sample, tally.at, &mut call, CALL);
     if next == LOST {
-        return tally.moved(LOST);
+        return Ok(tally.moved(LOST));
     }
-    answer_compared(tally.moved(next).next_call(), text, layout, &call, scratch)
+    answer_compared(
+        rt,
+        tally.moved(next).next_call(),
+        text,
+        layout,
+        &call,
+        scratch,
+    )
 }

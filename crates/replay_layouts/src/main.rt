@@ -7,37 +7,43 @@ use replay_input::input::{LOST, count, letter};
 use replay_input::part::{bytes_of, part_at};
 use replay_input::tally::Tally;
 use replay_input::{SAMPLE, lines};
+use std::io;
 
 mod calls;
 mod report;
 
 // The sample's calls of a text and its layout.
 fn calls_compared(
+    rt: &impl Print,
     sample: &[u8],
     tally: Tally,
     text: &[u8],
     layout: &[u8],
     scratch: &mut [u32; SCRATCH],
-) -> Tally {
+) -> io::Result<Tally> {
     let calls = count(sample, letter(sample, tally.at, b'C'));
     let mut now = tally.moved(calls.next);
-    let mut i: u64 = 0;
-    while i < calls.value {
+    for _ in 0..calls.value {
         if now.at == LOST {
-            return now;
+            return Ok(now);
         }
-        now = call_compared(sample, now, text, layout, scratch);
-        i += 1;
+        now = call_compared(rt, sample, now, text, layout, scratch)?;
     }
-    now
+    Ok(now)
 }
 
 // The sample's next text and layout, with its calls.
-fn case_compared(sample: &[u8], tally: Tally, scratch: &mut [u32; SCRATCH]) -> Tally {
+fn case_compared(
+    rt: &impl Print,
+    sample: &[u8],
+    tally: Tally,
+    scratch: &mut [u32; SCRATCH],
+) -> io::Result<Tally> {
     let shown = part_at(sample, tally.at, b'T');
     let laid = part_at(sample, shown.end, b'L');
     let begun = tally.moved(laid.end).next_item();
     calls_compared(
+        rt,
         sample,
         begun,
         bytes_of(sample, shown),
@@ -47,36 +53,41 @@ fn case_compared(sample: &[u8], tally: Tally, scratch: &mut [u32; SCRATCH]) -> T
 }
 
 // So many cases, as far as the sample can be read.
-fn cases(sample: &[u8], at: usize, size: u64, scratch: &mut [u32; SCRATCH]) -> Tally {
+fn cases(
+    rt: &impl Print,
+    sample: &[u8],
+    at: usize,
+    size: u64,
+    scratch: &mut [u32; SCRATCH],
+) -> io::Result<Tally> {
     let mut tally = Tally::start(at);
-    let mut i: u64 = 0;
-    while i < size {
-        let now = case_compared(sample, tally, scratch);
+    for _ in 0..size {
+        let now = case_compared(rt, sample, tally, scratch)?;
         if now.at == LOST {
-            return tally;
+            return Ok(tally);
         }
         tally = now;
-        i += 1;
     }
-    tally
+    Ok(tally)
 }
 
 // The counts of a sample.
-fn replay(sample: &[u8], scratch: &mut [u32; SCRATCH]) {
+fn replay(rt: &impl Print, sample: &[u8], scratch: &mut [u32; SCRATCH]) -> io::Result<()> {
     let size = replay_input::headed(sample, b"spoonharbor-layouts");
-    let tally = cases(sample, size.next, size.value, scratch);
-    lines::two(b"cases ", tally.item, b" of ", size.value);
+    let tally = cases(rt, sample, size.next, size.value, scratch)?;
+    lines::two(rt, b"cases ", tally.item, b" of ", size.value)?;
     lines::one(
+        rt,
         b"bytes behind the last case ",
         replay_input::rest(sample, tally.at),
-    );
-    report::counts(tally);
+    )?;
+    report::counts(rt, tally)
 }
 
 // The counts of the sample on standard input.
-fn main() {
+fn main(rt: HostRuntime) -> io::Result<()> {
     let mut sample = [0u8; SAMPLE];
     let mut scratch = [0u32; SCRATCH];
-    let size = replay_input::filled(&mut sample);
-    replay(replay_input::shown(&sample, size), &mut scratch);
+    let size = replay_input::filled(&rt, &mut sample)?;
+    replay(&rt, replay_input::shown(&sample, size), &mut scratch)
 }

@@ -5,6 +5,7 @@ use replay_input::input::LOST;
 use replay_input::tally::Tally;
 use replay_input::told::table_of;
 use replay_input::{SAMPLE, lines};
+use std::io;
 
 mod compared;
 mod report;
@@ -79,21 +80,21 @@ fn case_compared(sample: &[u8], tally: Tally) -> Tally {
 }
 
 // The number of the case that differs behind i others.
-fn differing_line(run: Run, i: usize) {
+fn differing_line(rt: &impl Print, run: Run, i: usize) -> io::Result<()> {
     if i < 8 {
         if (i as u64) < run.differing {
-            lines::one(b"differing case ", run.first[i]);
+            lines::one(rt, b"differing case ", run.first[i])?;
         }
     }
+    Ok(())
 }
 
 // The numbers of the first few cases that differ.
-fn list_differing(run: Run) {
-    let mut i = 0;
-    while i < 8 {
-        differing_line(run, i);
-        i += 1;
+fn list_differing(rt: &impl Print, run: Run) -> io::Result<()> {
+    for i in 0..8 {
+        differing_line(rt, run, i)?;
     }
+    Ok(())
 }
 
 // So many cases, as far as the sample can be read.
@@ -112,25 +113,26 @@ fn cases(sample: &[u8], at: usize, size: u64) -> Run {
 }
 
 // Runs the cases of a sample and writes what agreed.
-fn replay(sample: &[u8]) {
+fn replay(rt: &impl Print, sample: &[u8]) -> io::Result<()> {
     let size = replay_input::input::count(
         sample,
         replay_input::header(sample, b"spoonharbor-sample"),
     );
     let run = cases(sample, size.next, size.value);
-    lines::two(b"cases ", run.tally.item, b" of ", size.value);
+    lines::two(rt, b"cases ", run.tally.item, b" of ", size.value)?;
     lines::one(
+        rt,
         b"bytes behind the last case ",
         replay_input::rest(sample, run.tally.at),
-    );
-    report::counts(run.tally);
-    lines::one(b"differing cases ", run.differing);
-    list_differing(run);
+    )?;
+    report::counts(rt, run.tally)?;
+    lines::one(rt, b"differing cases ", run.differing)?;
+    list_differing(rt, run)
 }
 
 // Replays the sample on standard input.
-fn main() {
+fn main(rt: HostRuntime) -> io::Result<()> {
     let mut sample = [0u8; SAMPLE];
-    let size = replay_input::filled(&mut sample);
-    replay(replay_input::shown(&sample, size));
+    let size = replay_input::filled(&rt, &mut sample)?;
+    replay(&rt, replay_input::shown(&sample, size))
 }

@@ -1,6 +1,7 @@
 // What is counted, and what is written of it.
 use replay_input::lines::one;
 use replay_input::tally::{Tally, line};
+use std::io;
 
 // What is counted: row counts, rows, endings, refused parses, parses that the sample has no answer for, programs, declarations, nodes.
 pub const TABLES: usize = 0;
@@ -23,14 +24,23 @@ pub const NODES: usize = 7;
 pub const UNSAID: usize = 8;
 
 // How many of each thing agreed.
-pub fn counts(tally: Tally) {
-    line(b"row counts ", tally, TABLES);
-    line(b"rows ", tally, ROWS);
-    line(b"endings ", tally, ENDINGS);
-    line(b"parse refusals ", tally, REFUSALS);
-    line(b"programs ", tally, PROGRAMS);
-    line(b"declarations ", tally, DECLARATIONS);
-    line(b"nodes ", tally, NODES);
-    line(b"parses that only the language answers ", tally, UNCOMPARED);
-    one(b"words that the sample does not say ", tally.seen[UNSAID]);
+pub fn counts(rt: &impl Print, tally: Tally) -> io::Result<()> {
+    line(rt, b"row counts ", tally, TABLES)?;
+    line(rt, b"rows ", tally, ROWS)?;
+    line(rt, b"endings ", tally, ENDINGS)?;
+    line(rt, b"parse refusals ", tally, REFUSALS)?;
+    line(rt, b"programs ", tally, PROGRAMS)?;
+    line(rt, b"declarations ", tally, DECLARATIONS)?;
+    line(rt, b"nodes ", tally, NODES)?;
+    line(
+        rt,
+        b"parses that only the language answers ",
+        tally,
+        UNCOMPARED,
+    )?;
+    one(
+        rt,
+        b"words that the sample does not say ",
+        tally.seen[UNSAID],
+    )
 }

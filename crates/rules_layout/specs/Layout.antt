@@ -64,9 +64,16 @@ laid_of (no why r) = []
 unfoldable pub room_told : List ℕ → ℕ → LaidOut
 room_told bytes room = cond (leb (length bytes) room && leb (length bytes) most_bytes) (out.Bytes (length bytes)) (out.Refused NoRoom)
 
+unfoldable pub tree_told : Out → List ℕ → ℕ → ℕ → LaidOut
+tree_told (ok u j) nodes count room = cond (is_tree u nodes count) (room_told (layout u) room) (out.Refused NotItsTree)
+tree_told (no why r) nodes count room = out.Refused NotItsTree
+
 unfoldable pub layout_told : List ℕ → List ℕ → Table → List ℕ → ℕ → ℕ → LaidOut
 layout_told t ws tbl nodes count room =
-    cond (is_scanned t ws tbl && is_read (reading t) nodes count) (room_told (laid_of (reading t)) room) (out.Refused NotItsTree)
+    elim (text_judged t) [
+      | verdict.Fine ↦ cond (is_scan t ws tbl) (tree_told (reading t) nodes count room) (out.Refused NotItsTree)
+      | verdict.Refused why p ↦ out.Refused NotItsTree
+    ]
 
 -- ---- what it leaves: the layout, and then what was there; "the room is then untouched"
 

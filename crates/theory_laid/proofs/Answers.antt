@@ -17,6 +17,7 @@ use Rattle.rules_layout.specs.declared.LaidOut.TheVariants as out
 use Rattle.rules_layout.specs.declared.Unlaid.{Unlaid}
 use Rattle.rules_layout.specs.declared.Unlaid.TheVariants.{NotItsTree, NoRoom}
 use Rattle.rules_layout.specs.Bytes.{layout}
+use Rattle.rules_layout.proofs.Told.{layout_told_by}
 use Rattle.rules_layout.specs.Layout.{is_scanned, is_read, reading, room_told, layout_told, laid_of, layout_leaves}
 use Rattle.answers.specs.Layout.{words, nowhere, table_of}
 use Rattle.layout_answers.specs.Words.{laid_words}
@@ -53,8 +54,7 @@ module _ (text rows table nodes : List ℕ) (count : ℕ) (room : List ℕ) wher
 
   told_by : {a b : Bool} → is_scanned text rows (table_of table) ≡ a → is_read (reading text) nodes count ≡ b
       → tells ≡ cond (a && b) (room_told (laid_of (reading text)) (length room)) (out.Refused NotItsTree)
-  unfolding layout_told
-  told_by e f = rw (e, f)
+  told_by e f = layout_told_by text rows (table_of table) nodes count (length room) ∙ rw (e, f)
 
   -- the text's tree, and its layout in the room
   module _ (u : Tree) (j : ℕ) (e : reading text ≡ ok u j) (x : ItsTree text rows table nodes count u)

@@ -14,7 +14,7 @@ use Rattle.rules.specs.Tree.{Tok, sign, name, string, value, spelling_of, yield,
 use Rattle.rules.specs.Nodes.{Node, node, fact_node, missing, width, place_of, licence_row, nodes_of, binary_node, decl_node, assign_node, text_node, NodeUnit, NodeAdd, NodeSub, NodeMul, NodeDiv, NodeMod, NodeShl, NodeShr, NodeReg, NodeImm, NodeHeap, NodeAssign, NodeAddAssign, NodeSection, NodeLicense}
 use Rattle.theory_grammar.proofs.Laws.{yield_width}
 use Rattle.theory_grammar.proofs.Complete.{From}
-use Rattle.theory_layout.specs.Back.{Face, spelled_by, face_by, spells_tok, faces}
+use Rattle.theory_layout.specs.Back.{Face, spelled_at, face_of, faces, spelled_by, face_by, spells_tok}
 use Rattle.theory_layout.proofs.Faces.{face, plain_face, unit_face, last_some, licence_of, shown}
 
 -- ---- kinds that are no unit's
@@ -279,6 +279,6 @@ module _ (ts : List Tok) (few : length ts ≤ missing) (spells : ℕ → List �
 
 -- by its tokens
 pub faces_shown : (ts : List Tok) → length ts ≤ missing → (t : Tree) → ts ≡ yield t → faces ts t ≡ shown t
-unfolding faces spelling_of
+unfolding faces face_of face_by spelled_at spelled_by spelling_of
 faces_shown ts few t e =
     nodes_shown ts few (spells_tok ts) (record { of_name = λ r w h q. ap spelling_of q; of_string = λ r w h q. ap spelling_of q }) t e

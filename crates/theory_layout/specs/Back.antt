@@ -26,6 +26,34 @@ pub record Face : Type 0 where
 unfoldable pub tokens_of : List ℕ → List Tok
 tokens_of t = tokens t (read_rows (scan t))
 
+-- how row r is spelled; nothing if it is missing
+unfoldable pub spelled_at : List Tok → ℕ → List (List ℕ)
+spelled_at ts r = cond (eqb r missing) [] (spelling_of (get_or ts r (sign Eof)) ∷ [])
+
+unfoldable pub face_of : List Tok → Node → Face
+face_of ts n =
+    cond (eqb n.kind NodeUnit)
+    (record {
+      kind = n.kind;
+      children = n.children;
+      name = spelled_at ts n.name;
+      licence = spelled_at ts n.fact1;
+      facts = n.fact0 ∷ n.fact2 ∷ n.fact3 ∷ [];
+    })
+    (record {
+      kind = n.kind;
+      children = n.children;
+      name = spelled_at ts n.name;
+      licence = [];
+      facts = n.fact0 ∷ n.fact1 ∷ n.fact2 ∷ n.fact3 ∷ [];
+    })
+
+-- the faces of a tree's nodes, where the tree is read from tokens from the first on
+unfoldable pub faces : List Tok → Tree → List Face
+faces ts u = map (face_of ts) (nodes_of 0 u)
+
+-- ---- the same by the spelling of each row, whatever says it
+
 -- how row r is spelled, by the spelling of each row; nothing if it is missing
 unfoldable pub spelled_by : (ℕ → List ℕ) → ℕ → List (List ℕ)
 spelled_by spells r = cond (eqb r missing) [] (spells r ∷ [])
@@ -51,10 +79,6 @@ face_by spells n =
 -- the spelling of a row among tokens
 abbrev pub spells_tok : List Tok → ℕ → List ℕ
 spells_tok ts r = spelling_of (get_or ts r (sign Eof))
-
--- the faces of a tree's nodes, where the tree is read from tokens from the first on
-unfoldable pub faces : List Tok → Tree → List Face
-faces ts u = map (face_by (spells_tok ts)) (nodes_of 0 u)
 
 -- ---- in words, as rows and nodes are lent
 

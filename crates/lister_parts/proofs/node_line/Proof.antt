@@ -5,16 +5,16 @@ use Rattle.lister_parts.proofs.Adding.{adds_then}
 use Rattle.lister_parts.proofs.node_line.Statement.{statement}
 use Rattle.lister_parts.proofs.node_line.Tie as tie
 
-number_requires : tie.Need-number-requires
+number_requires : tie.Need-number-numbered-requires
 number_requires c κs = search rules
 
-words_requires : tie.Need-words-requires
+words_requires : tie.Need-words-told-requires
 words_requires c κs = search rules
 
 put_requires : tie.Need-put-requires
 put_requires c κs = search rules
 
-same_length : tie.Need-same-length
+same_length : tie.Need-shape_of-out
 same_length c = search rules
 
 returns : tie.Need-returns
@@ -23,7 +23,7 @@ returns c =
     let ended = c.before.before in
     let told = ended.before.before.before.before in
     let numbered = told.before.before.before.before in
-    adds_then (adds_then numbered.number.ensures told.words.ensures) ended.put.ensures
+    adds_then (adds_then numbered.number-numbered.ensures told.words-told.ensures) ended.put.ensures
 
 pub node_line_spec : {M : Type 1} → statement M
 node_line_spec =

@@ -5,25 +5,25 @@ use borrow.Author.Rules.{rules}
 use Rattle.replay_input.proofs.header.Statement.{statement}
 use Rattle.replay_input.proofs.header.Tie as tie
 
-returns : tie.Need-returns
+returns : tie.Need-returns-then-sample-end
 returns c = search rules
 
-slice_aggregate_same : tie.Need-slice-aggregate-same
+slice_aggregate_same : tie.Need-slice_bounds-same-end
 slice_aggregate_same c = sym (length-take-le _ _ (search rules))
 
 same_requires : tie.Need-same-requires
 same_requires c κs = search rules
 
-returns_2 : tie.Need-returns-2
+returns_2 : tie.Need-returns-then-not-same
 returns_2 c = search rules
 
-count_requires : tie.Need-count-requires
+count_requires : tie.Need-count-version-requires
 count_requires c κs = search rules
 
-returns_3 : tie.Need-returns-3
+returns_3 : tie.Need-returns-then-version-ne1
 returns_3 c = search rules
 
-returns_4 : tie.Need-returns-4
+returns_4 : tie.Need-returns
 returns_4 c = search rules
 
 pub header_spec : {M : Type 1} → statement M

@@ -7,42 +7,42 @@ use Rattle.lister_parts.proofs.Lists.{spaced_none, spaced_more}
 use Rattle.lister_parts.proofs.line.words.Statement.{statement}
 use Rattle.lister_parts.proofs.line.words.Tie as tie
 
-abbrev invariant_loop : tie.invariant-loop
+abbrev invariant_loop : tie.invariant-loop-i
 invariant_loop out₀ at list at₀ i₀ out at' i = (i ≤ length list) × (length out ≡ length out₀) × Adds (spaced (take i list)) out₀ at out at'
 
-abbrev decreases_loop : tie.decreases-loop
+abbrev decreases_loop : tie.decreases-loop-i
 decreases_loop out₀ at list at₀ i₀ out at' i = length list - i
 
-loop_holds : tie.Need-loop-init invariant_loop decreases_loop
+loop_holds : tie.Need-loop-i-init invariant_loop decreases_loop
 loop_holds c = (search rules, search rules, adds_same (sym spaced_none) (adds_none _ _))
 
-mul_word : tie.Need-overflow-mul-word invariant_loop decreases_loop
+mul_word : tie.Need-offset_bounds-list-i invariant_loop decreases_loop
 mul_word c = search rules
 
-shared_slice_read_word : tie.Need-shared-slice-read-word invariant_loop decreases_loop
+shared_slice_read_word : tie.Need-bounds-list-i invariant_loop decreases_loop
 shared_slice_read_word c = search rules
 
-word_requires : tie.Need-word-requires invariant_loop decreases_loop
+word_requires : tie.Need-word-at-requires invariant_loop decreases_loop
 word_requires c κs = search rules
 
-add_i : tie.Need-overflow-add-i invariant_loop decreases_loop
+add_i : tie.Need-overflow_add-i invariant_loop decreases_loop
 add_i c = search rules
 
-loop_less : tie.Need-loop-smaller invariant_loop decreases_loop
+loop_less : tie.Need-loop-i-smaller invariant_loop decreases_loop
 loop_less c = search rules
 
-loop_again : tie.Need-loop-preserved invariant_loop decreases_loop
+loop_again : tie.Need-loop-i-preserved invariant_loop decreases_loop
 loop_again c =
     let l = c.before.before.before.before.before.before in
-    let w = c.before.before.word in
+    let w = c.before.before.word-at in
     let list = l.before.before.before.args.list.now in
-    (omega arith, w.auto.0 ∙ l.loop.invariant.1, adds_same (sym (spaced_more list l.loop.i (omega arith))) (adds_then l.loop.invariant.2 w.ensures))
+    (omega arith, w.auto.out ∙ l.loop-i.invariant.1, adds_same (sym (spaced_more list l.loop-i.i (omega arith))) (adds_then l.loop-i.invariant.2 w.ensures))
 
-same_length : tie.Need-same-length invariant_loop decreases_loop
-same_length c = c.before.loop.invariant.1
+same_length : tie.Need-shape_of-out invariant_loop decreases_loop
+same_length c = c.before.loop-i.invariant.1
 
 returns : tie.Need-returns invariant_loop decreases_loop
-returns c = adds_same (ap spaced (take_all _ _ c.loop-test.false)) c.before.loop.invariant.2
+returns c = adds_same (ap spaced (take_all _ _ c.loop-i-test.false)) c.before.loop-i.invariant.2
 
 pub words_spec : {M : Type 1} → statement M
 words_spec =

@@ -5,13 +5,13 @@ use borrow.Author.Rules.{rules}
 use Rattle.replay_input.proofs.memory.lent_bytes.Statement.{statement}
 use Rattle.replay_input.proofs.memory.lent_bytes.Tie as tie
 
-returns : tie.Need-returns
+returns : tie.Need-returns-then-memory-size
 returns c = search rules
 
-slice_aggregate_result : tie.Need-slice-aggregate-result
+slice_aggregate_result : tie.Need-slice_bounds-result-end
 slice_aggregate_result c = sym (length-take-le _ _ (search rules))
 
-returns_2 : tie.Need-returns-2
+returns_2 : tie.Need-returns
 returns_2 c = search rules
 
 pub lent_bytes_spec : {M : Type 1} → statement M
