@@ -20,13 +20,13 @@ abbrev pub μ-loop : lts.decreases-loop-left
 μ-loop text rows nodes n things room₀ at end₀ left₀ to₀ room end left to = left
 
 pub loop_holds : (t : ℕ) → lts.Need-loop-left-init (cs t) (args_at t) args.Post InvLoop μ-loop
-loop_holds t c = let a = c.before.before.before.before.args in
+loop_holds t c = let a = c.args in
     record { fit = record { few = omega arith; long = refl }; goes = λ q. arguing_none a.room.now a.at q }
 
 pub expr_requires : (t : ℕ) → lts.Need-expr-b-requires (cs t) (args_at t) args.Post InvLoop μ-loop
 expr_requires t c κs = (
   omega
-      (arith, c.before.before.before.before.before.before.before.requires.0, c.before.before.loop-left.invariant.fit.few),
+      (arith, c.requires.0, c.loop-left.invariant.fit.few),
   tt,
 )
 
@@ -41,23 +41,23 @@ loop_less t c = search rules
 
 pub loop_again : (t : ℕ) → lts.Need-loop-left-preserved (cs t) (args_at t) args.Post InvLoop μ-loop
 loop_again t c =
-    let l = c.before.before.before.before.before.before.before.before.before.loop-left in
-    let v = c.before.before.before.before.before.before.expr-b in
+    let l = c.loop-left in
+    let v = c.expr-b in
     record {
       fit = record {
         few = omega (arith, l.invariant.fit.few, v.ensures.low);
-        long = c.before.before.comma-to.auto.1.0
-            ∙ v.auto.1.1.1.1.1.0 ∙ l.invariant.fit.long;
+        long = c.comma-to.auto.room
+            ∙ v.auto.room ∙ l.invariant.fit.long;
       };
-      goes = λ q. arguing_on (omega arith) (l.invariant.goes q) v.ensures c.before.before.comma-to.ensures;
+      goes = λ q. arguing_on (omega arith) (l.invariant.goes q) v.ensures c.comma-to.ensures;
     }
 
 pub same_length : (t : ℕ) → lts.Need-shape_of-room (cs t) (args_at t) args.Post InvLoop μ-loop
-same_length t c = c.before.loop-left.invariant.fit.long
+same_length t c = c.loop-left.invariant.fit.long
 
 pub returns : (t : ℕ) → lts.Need-returns (cs t) (args_at t) args.Post InvLoop μ-loop
 returns t c = record {
-  low = omega (arith, c.before.loop-left.invariant.fit.few);
+  low = omega (arith, c.loop-left.invariant.fit.few);
   done = λ q. arguing_all (omega arith)
-      (c.before.loop-left.invariant.goes q);
+      (c.loop-left.invariant.goes q);
 }

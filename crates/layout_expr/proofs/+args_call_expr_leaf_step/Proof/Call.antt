@@ -29,30 +29,21 @@ word_requires t c κs = search rules
 pub word_requires_2 : (t : ℕ) → lts.Need-word-name-requires (cs t) (call_at t) call.Post
 word_requires_2 t c κs = search rules
 
-pub slice_aggregate_bytes : (t : ℕ) → lts.Need-slice-aggregate-bytes (cs t) (call_at t) call.Post
-slice_aggregate_bytes t c = search rules
-
 pub bytes_requires : (t : ℕ) → lts.Need-bytes-shut-requires (cs t) (call_at t) call.Post
 bytes_requires t c κs = search rules
 
 pub args_requires : (t : ℕ) → lts.Need-args-b-requires (cs t) (call_at t) call.Post
 args_requires t c κs = (
   omega
-      (arith, c.before.before.before.before.before.before.before.before.before.before.before.before.requires.0),
+      (arith, c.requires.0),
   tt,
 )
-
-pub slice_aggregate_bytes_2 : (t : ℕ) → lts.Need-slice-aggregate-bytes-2 (cs t) (call_at t) call.Post
-slice_aggregate_bytes_2 t c = search rules
 
 pub bytes_requires_2 : (t : ℕ) → lts.Need-bytes-opens-requires (cs t) (call_at t) call.Post
 bytes_requires_2 t c κs = search rules
 
 pub name_requires : (t : ℕ) → lts.Need-name-to-requires (cs t) (call_at t) call.Post
 name_requires t c κs = search rules
-
-pub slice_aggregate_bytes_3 : (t : ℕ) → lts.Need-slice-aggregate-bytes-3 (cs t) (call_at t) call.Post
-slice_aggregate_bytes_3 t c = search rules
 
 pub bytes_requires_3 : (t : ℕ) → lts.Need-bytes-requires (cs t) (call_at t) call.Post
 bytes_requires_3 t c κs = search rules
@@ -62,13 +53,13 @@ same_length t c = search rules
 
 pub returns : (t : ℕ) → lts.Need-returns (cs t) (call_at t) call.Post
 returns t c =
-    let v = c.before.before.before.before.before.before.before.before.before.before.before.before.before.before.before.before.args-b in
+    let v = c.args-b in
     record {
       low = v.ensures.low;
       done = λ k q. call_steps k
-          c.before.before.before.before.before.before.before.before.before.before.before.before.before.before.before.before.before.before.before.before.before.before.before.before.word-things.ensures
-          c.before.before.before.before.before.before.before.before.before.before.before.before.before.before.before.before.before.before.before.before.before.before.before.word-name.ensures
-          c.before.before.before.before.before.before.before.before.before.before.before.before.before.before.before.before.before.before.before.before.bytes-shut.ensures v.ensures
-          c.before.before.before.before.before.before.before.before.before.before.before.bytes-opens.ensures
-          c.before.before.before.before.before.before.before.name-to.ensures c.before.before.bytes.ensures q;
+          c.word-things.ensures
+          c.word-name.ensures
+          c.bytes-shut.ensures v.ensures
+          c.bytes-opens.ensures
+          c.name-to.ensures c.bytes.ensures q;
     }

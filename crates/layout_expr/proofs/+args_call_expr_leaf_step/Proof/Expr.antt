@@ -37,27 +37,27 @@ cs t = (
 )
 
 abbrev pub InvLoop : lts.invariant-loop-end
-InvLoop text rows nodes n place room₀ at end₀ takes₀ open₀ to₀ t17 t18 room end takes opened to =
+InvLoop text rows nodes n place room₀ at end₀ takes₀ open₀ to₀ room end takes opened to =
     OnWay text rows nodes n place room₀ at end takes opened room to
 
 abbrev pub μ-loop : lts.decreases-loop-end
-μ-loop text rows nodes n place room₀ at end₀ takes₀ open₀ to₀ t17 t18 room end takes opened to = end
+μ-loop text rows nodes n place room₀ at end₀ takes₀ open₀ to₀ room end takes opened to = end
 
 -- behind the parentheses that close
 shut : (t : ℕ) (c : lts.After-slice_known-in-loop-end-1 (cs t) (expr_at t) expr.Post InvLoop μ-loop) {m l : ℕ} {bs : List ℕ}
-    → (let a = c.before.before.before.before.before.before.before.before.before.before.before.before.before.before.args in
+    → (let a = c.args in
     Part a.text.now a.rows.now a.nodes.now Expr m a.n l bs
     → Shut a.text.now a.rows.now a.nodes.now m (put a.place l bs)
-    (c.before.before.before.before.before.before.before.before.before.loop-end.end - 1)
-    (c.before.before.before.before.before.before.before.before.before.loop-end.opened + c.before.before.before.before.before.pairs-more.result) a.room.now a.at c.before.before.repeated-to.new.1.1.0 c.before.before.repeated-to.result)
+    (c.loop-end.end - 1)
+    (c.loop-end.opened + c.pairs-more.result) a.room.now a.at c.repeated-to.new.room c.repeated-to.result)
 shut t c q =
-    spine_shut (omega arith) (c.before.before.before.before.before.before.before.before.before.loop-end.invariant.goes q)
-    (c.before.before.before.before.before.pairs-more.ensures.0 ∙ ap (pairs _)
-    (c.before.before.before.before.before.before.level.ensures ∙ ap node_level
-    c.before.before.before.before.before.before.before.word-k.ensures)) c.before.before.repeated-to.ensures
+    spine_shut (omega arith) (c.loop-end.invariant.goes q)
+    (c.pairs-more.ensures.0 ∙ ap (pairs _)
+    (c.level.ensures ∙ ap node_level
+    c.word-k.ensures)) c.repeated-to.ensures
 
 pub loop_holds : (t : ℕ) → lts.Need-loop-end-init (cs t) (expr_at t) expr.Post InvLoop μ-loop
-loop_holds t c = let a = c.before.before.before.before.args in
+loop_holds t c = let a = c.args in
     record { fit = record { few = omega arith; long = refl }; goes = λ q. spine_none a.place a.room.now a.at q }
 
 pub sub_j : (t : ℕ) → lts.Need-overflow_sub-j (cs t) (expr_at t) expr.Post InvLoop μ-loop
@@ -72,59 +72,53 @@ level_requires t c κs = search rules
 pub pairs_requires : (t : ℕ) → lts.Need-pairs-more-requires (cs t) (expr_at t) expr.Post InvLoop μ-loop
 pairs_requires t c κs = search rules
 
-pub slice_aggregate_repeated : (t : ℕ) → lts.Need-slice-aggregate-repeated (cs t) (expr_at t) expr.Post InvLoop μ-loop
-slice_aggregate_repeated t c = search rules
-
 pub repeated_requires : (t : ℕ) → lts.Need-repeated-to-requires (cs t) (expr_at t) expr.Post InvLoop μ-loop
 repeated_requires t c κs = search rules
 
 pub add_opened : (t : ℕ) → lts.Need-overflow_add-opened (cs t) (expr_at t) expr.Post InvLoop μ-loop
 add_opened t c = omega (
   arith,
-  c.before.before.before.before.before.before.before.before.before.loop-end.invariant.fit.few,
-  c.before.before.before.before.before.pairs-more.ensures.1,
+  c.loop-end.invariant.fit.few,
+  c.pairs-more.ensures.1,
 )
 
 pub leaf_requires : (t : ℕ) → lts.Need-leaf-b-requires (cs t) (expr_at t) expr.Post InvLoop μ-loop
 leaf_requires t c κs = (
   omega (
     arith,
-    c.before.before.before.before.before.before.before.before.before.before.before.before.before.before.before.before.requires.0,
-    c.before.before.before.before.before.before.before.before.before.before.before.loop-end.invariant.fit.few,
+    c.requires.0,
+    c.loop-end.invariant.fit.few,
   ),
   tt,
 )
-
-pub slice_aggregate_repeated_2 : (t : ℕ) → lts.Need-slice-aggregate-repeated-2 (cs t) (expr_at t) expr.Post InvLoop μ-loop
-slice_aggregate_repeated_2 t c = search rules
 
 pub repeated_requires_2 : (t : ℕ) → lts.Need-repeated-requires (cs t) (expr_at t) expr.Post InvLoop μ-loop
 repeated_requires_2 t c κs = search rules
 
 pub same_length : (t : ℕ) → lts.Need-shape_of-room-then-k-le-DEREFERENCE (cs t) (expr_at t) expr.Post InvLoop μ-loop
 same_length t c =
-    c.before.before.repeated.auto.1.1.0 ∙ c.before.before.before.before.before.before.before.leaf-b.auto.1.1.1.1.0
-    ∙ c.before.before.before.before.before.before.before.before.before.before.before.before.repeated-to.auto.1.1.0
-    ∙ c.before.before.before.before.before.before.before.before.before.before.before.before.before.before.before.before.before.before.before.loop-end.invariant.fit.long
+    c.repeated.auto.room ∙ c.leaf-b.auto.room
+    ∙ c.repeated-to.auto.room
+    ∙ c.loop-end.invariant.fit.long
 
 pub returns : (t : ℕ) → lts.Need-returns-then-k-le-DEREFERENCE (cs t) (expr_at t) expr.Post InvLoop μ-loop
 returns t c =
-    let v = c.before.before.before.before.before.before.before.leaf-b.ensures in
-    let l = c.before.before.before.before.before.before.before.before.before.before.before.before.before.before.before.before.before.before.before.loop-end in
+    let v = c.leaf-b.ensures in
+    let l = c.loop-end in
     record {
       low = omega (arith, v.low, l.invariant.fit.few);
       done = λ q. spine_leaf (subst (λ (k : ℕ). k ≤ 3)
-          c.before.before.before.before.before.before.before.before.before.before.before.before.before.before.before.before.before.word-k.ensures c.before.before.before.before.before.before.before.before.before.if-k-le-DEREFERENCE.true)
-          (shut t c.before.before.before.before.before.before.before.before.before.before q) v
-          c.before.before.repeated.ensures;
+          c.word-k.ensures c.if-k-le-DEREFERENCE.true)
+          (shut t c.before.before.before.before.before.before.before.before.before.before.before q) v
+          c.repeated.ensures;
     }
 
 pub step_requires : (t : ℕ) → lts.Need-step-b-requires (cs t) (expr_at t) expr.Post InvLoop μ-loop
 step_requires t c κs = (
   omega (
     arith,
-    c.before.before.before.before.before.before.before.before.before.before.before.before.before.before.before.before.requires.0,
-    c.before.before.before.before.before.before.before.before.before.before.before.loop-end.invariant.fit.few,
+    c.requires.0,
+    c.loop-end.invariant.fit.few,
   ),
   tt,
 )
@@ -133,30 +127,30 @@ pub left_requires : (t : ℕ) → lts.Need-left-takes-requires (cs t) (expr_at t
 left_requires t c κs = search rules
 
 pub loop_less : (t : ℕ) → lts.Need-loop-end-smaller (cs t) (expr_at t) expr.Post InvLoop μ-loop
-loop_less t c = omega (arith, c.before.before.before.step-b.ensures.low)
+loop_less t c = omega (arith, c.step-b.ensures.low)
 
 pub loop_again : (t : ℕ) → lts.Need-loop-end-preserved (cs t) (expr_at t) expr.Post InvLoop μ-loop
 loop_again t c =
-    let v = c.before.before.before.step-b.ensures in
-    let l = c.before.before.before.before.before.before.before.before.before.before.before.before.before.before.before.loop-end in
-    let k = c.before.before.before.before.before.before.before.before.before.before.before.before.before.word-k.ensures in
+    let v = c.step-b.ensures in
+    let l = c.loop-end in
+    let k = c.word-k.ensures in
     record {
       fit = record {
         few = omega (
           arith,
           v.low,
           l.invariant.fit.few,
-          c.before.before.before.before.before.before.before.before.before.before.before.pairs-more.ensures.1,
+          c.pairs-more.ensures.1,
         );
-        long = c.before.before.before.step-b.auto.1.1.1.1.0
-            ∙ c.before.before.before.before.before.before.before.before.repeated-to.auto.1.1.0 ∙ l.invariant.fit.long;
+        long = c.step-b.auto.room
+            ∙ c.repeated-to.auto.room ∙ l.invariant.fit.long;
       };
-      goes = λ q. spine_step (omega (arith, k, c.before.before.before.before.before.if-k-le-DEREFERENCE.false))
+      goes = λ q. spine_step (omega (arith, k, c.if-k-le-DEREFERENCE.false))
           (c.left-takes.ensures ∙ ap node_level k) (shut t c.before.before.before.before.before.before q) v;
     }
 
 pub same_length_2 : (t : ℕ) → lts.Need-shape_of-room (cs t) (expr_at t) expr.Post InvLoop μ-loop
-same_length_2 t c = c.before.loop-end.invariant.fit.long
+same_length_2 t c = c.loop-end.invariant.fit.long
 
 pub returns_2 : (t : ℕ) → lts.Need-returns (cs t) (expr_at t) expr.Post InvLoop μ-loop
-returns_2 t c = record { low = omega arith; done = λ q. absurd (no_expr (omega arith) (c.before.loop-end.invariant.goes q).part) }
+returns_2 t c = record { low = omega arith; done = λ q. absurd (no_expr (omega arith) (c.loop-end.invariant.goes q).part) }

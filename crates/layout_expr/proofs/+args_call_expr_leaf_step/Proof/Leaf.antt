@@ -44,19 +44,16 @@ same_length t c = search rules
 
 pub returns : (t : ℕ) → lts.Need-returns-then-k-eq-NUMBER (cs t) (leaf_at t) leaf.Post
 returns t c =
-    let k = c.before.before.before.before.before.before.before.word-k.ensures in
+    let k = c.word-k.ensures in
     record {
       low = omega arith;
-      done = λ h q. num_done (sym k ∙ c.before.before.before.before.before.before.if-k-eq-NUMBER.true)
-          c.before.before.before.before.before.word-low.ensures c.before.before.before.before.word-high.ensures
-          c.before.before.number.ensures q;
+      done = λ h q. num_done (sym k ∙ c.if-k-eq-NUMBER.true)
+          c.word-low.ensures c.word-high.ensures
+          c.number.ensures q;
     }
 
 pub expr_requires : (t : ℕ) → lts.Need-expr-b-requires (cs t) (leaf_at t) leaf.Post
-expr_requires t c κs = (omega (arith, c.before.before.before.before.before.before.before.before.requires.0), tt)
-
-pub slice_aggregate_bytes : (t : ℕ) → lts.Need-slice-aggregate-bytes (cs t) (leaf_at t) leaf.Post
-slice_aggregate_bytes t c = search rules
+expr_requires t c κs = (omega (arith, c.requires.0), tt)
 
 pub bytes_requires : (t : ℕ) → lts.Need-bytes-requires (cs t) (leaf_at t) leaf.Post
 bytes_requires t c κs = search rules
@@ -66,12 +63,12 @@ same_length_2 t c = search rules
 
 pub returns_2 : (t : ℕ) → lts.Need-returns-then-k-eq-DEREFERENCE (cs t) (leaf_at t) leaf.Post
 returns_2 t c =
-    let k = c.before.before.before.before.before.before.before.before.before.before.before.word-k.ensures in
-    let v = c.before.before.before.before.before.before.before.expr-b.ensures in
+    let k = c.word-k.ensures in
+    let v = c.expr-b.ensures in
     record {
       low = v.low;
       done = λ h q. star_done (sym k
-          ∙ c.before.before.before.before.before.before.before.before.before.if-k-eq-DEREFERENCE.true) v c.before.before.bytes.ensures q;
+          ∙ c.if-k-eq-DEREFERENCE.true) v c.bytes.ensures q;
     }
 
 pub word_requires_4 : (t : ℕ) → lts.Need-word-name-requires (cs t) (leaf_at t) leaf.Post
@@ -85,10 +82,10 @@ same_length_3 t c = search rules
 
 pub returns_3 : (t : ℕ) → lts.Need-returns (cs t) (leaf_at t) leaf.Post
 returns_3 t c =
-    let k = c.before.before.before.before.before.before.before.word-k.ensures in
+    let k = c.word-k.ensures in
     record {
       low = omega arith;
-      done = λ h q. var_done (λ e. c.before.before.before.before.before.before.if-k-eq-NUMBER.false (k ∙ e))
-          (λ e. c.before.before.before.before.before.if-k-eq-DEREFERENCE.false (k ∙ e)) h c.before.before.before.before.word-name.ensures
-          c.before.before.name.ensures q;
+      done = λ h q. var_done (λ e. c.if-k-eq-NUMBER.false (k ∙ e))
+          (λ e. c.if-k-eq-DEREFERENCE.false (k ∙ e)) h c.word-name.ensures
+          c.name.ensures q;
     }
