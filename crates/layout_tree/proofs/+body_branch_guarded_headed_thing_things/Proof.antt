@@ -27,27 +27,27 @@ use Rattle.layout_tree.proofs.+body_branch_guarded_headed_thing_things.Proof.Thi
 use Rattle.layout_tree.proofs.+body_branch_guarded_headed_thing_things.{statement}
 use Rattle.layout_tree.proofs.+body_branch_guarded_headed_thing_things.Tie.{close}
 
-pub +body-branch-guarded-headed-thing-things-spec : {M : Type 1} → statement M
-+body-branch-guarded-headed-thing-things-spec =
+pub +body_branch_guarded_headed_thing_things_spec : {M : Type 1} → statement M
++body_branch_guarded_headed_thing_things_spec =
     close μ-body μ-branch μ-guarded μ-headed μ-thing μ-things
     (λ t. body_lts.spec (body_proof.cs t) (body_at t) body.Post (body_proof.returns t) (body_proof.sub_j t) (body_proof.word_requires t)
-    (body_proof.slice_aggregate_bytes t) (body_proof.bytes_requires t) (body_proof.things_requires t)
-    (body_proof.slice_aggregate_bytes_2 t) (body_proof.bytes_requires_2 t) (body_proof.same_length t) (body_proof.returns_2 t))
+    (body_proof.bytes_requires t) (body_proof.things_requires t)
+    (body_proof.bytes_requires_2 t) (body_proof.same_length t) (body_proof.returns_2 t))
     (λ t. branch_lts.spec (branch_proof.cs t) (branch_at t) branch.Post (branch_proof.word_requires t) (branch_proof.guarded_requires t)
-    (branch_proof.same_length t) (branch_proof.returns t) (branch_proof.body_requires t) (branch_proof.slice_aggregate_bytes t)
+    (branch_proof.same_length t) (branch_proof.returns t) (branch_proof.body_requires t)
     (branch_proof.bytes_requires t) (branch_proof.guarded_requires_2 t) (branch_proof.same_length_2 t) (branch_proof.returns_2 t))
     (λ t. guarded_lts.spec (guarded_proof.cs t) (guarded_at t) guarded.Post (guarded_proof.body_requires t)
-    (guarded_proof.same_length t) (guarded_proof.returns t) (guarded_proof.sub_word t) (guarded_proof.word_requires t)
-    (guarded_proof.slice_aggregate_bytes t) (guarded_proof.bytes_requires t) (guarded_proof.name_requires t)
-    (guarded_proof.sub_t17 t) (guarded_proof.slice_aggregate_bytes_2 t) (guarded_proof.bytes_requires_2 t)
+    (guarded_proof.same_length t) (guarded_proof.returns t) (guarded_proof.sub_end t) (guarded_proof.word_requires t)
+    (guarded_proof.bytes_requires t) (guarded_proof.name_requires t)
+    (guarded_proof.sub_result t) (guarded_proof.bytes_requires_2 t)
     (guarded_proof.same_length_2 t) (guarded_proof.returns_2 t))
     (λ t. headed_lts.spec (headed_proof.cs t) (headed_at t) headed.Post (headed_proof.returns t) (headed_proof.sub_word t)
     (headed_proof.word_requires t) (headed_proof.body_requires t) (headed_proof.name_requires t) (headed_proof.bytes_requires t)
     (headed_proof.same_length t) (headed_proof.returns_2 t))
     (λ t. thing_lts.spec (thing_proof.cs t) (thing_at t) thing.Post (thing_proof.returns t) (thing_proof.sub_j t)
     (thing_proof.word_requires t) (thing_proof.branch_requires t) (thing_proof.same_length t) (thing_proof.returns_2 t)
-    (thing_proof.slice_aggregate_headed t) (thing_proof.headed_requires t) (thing_proof.same_length_2 t) (thing_proof.returns_3 t)
-    (thing_proof.slice_aggregate_headed_2 t) (thing_proof.headed_requires_2 t) (thing_proof.same_length_3 t)
+    (thing_proof.headed_requires t) (thing_proof.same_length_2 t) (thing_proof.returns_3 t)
+    (thing_proof.headed_requires_2 t) (thing_proof.same_length_3 t)
     (thing_proof.returns_4 t) (thing_proof.line_requires t) (thing_proof.same_length_4 t) (thing_proof.returns_5 t))
     (λ t. things_lts.spec (things_proof.cs t) (things_at t) things.Post things_proof.InvLoop things_proof.μ-loop
     (things_proof.loop_holds t) (things_proof.thing_requires t) (things_proof.sub_left t) (things_proof.loop_less t)

@@ -4,23 +4,23 @@ use borrow.Author.Rules.{rules}
 use Rattle.layout_tree.proofs.program.Statement.{statement}
 use Rattle.layout_tree.proofs.program.Tie as tie
 
-returns : tie.Need-returns
-returns c = record { done = λ p. absurd (no_program c.if1.true p) }
+returns : tie.Need-returns-then-count-eq0
+returns c = record { done = λ p. absurd (no_program c.if-count-eq0.true p) }
 
-sub_j : tie.Need-overflow-sub-j
+sub_j : tie.Need-overflow_sub-j
 sub_j c = search rules
 
-word_requires : tie.Need-word-requires
+word_requires : tie.Need-word-children-requires
 word_requires c κs = search rules
 
-things_requires : tie.Need-things-requires
+things_requires : tie.Need-things-b-requires
 things_requires c κs = search rules
 
-same_length : tie.Need-same-length
+same_length : tie.Need-shape_of-room
 same_length c = search rules
 
-returns_2 : tie.Need-returns-2
-returns_2 c = record { done = λ p. program_done c.before.before.before.before.word.ensures c.before.before.things.ensures p }
+returns_2 : tie.Need-returns
+returns_2 c = record { done = λ p. program_done c.before.before.before.before.word-children.ensures c.before.before.things-b.ensures p }
 
 pub program_spec : {M : Type 1} → statement M
 program_spec =

@@ -7,40 +7,32 @@ use borrow.Author.Rules.{rules}
 use Rattle.layout_words.proofs.assign_sign.Statement.{statement}
 use Rattle.layout_words.proofs.assign_sign.Tie as tie
 
-slice_aggregate_bytes : tie.Need-slice-aggregate-bytes
-slice_aggregate_bytes c = search rules
-
 bytes_requires : tie.Need-bytes-requires
 bytes_requires c κs = search rules
 
-same_length : tie.Need-same-length
+same_length : tie.Need-shape_of-room-then-k-eq-ASSIGN
 same_length c = search rules
 
-returns : tie.Need-returns
+returns : tie.Need-returns-then-k-eq-ASSIGN
 unfolding assign_sign
-returns c = wrote_as (ap assign_sign (sym c.before.before.before.before.before.if1.true)) c.before.before.bytes.ensures
-
-slice_aggregate_bytes_2 : tie.Need-slice-aggregate-bytes-2
-slice_aggregate_bytes_2 c = search rules
+returns c = wrote_as (ap assign_sign (sym c.before.before.before.before.before.if-k-eq-ASSIGN.true)) c.before.before.bytes.ensures
 
 bytes_requires_2 : tie.Need-bytes-requires-2
 bytes_requires_2 c κs = search rules
 
-same_length_2 : tie.Need-same-length-2
+same_length_2 : tie.Need-shape_of-room
 same_length_2 c = search rules
 
-returns_2 : tie.Need-returns-2
-returns_2 c = wrote_as (assign_last _ c.before.before.before.before.before.if1.false) c.before.before.bytes2.ensures
+returns_2 : tie.Need-returns
+returns_2 c = wrote_as (assign_last _ c.before.before.before.before.before.if-k-eq-ASSIGN.false) c.before.before.bytes-2.ensures
 
 pub assign_sign_spec : {M : Type 1} → statement M
 assign_sign_spec =
     tie.close
     (tie.spec
-    slice_aggregate_bytes
     bytes_requires
     same_length
     returns
-    slice_aggregate_bytes_2
     bytes_requires_2
     same_length_2
     returns_2)

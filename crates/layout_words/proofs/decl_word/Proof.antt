@@ -7,58 +7,46 @@ use borrow.Author.Rules.{rules}
 use Rattle.layout_words.proofs.decl_word.Statement.{statement}
 use Rattle.layout_words.proofs.decl_word.Tie as tie
 
-slice_aggregate_bytes : tie.Need-slice-aggregate-bytes
-slice_aggregate_bytes c = search rules
-
 bytes_requires : tie.Need-bytes-requires
 bytes_requires c κs = search rules
 
-same_length : tie.Need-same-length
+same_length : tie.Need-shape_of-room-then-k-eq-REG
 same_length c = search rules
 
-returns : tie.Need-returns
+returns : tie.Need-returns-then-k-eq-REG
 unfolding decl_word
-returns c = wrote_as (ap decl_word (sym c.before.before.before.before.before.if1.true)) c.before.before.bytes.ensures
+returns c = wrote_as (ap decl_word (sym c.before.before.before.before.before.if-k-eq-REG.true)) c.before.before.bytes.ensures
 
-slice_aggregate_bytes_2 : tie.Need-slice-aggregate-bytes-2
-slice_aggregate_bytes_2 c = search rules
-
-bytes_requires_2 : tie.Need-bytes-requires-2
+bytes_requires_2 : tie.Need-bytes-requires-then-k-eq-IMM
 bytes_requires_2 c κs = search rules
 
-same_length_2 : tie.Need-same-length-2
+same_length_2 : tie.Need-shape_of-room-then-k-eq-IMM
 same_length_2 c = search rules
 
-returns_2 : tie.Need-returns-2
+returns_2 : tie.Need-returns-then-k-eq-IMM
 unfolding decl_word
-returns_2 c = wrote_as (ap decl_word (sym c.before.before.before.before.before.if2.true)) c.before.before.bytes2.ensures
+returns_2 c = wrote_as (ap decl_word (sym c.before.before.before.before.before.if-k-eq-IMM.true)) c.before.before.bytes-then-k-eq-IMM.ensures
 
-slice_aggregate_bytes_3 : tie.Need-slice-aggregate-bytes-3
-slice_aggregate_bytes_3 c = search rules
-
-bytes_requires_3 : tie.Need-bytes-requires-3
+bytes_requires_3 : tie.Need-bytes-requires-2
 bytes_requires_3 c κs = search rules
 
-same_length_3 : tie.Need-same-length-3
+same_length_3 : tie.Need-shape_of-room
 same_length_3 c = search rules
 
-returns_3 : tie.Need-returns-3
-returns_3 c = wrote_as (decl_last _ c.before.before.before.before.before.before.if1.false
-    c.before.before.before.before.before.if2.false) c.before.before.bytes3.ensures
+returns_3 : tie.Need-returns
+returns_3 c = wrote_as (decl_last _ c.before.before.before.before.before.before.if-k-eq-REG.false
+    c.before.before.before.before.before.if-k-eq-IMM.false) c.before.before.bytes-2.ensures
 
 pub decl_word_spec : {M : Type 1} → statement M
 decl_word_spec =
     tie.close
     (tie.spec
-    slice_aggregate_bytes
     bytes_requires
     same_length
     returns
-    slice_aggregate_bytes_2
     bytes_requires_2
     same_length_2
     returns_2
-    slice_aggregate_bytes_3
     bytes_requires_3
     same_length_3
     returns_3)

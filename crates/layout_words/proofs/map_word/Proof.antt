@@ -7,94 +7,74 @@ use borrow.Author.Rules.{rules}
 use Rattle.layout_words.proofs.map_word.Statement.{statement}
 use Rattle.layout_words.proofs.map_word.Tie as tie
 
-slice_aggregate_bytes : tie.Need-slice-aggregate-bytes
-slice_aggregate_bytes c = search rules
-
 bytes_requires : tie.Need-bytes-requires
 bytes_requires c κs = search rules
 
-same_length : tie.Need-same-length
+same_length : tie.Need-shape_of-room-then-n-eq-MAP_HASH
 same_length c = search rules
 
-returns : tie.Need-returns
+returns : tie.Need-returns-then-n-eq-MAP_HASH
 unfolding map_word
-returns c = wrote_as (ap map_word (sym c.before.before.before.before.before.if1.true)) c.before.before.bytes.ensures
+returns c = wrote_as (ap map_word (sym c.before.before.before.before.before.if-n-eq-MAP_HASH.true)) c.before.before.bytes.ensures
 
-slice_aggregate_bytes_2 : tie.Need-slice-aggregate-bytes-2
-slice_aggregate_bytes_2 c = search rules
-
-bytes_requires_2 : tie.Need-bytes-requires-2
+bytes_requires_2 : tie.Need-bytes-requires-then-n-eq-MAP_ARRAY
 bytes_requires_2 c κs = search rules
 
-same_length_2 : tie.Need-same-length-2
+same_length_2 : tie.Need-shape_of-room-then-n-eq-MAP_ARRAY
 same_length_2 c = search rules
 
-returns_2 : tie.Need-returns-2
+returns_2 : tie.Need-returns-then-n-eq-MAP_ARRAY
 unfolding map_word
-returns_2 c = wrote_as (ap map_word (sym c.before.before.before.before.before.if2.true)) c.before.before.bytes2.ensures
+returns_2 c = wrote_as (ap map_word (sym c.before.before.before.before.before.if-n-eq-MAP_ARRAY.true)) c.before.before.bytes-then-n-eq-MAP_ARRAY.ensures
 
-slice_aggregate_bytes_3 : tie.Need-slice-aggregate-bytes-3
-slice_aggregate_bytes_3 c = search rules
-
-bytes_requires_3 : tie.Need-bytes-requires-3
+bytes_requires_3 : tie.Need-bytes-requires-then-n-eq-MAP_RINGBUF
 bytes_requires_3 c κs = search rules
 
-same_length_3 : tie.Need-same-length-3
+same_length_3 : tie.Need-shape_of-room-then-n-eq-MAP_RINGBUF
 same_length_3 c = search rules
 
-returns_3 : tie.Need-returns-3
+returns_3 : tie.Need-returns-then-n-eq-MAP_RINGBUF
 unfolding map_word
-returns_3 c = wrote_as (ap map_word (sym c.before.before.before.before.before.if3.true)) c.before.before.bytes3.ensures
+returns_3 c = wrote_as (ap map_word (sym c.before.before.before.before.before.if-n-eq-MAP_RINGBUF.true)) c.before.before.bytes-then-n-eq-MAP_RINGBUF.ensures
 
-slice_aggregate_bytes_4 : tie.Need-slice-aggregate-bytes-4
-slice_aggregate_bytes_4 c = search rules
-
-bytes_requires_4 : tie.Need-bytes-requires-4
+bytes_requires_4 : tie.Need-bytes-requires-then-n-eq-MAP_LRU_HASH
 bytes_requires_4 c κs = search rules
 
-same_length_4 : tie.Need-same-length-4
+same_length_4 : tie.Need-shape_of-room-then-n-eq-MAP_LRU_HASH
 same_length_4 c = search rules
 
-returns_4 : tie.Need-returns-4
+returns_4 : tie.Need-returns-then-n-eq-MAP_LRU_HASH
 unfolding map_word
-returns_4 c = wrote_as (ap map_word (sym c.before.before.before.before.before.if4.true)) c.before.before.bytes4.ensures
+returns_4 c = wrote_as (ap map_word (sym c.before.before.before.before.before.if-n-eq-MAP_LRU_HASH.true)) c.before.before.bytes-then-n-eq-MAP_LRU_HASH.ensures
 
-slice_aggregate_bytes_5 : tie.Need-slice-aggregate-bytes-5
-slice_aggregate_bytes_5 c = search rules
-
-bytes_requires_5 : tie.Need-bytes-requires-5
+bytes_requires_5 : tie.Need-bytes-requires-2
 bytes_requires_5 c κs = search rules
 
-same_length_5 : tie.Need-same-length-5
+same_length_5 : tie.Need-shape_of-room
 same_length_5 c = search rules
 
-returns_5 : tie.Need-returns-5
-returns_5 c = wrote_as (map_last _ c.before.before.before.before.before.before.before.before.if1.false
-    c.before.before.before.before.before.before.before.if2.false
-    c.before.before.before.before.before.before.if3.false c.before.before.before.before.before.if4.false)
-    c.before.before.bytes5.ensures
+returns_5 : tie.Need-returns
+returns_5 c = wrote_as (map_last _ c.before.before.before.before.before.before.before.before.if-n-eq-MAP_HASH.false
+    c.before.before.before.before.before.before.before.if-n-eq-MAP_ARRAY.false
+    c.before.before.before.before.before.before.if-n-eq-MAP_RINGBUF.false c.before.before.before.before.before.if-n-eq-MAP_LRU_HASH.false)
+    c.before.before.bytes-2.ensures
 
 pub map_word_spec : {M : Type 1} → statement M
 map_word_spec =
     tie.close
     (tie.spec
-    slice_aggregate_bytes
     bytes_requires
     same_length
     returns
-    slice_aggregate_bytes_2
     bytes_requires_2
     same_length_2
     returns_2
-    slice_aggregate_bytes_3
     bytes_requires_3
     same_length_3
     returns_3
-    slice_aggregate_bytes_4
     bytes_requires_4
     same_length_4
     returns_4
-    slice_aggregate_bytes_5
     bytes_requires_5
     same_length_5
     returns_5)

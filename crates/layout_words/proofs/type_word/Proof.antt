@@ -7,76 +7,60 @@ use borrow.Author.Rules.{rules}
 use Rattle.layout_words.proofs.type_word.Statement.{statement}
 use Rattle.layout_words.proofs.type_word.Tie as tie
 
-slice_aggregate_bytes : tie.Need-slice-aggregate-bytes
-slice_aggregate_bytes c = search rules
-
 bytes_requires : tie.Need-bytes-requires
 bytes_requires c κs = search rules
 
-same_length : tie.Need-same-length
+same_length : tie.Need-shape_of-room-then-n-eq-TYPE_U32
 same_length c = search rules
 
-returns : tie.Need-returns
+returns : tie.Need-returns-then-n-eq-TYPE_U32
 unfolding type_word
-returns c = wrote_as (ap type_word (sym c.before.before.before.before.before.if1.true)) c.before.before.bytes.ensures
+returns c = wrote_as (ap type_word (sym c.before.before.before.before.before.if-n-eq-TYPE_U32.true)) c.before.before.bytes.ensures
 
-slice_aggregate_bytes_2 : tie.Need-slice-aggregate-bytes-2
-slice_aggregate_bytes_2 c = search rules
-
-bytes_requires_2 : tie.Need-bytes-requires-2
+bytes_requires_2 : tie.Need-bytes-requires-then-n-eq-TYPE_U64
 bytes_requires_2 c κs = search rules
 
-same_length_2 : tie.Need-same-length-2
+same_length_2 : tie.Need-shape_of-room-then-n-eq-TYPE_U64
 same_length_2 c = search rules
 
-returns_2 : tie.Need-returns-2
+returns_2 : tie.Need-returns-then-n-eq-TYPE_U64
 unfolding type_word
-returns_2 c = wrote_as (ap type_word (sym c.before.before.before.before.before.if2.true)) c.before.before.bytes2.ensures
+returns_2 c = wrote_as (ap type_word (sym c.before.before.before.before.before.if-n-eq-TYPE_U64.true)) c.before.before.bytes-then-n-eq-TYPE_U64.ensures
 
-slice_aggregate_bytes_3 : tie.Need-slice-aggregate-bytes-3
-slice_aggregate_bytes_3 c = search rules
-
-bytes_requires_3 : tie.Need-bytes-requires-3
+bytes_requires_3 : tie.Need-bytes-requires-then-n-eq-TYPE_I32
 bytes_requires_3 c κs = search rules
 
-same_length_3 : tie.Need-same-length-3
+same_length_3 : tie.Need-shape_of-room-then-n-eq-TYPE_I32
 same_length_3 c = search rules
 
-returns_3 : tie.Need-returns-3
+returns_3 : tie.Need-returns-then-n-eq-TYPE_I32
 unfolding type_word
-returns_3 c = wrote_as (ap type_word (sym c.before.before.before.before.before.if3.true)) c.before.before.bytes3.ensures
+returns_3 c = wrote_as (ap type_word (sym c.before.before.before.before.before.if-n-eq-TYPE_I32.true)) c.before.before.bytes-then-n-eq-TYPE_I32.ensures
 
-slice_aggregate_bytes_4 : tie.Need-slice-aggregate-bytes-4
-slice_aggregate_bytes_4 c = search rules
-
-bytes_requires_4 : tie.Need-bytes-requires-4
+bytes_requires_4 : tie.Need-bytes-requires-2
 bytes_requires_4 c κs = search rules
 
-same_length_4 : tie.Need-same-length-4
+same_length_4 : tie.Need-shape_of-room
 same_length_4 c = search rules
 
-returns_4 : tie.Need-returns-4
-returns_4 c = wrote_as (type_last _ c.before.before.before.before.before.before.before.if1.false
-    c.before.before.before.before.before.before.if2.false c.before.before.before.before.before.if3.false)
-    c.before.before.bytes4.ensures
+returns_4 : tie.Need-returns
+returns_4 c = wrote_as (type_last _ c.before.before.before.before.before.before.before.if-n-eq-TYPE_U32.false
+    c.before.before.before.before.before.before.if-n-eq-TYPE_U64.false c.before.before.before.before.before.if-n-eq-TYPE_I32.false)
+    c.before.before.bytes-2.ensures
 
 pub type_word_spec : {M : Type 1} → statement M
 type_word_spec =
     tie.close
     (tie.spec
-    slice_aggregate_bytes
     bytes_requires
     same_length
     returns
-    slice_aggregate_bytes_2
     bytes_requires_2
     same_length_2
     returns_2
-    slice_aggregate_bytes_3
     bytes_requires_3
     same_length_3
     returns_3
-    slice_aggregate_bytes_4
     bytes_requires_4
     same_length_4
     returns_4)

@@ -7,7 +7,7 @@ use Rattle.layout_write.proofs.write.Tie as tie
 program_requires : tie.Need-program-requires
 program_requires c κs = search rules
 
-same_length : tie.Need-same-length
+same_length : tie.Need-shape_of-room
 same_length c = search rules
 
 returns : tie.Need-returns

@@ -5,16 +5,16 @@ use Rattle.program_move.proofs.First.{children_long, children_fit, children_adde
 use Rattle.program_move.proofs.add_children.Statement.{statement}
 use Rattle.program_move.proofs.add_children.Tie as tie
 
-slice_read_nodes : tie.Need-slice-read-nodes
+slice_read_nodes : tie.Need-bounds-nodes-3
 slice_read_nodes c = omega (arith, children_long c.before.requires)
 
-add_nodes : tie.Need-overflow-add-nodes
+add_nodes : tie.Need-overflow_add-nodes
 add_nodes c = omega (arith, children_fit c.before.requires)
 
-slice_write_nodes : tie.Need-slice-write-nodes
+slice_write_nodes : tie.Need-bounds-nodes-3-2
 slice_write_nodes c = omega (arith, children_long c.before.requires)
 
-same_length : tie.Need-same-length
+same_length : tie.Need-shape_of-nodes
 same_length c = search rules
 
 returns : tie.Need-returns

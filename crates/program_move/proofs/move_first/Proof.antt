@@ -9,72 +9,58 @@ use Rattle.program_move.proofs.First.{name_of, kind_of_lem, licence_of_lem, othe
 use Rattle.program_move.proofs.move_first.Statement.{statement}
 use Rattle.program_move.proofs.move_first.Tie as tie
 
--- ---- the places on the way, as they are seen from the function's entry
+slice_read_nodes : tie.Need-bounds-nodes-1
+slice_read_nodes c = omega (arith, first_long c.requires)
 
-abbrev entry : tie.After-slice-known2 → tie.Start
-entry c = c.before.before
+add_nodes : tie.Need-overflow_add-nodes
+add_nodes c = omega (arith, place_fits_lem c.requires)
 
-abbrev behind_name : tie.After-move-row → tie.Start
-behind_name c = entry c.before.before
+slice_write_nodes : tie.Need-bounds-nodes-1-2
+slice_write_nodes c = omega (arith, first_long c.requires)
 
-abbrev behind_licence : tie.After-move-row2 → tie.After-move-row
-behind_licence c = c.before.before.before.before
+slice_read_move_row : tie.Need-bounds-nodes-2
+slice_read_move_row c = simp length-set (omega (arith, first_long c.requires))
 
-slice_read_nodes : tie.Need-slice-read-nodes
-slice_read_nodes c = omega (arith, first_long (entry c).requires)
+move_row_requires : tie.Need-move_row-requires
+move_row_requires c κs = name_fits c.requires
 
-add_nodes : tie.Need-overflow-add-nodes
-add_nodes c = omega (arith, place_fits_lem (entry c).requires)
+slice_write_nodes_2 : tie.Need-bounds-nodes-2-2
+slice_write_nodes_2 c = simp length-set (omega (arith, first_long c.requires))
 
-slice_write_nodes : tie.Need-slice-write-nodes
-slice_write_nodes c = omega (arith, first_long (entry c).requires)
+slice_read_if1 : tie.Need-bounds-nodes-0
+slice_read_if1 c = simp length-set (omega (arith, first_long c.requires))
 
-slice_read_move_row : tie.Need-slice-read-move-row
-slice_read_move_row c = simp length-set (omega (arith, first_long (entry c.before).requires))
-
-move_row_requires : tie.Need-move-row-requires
-move_row_requires c κs = name_fits (entry c.before).requires
-
-slice_write_nodes_2 : tie.Need-slice-write-nodes-2
-slice_write_nodes_2 c = simp length-set (omega (arith, first_long (behind_name c).requires))
-
-slice_read_if1 : tie.Need-slice-read-if1
-slice_read_if1 c = simp length-set (omega (arith, first_long (behind_name c.before).requires))
-
-same_length : tie.Need-same-length
+same_length : tie.Need-shape_of-nodes-then-nodes-ne-UNIT
 same_length c = search rules
 
-returns : tie.Need-returns
+returns : tie.Need-returns-then-nodes-ne-UNIT
 returns c x rest e =
-    let r = c.before.before in
-    let a = (behind_name r).args in
-    other_moved a.nodes.now x rest e a.by r.Move-row.result
-    (r.Move-row.ensures ∙ ap (moved_row a.by) (name_of a.nodes.now x rest e a.by))
-    (λ u. c.if1.true (kind_of_lem a.nodes.now x rest e a.by r.Move-row.result ∙ u))
+    let a = c.args in
+    other_moved a.nodes.now x rest e a.by c.move_row.result
+    (c.move_row.ensures ∙ ap (moved_row a.by) (name_of a.nodes.now x rest e a.by))
+    (λ u. c.if-nodes-ne-UNIT.true (kind_of_lem a.nodes.now x rest e a.by c.move_row.result ∙ u))
 
-slice_read_move_row_2 : tie.Need-slice-read-move-row-2
-slice_read_move_row_2 c = simp length-set (omega (arith, first_long (behind_name c.before.before.before).requires))
+slice_read_move_row_2 : tie.Need-bounds-nodes-5
+slice_read_move_row_2 c = simp length-set (omega (arith, first_long c.requires))
 
-move_row_requires_2 : tie.Need-move-row-requires-2
+move_row_requires_2 : tie.Need-move_row-requires-2
 move_row_requires_2 c κs =
-    let r = c.before.before.before in
-    licence_fits (behind_name r).requires r.Move-row.result c.before.if1.false
+    licence_fits c.requires c.move_row.result c.if-nodes-ne-UNIT.false
 
-slice_write_nodes_3 : tie.Need-slice-write-nodes-3
-slice_write_nodes_3 c = simp length-set (omega (arith, first_long (behind_name (behind_licence c)).requires))
+slice_write_nodes_3 : tie.Need-bounds-nodes-5-2
+slice_write_nodes_3 c = simp length-set (omega (arith, first_long c.requires))
 
-same_length_2 : tie.Need-same-length-2
+same_length_2 : tie.Need-shape_of-nodes
 same_length_2 c = search rules
 
-returns_2 : tie.Need-returns-2
+returns_2 : tie.Need-returns
 returns_2 c x rest e =
-    let r = behind_licence c in
-    let a = (behind_name r).args in
+    let a = c.args in
     let m = a.nodes.now in
-    unit_moved m x rest e a.by r.Move-row.result c.move-row2.result
-    (r.Move-row.ensures ∙ ap (moved_row a.by) (name_of m x rest e a.by))
-    (sym (kind_of_lem m x rest e a.by r.Move-row.result) ∙ c.before.before.if1.false)
-    (c.move-row2.ensures ∙ ap (moved_row a.by) (licence_of_lem m x rest e a.by r.Move-row.result))
+    unit_moved m x rest e a.by c.move_row.result c.move_row-2.result
+    (c.move_row.ensures ∙ ap (moved_row a.by) (name_of m x rest e a.by))
+    (sym (kind_of_lem m x rest e a.by c.move_row.result) ∙ c.if-nodes-ne-UNIT.false)
+    (c.move_row-2.ensures ∙ ap (moved_row a.by) (licence_of_lem m x rest e a.by c.move_row.result))
 
 pub move_first_spec : {M : Type 1} → statement M
 move_first_spec =

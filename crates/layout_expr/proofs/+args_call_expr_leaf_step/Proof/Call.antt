@@ -23,52 +23,43 @@ cs t = (
   name_reads.Learnt,
 )
 
-pub word_requires : (t : ℕ) → lts.Need-word-requires (cs t) (call_at t) call.Post
+pub word_requires : (t : ℕ) → lts.Need-word-things-requires (cs t) (call_at t) call.Post
 word_requires t c κs = search rules
 
-pub word_requires_2 : (t : ℕ) → lts.Need-word-requires-2 (cs t) (call_at t) call.Post
+pub word_requires_2 : (t : ℕ) → lts.Need-word-name-requires (cs t) (call_at t) call.Post
 word_requires_2 t c κs = search rules
 
-pub slice_aggregate_bytes : (t : ℕ) → lts.Need-slice-aggregate-bytes (cs t) (call_at t) call.Post
-slice_aggregate_bytes t c = search rules
-
-pub bytes_requires : (t : ℕ) → lts.Need-bytes-requires (cs t) (call_at t) call.Post
+pub bytes_requires : (t : ℕ) → lts.Need-bytes-shut-requires (cs t) (call_at t) call.Post
 bytes_requires t c κs = search rules
 
-pub args_requires : (t : ℕ) → lts.Need-args-requires (cs t) (call_at t) call.Post
+pub args_requires : (t : ℕ) → lts.Need-args-b-requires (cs t) (call_at t) call.Post
 args_requires t c κs = (
   omega
-      (arith, c.before.before.before.before.before.before.before.before.before.before.before.before.requires.0),
+      (arith, c.requires.0),
   tt,
 )
 
-pub slice_aggregate_bytes_2 : (t : ℕ) → lts.Need-slice-aggregate-bytes-2 (cs t) (call_at t) call.Post
-slice_aggregate_bytes_2 t c = search rules
-
-pub bytes_requires_2 : (t : ℕ) → lts.Need-bytes-requires-2 (cs t) (call_at t) call.Post
+pub bytes_requires_2 : (t : ℕ) → lts.Need-bytes-opens-requires (cs t) (call_at t) call.Post
 bytes_requires_2 t c κs = search rules
 
-pub name_requires : (t : ℕ) → lts.Need-name-requires (cs t) (call_at t) call.Post
+pub name_requires : (t : ℕ) → lts.Need-name-to-requires (cs t) (call_at t) call.Post
 name_requires t c κs = search rules
 
-pub slice_aggregate_bytes_3 : (t : ℕ) → lts.Need-slice-aggregate-bytes-3 (cs t) (call_at t) call.Post
-slice_aggregate_bytes_3 t c = search rules
-
-pub bytes_requires_3 : (t : ℕ) → lts.Need-bytes-requires-3 (cs t) (call_at t) call.Post
+pub bytes_requires_3 : (t : ℕ) → lts.Need-bytes-requires (cs t) (call_at t) call.Post
 bytes_requires_3 t c κs = search rules
 
-pub same_length : (t : ℕ) → lts.Need-same-length (cs t) (call_at t) call.Post
+pub same_length : (t : ℕ) → lts.Need-shape_of-room (cs t) (call_at t) call.Post
 same_length t c = search rules
 
 pub returns : (t : ℕ) → lts.Need-returns (cs t) (call_at t) call.Post
 returns t c =
-    let v = c.before.before.before.before.before.before.before.before.before.before.before.before.before.before.before.before.args2 in
+    let v = c.args-b in
     record {
       low = v.ensures.low;
       done = λ k q. call_steps k
-          c.before.before.before.before.before.before.before.before.before.before.before.before.before.before.before.before.before.before.before.before.before.before.before.before.word.ensures
-          c.before.before.before.before.before.before.before.before.before.before.before.before.before.before.before.before.before.before.before.before.before.before.before.word2.ensures
-          c.before.before.before.before.before.before.before.before.before.before.before.before.before.before.before.before.before.before.before.before.bytes.ensures v.ensures
-          c.before.before.before.before.before.before.before.before.before.before.before.bytes2.ensures
-          c.before.before.before.before.before.before.before.name.ensures c.before.before.bytes3.ensures q;
+          c.word-things.ensures
+          c.word-name.ensures
+          c.bytes-shut.ensures v.ensures
+          c.bytes-opens.ensures
+          c.name-to.ensures c.bytes.ensures q;
     }

@@ -36,127 +36,121 @@ cs t = (
   left_reads.Learnt,
 )
 
-abbrev pub InvLoop : lts.invariant_loop
-InvLoop text rows nodes n place room₀ at end₀ takes₀ open₀ to₀ t17 t18 room end takes opened to =
+abbrev pub InvLoop : lts.invariant-loop-end
+InvLoop text rows nodes n place room₀ at end₀ takes₀ open₀ to₀ room end takes opened to =
     OnWay text rows nodes n place room₀ at end takes opened room to
 
-abbrev pub μ-loop : lts.decreases_loop
-μ-loop text rows nodes n place room₀ at end₀ takes₀ open₀ to₀ t17 t18 room end takes opened to = end
+abbrev pub μ-loop : lts.decreases-loop-end
+μ-loop text rows nodes n place room₀ at end₀ takes₀ open₀ to₀ room end takes opened to = end
 
 -- behind the parentheses that close
-shut : (t : ℕ) (c : lts.After-slice-known2 (cs t) (expr_at t) expr.Post InvLoop μ-loop) {m l : ℕ} {bs : List ℕ}
-    → (let a = c.before.before.before.before.before.before.before.before.before.before.before.before.before.before.args in
+shut : (t : ℕ) (c : lts.After-slice_known-in-loop-end-1 (cs t) (expr_at t) expr.Post InvLoop μ-loop) {m l : ℕ} {bs : List ℕ}
+    → (let a = c.args in
     Part a.text.now a.rows.now a.nodes.now Expr m a.n l bs
     → Shut a.text.now a.rows.now a.nodes.now m (put a.place l bs)
-    (c.before.before.before.before.before.before.before.before.before.loop.end - 1)
-    (c.before.before.before.before.before.before.before.before.before.loop.opened + c.before.before.before.before.before.pairs.result) a.room.now a.at c.before.before.repeated.new.1.1.0 c.before.before.repeated.result)
+    (c.loop-end.end - 1)
+    (c.loop-end.opened + c.pairs-more.result) a.room.now a.at c.repeated-to.new.room c.repeated-to.result)
 shut t c q =
-    spine_shut (omega arith) (c.before.before.before.before.before.before.before.before.before.loop.invariant.goes q)
-    (c.before.before.before.before.before.pairs.ensures.0 ∙ ap (pairs _)
-    (c.before.before.before.before.before.before.level.ensures ∙ ap node_level
-    c.before.before.before.before.before.before.before.word.ensures)) c.before.before.repeated.ensures
+    spine_shut (omega arith) (c.loop-end.invariant.goes q)
+    (c.pairs-more.ensures.0 ∙ ap (pairs _)
+    (c.level.ensures ∙ ap node_level
+    c.word-k.ensures)) c.repeated-to.ensures
 
-pub loop_holds : (t : ℕ) → lts.Need-loop-init (cs t) (expr_at t) expr.Post InvLoop μ-loop
-loop_holds t c = let a = c.before.before.before.before.args in
+pub loop_holds : (t : ℕ) → lts.Need-loop-end-init (cs t) (expr_at t) expr.Post InvLoop μ-loop
+loop_holds t c = let a = c.args in
     record { fit = record { few = omega arith; long = refl }; goes = λ q. spine_none a.place a.room.now a.at q }
 
-pub sub_j : (t : ℕ) → lts.Need-overflow-sub-j (cs t) (expr_at t) expr.Post InvLoop μ-loop
+pub sub_j : (t : ℕ) → lts.Need-overflow_sub-j (cs t) (expr_at t) expr.Post InvLoop μ-loop
 sub_j t c = search rules
 
-pub word_requires : (t : ℕ) → lts.Need-word-requires (cs t) (expr_at t) expr.Post InvLoop μ-loop
+pub word_requires : (t : ℕ) → lts.Need-word-k-requires (cs t) (expr_at t) expr.Post InvLoop μ-loop
 word_requires t c κs = search rules
 
 pub level_requires : (t : ℕ) → lts.Need-level-requires (cs t) (expr_at t) expr.Post InvLoop μ-loop
 level_requires t c κs = search rules
 
-pub pairs_requires : (t : ℕ) → lts.Need-pairs-requires (cs t) (expr_at t) expr.Post InvLoop μ-loop
+pub pairs_requires : (t : ℕ) → lts.Need-pairs-more-requires (cs t) (expr_at t) expr.Post InvLoop μ-loop
 pairs_requires t c κs = search rules
 
-pub slice_aggregate_repeated : (t : ℕ) → lts.Need-slice-aggregate-repeated (cs t) (expr_at t) expr.Post InvLoop μ-loop
-slice_aggregate_repeated t c = search rules
-
-pub repeated_requires : (t : ℕ) → lts.Need-repeated-requires (cs t) (expr_at t) expr.Post InvLoop μ-loop
+pub repeated_requires : (t : ℕ) → lts.Need-repeated-to-requires (cs t) (expr_at t) expr.Post InvLoop μ-loop
 repeated_requires t c κs = search rules
 
-pub add_opened : (t : ℕ) → lts.Need-overflow-add-opened (cs t) (expr_at t) expr.Post InvLoop μ-loop
+pub add_opened : (t : ℕ) → lts.Need-overflow_add-opened (cs t) (expr_at t) expr.Post InvLoop μ-loop
 add_opened t c = omega (
   arith,
-  c.before.before.before.before.before.before.before.before.before.loop.invariant.fit.few,
-  c.before.before.before.before.before.pairs.ensures.1,
+  c.loop-end.invariant.fit.few,
+  c.pairs-more.ensures.1,
 )
 
-pub leaf_requires : (t : ℕ) → lts.Need-leaf-requires (cs t) (expr_at t) expr.Post InvLoop μ-loop
+pub leaf_requires : (t : ℕ) → lts.Need-leaf-b-requires (cs t) (expr_at t) expr.Post InvLoop μ-loop
 leaf_requires t c κs = (
   omega (
     arith,
-    c.before.before.before.before.before.before.before.before.before.before.before.before.before.before.before.before.requires.0,
-    c.before.before.before.before.before.before.before.before.before.before.before.loop.invariant.fit.few,
+    c.requires.0,
+    c.loop-end.invariant.fit.few,
   ),
   tt,
 )
 
-pub slice_aggregate_repeated_2 : (t : ℕ) → lts.Need-slice-aggregate-repeated-2 (cs t) (expr_at t) expr.Post InvLoop μ-loop
-slice_aggregate_repeated_2 t c = search rules
-
-pub repeated_requires_2 : (t : ℕ) → lts.Need-repeated-requires-2 (cs t) (expr_at t) expr.Post InvLoop μ-loop
+pub repeated_requires_2 : (t : ℕ) → lts.Need-repeated-requires (cs t) (expr_at t) expr.Post InvLoop μ-loop
 repeated_requires_2 t c κs = search rules
 
-pub same_length : (t : ℕ) → lts.Need-same-length (cs t) (expr_at t) expr.Post InvLoop μ-loop
+pub same_length : (t : ℕ) → lts.Need-shape_of-room-then-k-le-DEREFERENCE (cs t) (expr_at t) expr.Post InvLoop μ-loop
 same_length t c =
-    c.before.before.repeated2.auto.1.1.0 ∙ c.before.before.before.before.before.before.before.leaf.auto.1.1.1.1.0
-    ∙ c.before.before.before.before.before.before.before.before.before.before.before.before.repeated.auto.1.1.0
-    ∙ c.before.before.before.before.before.before.before.before.before.before.before.before.before.before.before.before.before.before.before.loop.invariant.fit.long
+    c.repeated.auto.room ∙ c.leaf-b.auto.room
+    ∙ c.repeated-to.auto.room
+    ∙ c.loop-end.invariant.fit.long
 
-pub returns : (t : ℕ) → lts.Need-returns (cs t) (expr_at t) expr.Post InvLoop μ-loop
+pub returns : (t : ℕ) → lts.Need-returns-then-k-le-DEREFERENCE (cs t) (expr_at t) expr.Post InvLoop μ-loop
 returns t c =
-    let v = c.before.before.before.before.before.before.before.leaf.ensures in
-    let l = c.before.before.before.before.before.before.before.before.before.before.before.before.before.before.before.before.before.before.before.loop in
+    let v = c.leaf-b.ensures in
+    let l = c.loop-end in
     record {
-      low = omega (arith, v.low, l.inv.fit.few);
+      low = omega (arith, v.low, l.invariant.fit.few);
       done = λ q. spine_leaf (subst (λ (k : ℕ). k ≤ 3)
-          c.before.before.before.before.before.before.before.before.before.before.before.before.before.before.before.before.before.word.ensures c.before.before.before.before.before.before.before.before.before.if1.true)
-          (shut t c.before.before.before.before.before.before.before.before.before.before q) v
-          c.before.before.repeated2.ensures;
+          c.word-k.ensures c.if-k-le-DEREFERENCE.true)
+          (shut t c.before.before.before.before.before.before.before.before.before.before.before q) v
+          c.repeated.ensures;
     }
 
-pub step_requires : (t : ℕ) → lts.Need-step-requires (cs t) (expr_at t) expr.Post InvLoop μ-loop
+pub step_requires : (t : ℕ) → lts.Need-step-b-requires (cs t) (expr_at t) expr.Post InvLoop μ-loop
 step_requires t c κs = (
   omega (
     arith,
-    c.before.before.before.before.before.before.before.before.before.before.before.before.before.before.before.before.requires.0,
-    c.before.before.before.before.before.before.before.before.before.before.before.loop.invariant.fit.few,
+    c.requires.0,
+    c.loop-end.invariant.fit.few,
   ),
   tt,
 )
 
-pub left_requires : (t : ℕ) → lts.Need-left-requires (cs t) (expr_at t) expr.Post InvLoop μ-loop
+pub left_requires : (t : ℕ) → lts.Need-left-takes-requires (cs t) (expr_at t) expr.Post InvLoop μ-loop
 left_requires t c κs = search rules
 
-pub loop_less : (t : ℕ) → lts.Need-loop-smaller (cs t) (expr_at t) expr.Post InvLoop μ-loop
-loop_less t c = omega (arith, c.before.before.before.step.ensures.low)
+pub loop_less : (t : ℕ) → lts.Need-loop-end-smaller (cs t) (expr_at t) expr.Post InvLoop μ-loop
+loop_less t c = omega (arith, c.step-b.ensures.low)
 
-pub loop_again : (t : ℕ) → lts.Need-loop-preserved (cs t) (expr_at t) expr.Post InvLoop μ-loop
+pub loop_again : (t : ℕ) → lts.Need-loop-end-preserved (cs t) (expr_at t) expr.Post InvLoop μ-loop
 loop_again t c =
-    let v = c.before.before.before.step.ensures in
-    let l = c.before.before.before.before.before.before.before.before.before.before.before.before.before.before.before.loop in
-    let k = c.before.before.before.before.before.before.before.before.before.before.before.before.before.word.ensures in
+    let v = c.step-b.ensures in
+    let l = c.loop-end in
+    let k = c.word-k.ensures in
     record {
       fit = record {
         few = omega (
           arith,
           v.low,
-          l.inv.fit.few,
-          c.before.before.before.before.before.before.before.before.before.before.before.pairs.ensures.1,
+          l.invariant.fit.few,
+          c.pairs-more.ensures.1,
         );
-        long = c.before.before.before.step.auto.1.1.1.1.0
-            ∙ c.before.before.before.before.before.before.before.before.repeated.auto.1.1.0 ∙ l.inv.fit.long;
+        long = c.step-b.auto.room
+            ∙ c.repeated-to.auto.room ∙ l.invariant.fit.long;
       };
-      goes = λ q. spine_step (omega (arith, k, c.before.before.before.before.before.if1.false))
-          (c.left.ensures ∙ ap node_level k) (shut t c.before.before.before.before.before.before q) v;
+      goes = λ q. spine_step (omega (arith, k, c.if-k-le-DEREFERENCE.false))
+          (c.left-takes.ensures ∙ ap node_level k) (shut t c.before.before.before.before.before.before q) v;
     }
 
-pub same_length_2 : (t : ℕ) → lts.Need-same-length-2 (cs t) (expr_at t) expr.Post InvLoop μ-loop
-same_length_2 t c = c.before.loop.invariant.fit.long
+pub same_length_2 : (t : ℕ) → lts.Need-shape_of-room (cs t) (expr_at t) expr.Post InvLoop μ-loop
+same_length_2 t c = c.loop-end.invariant.fit.long
 
-pub returns_2 : (t : ℕ) → lts.Need-returns-2 (cs t) (expr_at t) expr.Post InvLoop μ-loop
-returns_2 t c = record { low = omega arith; done = λ q. absurd (no_expr (omega arith) (c.before.loop.invariant.goes q).part) }
+pub returns_2 : (t : ℕ) → lts.Need-returns (cs t) (expr_at t) expr.Post InvLoop μ-loop
+returns_2 t c = record { low = omega arith; done = λ q. absurd (no_expr (omega arith) (c.loop-end.invariant.goes q).part) }

@@ -27,68 +27,65 @@ cs t = (
   name_reads.Learnt,
 )
 
-pub word_requires : (t : ℕ) → lts.Need-word-requires (cs t) (leaf_at t) leaf.Post
+pub word_requires : (t : ℕ) → lts.Need-word-k-requires (cs t) (leaf_at t) leaf.Post
 word_requires t c κs = search rules
 
-pub word_requires_2 : (t : ℕ) → lts.Need-word-requires-2 (cs t) (leaf_at t) leaf.Post
+pub word_requires_2 : (t : ℕ) → lts.Need-word-low-requires (cs t) (leaf_at t) leaf.Post
 word_requires_2 t c κs = search rules
 
-pub word_requires_3 : (t : ℕ) → lts.Need-word-requires-3 (cs t) (leaf_at t) leaf.Post
+pub word_requires_3 : (t : ℕ) → lts.Need-word-high-requires (cs t) (leaf_at t) leaf.Post
 word_requires_3 t c κs = search rules
 
 pub number_requires : (t : ℕ) → lts.Need-number-requires (cs t) (leaf_at t) leaf.Post
 number_requires t c κs = search rules
 
-pub same_length : (t : ℕ) → lts.Need-same-length (cs t) (leaf_at t) leaf.Post
+pub same_length : (t : ℕ) → lts.Need-shape_of-room-then-k-eq-NUMBER (cs t) (leaf_at t) leaf.Post
 same_length t c = search rules
 
-pub returns : (t : ℕ) → lts.Need-returns (cs t) (leaf_at t) leaf.Post
+pub returns : (t : ℕ) → lts.Need-returns-then-k-eq-NUMBER (cs t) (leaf_at t) leaf.Post
 returns t c =
-    let k = c.before.before.before.before.before.before.before.word.ensures in
+    let k = c.word-k.ensures in
     record {
       low = omega arith;
-      done = λ h q. num_done (sym k ∙ c.before.before.before.before.before.before.if1.true)
-          c.before.before.before.before.before.word2.ensures c.before.before.before.before.word3.ensures
-          c.before.before.number.ensures q;
+      done = λ h q. num_done (sym k ∙ c.if-k-eq-NUMBER.true)
+          c.word-low.ensures c.word-high.ensures
+          c.number.ensures q;
     }
 
-pub expr_requires : (t : ℕ) → lts.Need-expr-requires (cs t) (leaf_at t) leaf.Post
-expr_requires t c κs = (omega (arith, c.before.before.before.before.before.before.before.before.requires.0), tt)
-
-pub slice_aggregate_bytes : (t : ℕ) → lts.Need-slice-aggregate-bytes (cs t) (leaf_at t) leaf.Post
-slice_aggregate_bytes t c = search rules
+pub expr_requires : (t : ℕ) → lts.Need-expr-b-requires (cs t) (leaf_at t) leaf.Post
+expr_requires t c κs = (omega (arith, c.requires.0), tt)
 
 pub bytes_requires : (t : ℕ) → lts.Need-bytes-requires (cs t) (leaf_at t) leaf.Post
 bytes_requires t c κs = search rules
 
-pub same_length_2 : (t : ℕ) → lts.Need-same-length-2 (cs t) (leaf_at t) leaf.Post
+pub same_length_2 : (t : ℕ) → lts.Need-shape_of-room-then-k-eq-DEREFERENCE (cs t) (leaf_at t) leaf.Post
 same_length_2 t c = search rules
 
-pub returns_2 : (t : ℕ) → lts.Need-returns-2 (cs t) (leaf_at t) leaf.Post
+pub returns_2 : (t : ℕ) → lts.Need-returns-then-k-eq-DEREFERENCE (cs t) (leaf_at t) leaf.Post
 returns_2 t c =
-    let k = c.before.before.before.before.before.before.before.before.before.before.before.word.ensures in
-    let v = c.before.before.before.before.before.before.before.expr.ensures in
+    let k = c.word-k.ensures in
+    let v = c.expr-b.ensures in
     record {
       low = v.low;
       done = λ h q. star_done (sym k
-          ∙ c.before.before.before.before.before.before.before.before.before.if2.true) v c.before.before.bytes.ensures q;
+          ∙ c.if-k-eq-DEREFERENCE.true) v c.bytes.ensures q;
     }
 
-pub word_requires_4 : (t : ℕ) → lts.Need-word-requires-4 (cs t) (leaf_at t) leaf.Post
+pub word_requires_4 : (t : ℕ) → lts.Need-word-name-requires (cs t) (leaf_at t) leaf.Post
 word_requires_4 t c κs = search rules
 
 pub name_requires : (t : ℕ) → lts.Need-name-requires (cs t) (leaf_at t) leaf.Post
 name_requires t c κs = search rules
 
-pub same_length_3 : (t : ℕ) → lts.Need-same-length-3 (cs t) (leaf_at t) leaf.Post
+pub same_length_3 : (t : ℕ) → lts.Need-shape_of-room (cs t) (leaf_at t) leaf.Post
 same_length_3 t c = search rules
 
-pub returns_3 : (t : ℕ) → lts.Need-returns-3 (cs t) (leaf_at t) leaf.Post
+pub returns_3 : (t : ℕ) → lts.Need-returns (cs t) (leaf_at t) leaf.Post
 returns_3 t c =
-    let k = c.before.before.before.before.before.before.before.word.ensures in
+    let k = c.word-k.ensures in
     record {
       low = omega arith;
-      done = λ h q. var_done (λ e. c.before.before.before.before.before.before.if1.false (k ∙ e))
-          (λ e. c.before.before.before.before.before.if2.false (k ∙ e)) h c.before.before.before.before.word4.ensures
-          c.before.before.name.ensures q;
+      done = λ h q. var_done (λ e. c.if-k-eq-NUMBER.false (k ∙ e))
+          (λ e. c.if-k-eq-DEREFERENCE.false (k ∙ e)) h c.word-name.ensures
+          c.name.ensures q;
     }

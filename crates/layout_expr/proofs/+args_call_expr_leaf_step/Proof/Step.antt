@@ -34,70 +34,67 @@ cs t = (
   operator_reads.Learnt,
 )
 
-pub word_requires : (t : ℕ) → lts.Need-word-requires (cs t) (step_at t) step.Post
+pub word_requires : (t : ℕ) → lts.Need-word-k-requires (cs t) (step_at t) step.Post
 word_requires t c κs = search rules
 
 pub call_requires : (t : ℕ) → lts.Need-call-requires (cs t) (step_at t) step.Post
-call_requires t c κs = (omega (arith, c.before.before.before.before.before.before.before.requires.0), tt)
+call_requires t c κs = (omega (arith, c.requires.0), tt)
 
-pub same_length : (t : ℕ) → lts.Need-same-length (cs t) (step_at t) step.Post
+pub same_length : (t : ℕ) → lts.Need-shape_of-room-then-k-eq-CALL (cs t) (step_at t) step.Post
 same_length t c = search rules
 
-pub returns : (t : ℕ) → lts.Need-returns (cs t) (step_at t) step.Post
+pub returns : (t : ℕ) → lts.Need-returns-then-k-eq-CALL (cs t) (step_at t) step.Post
 returns t c =
-    let v = c.before.before.call.ensures in
+    let v = c.call.ensures in
     record {
       low = v.low;
-      done = λ h q. v.done (sym c.before.before.before.before.before.word.ensures
-          ∙ c.before.before.before.before.if1.true) q;
+      done = λ h q. v.done (sym c.word-k.ensures
+          ∙ c.if-k-eq-CALL.true) q;
     }
 
-pub word_requires_2 : (t : ℕ) → lts.Need-word-requires-2 (cs t) (step_at t) step.Post
+pub word_requires_2 : (t : ℕ) → lts.Need-word-name-requires (cs t) (step_at t) step.Post
 word_requires_2 t c κs = search rules
 
-pub name_requires : (t : ℕ) → lts.Need-name-requires (cs t) (step_at t) step.Post
+pub name_requires : (t : ℕ) → lts.Need-name-to-requires (cs t) (step_at t) step.Post
 name_requires t c κs = search rules
-
-pub slice_aggregate_bytes : (t : ℕ) → lts.Need-slice-aggregate-bytes (cs t) (step_at t) step.Post
-slice_aggregate_bytes t c = search rules
 
 pub bytes_requires : (t : ℕ) → lts.Need-bytes-requires (cs t) (step_at t) step.Post
 bytes_requires t c κs = search rules
 
-pub same_length_2 : (t : ℕ) → lts.Need-same-length-2 (cs t) (step_at t) step.Post
+pub same_length_2 : (t : ℕ) → lts.Need-shape_of-room-then-k-eq-FIELD (cs t) (step_at t) step.Post
 same_length_2 t c = search rules
 
-pub returns_2 : (t : ℕ) → lts.Need-returns-2 (cs t) (step_at t) step.Post
+pub returns_2 : (t : ℕ) → lts.Need-returns-then-k-eq-FIELD (cs t) (step_at t) step.Post
 returns_2 t c =
-    let k = c.before.before.before.before.before.before.before.before.before.before.before.before.word.ensures in
+    let k = c.word-k.ensures in
     record {
       low = omega arith;
       done = λ h q. field_steps (sym k
-          ∙ c.before.before.before.before.before.before.before.before.before.before.if2.true)
-          c.before.before.before.before.before.before.before.before.before.word2.ensures
-          c.before.before.before.before.before.before.before.name.ensures c.before.before.bytes.ensures q;
+          ∙ c.if-k-eq-FIELD.true)
+          c.word-name.ensures
+          c.name-to.ensures c.bytes.ensures q;
     }
 
 pub right_requires : (t : ℕ) → lts.Need-right-requires (cs t) (step_at t) step.Post
 right_requires t c κs = search rules
 
-pub expr_requires : (t : ℕ) → lts.Need-expr-requires (cs t) (step_at t) step.Post
-expr_requires t c κs = (omega (arith, c.before.before.before.before.before.before.before.before.before.requires.0), tt)
+pub expr_requires : (t : ℕ) → lts.Need-expr-b-requires (cs t) (step_at t) step.Post
+expr_requires t c κs = (omega (arith, c.requires.0), tt)
 
 pub operator_requires : (t : ℕ) → lts.Need-operator-requires (cs t) (step_at t) step.Post
 operator_requires t c κs = search rules
 
-pub same_length_3 : (t : ℕ) → lts.Need-same-length-3 (cs t) (step_at t) step.Post
+pub same_length_3 : (t : ℕ) → lts.Need-shape_of-room (cs t) (step_at t) step.Post
 same_length_3 t c = search rules
 
-pub returns_3 : (t : ℕ) → lts.Need-returns-3 (cs t) (step_at t) step.Post
+pub returns_3 : (t : ℕ) → lts.Need-returns (cs t) (step_at t) step.Post
 returns_3 t c =
-    let k = c.before.before.before.before.before.before.before.before.before.before.before.word.ensures in
-    let v = c.before.before.before.before.before.before.expr.ensures in
+    let k = c.word-k.ensures in
+    let v = c.expr-b.ensures in
     record {
       low = v.low;
-      done = λ h q. bin_steps (λ e. c.before.before.before.before.before.before.before.before.before.before.if1.false
-          (k ∙ e)) (λ e. c.before.before.before.before.before.before.before.before.before.if2.false (k ∙ e)) h
-          (c.before.before.before.before.before.before.before.before.right.ensures ∙ ap right_place k) k v
-          c.before.before.operator.ensures q;
+      done = λ h q. bin_steps (λ e. c.if-k-eq-CALL.false
+          (k ∙ e)) (λ e. c.if-k-eq-FIELD.false (k ∙ e)) h
+          (c.right.ensures ∙ ap right_place k) k v
+          c.operator.ensures q;
     }

@@ -13,46 +13,40 @@ use Rattle.layout_tree.proofs.+body_branch_guarded_headed_thing_things.Proof.Mea
 abbrev pub cs : ℕ → lts.Claims
 cs t = (word_reads.Asked, word_reads.Learnt, bytes_reads.Asked, bytes_reads.Learnt, things_below t, things.Post)
 
-pub returns : (t : ℕ) → lts.Need-returns (cs t) (body_at t) body.Post
-returns t c = record { low = omega arith; done = λ q. absurd (no_body c.if1.true q) }
+pub returns : (t : ℕ) → lts.Need-returns-then-n-eq0 (cs t) (body_at t) body.Post
+returns t c = record { low = omega arith; done = λ q. absurd (no_body c.if-n-eq0.true q) }
 
-pub sub_j : (t : ℕ) → lts.Need-overflow-sub-j (cs t) (body_at t) body.Post
+pub sub_j : (t : ℕ) → lts.Need-overflow_sub-j (cs t) (body_at t) body.Post
 sub_j t c = search rules
 
-pub word_requires : (t : ℕ) → lts.Need-word-requires (cs t) (body_at t) body.Post
+pub word_requires : (t : ℕ) → lts.Need-word-count-requires (cs t) (body_at t) body.Post
 word_requires t c κs = search rules
 
-pub slice_aggregate_bytes : (t : ℕ) → lts.Need-slice-aggregate-bytes (cs t) (body_at t) body.Post
-slice_aggregate_bytes t c = search rules
-
-pub bytes_requires : (t : ℕ) → lts.Need-bytes-requires (cs t) (body_at t) body.Post
+pub bytes_requires : (t : ℕ) → lts.Need-bytes-shut-requires (cs t) (body_at t) body.Post
 bytes_requires t c κs = search rules
 
-pub things_requires : (t : ℕ) → lts.Need-things-requires (cs t) (body_at t) body.Post
+pub things_requires : (t : ℕ) → lts.Need-things-b-requires (cs t) (body_at t) body.Post
 things_requires t c κs = (
   omega (
     arith,
-    c.before.before.before.before.before.before.before.before.before.before.before.before.requires.0,
-    c.before.before.before.before.before.before.before.if1.false,
+    c.requires.0,
+    c.if-n-eq0.false,
   ),
   tt,
 )
 
-pub slice_aggregate_bytes_2 : (t : ℕ) → lts.Need-slice-aggregate-bytes-2 (cs t) (body_at t) body.Post
-slice_aggregate_bytes_2 t c = search rules
-
-pub bytes_requires_2 : (t : ℕ) → lts.Need-bytes-requires-2 (cs t) (body_at t) body.Post
+pub bytes_requires_2 : (t : ℕ) → lts.Need-bytes-requires (cs t) (body_at t) body.Post
 bytes_requires_2 t c κs = search rules
 
-pub same_length : (t : ℕ) → lts.Need-same-length (cs t) (body_at t) body.Post
+pub same_length : (t : ℕ) → lts.Need-shape_of-room (cs t) (body_at t) body.Post
 same_length t c = search rules
 
-pub returns_2 : (t : ℕ) → lts.Need-returns-2 (cs t) (body_at t) body.Post
+pub returns_2 : (t : ℕ) → lts.Need-returns (cs t) (body_at t) body.Post
 returns_2 t c =
-    let v = c.before.before.before.before.before.before.before.things.ensures in
+    let v = c.things-b.ensures in
     record {
       low = omega (arith, v.low);
       done = λ q. body_done
-          c.before.before.before.before.before.before.before.before.before.before.before.before.before.before.before.if1.false c.before.before.before.before.before.before.before.before.before.before.before.before.before.before.word.ensures c.before.before.before.before.before.before.before.before.before.before.before.bytes.ensures v
-          c.before.before.bytes2.ensures q;
+          c.if-n-eq0.false c.word-count.ensures c.bytes-shut.ensures v
+          c.bytes.ensures q;
     }

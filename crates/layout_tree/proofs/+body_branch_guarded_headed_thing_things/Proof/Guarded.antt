@@ -23,50 +23,44 @@ cs t = (
   name_reads.Learnt,
 )
 
-pub body_requires : (t : ℕ) → lts.Need-body-requires (cs t) (guarded_at t) guarded.Post
-body_requires t c κs = (omega (arith, c.before.before.before.before.before.requires.0), tt)
+pub body_requires : (t : ℕ) → lts.Need-body-b-requires (cs t) (guarded_at t) guarded.Post
+body_requires t c κs = (omega (arith, c.requires.0), tt)
 
-pub same_length : (t : ℕ) → lts.Need-same-length (cs t) (guarded_at t) guarded.Post
+pub same_length : (t : ℕ) → lts.Need-shape_of-room-then-end-eq0 (cs t) (guarded_at t) guarded.Post
 same_length t c = search rules
 
-pub returns : (t : ℕ) → lts.Need-returns (cs t) (guarded_at t) guarded.Post
+pub returns : (t : ℕ) → lts.Need-returns-then-end-eq0 (cs t) (guarded_at t) guarded.Post
 returns t c =
-    let v = c.before.before.before.body.ensures in
-    record { low = v.low; done = λ s q. absurd (unguarded c.if1.true v q) }
+    let v = c.body-b.ensures in
+    record { low = v.low; done = λ s q. absurd (unguarded c.if-end-eq0.true v q) }
 
-pub sub_word : (t : ℕ) → lts.Need-overflow-sub-word (cs t) (guarded_at t) guarded.Post
-sub_word t c = search rules
+pub sub_end : (t : ℕ) → lts.Need-overflow_sub-end (cs t) (guarded_at t) guarded.Post
+sub_end t c = search rules
 
-pub word_requires : (t : ℕ) → lts.Need-word-requires (cs t) (guarded_at t) guarded.Post
+pub word_requires : (t : ℕ) → lts.Need-word-name-requires (cs t) (guarded_at t) guarded.Post
 word_requires t c κs = search rules
 
-pub slice_aggregate_bytes : (t : ℕ) → lts.Need-slice-aggregate-bytes (cs t) (guarded_at t) guarded.Post
-slice_aggregate_bytes t c = search rules
-
-pub bytes_requires : (t : ℕ) → lts.Need-bytes-requires (cs t) (guarded_at t) guarded.Post
+pub bytes_requires : (t : ℕ) → lts.Need-bytes-shut-requires (cs t) (guarded_at t) guarded.Post
 bytes_requires t c κs = search rules
 
-pub name_requires : (t : ℕ) → lts.Need-name-requires (cs t) (guarded_at t) guarded.Post
+pub name_requires : (t : ℕ) → lts.Need-name-to-requires (cs t) (guarded_at t) guarded.Post
 name_requires t c κs = search rules
 
-pub sub_t17 : (t : ℕ) → lts.Need-overflow-sub-t17 (cs t) (guarded_at t) guarded.Post
-sub_t17 t c = search rules
+pub sub_result : (t : ℕ) → lts.Need-overflow_sub-result (cs t) (guarded_at t) guarded.Post
+sub_result t c = search rules
 
-pub slice_aggregate_bytes_2 : (t : ℕ) → lts.Need-slice-aggregate-bytes-2 (cs t) (guarded_at t) guarded.Post
-slice_aggregate_bytes_2 t c = search rules
-
-pub bytes_requires_2 : (t : ℕ) → lts.Need-bytes-requires-2 (cs t) (guarded_at t) guarded.Post
+pub bytes_requires_2 : (t : ℕ) → lts.Need-bytes-requires (cs t) (guarded_at t) guarded.Post
 bytes_requires_2 t c κs = search rules
 
-pub same_length_2 : (t : ℕ) → lts.Need-same-length-2 (cs t) (guarded_at t) guarded.Post
+pub same_length_2 : (t : ℕ) → lts.Need-shape_of-room (cs t) (guarded_at t) guarded.Post
 same_length_2 t c = search rules
 
-pub returns_2 : (t : ℕ) → lts.Need-returns-2 (cs t) (guarded_at t) guarded.Post
+pub returns_2 : (t : ℕ) → lts.Need-returns (cs t) (guarded_at t) guarded.Post
 returns_2 t c =
-    let v = c.before.before.before.before.before.before.before.before.before.before.before.before.before.before.before.before.before.before.body.ensures in
+    let v = c.body-b.ensures in
     record {
       low = omega (arith, v.low);
       done = λ s q. guarded_done v
-          c.before.before.before.before.before.before.before.before.before.before.before.before.before.before.word.ensures c.before.before.before.before.before.before.before.before.before.before.before.bytes.ensures
-          c.before.before.before.before.before.before.before.name.ensures c.before.before.bytes2.ensures s q;
+          c.word-name.ensures c.bytes-shut.ensures
+          c.name-to.ensures c.bytes.ensures s q;
     }

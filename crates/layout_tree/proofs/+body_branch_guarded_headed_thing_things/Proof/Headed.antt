@@ -23,33 +23,33 @@ cs t = (
   bytes_reads.Learnt,
 )
 
-pub returns : (t : ℕ) → lts.Need-returns (cs t) (headed_at t) headed.Post
-returns t c = record { low = omega arith; done = λ e q s. absurd (omega (arith, e, c.if1.true)) }
+pub returns : (t : ℕ) → lts.Need-returns-then-n-eq0 (cs t) (headed_at t) headed.Post
+returns t c = record { low = omega arith; done = λ e q s. absurd (omega (arith, e, c.if-n-eq0.true)) }
 
-pub sub_word : (t : ℕ) → lts.Need-overflow-sub-word (cs t) (headed_at t) headed.Post
+pub sub_word : (t : ℕ) → lts.Need-overflow_sub-n (cs t) (headed_at t) headed.Post
 sub_word t c = search rules
 
-pub word_requires : (t : ℕ) → lts.Need-word-requires (cs t) (headed_at t) headed.Post
+pub word_requires : (t : ℕ) → lts.Need-word-name-requires (cs t) (headed_at t) headed.Post
 word_requires t c κs = search rules
 
-pub body_requires : (t : ℕ) → lts.Need-body-requires (cs t) (headed_at t) headed.Post
-body_requires t c κs = (omega (arith, c.before.before.before.before.before.before.before.before.requires.0), tt)
+pub body_requires : (t : ℕ) → lts.Need-body-b-requires (cs t) (headed_at t) headed.Post
+body_requires t c κs = (omega (arith, c.requires.0), tt)
 
-pub name_requires : (t : ℕ) → lts.Need-name-requires (cs t) (headed_at t) headed.Post
+pub name_requires : (t : ℕ) → lts.Need-name-to-requires (cs t) (headed_at t) headed.Post
 name_requires t c κs = search rules
 
 pub bytes_requires : (t : ℕ) → lts.Need-bytes-requires (cs t) (headed_at t) headed.Post
 bytes_requires t c κs = search rules
 
-pub same_length : (t : ℕ) → lts.Need-same-length (cs t) (headed_at t) headed.Post
+pub same_length : (t : ℕ) → lts.Need-shape_of-room (cs t) (headed_at t) headed.Post
 same_length t c = search rules
 
-pub returns_2 : (t : ℕ) → lts.Need-returns-2 (cs t) (headed_at t) headed.Post
+pub returns_2 : (t : ℕ) → lts.Need-returns (cs t) (headed_at t) headed.Post
 returns_2 t c =
-    let v = c.before.before.before.before.before.before.before.before.before.before.body.ensures in
+    let v = c.body-b.ensures in
     record {
       low = v.low;
       done = λ e q s. headed_done e
-          c.before.before.before.before.before.before.before.before.before.before.before.before.word.ensures v
-          c.before.before.before.before.before.before.name.ensures c.before.before.bytes.ensures q s;
+          c.word-name.ensures v
+          c.name-to.ensures c.bytes.ensures q s;
     }

@@ -12,41 +12,41 @@ use Rattle.layout_tree.proofs.+body_branch_guarded_headed_thing_things.Proof.Mea
 abbrev pub cs : ℕ → lts.Claims
 cs t = (thing_below t, thing.Post)
 
-abbrev pub InvLoop : lts.invariant_loop
+abbrev pub InvLoop : lts.invariant-loop-left
 InvLoop text rows nodes n count room₀ at end₀ left₀ to₀ room end left to = InList text rows nodes n count room₀ at end left room to
 
-abbrev pub μ-loop : lts.decreases_loop
+abbrev pub μ-loop : lts.decreases-loop-left
 μ-loop text rows nodes n count room₀ at end₀ left₀ to₀ room end left to = left
 
-pub loop_holds : (t : ℕ) → lts.Need-loop-init (cs t) (things_at t) things.Post InvLoop μ-loop
-loop_holds t c = let a = c.before.before.before.before.args in
+pub loop_holds : (t : ℕ) → lts.Need-loop-left-init (cs t) (things_at t) things.Post InvLoop μ-loop
+loop_holds t c = let a = c.args in
     record { few = omega arith; long = refl; goes = λ q. listing_none a.room.now a.at q }
 
-pub thing_requires : (t : ℕ) → lts.Need-thing-requires (cs t) (things_at t) things.Post InvLoop μ-loop
+pub thing_requires : (t : ℕ) → lts.Need-thing-b-requires (cs t) (things_at t) things.Post InvLoop μ-loop
 thing_requires t c κs = (
   omega
-      (arith, c.before.before.before.before.before.before.before.requires.0, c.before.before.loop.invariant.few),
+      (arith, c.requires.0, c.loop-left.invariant.few),
   tt,
 )
 
-pub sub_left : (t : ℕ) → lts.Need-overflow-sub-left (cs t) (things_at t) things.Post InvLoop μ-loop
+pub sub_left : (t : ℕ) → lts.Need-overflow_sub-left (cs t) (things_at t) things.Post InvLoop μ-loop
 sub_left t c = search rules
 
-pub loop_less : (t : ℕ) → lts.Need-loop-smaller (cs t) (things_at t) things.Post InvLoop μ-loop
+pub loop_less : (t : ℕ) → lts.Need-loop-left-smaller (cs t) (things_at t) things.Post InvLoop μ-loop
 loop_less t c = search rules
 
-pub loop_again : (t : ℕ) → lts.Need-loop-preserved (cs t) (things_at t) things.Post InvLoop μ-loop
+pub loop_again : (t : ℕ) → lts.Need-loop-left-preserved (cs t) (things_at t) things.Post InvLoop μ-loop
 loop_again t c =
-    let l = c.before.before.before.before.before.loop in
-    let v = c.before.before.thing in
+    let l = c.loop-left in
+    let v = c.thing-b in
     record {
       few = omega (arith, l.invariant.few, v.ensures.low);
-      long = v.auto.1.1.1.1.0 ∙ l.invariant.long;
+      long = v.auto.room ∙ l.invariant.long;
       goes = λ q. listing_on (omega arith) (l.invariant.goes q) v.ensures;
     }
 
-pub same_length : (t : ℕ) → lts.Need-same-length (cs t) (things_at t) things.Post InvLoop μ-loop
-same_length t c = c.before.loop.invariant.long
+pub same_length : (t : ℕ) → lts.Need-shape_of-room (cs t) (things_at t) things.Post InvLoop μ-loop
+same_length t c = c.loop-left.invariant.long
 
 pub returns : (t : ℕ) → lts.Need-returns (cs t) (things_at t) things.Post InvLoop μ-loop
-returns t c = let l = c.before.loop in record { low = l.invariant.few; done = λ q. listing_all (omega arith) (l.invariant.goes q) }
+returns t c = let l = c.loop-left in record { low = l.invariant.few; done = λ q. listing_all (omega arith) (l.invariant.goes q) }
