@@ -7,22 +7,22 @@ use Rattle.layout_judge.proofs.is_whole.Reads as reads
 use Rattle.layout_judge.proofs.is_whole.Lts as lts
 
 -- src/lib.rt:41:25
-enum_told : tie.Need-enum-told
+enum_told : tie.Need-enum_told-1
 enum_told c = search rules
 
 -- src/lib.rt:42:34
-enum_told_2 : tie.Need-enum-told-2
+enum_told_2 : tie.Need-enum_told-in-Refused
 enum_told_2 c = search rules
 
 -- src/lib.rt:37:1
-returns : tie.Need-returns
+returns : tie.Need-returns-in-None
 unfolding is_whole
-returns c = rw c.enum_told.given.1
+returns c = rw c.in-None.is
 
 -- src/lib.rt:37:1
-returns_2 : tie.Need-returns-2
+returns_2 : tie.Need-returns-in-Refused
 unfolding is_whole
-returns_2 c = rw c.enum-told2.given.1
+returns_2 c = rw c.in-Refused.is
 
 pub is_whole_spec : {M : Type 1} → statement M
 is_whole_spec = tie.close (tie.spec enum_told enum_told_2 returns returns_2)

@@ -9,75 +9,75 @@ use Rattle.program_nodes.proofs.write_both.Tie as tie
 
 -- ---- the places on the way, as they are seen from the function's entry
 
-abbrev start : tie.After-write-one → tie.Start
+abbrev start : tie.After-write_one-kept → tie.Start
 start c = c.before.before.before.before.before.before.before
 
-abbrev wrote : tie.After-slice-known2 → tie.After-write-one
+abbrev wrote : tie.After-slice_known-2-1 → tie.After-write_one-kept
 wrote c = c.before.before
 
-abbrev adding : tie.After-slice-known4 → tie.After-write-after
+abbrev adding : tie.After-slice_known-4-1 → tie.After-write_after-made
 adding c = c.before.before
 
-abbrev known : tie.After-write-after → tie.After-slice-known2
+abbrev known : tie.After-write_after-made → tie.After-slice_known-2-1
 known c = c.before.before.before
 
-write_one_requires : tie.Need-write-one-requires
+write_one_requires : tie.Need-write_one-kept-requires
 write_one_requires c κs =
     let p = c.before.before.before.before.before.before.requires in
     (p.prelude, omega (arith, p.room))
 
 -- the program node's words are in memory
-node_in : (c : tie.After-write-one) → (c.write-one.result - 1) * 8 + 8 ≤ length c.write-one.new.1.1.1.0
-node_in c = let s = start c in first_long s.args.nodes.now s.pre _ c.write-one.result c.write-one.ensures
+node_in : (c : tie.After-write_one-kept) → (c.write_one-kept.result - 1) * 8 + 8 ≤ length c.write_one-kept.new.nodes
+node_in c = let s = start c in first_long s.args.nodes.now s.requires _ c.write_one-kept.result c.write_one-kept.ensures
 
-sub_kept : tie.Need-overflow-sub-kept
+sub_kept : tie.Need-overflow_sub-kept
 sub_kept c =
     let o = wrote c in
     let s = start o in
-    first_some s.args.nodes.now s.pre _ o.write-one.result o.write-one.ensures
+    first_some s.args.nodes.now s.requires _ o.write_one-kept.result o.write_one-kept.ensures
 
-cast_first : tie.Need-overflow-cast-first
+cast_first : tie.Need-overflow_cast-first
 cast_first c = search rules
 
-mul_first : tie.Need-overflow-mul-first
+mul_first : tie.Need-overflow_mul-first
 mul_first c = search rules
 
-add_more : tie.Need-overflow-add-more
+add_more : tie.Need-overflow_add-more
 add_more c = search rules
 
-mul_more : tie.Need-overflow-mul-more
+mul_more : tie.Need-offset_bounds-nodes-first
 mul_more c = search rules
 
-slice_read_more : tie.Need-slice-read-more
+slice_read_more : tie.Need-bounds-nodes-first
 slice_read_more c = omega (arith, node_in (wrote c.before))
 
-mul_write_after : tie.Need-overflow-mul-write-after
+mul_write_after : tie.Need-offset_bounds-nodes-first-2
 mul_write_after c = search rules
 
-sub_write_after : tie.Need-overflow-sub-write-after
+sub_write_after : tie.Need-slice_bounds-write_after-count
 sub_write_after c = omega (arith, node_in (wrote c.before))
 
-part_write_after_start : tie.Need-slice-bounds-write-after-start
+part_write_after_start : tie.Need-slice_bounds-write_after-start
 part_write_after_start c = omega (arith, node_in (wrote c.before))
 
-part_write_after_end : tie.Need-slice-bounds-write-after-end
+part_write_after_end : tie.Need-slice_bounds-write_after-end
 part_write_after_end c = search rules
 
-write_after_requires : tie.Need-write-after-requires
+write_after_requires : tie.Need-write_after-made-requires
 write_after_requires c κs =
     let o = wrote c.before.before in
     let s = start o in
-    asks_after s.args.nodes.now s.pre _ o.write-one.result o.write-one.ensures
+    asks_after s.args.nodes.now s.requires _ o.write_one-kept.result o.write_one-kept.ensures
 
-add_result : tie.Need-overflow-add-result
+add_result : tie.Need-overflow_add-result
 add_result c =
     let f = adding c in
     let o = wrote (known f) in
     let s = start o in
-    let w = f.write-after in
-    omega (arith, both_few s.args.nodes.now s.pre _ o.write-one.result o.write-one.ensures _ w.result w.ensures)
+    let w = f.write_after-made in
+    omega (arith, both_few s.args.nodes.now s.requires _ o.write_one-kept.result o.write_one-kept.ensures _ w.result w.ensures)
 
-same_length : tie.Need-same-length
+same_length : tie.Need-shape_of-nodes
 same_length c = search rules
 
 returns : tie.Need-returns
@@ -85,8 +85,8 @@ returns c =
     let f = adding c in
     let o = wrote (known f) in
     let s = start o in
-    both_written s.args.nodes.now s.pre _ o.write-one.result o.write-one.ensures _ f.write-after.result
-    f.write-after.ensures
+    both_written s.args.nodes.now s.requires _ o.write_one-kept.result o.write_one-kept.ensures _ f.write_after-made.result
+    f.write_after-made.ensures
 
 pub write_both_spec : {M : Type 1} → statement M
 write_both_spec =

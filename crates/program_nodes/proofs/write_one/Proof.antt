@@ -13,29 +13,29 @@ written_requires c κs =
     let p = s.requires in
     (record { ended = p.0.ended; room = p.1 }, record { tree = p.0.tree; behind = s.args.count; is = p.0.reads })
 
-enum_known_n : tie.Need-enum-known-n
+enum_known_n : tie.Need-enum_known-n
 enum_known_n c = search rules
 
-enum_told : tie.Need-enum-told
+enum_told : tie.Need-enum_told-1
 enum_told c = search rules
 
-same_length : tie.Need-same-length
+same_length : tie.Need-shape_of-nodes-in-Nodes
 same_length c = search rules
 
-returns : tie.Need-returns
+returns : tie.Need-returns-in-Nodes
 returns c =
-    let w = c.before.before.before.before.before in
+    let w = c.before.before.before in
     let s = start w in
-    one_written s.pre.0 s.args.nodes.now _ w.written.result w.written.ensures _ c.before.n.given.1
+    one_written s.requires.0 s.args.nodes.now _ w.written.result w.written.ensures _ c.in-Nodes.is
 
-same_length_2 : tie.Need-same-length-2
+same_length_2 : tie.Need-shape_of-nodes-in-Refused
 same_length_2 c = search rules
 
-returns_2 : tie.Need-returns-2
+returns_2 : tie.Need-returns-in-Refused
 returns_2 c =
-    let w = c.before.before.before.before in
+    let w = c.before.before.before in
     let s = start w in
-    absurd (one_refused s.pre.0 s.args.nodes.now _ w.written.result w.written.ensures _ _ _ c.enum_told.given.1)
+    absurd (one_refused s.requires.0 s.args.nodes.now _ w.written.result w.written.ensures _ _ _ c.in-Refused.is)
 
 pub write_one_spec : {M : Type 1} → statement M
 write_one_spec = tie.close (tie.spec written_requires enum_known_n enum_told same_length returns same_length_2 returns_2)
