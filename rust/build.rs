@@ -52,8 +52,8 @@ fn built_folder() -> PathBuf {
     let here = PathBuf::from(told("CARGO_MANIFEST_DIR"));
     let root = here.parent().unwrap_or(&here).to_path_buf();
     let processor = told("CARGO_CFG_TARGET_ARCH");
-    for part in ["crates", "crates.txt", "tools"] {
-        println!("cargo:rerun-if-changed={}", root.join(part).display());
+    for part in sources(&root) {
+        println!("cargo:rerun-if-changed={}", part.display());
     }
     let mut command = Command::new("sh");
     command
@@ -68,6 +68,17 @@ fn built_folder() -> PathBuf {
         "x86_64" => folder,
         _ => folder.join(processor),
     }
+}
+
+/// What the archive is made of: the crates' sources, without what the toolchain keeps beside them, and the tools.
+fn sources(root: &Path) -> Vec<PathBuf> {
+    let mut found = vec![root.join("crates.txt"), root.join("tools")];
+    for folder in fs::read_dir(root.join("crates")).into_iter().flatten() {
+        let Ok(folder) = folder else { continue };
+        let parts = ["src", "specs", "proofs"].map(|part| folder.path().join(part));
+        found.extend(parts.into_iter().filter(|part| part.is_dir()));
+    }
+    found
 }
 
 /// Stops if the archive is of another version than this crate. Where the target's programs do not run here, it is not asked.

@@ -18,7 +18,7 @@ function fail(what) {
 
 /^target datalayout = / { next }
 /^target triple = / { $0 = "target triple = \"wasm32-unknown-unknown\""; triples++ }
-/^attributes / { gsub(/ "(target-cpu|probe-stack)"="[^"]*"/, "") }
+/^attributes / { gsub(/ "(target-cpu|probe-stack|stack-probe-size)"="[^"]*"/, "") }
 
 /^define / { split("", pointers) }
 /^declare / && !/@llvm\.((memmove|memcpy)\.p0\.p0\.i64|memset\.p0\.i64|trap|(ctpop|cttz|ctlz)\.i[0-9]+)\(/ {

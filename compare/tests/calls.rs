@@ -1,6 +1,6 @@
-//! Every call of the C face has all that a call has: an instance of `Tight`, a theorem over its own contract, a row
-//! in PROMISES, a line in the header, a function in `lent`, and a bound of its stack. It is read from the
-//! repository's files, so that none of it is forgotten of the next call.
+//! Every call of the C face has all that a call has: an instance of `Tight`, a theorem over its own contract, that its
+//! export has this contract, a row in PROMISES, a line in the header, a function in `lent`, and a bound of its stack. It is
+//! read from the repository's files, so that none of it is forgotten of the next call.
 
 use std::collections::BTreeSet;
 use std::fs;
@@ -36,13 +36,13 @@ fn files_below(folder: &Path, ending: &str) -> Vec<PathBuf> {
     found
 }
 
-/// The functions that are marked `#[no_mangle]`, in any crate.
+/// The functions that are marked `#[unsafe(no_mangle)]`, in any crate.
 fn calls() -> BTreeSet<String> {
     let mut calls = BTreeSet::new();
     for crate_folder in fs::read_dir(repository().join("crates")).unwrap() {
         for file in files_below(&crate_folder.unwrap().path().join("src"), ".rt") {
             let source = fs::read_to_string(&file).unwrap();
-            for marked in source.split("#[no_mangle]").skip(1) {
+            for marked in source.split("#[unsafe(no_mangle)]").skip(1) {
                 let named = marked.split_once("extern \"C\" fn ").map(|(_, rest)| rest);
                 let name = named.and_then(|rest| rest.split_once('('));
                 let (name, _) =
@@ -174,10 +174,10 @@ fn has_theorem(call: &str, specs: &[File], proofs: &[File]) -> bool {
     proofs.iter().any(|proof| {
         let mut names = names_of_post(&proof.text, call);
         for (file, name) in &made {
-            let (of, module) = (format!("Rattle·{}", file.of), format!(".{}", file.module));
+            let (of, module) = (format!("Rattle.{}", file.of), format!(".{}", file.module));
             names.extend(brought_in(&proof.text, name, |path| {
                 let own = path.strip_prefix(&of);
-                own.is_some_and(|rest| rest.starts_with(['.', '·'])) && path.ends_with(&module)
+                own.is_some_and(|rest| rest.starts_with('.')) && path.ends_with(&module)
             }));
         }
         let mut stated = statements(&proof.text).into_iter();
@@ -216,6 +216,8 @@ fn is_declared(call: &str, header: &str) -> bool {
 fn every_call_has_all_that_a_call_has() {
     let (specs, proofs) = (files_of("specs"), files_of("proofs"));
     let tight = statements(&text("crates/spoonharbor/proofs/Tight.antt"));
+    let same = statements(&text("crates/spoonharbor_c/proofs/Same.antt"));
+    let is_stated = |stated: String| same.contains(&stated);
     let promises = text("docs/PROMISES.md");
     let header = text("include/spoonharbor.h");
     let lent = text("rust/src/lent.rs");
@@ -238,6 +240,14 @@ fn every_call_has_all_that_a_call_has() {
             (
                 "no theorem over its Post in crates/*/proofs",
                 plain || has_theorem(call, &specs, &proofs),
+            ),
+            (
+                "no export with its contract in crates/spoonharbor_c/proofs/Same.antt",
+                is_stated(format!(
+                    "same_{short}_asked : exported_{short}.Pre ≡ of_{short}.Pre"
+                )) && is_stated(format!(
+                    "same_{short} : exported_{short}.Post ≡ of_{short}.Post"
+                )),
             ),
             ("no row in docs/PROMISES.md", is_promised(call, &promises)),
             (
@@ -267,7 +277,7 @@ fn every_call_has_all_that_a_call_has() {
 /// What is read of a proof file is what it states.
 #[test]
 fn statements_are_read_whole() {
-    let proofs = "use Rattle·x.proofs.spoonharbor_a.Reads.{Post as APost}\n\
+    let proofs = "use Rattle.x.proofs.spoonharbor_a.Reads.{Post as APost}\n\
         -- APost is spoken of\n\
         module _ {a : b}\n    (s : Made a) where\n  \
           pub one : APost a →\n      b\n  one p = p\n\n  \
@@ -292,14 +302,14 @@ fn theorems_are_found_by_what_they_name() {
         module: module.to_string(),
         text: text.to_string(),
     };
-    let post = "use Rattle·x.proofs.spoonharbor_a.Reads.{Post as APost}\n\n";
+    let post = "use Rattle.x.proofs.spoonharbor_a.Reads.{Post as APost}\n\n";
     let specs = [file(
         "y",
         "Calls",
         &format!("{post}-- made\npub data Made : Type 0 where\n  made : APost → Made\n"),
     )];
-    let brings = "use Rattle·y·specs.specs.Calls.{Made, made}\n\n";
-    let other = "use Rattle·z.specs.Calls.{Made}\n\n";
+    let brings = "use Rattle.y.specs.Calls.{Made, made}\n\n";
+    let other = "use Rattle.z.specs.Calls.{Made}\n\n";
     for (proofs, found) in [
         (format!("{post}pub t : APost → b\nt = 1\n"), true),
         (format!("{post}pub t : b\nt = APost\n"), false),

@@ -11,7 +11,11 @@ fn gate(name: &str, rt: (&str, i32), shipped: (&str, i32)) -> Ran {
     for part in ["bin", "tools", ".ci"] {
         fs::create_dir_all(folder.0.join(part)).unwrap();
     }
-    for (path, (said, status)) in [("bin/rt", rt), ("tools/shipped", shipped)] {
+    for (path, (said, status)) in [
+        ("bin/rt", rt),
+        ("tools/shipped", shipped),
+        ("tools/proved", ("noted", 0)),
+    ] {
         let script = format!("#!/bin/sh\ncat <<'END'\n{said}\nEND\nexit {status}\n");
         folder.executable(path, script);
     }
@@ -25,14 +29,15 @@ fn gate(name: &str, rt: (&str, i32), shipped: (&str, i32)) -> Ran {
     run(&mut command, b"")
 }
 
-const PROVED: &str = "rt: rules proved (3 s)\nrt: ok, 1 crates proved\n220 passed, 0 failed";
+const PROVED: &str = "rt: rules proved\nrt: ok; handles allowed: none; must-fail edits: 219 refused, \
+                      1 of them only by a limit; every proof and must-fail edit was done in this run\n220 passed, 0 failed";
 
 #[test]
 fn the_gates_last_line_is_rts_count() {
     let ran = gate("well", (PROVED, 0), ("shipped: all is well (9 s)", 0));
     assert_eq!(
         ran.out,
-        format!("{PROVED}\nshipped: all is well (9 s)\n220 passed, 0 failed\n")
+        format!("{PROVED}\nnoted\nshipped: all is well (9 s)\n220 passed, 0 failed\n")
     );
     assert_eq!((ran.complaints.as_str(), ran.status), ("", 0));
 }
@@ -62,5 +67,33 @@ fn where_rt_fails_nothing_follows() {
         ("shipped: all is well (9 s)", 0),
     );
     assert!(ran.out.ends_with(" 1 failed\n"));
+    assert_eq!(ran.status, 1);
+}
+
+/// What rt cannot apply or read of the must-fail edits it passes, and this does not; nor does it an ending without that count.
+#[test]
+fn a_bad_edit_is_a_failure() {
+    let well = ("shipped: all is well (9 s)", 0);
+    for (edits, bad) in [
+        ("219 refused, 3 bad", 3),
+        ("219 refused, 1 of them only by a limit, 1 bad", 1),
+        ("0 refused, 12 bad", 12),
+    ] {
+        let said = format!(
+            "rt: ok; handles allowed: none; must-fail edits: {edits}; done in this run: 1 of the 2 proofs\n\
+             220 passed, 0 failed"
+        );
+        let ran = gate("bad", (&said, 0), well);
+        assert_eq!(
+            (ran.out, ran.status),
+            (format!("{said}\n220 passed, {bad} failed\n"), 1)
+        );
+    }
+    let ran = gate(
+        "silent",
+        ("rt: rules proved\n220 passed, 0 failed", 0),
+        well,
+    );
+    assert!(ran.out.ends_with(" 1 failed\n"), "{}", ran.out);
     assert_eq!(ran.status, 1);
 }

@@ -477,7 +477,7 @@ fn names_behind(text: &str, beginning: &str) -> BTreeSet<String> {
         .collect()
 }
 
-/// What the crate `spoonharbor` exports is what the header declares and what this crate calls.
+/// What the crate `spoonharbor_c` exports is every call of `spoonharbor`, what the header declares and what this crate calls.
 #[test]
 fn every_call_is_declared() {
     let sources = [
@@ -486,8 +486,11 @@ fn every_call_is_declared() {
         include_str!("../../crates/spoonharbor/src/layouts.rt"),
         include_str!("../../crates/spoonharbor/src/figures.rt"),
     ];
-    let exported = names_behind(&sources.concat(), "pub extern \"C\" fn ");
-    assert_eq!(exported.len(), 19);
+    let face = names_behind(&sources.concat(), "pub extern \"C\" fn ");
+    assert_eq!(face.len(), 19);
+    let exports = include_str!("../../crates/spoonharbor_c/src/lib.rt");
+    let exported = names_behind(exports, "#[unsafe(no_mangle)]\npub extern \"C\" fn ");
+    assert_eq!(exported, face);
     let called = names_behind(include_str!("../src/ffi.rs"), "pub fn ");
     assert_eq!(called, exported);
     let code = code();

@@ -94,7 +94,7 @@ fn wrong_calls_are_told_before_anything_is_built() {
 /// The lister, where it is proved already: a file as an argument and on standard input.
 #[test]
 fn the_lister_lists() {
-    if !repository().join("target/stamp/lister").is_file() {
+    if !repository().join("target/bin/lister").is_file() {
         return;
     }
     let folder = Folder::new("lister");
@@ -118,7 +118,9 @@ fn bare(name: &str, more: &[&str]) -> Folder {
         "list",
         "install",
         "tools/archive",
+        "tools/below.awk",
         "tools/prove",
+        "tools/proved",
         "tools/took",
     ] {
         folder.executable(file, fs::read(script(file)).unwrap());
@@ -303,39 +305,65 @@ fn the_page_by_example_is_right() {
     assert!(sound >= 8 && refused >= 8, "{sound} {refused}");
 }
 
-/// A toolchain that says what `rt` says: each crate has its line, and a crate that is not proved is trouble.
+/// A toolchain that says what `rt` says: each crate that it proves has its line, and one that is not proved is trouble.
 #[test]
 fn each_crate_is_told() {
     let folder = bare("told", &["cargo"]);
+    for part in ["scan/src", "rules/out/rlib"] {
+        fs::create_dir_all(folder.0.join("crates").join(part)).unwrap();
+    }
     let says = |lines: &str, status: i32| {
-        let told = format!("#!/bin/sh\ncat <<'END'\n{lines}\nEND\nexit {status}\n");
+        let told = format!("#!/bin/sh\npwd\ncat <<'END'\n{lines}\nEND\nexit {status}\n");
         folder.executable("bin/rt", told);
         let mut command = folder.program("tools/prove");
         command.args(["check", "scan"]);
         run(command.env("PATH", folder.0.join("bin")), b"")
     };
-    let said = "fn rules::f: proved\nrt: rules proved (unchanged since it was last proved)\n\
-                logic=proved\nrt: laws proved (1 s)\nrt: scan proved (28 s)\nrt: ok, 3 crates proved";
+    let said = "rt: chose --jobs 2 for laws\nfn laws::f: proved\nlogic=proved functions=1 sum=0\n\
+                rt: chose --jobs 1 for scan\nlogic=proved functions=9 sum=0";
     let ran = says(said, 0);
     let lines: Vec<&str> = ran.complaints.lines().collect();
     let told = lines[0].strip_prefix("check: proving ").unwrap();
     let (total, _) = told.split_once(" crates, with a line for each: ").unwrap();
     assert!(total.parse::<usize>().unwrap() > 3, "{told}");
+    let without_times = |line: &str| line.split(" (").next().unwrap().to_string();
     assert_eq!(
-        lines[1..],
+        lines[1..]
+            .iter()
+            .map(|line| without_times(line))
+            .collect::<Vec<_>>(),
         [
-            format!("check: 2 of {total}: laws proved (1 s)"),
-            format!("check: 3 of {total}: scan proved (28 s)")
+            format!("check: 1 of {total}: laws proved"),
+            format!("check: 2 of {total}: scan proved")
         ]
     );
+    assert!(lines[2].ends_with(" s)"), "{}", lines[2]);
     let measured = fs::read_to_string(folder.0.join("target/took/prove")).unwrap();
     assert!(measured.ends_with(" 2\n"), "{measured}");
+    let whole = fs::read_to_string(folder.0.join("target/prove.say")).unwrap();
+    assert!(whole.starts_with(&format!("{}\n", folder.0.join("crates/scan").display())));
     assert_eq!((ran.out.as_str(), ran.status), ("", 0));
 
-    let ran = says("rt: rules NOT PROVED (exit 1, 3 s)\nrt: FAILED: rules", 1);
-    assert!(ran
-        .complaints
-        .contains("check: rules NOT PROVED (exit 1, 3 s)\n"));
-    assert!(ran.complaints.contains("target/prove.say"));
+    // One of the crates was proved before.
+    folder.file("crates/rules/out/rlib/stamp", "");
+    let ran = says(said, 0);
+    let lines: Vec<&str> = ran.complaints.lines().collect();
+    assert!(lines[0].starts_with(&format!(
+        "check: proving what has changed of {total} crates, 1 of which were proved before; "
+    )));
+    assert!(lines[1].starts_with(&format!("check: 2 of {total}: laws proved (")));
+
+    let ran = says(
+        "rt: chose --jobs 2 for rules\nfn rules::f: not proved\nlogic=not-proved\n\
+                    rt: the library rules did not build, so nothing above it was checked",
+        1,
+    );
+    for said in [
+        "check: rules NOT PROVED\n",
+        "check: the library rules did not build, so nothing above it was checked\n",
+        "target/prove.say",
+    ] {
+        assert!(ran.complaints.contains(said), "{}", ran.complaints);
+    }
     assert_eq!(ran.status, 2);
 }

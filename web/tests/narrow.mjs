@@ -6,7 +6,7 @@ import { arch } from 'node:os';
 import { root, test } from './check.mjs';
 
 const HEAD = 'target datalayout = "e-m:e-i64:64"\ntarget triple = "x86_64-unknown-linux-gnu"\n';
-const TAIL = 'attributes #0 = { nounwind "probe-stack"="inline-asm" "target-cpu"="x86-64" }\n';
+const TAIL = 'attributes #0 = { nounwind "probe-stack"="inline-asm" "stack-probe-size"="3072" "target-cpu"="x86-64" }\n';
 
 function narrowed(module) {
   const words = { input: module, encoding: 'utf8', maxBuffer: 1e8 };
@@ -35,7 +35,7 @@ await test('the heading alone changes', () => {
   assert.ok(changed.length > 1);
   for (const [line, now] of changed) {
     if (line.startsWith('target triple')) assert.equal(now, 'target triple = "wasm32-unknown-unknown"');
-    else assert.equal(now, line.replace(/ "(target-cpu|probe-stack)"="[^"]*"/g, ''));
+    else assert.equal(now, line.replace(/ "(target-cpu|probe-stack|stack-probe-size)"="[^"]*"/g, ''));
   }
   return `${before.length} lines, ${changed.length} changed`;
 });

@@ -16,7 +16,7 @@ use Rattle.parse_nodes.specs.declared.At.{At}
 use Rattle.parse_nodes.proofs.Steps.{stands_at}
 use Rattle.parse_maps.specs.Steps.{over, Steps, facts_of, map_written}
 use Rattle.parse_maps.specs.declared.Facts.{Facts}
-use Rattle.parse_maps.specs.declared.Found.TheVariants.{Done}
+use Rattle.parse_maps.specs.declared.Found.TheVariants.{Done, Refused}
 use Rattle.parse_maps.proofs.Answers.{answer_ok}
 
 last_new : (x y : ℕ) → (y ≡ 0 → ⊥) → last_of x y ≡ y
@@ -27,7 +27,7 @@ facts_at j t k v m = record { row = j; maptype = t; key = k; value = v; limit = 
 
 -- the answer of a field that gives these facts
 pub steps_to : (f : Facts) (o : Out) (t : Tree) (j : ℕ) (g : Facts) → o ≡ ok t j → over f t j ≡ g → Steps f o (Done g)
-steps_to f o t j g e q = subst (λ (x : Facts). Steps f o (Done x)) q (answer_ok _ _ (over f) o t j e)
+steps_to f o t j g e q = subst (λ (x : Facts). Steps f o (Done x)) q (answer_ok Done Refused (over f) o t j e)
 
 module _ (f : Facts) (j : ℕ) where
   pub over_type : (w : List ℕ) → (map_type_number w ≡ 0 → ⊥)

@@ -94,7 +94,7 @@ unfolding
     Nodes.nodes_of Nodes.size Nodes.node_words Nodes.words_of_nodes Nodes.tree_words Sets.from_section Decimal.digits Decimal.decimal
     Decimal.signed Written.spelling_in Written.with_typed Written.type_field Written.fields_of Written.level_by Written.right_of
     Written.level Written.laid Bytes.spelled Bytes.behind Bytes.row_bytes Bytes.rows_bytes Bytes.layout Layout.is_whole Layout.is_scan
-    Layout.is_scanned Layout.is_tree Layout.is_read Layout.reading Layout.room_told Layout.tree_told Layout.layout_told Layout.laid_of Layout.layout_leaves
+    Layout.is_tree Layout.reading Layout.room_told Layout.tree_told Layout.layout_told Layout.laid_of Layout.layout_leaves
 right = refl
 
 -- ---- what is told and left
@@ -203,5 +203,5 @@ unfolding
     Nodes.nodes_of Nodes.size Nodes.node_words Nodes.words_of_nodes Nodes.tree_words Sets.from_section Decimal.digits Decimal.decimal
     Decimal.signed Written.spelling_in Written.with_typed Written.type_field Written.fields_of Written.level_by Written.right_of
     Written.level Written.laid Bytes.spelled Bytes.behind Bytes.row_bytes Bytes.rows_bytes Bytes.layout Layout.is_whole Layout.is_scan
-    Layout.is_scanned Layout.is_tree Layout.is_read Layout.reading Layout.room_told Layout.tree_told Layout.layout_told Layout.laid_of Layout.layout_leaves
+    Layout.is_tree Layout.reading Layout.room_told Layout.tree_told Layout.layout_told Layout.laid_of Layout.layout_leaves
 calls_right = refl

@@ -25,7 +25,7 @@ impl Document {
     ///
     /// Two documents with the same common text that take each other's changes, each in the order in which they were made, end alike:
     /// text, rows and refusal. Of the library's calls, with changes moved in this way, it is proved for any number of them on either side
-    /// (`consoles-end-alike`).
+    /// (`consoles_end_alike`).
     ///
     /// ```
     /// use spoonharbor::{Conflict, Document, Edit};

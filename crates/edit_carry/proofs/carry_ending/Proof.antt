@@ -5,22 +5,22 @@ use Rattle.edit_carry.proofs.Carried.{refused_moves}
 use Rattle.edit_carry.proofs.carry_ending.Statement.{statement}
 use Rattle.edit_carry.proofs.carry_ending.Tie as tie
 
-enum_told : tie.Need-enum-told
+enum_told : tie.Need-enum_told-1
 enum_told c = search rules
 
-enum_known_e : tie.Need-enum-known-e
+enum_known_e : tie.Need-enum_known-e
 enum_known_e c = search rules
 
-carry_place_requires : tie.Need-carry-place-requires
-carry_place_requires c κs = refused_moves (rw c.before.e.given.1 at c.before.before.before.requires)
+carry_place_requires : tie.Need-carry_place-requires
+carry_place_requires c κs = refused_moves (rw c.in-Refused.is at c.before.requires)
 
-returns : tie.Need-returns
+returns : tie.Need-returns-in-None
 unfolding carry_ending
-returns c = rw c.enum_told.given.1
+returns c = rw c.in-None.is
 
-returns_2 : tie.Need-returns-2
+returns_2 : tie.Need-returns-in-Refused
 unfolding carry_ending
-returns_2 c = rw (c.before.before.e.given.1, c.carry-place.ensures)
+returns_2 c = rw (c.before.in-Refused.is, c.carry_place.ensures)
 
 pub carry_ending_spec : {M : Type 1} → statement M
 carry_ending_spec =

@@ -10,20 +10,20 @@ moved_requires c κs = search rules
 moved_requires_2 : tie.Need-moved-requires-2
 moved_requires_2 c κs = search rules
 
-moved_requires_3 : tie.Need-moved-requires-3
-moved_requires_3 c κs = c.before.before.before.requires.column c.if1.true
+moved_requires_3 : tie.Need-moved-requires-then-from-to
+moved_requires_3 c κs = c.before.before.before.requires.column c.if-from-to.true
 
-returns : tie.Need-returns
+returns : tie.Need-returns-then-from-to
 returns c =
     let s = c.before.before.before.before in
-    rw (c.before.before.before.moved.ensures, c.before.before.moved2.ensures, c.moved3.ensures)
-    (carry_on s.args.o s.args.p s.args.q c.before.if1.true)
+    rw (c.before.before.before.moved.ensures, c.before.before.moved-2.ensures, c.moved-then-from-to.ensures)
+    (carry_on s.args.o s.args.p s.args.q c.before.if-from-to.true)
 
-returns_2 : tie.Need-returns-2
+returns_2 : tie.Need-returns
 returns_2 c =
     let s = c.before.before.before.before in
-    rw (c.before.before.before.moved.ensures, c.before.before.moved2.ensures)
-    (carry_off s.args.o s.args.p s.args.q c.before.if1.false)
+    rw (c.before.before.before.moved.ensures, c.before.before.moved-2.ensures)
+    (carry_off s.args.o s.args.p s.args.q c.before.if-from-to.false)
 
 pub carry_place_spec : {M : Type 1} → statement M
 carry_place_spec =

@@ -13,36 +13,36 @@ use Rattle.edit_kept.proofs.place_behind.Tie as tie
 start_requires : tie.Need-start-requires
 start_requires c κs = search rules
 
-returns : tie.Need-returns
+returns : tie.Need-returns-then-n-eq0
 unfolding last_end rows_in
-returns c = rw c.before.if1.true c.start.ensures
+returns c = rw c.before.if-n-eq0.true c.start.ensures
 
-sub_row_at : tie.Need-overflow-sub-row-at
+sub_row_at : tie.Need-overflow_sub-n
 sub_row_at c = search rules
 
-row_at_requires : tie.Need-row-at-requires
+row_at_requires : tie.Need-row_at-last-requires
 row_at_requires c κs = search rules
 
-sub_t8 : tie.Need-overflow-sub-t8
+sub_t8 : tie.Need-overflow_sub-result
 sub_t8 c =
     let s = c.before.before.before.before in
     let e : suc (s.args.n - 1) ≡ s.args.n = omega arith in
-    let q = c.before.row_at.ensures in
+    let q = c.before.row_at-last.ensures in
     omega (arith, (s.requires.1 (s.args.n - 1) e).ordered, ap (λ (r : Row). r.start) q, ap (λ (r : Row). r.end) q)
 
-add_t9 : tie.Need-overflow-add-t9
+add_t9 : tie.Need-overflow_add-result
 add_t9 c =
     let s = c.before.before.before.before.before in
     let e : suc (s.args.n - 1) ≡ s.args.n = omega arith in
-    let q = c.before.before.row_at.ensures in
+    let q = c.before.before.row_at-last.ensures in
     omega (arith, (s.requires.1 (s.args.n - 1) e).room, ap (λ (r : Row). r.start) q, ap (λ (r : Row). r.end) q, ap (λ (r : Row). r.column) q)
 
-returns_2 : tie.Need-returns-2
+returns_2 : tie.Need-returns
 unfolding end_place
 returns_2 c =
     let s = c.before.before.before.before.before in
     let e : suc (s.args.n - 1) ≡ s.args.n = omega arith in
-    ap end_place c.before.before.row_at.ensures
+    ap end_place c.before.before.row_at-last.ensures
     ∙ sym (behind_rows (s.args.n - 1) s.args.old.now start_place)
     ∙ ap (λ (k : ℕ). last_end start_place (rows_in k s.args.old.now)) e
 

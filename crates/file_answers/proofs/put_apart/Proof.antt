@@ -4,13 +4,13 @@ use borrow.Author.Rules.{rules}
 use Rattle.file_answers.proofs.put_apart.Statement.{statement}
 use Rattle.file_answers.proofs.put_apart.Tie as tie
 
-apart_number_requires : tie.Need-apart-number-requires
+apart_number_requires : tie.Need-apart_number-requires
 apart_number_requires c κs = search rules
 
 start_requires : tie.Need-start-requires
 start_requires c κs = search rules
 
-apart_block_requires : tie.Need-apart-block-requires
+apart_block_requires : tie.Need-apart_block-requires
 apart_block_requires c κs = search rules
 
 put_requires : tie.Need-put-requires
@@ -19,7 +19,7 @@ put_requires c κs = search rules
 returns : tie.Need-returns
 returns c =
     let b = c.before in
-    c.put.ensures ∙ rw (b.apart-block.ensures, b.before.start.ensures, b.before.before.apart-number.ensures)
+    c.put.ensures ∙ rw (b.apart_block.ensures, b.before.start.ensures, b.before.before.apart_number.ensures)
 
 pub put_apart_spec : {M : Type 1} → statement M
 put_apart_spec =

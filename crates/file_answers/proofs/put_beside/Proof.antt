@@ -4,23 +4,23 @@ use borrow.Author.Rules.{rules}
 use Rattle.file_answers.proofs.put_beside.Statement.{statement}
 use Rattle.file_answers.proofs.put_beside.Tie as tie
 
-enum_known_told : tie.Need-enum-known-told
+enum_known_told : tie.Need-enum_known-told
 enum_known_told c = search rules
 
-put_told_requires : tie.Need-put-told-requires
+put_told_requires : tie.Need-put_told-requires
 put_told_requires c κs = search rules
 
-enum_known_told_2 : tie.Need-enum-known-told-2
+enum_known_told_2 : tie.Need-enum_known-told-in-Refused-1
 enum_known_told_2 c = search rules
 
-put_apart_requires : tie.Need-put-apart-requires
+put_apart_requires : tie.Need-put_apart-requires
 put_apart_requires c κs = search rules
 
-returns : tie.Need-returns
-returns c = rw c.before.before.before.told.given.1 c.put-told.ensures
+returns : tie.Need-returns-in-Rows
+returns c = rw c.before.before.in-Rows.is c.put_told.ensures
 
-returns_2 : tie.Need-returns-2
-returns_2 c = rw c.before.before.before.told2.given.1 c.put-apart.ensures
+returns_2 : tie.Need-returns-in-Refused
+returns_2 c = rw c.before.before.in-Refused.is c.put_apart.ensures
 
 pub put_beside_spec : {M : Type 1} → statement M
 put_beside_spec =

@@ -4,26 +4,26 @@ use borrow.Author.Rules.{rules}
 use Rattle.file_answers.proofs.put_moved.Statement.{statement}
 use Rattle.file_answers.proofs.put_moved.Tie as tie
 
-enum_known_told : tie.Need-enum-known-told
+enum_known_told : tie.Need-enum_known-told
 enum_known_told c = search rules
 
-no_place_requires : tie.Need-no-place-requires
+no_place_requires : tie.Need-no_place-requires
 no_place_requires c κs = search rules
 
 put_requires : tie.Need-put-requires
 put_requires c κs = search rules
 
-enum_known_told_2 : tie.Need-enum-known-told-2
+enum_known_told_2 : tie.Need-enum_known-told-in-Refused-1
 enum_known_told_2 c = search rules
 
-put_apart_requires : tie.Need-put-apart-requires
+put_apart_requires : tie.Need-put_apart-requires
 put_apart_requires c κs = search rules
 
-returns : tie.Need-returns
-returns c = rw c.before.before.before.before.told.given.1 (c.put.ensures ∙ rw c.before.no_place.ensures)
+returns : tie.Need-returns-in-Bytes
+returns c = rw c.before.before.before.in-Bytes.is (c.put.ensures ∙ rw c.before.no_place.ensures)
 
-returns_2 : tie.Need-returns-2
-returns_2 c = rw c.before.before.before.told2.given.1 c.put-apart.ensures
+returns_2 : tie.Need-returns-in-Refused
+returns_2 c = rw c.before.before.in-Refused.is c.put_apart.ensures
 
 pub put_moved_spec : {M : Type 1} → statement M
 put_moved_spec =

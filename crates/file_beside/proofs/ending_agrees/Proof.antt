@@ -8,34 +8,34 @@ use Rattle.file_beside.proofs.ending_agrees.Statement.{statement}
 use Rattle.file_beside.proofs.ending_agrees.Tie as tie
 
 -- the function's entry, as it is seen from a refused ending
-abbrev start : tie.After-ending → tie.Start
-start c = c.before.before.before
+abbrev start : tie.In-Refused → tie.Start
+start c = c.before.before
 
-enum_told : tie.Need-enum-told
+enum_told : tie.Need-enum_told-1
 enum_told c = search rules
 
-enum_known_ending : tie.Need-enum-known-ending
+enum_known_ending : tie.Need-enum_known-ending
 enum_known_ending c = search rules
 
-place_from_requires : tie.Need-place-from-requires
+place_from_requires : tie.Need-place_from-requires
 place_from_requires c κs =
-    let s = start c.before in
-    subst (λ (e : Ending). CountsTo s.args.text.now s.args.here e) c.before.ending.given.1 s.pre
+    let s = start c in
+    subst (λ (e : Ending). CountsTo s.args.text.now s.args.here e) c.in-Refused.is s.requires
 
-same_line_requires : tie.Need-same-line-requires
+same_line_requires : tie.Need-same_line-requires
 same_line_requires c κs = search rules
 
-returns : tie.Need-returns
-returns c = let s = c.before.before.before in sym (ending_none s.args.text.now s.args.ending c.enum_told.given.1)
+returns : tie.Need-returns-in-None
+returns c = let s = c.before.before in sym (ending_none s.args.text.now s.args.ending c.in-None.is)
 
-returns_2 : tie.Need-returns-2
+returns_2 : tie.Need-returns-in-Refused
 returns_2 c =
-    let e = c.before.before.before in
+    let e = c.before.before in
     let a = (start e).args in
-    let why = e.ending.given.0.0 in
-    let p = e.ending.given.0.1.0 in
-    c.same_line.ensures ∙ line_same a.text.now p c.before.place-from.result c.before.place-from.ensures
-    ∙ sym (ending_refused a.text.now a.ending why p e.ending.given.1)
+    let why = e.in-Refused.field-0 in
+    let p = e.in-Refused.p in
+    c.same_line.ensures ∙ line_same a.text.now p c.before.place_from.result c.before.place_from.ensures
+    ∙ sym (ending_refused a.text.now a.ending why p e.in-Refused.is)
 
 pub ending_agrees_spec : {M : Type 1} → statement M
 ending_agrees_spec =

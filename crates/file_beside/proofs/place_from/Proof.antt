@@ -5,19 +5,19 @@ use Rattle.file_beside.proofs.Places.{ahead_fits, counts_roomy, counted}
 use Rattle.file_beside.proofs.place_from.Statement.{statement}
 use Rattle.file_beside.proofs.place_from.Tie as tie
 
-cast_from : tie.Need-overflow-cast-from
+cast_from : tie.Need-overflow_cast-from
 cast_from c = search rules
 
-sub_pass : tie.Need-overflow-sub-pass
+sub_pass : tie.Need-slice_bounds-pass-count
 sub_pass c = search rules
 
-part_pass_start : tie.Need-slice-bounds-pass-start
+part_pass_start : tie.Need-slice_bounds-pass-start
 part_pass_start c = search rules
 
-part_pass_end : tie.Need-slice-bounds-pass-end
+part_pass_end : tie.Need-slice_bounds-pass-end
 part_pass_end c = search rules
 
-sub_pass_2 : tie.Need-overflow-sub-pass-2
+sub_pass_2 : tie.Need-overflow_sub-offset
 sub_pass_2 c = search rules
 
 pass_requires : tie.Need-pass-requires

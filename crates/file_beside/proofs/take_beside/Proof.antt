@@ -18,78 +18,78 @@ use Rattle.file_beside.proofs.take_beside.Tie as tie
 
 -- ---- the places on the way
 
-abbrev start : tie.After-form-of → tie.Start
+abbrev start : tie.After-form_of → tie.Start
 start c = c.before.before.before.before
 
-abbrev at_full : tie.After-enum-told → tie.After-form-of
-at_full c = c.before.before
+abbrev at_full : tie.In-Full → tie.After-form_of
+at_full c = c.before
 
-abbrev at_short : tie.After-start → tie.After-form-of
-at_short c = c.before.before.before.before
+abbrev at_short : tie.After-start → tie.After-form_of
+at_short c = c.before.before.before
 
-form_of_requires : tie.Need-form-of-requires
+form_of_requires : tie.Need-form_of-requires
 form_of_requires c κs = let s = c.before.before.before in (known s.args.file.now s.args.table s.requires.0.holds).long
 
-enum_told : tie.Need-enum-told
+enum_told : tie.Need-enum_told-1
 enum_told c = search rules
 
-take_rows_requires : tie.Need-take-rows-requires
+take_rows_requires : tie.Need-take_rows-requires
 take_rows_requires c κs =
     let f = at_full c.before in
     let s = start f in
-    let g = sym f.form_of.ensures ∙ c.before.enum_told.given.1 in
-    let k = known s.args.file.now s.args.table s.pre.0.holds in
-    (subst (λ (x : Form). Framed x s.args.table.count s.args.file.now) g k.frame, s.pre.1)
+    let g = sym f.form_of.ensures ∙ c.before.in-Full.is in
+    let k = known s.args.file.now s.args.table s.requires.0.holds in
+    (subst (λ (x : Form). Framed x s.args.table.count s.args.file.now) g k.frame, s.requires.1)
 
-enum_told_2 : tie.Need-enum-told-2
+enum_told_2 : tie.Need-enum_told-in-Short
 enum_told_2 c = search rules
 
-cast_all : tie.Need-overflow-cast-all
+cast_all : tie.Need-overflow_cast-all
 cast_all c = search rules
 
 start_requires : tie.Need-start-requires
 start_requires c κs = search rules
 
-put_rows_requires : tie.Need-put-rows-requires
+put_rows_requires : tie.Need-put_rows-last-requires
 put_rows_requires c κs =
     let s = start (at_short c.before) in
-    (((s.pre.0, omega arith), s.pre.1), c.before.start.ensures ∙ sym (last_first s.args.text.now s.args.file.now))
+    (((s.requires.0, omega arith), s.requires.1), c.before.start.ensures ∙ sym (last_first s.args.text.now s.args.file.now))
 
-table_beside_requires : tie.Need-table-beside-requires
+table_beside_requires : tie.Need-table_beside-requires
 table_beside_requires c κs =
     let w = c.before.before in
     let s = start (at_short w.before.before) in
     let z : 0 + s.args.table.count ≡ s.args.table.count = omega arith in
-    (s.pre.0, w.put-rows.ensures.1 ∙ ap (last_place s.args.text.now s.args.file.now) z)
+    (s.requires.0, w.put_rows-last.ensures.1 ∙ ap (last_place s.args.text.now s.args.file.now) z)
 
-same_length : tie.Need-same-length
+same_length : tie.Need-shape_of-rows-in-Full
 same_length c = search rules
 
-returns : tie.Need-returns
+returns : tie.Need-returns-in-Full
 returns c =
     let w = c.before.before in
     let e = w.before.before in
     let f = at_full e in
     let a = (start f).args in
-    let g = sym f.form_of.ensures ∙ e.enum_told.given.1 in
+    let g = sym f.form_of.ensures ∙ e.in-Full.is in
     let r = sym (rows_full a.text.now a.file.now a.table g) in (
       sym (table_full a.text.now a.file.now a.table g),
-      w.take-rows.ensures ∙ ap (λ (ws : List ℕ). ws ++ drop (words_per_row * a.table.count) a.rows.now) r,
+      w.take_rows.ensures ∙ ap (λ (ws : List ℕ). ws ++ drop (words_per_row * a.table.count) a.rows.now) r,
     )
 
-same_length_2 : tie.Need-same-length-2
+same_length_2 : tie.Need-shape_of-rows-in-Short
 same_length_2 c = search rules
 
-returns_2 : tie.Need-returns-2
+returns_2 : tie.Need-returns-in-Short
 returns_2 c =
     let w = c.before.before.before in
     let s = start (at_short w.before.before) in
     let a = s.args in
-    let l = agrees_long s.pre.0 in
-    let n = count_is a.text.now a.file.now a.table s.pre.0.holds l in
+    let l = agrees_long s.requires.0 in
+    let n = count_is a.text.now a.file.now a.table s.requires.0.holds l in
     let r = all_rows a.text.now a.file.now a.table n in (
       c.table_beside.ensures,
-      w.put-rows.ensures.0 ∙ ap (λ (ws : List ℕ). ws ++ drop (words_per_row * a.table.count) a.rows.now) r,
+      w.put_rows-last.ensures.0 ∙ ap (λ (ws : List ℕ). ws ++ drop (words_per_row * a.table.count) a.rows.now) r,
     )
 
 pub take_beside_spec : {M : Type 1} → statement M

@@ -15,72 +15,72 @@ use Rattle.file_blocks.proofs.is_sound.Tie as tie
 
 -- ---- the places on the way: the function's entry, as it is seen from behind each look
 
-abbrev start : tie.After-half-at → tie.Start
+abbrev start : tie.After-half_at → tie.Start
 start c = c.before.before
 
-abbrev at_rows : tie.After-half-at2 → tie.After-half-at
+abbrev at_rows : tie.After-half_at-2 → tie.After-half_at
 at_rows c = c.before.before
 
-abbrev at_filler : tie.After-is-filler → tie.After-half-at2
+abbrev at_filler : tie.After-is_filler → tie.After-half_at-2
 at_filler c = c.before.before
 
-half_at_requires : tie.Need-half-at-requires
+half_at_requires : tie.Need-half_at-requires
 half_at_requires c κs = search rules
 
-returns : tie.Need-returns
+returns : tie.Need-returns-then-half_at-k
 returns c =
     let a = (start c.before).args in
     let holds = sound_holds a.k a.n a.size a.bytes.now in
-    sym (false_by (sound a.k a.n a.size a.bytes.now) (λ t. c.if1.true (c.before.half_at.ensures ∙ (holds t).number_is)))
+    sym (false_by (sound a.k a.n a.size a.bytes.now) (λ t. c.if-half_at-k.true (c.before.half_at.ensures ∙ (holds t).number_is)))
 
-half_at_requires_2 : tie.Need-half-at-requires-2
+half_at_requires_2 : tie.Need-half_at-requires-2
 half_at_requires_2 c κs = search rules
 
-returns_2 : tie.Need-returns-2
+returns_2 : tie.Need-returns-then-half_at-n
 returns_2 c =
     let a = (start (at_rows c.before)).args in
     let holds = sound_holds a.k a.n a.size a.bytes.now in
-    sym (false_by (sound a.k a.n a.size a.bytes.now) (λ t. c.if2.true (c.before.half-at2.ensures ∙ (holds t).rows_are)))
+    sym (false_by (sound a.k a.n a.size a.bytes.now) (λ t. c.if-half_at-n.true (c.before.half_at-2.ensures ∙ (holds t).rows_are)))
 
-add_is_filler : tie.Need-overflow-add-is-filler
+add_is_filler : tie.Need-overflow_add-size
 add_is_filler c = search rules
 
-is_filler_requires : tie.Need-is-filler-requires
+is_filler_requires : tie.Need-is_filler-requires
 is_filler_requires c κs = search rules
 
 -- what was told of the filler
-filler_is : (c : tie.After-is-filler) →
+filler_is : (c : tie.After-is_filler) →
     let a = (start (at_rows (at_filler c))).args in
-    c.is-filler.result ≡ zeros (take (504 - a.size) (drop (4 + a.size) a.bytes.now))
+    c.is_filler.result ≡ zeros (take (504 - a.size) (drop (4 + a.size) a.bytes.now))
 filler_is c =
     let a = (start (at_rows (at_filler c))).args in
     let e : 508 - (4 + a.size) ≡ 504 - a.size = omega arith in
-    c.is-filler.ensures ∙ rw e
+    c.is_filler.ensures ∙ rw e
 
-returns_3 : tie.Need-returns-3
+returns_3 : tie.Need-returns-then-not-is_filler
 returns_3 c =
     let a = (start (at_rows (at_filler c.before))).args in
     let holds = sound_holds a.k a.n a.size a.bytes.now in
-    let f = sym (filler_is c.before) ∙ not-true c.before.is-filler.result c.if3.true in
+    let f = sym (filler_is c.before) ∙ not-true c.before.is_filler.result c.if-not-is_filler.true-raw in
     sym (false_by (sound a.k a.n a.size a.bytes.now) (λ t. true≢false (sym (holds t).filler ∙ f)))
 
-word_at_requires : tie.Need-word-at-requires
+word_at_requires : tie.Need-word_at-requires
 word_at_requires c κs = search rules
 
-check_of_requires : tie.Need-check-of-requires
+check_of_requires : tie.Need-check_of-requires
 check_of_requires c κs = search rules
 
-returns_4 : tie.Need-returns-4
+returns_4 : tie.Need-returns
 returns_4 c =
     let e = c.before.before in
     let i = e.before in
     let g = at_filler i in
     let h = at_rows g in
     let a = (start h).args in
-    let number = sym h.half_at.ensures ∙ g.before.if1.left in
-    let rows = sym g.half-at2.ensures ∙ i.before.if2.false in
-    let f = sym (filler_is i) ∙ not-false i.is-filler.result e.if3.false in
-    rw (c.before.word-at.ensures, c.check-of.ensures)
+    let number = sym h.half_at.ensures ∙ g.before.if-half_at-k.false in
+    let rows = sym g.half_at-2.ensures ∙ i.before.if-half_at-n.false in
+    let f = sym (filler_is i) ∙ not-false i.is_filler.result e.if-not-is_filler.false-raw in
+    rw (c.before.word_at.ensures, c.check_of.ensures)
     (sym (sound_last a.k a.n a.size a.bytes.now number rows f))
 
 pub is_sound_spec : {M : Type 1} → statement M

@@ -6,22 +6,22 @@ use borrow.Author.Rules.{rules}
 use Rattle.file_blocks.proofs.put_half.Statement.{statement}
 use Rattle.file_blocks.proofs.put_half.Tie as tie
 
-cast_bytes : tie.Need-overflow-cast-bytes
+cast_bytes : tie.Need-overflow_cast-bytes
 cast_bytes c = search rules
 
-slice_write_bytes : tie.Need-slice-write-bytes
+slice_write_bytes : tie.Need-bounds-bytes-at
 slice_write_bytes c = search rules
 
-cast_bytes_2 : tie.Need-overflow-cast-bytes-2
+cast_bytes_2 : tie.Need-overflow_cast-bytes-2
 cast_bytes_2 c = search rules
 
-add_bytes : tie.Need-overflow-add-bytes
+add_bytes : tie.Need-overflow_add-bytes
 add_bytes c = search rules
 
-slice_write_bytes_2 : tie.Need-slice-write-bytes-2
+slice_write_bytes_2 : tie.Need-bounds-bytes-at-2
 slice_write_bytes_2 c = simp length-set (omega arith)
 
-same_length : tie.Need-same-length
+same_length : tie.Need-shape_of-bytes
 same_length c = search rules
 
 returns : tie.Need-returns

@@ -6,40 +6,40 @@ use borrow.Author.Rules.{rules}
 use Rattle.file_blocks.proofs.put_word.Statement.{statement}
 use Rattle.file_blocks.proofs.put_word.Tie as tie
 
-cast_bytes : tie.Need-overflow-cast-bytes
+cast_bytes : tie.Need-overflow_cast-bytes
 cast_bytes c = search rules
 
-slice_write_bytes : tie.Need-slice-write-bytes
+slice_write_bytes : tie.Need-bounds-bytes-at
 slice_write_bytes c = search rules
 
-cast_bytes_2 : tie.Need-overflow-cast-bytes-2
+cast_bytes_2 : tie.Need-overflow_cast-bytes-2
 cast_bytes_2 c = search rules
 
-add_bytes : tie.Need-overflow-add-bytes
+add_bytes : tie.Need-overflow_add-bytes
 add_bytes c = search rules
 
-slice_write_bytes_2 : tie.Need-slice-write-bytes-2
+slice_write_bytes_2 : tie.Need-bounds-bytes-at-2
 slice_write_bytes_2 c = simp length-set (omega arith)
 
-cast_bytes_3 : tie.Need-overflow-cast-bytes-3
+cast_bytes_3 : tie.Need-overflow_cast-bytes-3
 cast_bytes_3 c = search rules
 
-add_bytes_2 : tie.Need-overflow-add-bytes-2
+add_bytes_2 : tie.Need-overflow_add-bytes-2
 add_bytes_2 c = search rules
 
-slice_write_bytes_3 : tie.Need-slice-write-bytes-3
+slice_write_bytes_3 : tie.Need-bounds-bytes-at-3
 slice_write_bytes_3 c = simp length-set (omega arith)
 
-cast_bytes_4 : tie.Need-overflow-cast-bytes-4
+cast_bytes_4 : tie.Need-overflow_cast-bytes-4
 cast_bytes_4 c = search rules
 
-add_bytes_3 : tie.Need-overflow-add-bytes-3
+add_bytes_3 : tie.Need-overflow_add-bytes-3
 add_bytes_3 c = search rules
 
-slice_write_bytes_4 : tie.Need-slice-write-bytes-4
+slice_write_bytes_4 : tie.Need-bounds-bytes-at-4
 slice_write_bytes_4 c = simp length-set (omega arith)
 
-same_length : tie.Need-same-length
+same_length : tie.Need-shape_of-bytes
 same_length c = search rules
 
 returns : tie.Need-returns

@@ -5,70 +5,70 @@ use borrow.Author.Rules.{rules}
 use Rattle.file_blocks.proofs.row_at.Statement.{statement}
 use Rattle.file_blocks.proofs.row_at.Tie as tie
 
-word_at_requires : tie.Need-word-at-requires
+word_at_requires : tie.Need-word_at-requires
 word_at_requires c κs = search rules
 
-mul_word_at : tie.Need-overflow-mul-word-at
+mul_word_at : tie.Need-overflow_mul-word_at
 mul_word_at c = search rules
 
-add_word_at : tie.Need-overflow-add-word-at
+add_word_at : tie.Need-overflow_add-at
 add_word_at c = search rules
 
-word_at_requires_2 : tie.Need-word-at-requires-2
+word_at_requires_2 : tie.Need-word_at-requires-2
 word_at_requires_2 c κs = search rules
 
-mul_word_at_2 : tie.Need-overflow-mul-word-at-2
+mul_word_at_2 : tie.Need-overflow_mul-word_at-2
 mul_word_at_2 c = search rules
 
-add_word_at_2 : tie.Need-overflow-add-word-at-2
+add_word_at_2 : tie.Need-overflow_add-at-2
 add_word_at_2 c = search rules
 
-word_at_requires_3 : tie.Need-word-at-requires-3
+word_at_requires_3 : tie.Need-word_at-requires-3
 word_at_requires_3 c κs = search rules
 
-mul_word_at_3 : tie.Need-overflow-mul-word-at-3
+mul_word_at_3 : tie.Need-overflow_mul-word_at-3
 mul_word_at_3 c = search rules
 
-add_word_at_3 : tie.Need-overflow-add-word-at-3
+add_word_at_3 : tie.Need-overflow_add-at-3
 add_word_at_3 c = search rules
 
-word_at_requires_4 : tie.Need-word-at-requires-4
+word_at_requires_4 : tie.Need-word_at-requires-4
 word_at_requires_4 c κs = search rules
 
-mul_word_at_4 : tie.Need-overflow-mul-word-at-4
+mul_word_at_4 : tie.Need-overflow_mul-word_at-4
 mul_word_at_4 c = search rules
 
-add_word_at_4 : tie.Need-overflow-add-word-at-4
+add_word_at_4 : tie.Need-overflow_add-at-4
 add_word_at_4 c = search rules
 
-word_at_requires_5 : tie.Need-word-at-requires-5
+word_at_requires_5 : tie.Need-word_at-requires-5
 word_at_requires_5 c κs = search rules
 
-mul_word_at_5 : tie.Need-overflow-mul-word-at-5
+mul_word_at_5 : tie.Need-overflow_mul-word_at-5
 mul_word_at_5 c = search rules
 
-add_word_at_5 : tie.Need-overflow-add-word-at-5
+add_word_at_5 : tie.Need-overflow_add-at-5
 add_word_at_5 c = search rules
 
-word_at_requires_6 : tie.Need-word-at-requires-6
+word_at_requires_6 : tie.Need-word_at-requires-6
 word_at_requires_6 c κs = search rules
 
-mul_word_at_6 : tie.Need-overflow-mul-word-at-6
+mul_word_at_6 : tie.Need-overflow_mul-word_at-6
 mul_word_at_6 c = search rules
 
-add_word_at_6 : tie.Need-overflow-add-word-at-6
+add_word_at_6 : tie.Need-overflow_add-at-6
 add_word_at_6 c = search rules
 
-word_at_requires_7 : tie.Need-word-at-requires-7
+word_at_requires_7 : tie.Need-word_at-requires-7
 word_at_requires_7 c κs = search rules
 
-mul_word_at_7 : tie.Need-overflow-mul-word-at-7
+mul_word_at_7 : tie.Need-overflow_mul-word_at-7
 mul_word_at_7 c = search rules
 
-add_word_at_7 : tie.Need-overflow-add-word-at-7
+add_word_at_7 : tie.Need-overflow_add-at-7
 add_word_at_7 c = search rules
 
-word_at_requires_8 : tie.Need-word-at-requires-8
+word_at_requires_8 : tie.Need-word_at-requires-8
 word_at_requires_8 c κs = search rules
 
 returns : tie.Need-returns
@@ -82,14 +82,14 @@ returns c =
     let k = a.before in
     let s = k.before.before in
     rw (
-      c.word-at8.ensures,
-      g.word-at7.ensures,
-      f.word-at6.ensures,
-      e.word-at5.ensures,
-      d.word-at4.ensures,
-      b.word-at3.ensures,
-      a.word-at2.ensures,
-      k.word-at.ensures,
+      c.word_at-8.ensures,
+      g.word_at-7.ensures,
+      f.word_at-6.ensures,
+      e.word_at-5.ensures,
+      d.word_at-4.ensures,
+      b.word_at-3.ensures,
+      a.word_at-2.ensures,
+      k.word_at.ensures,
     )
     (sym (row_words s.args.bytes.now s.args.at))
 

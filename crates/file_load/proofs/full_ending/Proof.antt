@@ -4,19 +4,19 @@ use borrow.Author.Rules.{rules}
 use Rattle.file_load.proofs.full_ending.Statement.{statement}
 use Rattle.file_load.proofs.full_ending.Tie as tie
 
-word_at_requires : tie.Need-word-at-requires
+word_at_requires : tie.Need-word_at-number-requires
 word_at_requires c κs = search rules
 
-word_at_requires_2 : tie.Need-word-at-requires-2
+word_at_requires_2 : tie.Need-word_at-offset-requires
 word_at_requires_2 c κs = search rules
 
-word_at_requires_3 : tie.Need-word-at-requires-3
+word_at_requires_3 : tie.Need-word_at-line-requires
 word_at_requires_3 c κs = search rules
 
-word_at_requires_4 : tie.Need-word-at-requires-4
+word_at_requires_4 : tie.Need-word_at-column-requires
 word_at_requires_4 c κs = search rules
 
-read_ending_requires : tie.Need-read-ending-requires
+read_ending_requires : tie.Need-read_ending-requires
 read_ending_requires c κs = search rules
 
 returns : tie.Need-returns
@@ -25,7 +25,7 @@ returns c =
     let d = c.before in
     let e = d.before in
     let f = e.before in
-    rw (c.read_ending.ensures, d.word-at4.ensures, e.word-at3.ensures, f.word-at2.ensures, f.before.word-at.ensures)
+    rw (c.read_ending.ensures, d.word_at-column.ensures, e.word_at-line.ensures, f.word_at-offset.ensures, f.before.word_at-number.ensures)
 
 pub full_ending_spec : {M : Type 1} → statement M
 full_ending_spec =

@@ -14,135 +14,135 @@ use Rattle.file_load.proofs.Judging.{room_left, here_length, few_blocks}
 use Rattle.file_load.proofs.judge_blocks.Statement.{statement}
 use Rattle.file_load.proofs.judge_blocks.Tie as tie
 
-abbrev invariant_loop : tie.invariant-loop
+abbrev invariant_loop : tie.invariant-loop-left
 invariant_loop form file count plain least span last₀ stand₀ left₀ more₀ k₀ at₀ last stand left more k at =
     Judging form file count plain (as_row last) stand left more k at
 
-abbrev decreases_loop : tie.decreases-loop
+abbrev decreases_loop : tie.decreases-loop-left
 decreases_loop form file count plain least span last₀ stand₀ left₀ more₀ k₀ at₀ last stand left more k at = left
 
 -- ---- the places on the way: the function's entry, the turn of the loop, and how many rows its block has and are to be judged
 
-abbrev start : tie.In-loop invariant_loop decreases_loop → tie.Start invariant_loop decreases_loop
+abbrev start : tie.In-loop-left invariant_loop decreases_loop → tie.Start invariant_loop decreases_loop
 start c = c.before.before.before.before
 
-abbrev counted : tie.After-rows-here2 invariant_loop decreases_loop → tie.After-rows-here invariant_loop decreases_loop
+abbrev counted : tie.After-rows_here-m invariant_loop decreases_loop → tie.After-rows_here-n invariant_loop decreases_loop
 counted c = c.before.before.before.before
 
-abbrev in_loop : tie.After-rows-here2 invariant_loop decreases_loop → tie.In-loop invariant_loop decreases_loop
+abbrev in_loop : tie.After-rows_here-m invariant_loop decreases_loop → tie.In-loop-left invariant_loop decreases_loop
 in_loop c = (counted c).before.before
 
-abbrev behind : tie.After-last-of invariant_loop decreases_loop → tie.After-rows-here2 invariant_loop decreases_loop
+abbrev behind : tie.After-last_of-last invariant_loop decreases_loop → tie.After-rows_here-m invariant_loop decreases_loop
 behind c = c.before.before.before.before
 
-no_row_requires : tie.Need-no-row-requires invariant_loop decreases_loop
+no_row_requires : tie.Need-no_row-last-requires invariant_loop decreases_loop
 no_row_requires c κs = tt
 
-loop_holds : tie.Need-loop-init invariant_loop decreases_loop
+loop_holds : tie.Need-loop-left-init invariant_loop decreases_loop
 loop_holds c =
     let s = c.before.before in
-    rw c.no_row.ensures (judging_start s.args.form s.args.file.now s.args.count s.args.plain s.requires.0 s.requires.1)
+    rw c.no_row-last.ensures (judging_start s.args.form s.args.file.now s.args.count s.args.plain s.requires.0 s.requires.1)
 
 -- there is one block more, a whole one
-room : (c : tie.In-loop invariant_loop decreases_loop) → c.before.loop.at + 512 ≤ length (start c).args.file.now
+room : (c : tie.In-loop-left invariant_loop decreases_loop) → c.before.loop-left.at + 512 ≤ length (start c).args.file.now
 room c =
-    let l = c.before.loop in
+    let l = c.before.loop-left in
     let s = start c in
-    room_left s.args.form s.args.file.now s.args.count s.args.plain s.pre.0
+    room_left s.args.form s.args.file.now s.args.count s.args.plain s.requires.0
     (as_row l.last) l.stand l.left l.more l.k l.at l.invariant (omega arith)
 
-whole : (c : tie.In-loop invariant_loop decreases_loop) →
-    let l = c.before.loop in
+whole : (c : tie.In-loop-left invariant_loop decreases_loop) →
+    let l = c.before.loop-left in
     length (take (l.at + 512 - l.at) (drop l.at (start c).args.file.now)) ≡ 512
 whole c =
-    let l = c.before.loop in
+    let l = c.before.loop-left in
     let s = start c in
-    here_length s.args.form s.args.file.now s.args.count s.args.plain s.pre.0
+    here_length s.args.form s.args.file.now s.args.count s.args.plain s.requires.0
     (as_row l.last) l.stand l.left l.more l.k l.at l.invariant (omega arith)
 
-add_end : tie.Need-overflow-add-end invariant_loop decreases_loop
+add_end : tie.Need-overflow_add-end invariant_loop decreases_loop
 add_end c = omega (arith, room c)
 
-sub_block : tie.Need-overflow-sub-block invariant_loop decreases_loop
+sub_block : tie.Need-slice_bounds-block-count invariant_loop decreases_loop
 sub_block c = omega arith
 
-part_block_start : tie.Need-slice-bounds-block-start invariant_loop decreases_loop
+part_block_start : tie.Need-slice_bounds-block-start invariant_loop decreases_loop
 part_block_start c = omega arith
 
-part_block_end : tie.Need-slice-bounds-block-end invariant_loop decreases_loop
+part_block_end : tie.Need-slice_bounds-block-end invariant_loop decreases_loop
 part_block_end c = omega (arith, room c)
 
-rows_here_requires : tie.Need-rows-here-requires invariant_loop decreases_loop
+rows_here_requires : tie.Need-rows_here-n-requires invariant_loop decreases_loop
 rows_here_requires c κs = tt
 
-cast_is_sound : tie.Need-overflow-cast-is-sound invariant_loop decreases_loop
-cast_is_sound c = omega (arith, c.rows-here.ensures, few_rows (start c.before.before).args.form)
+cast_is_sound : tie.Need-overflow_cast-n invariant_loop decreases_loop
+cast_is_sound c = omega (arith, c.rows_here-n.ensures, few_rows (start c.before.before).args.form)
 
-row_bytes_requires : tie.Need-row-bytes-requires invariant_loop decreases_loop
+row_bytes_requires : tie.Need-row_bytes-requires invariant_loop decreases_loop
 row_bytes_requires c κs = tt
 
 -- the rows of a block take no more than its content
-content : (c : tie.After-row-bytes invariant_loop decreases_loop) → c.row-bytes.result * c.before.rows-here.result ≤ 504
+content : (c : tie.After-row_bytes invariant_loop decreases_loop) → c.row_bytes.result * c.before.rows_here-n.result ≤ 504
 content c =
     let r = c.before in
-    rw c.row-bytes.ensures (here_bytes (start r.before.before).args.form r.rows-here.result _ r.rows-here.ensures)
+    rw c.row_bytes.ensures (here_bytes (start r.before.before).args.form r.rows_here-n.result _ r.rows_here-n.ensures)
 
-mul_is_sound : tie.Need-overflow-mul-is-sound invariant_loop decreases_loop
+mul_is_sound : tie.Need-overflow_mul-row_bytes invariant_loop decreases_loop
 mul_is_sound c = omega (arith, content c)
 
-is_sound_requires : tie.Need-is-sound-requires invariant_loop decreases_loop
+is_sound_requires : tie.Need-is_sound-requires invariant_loop decreases_loop
 is_sound_requires c κs = (whole c.before.before.before, content c)
 
-returns : tie.Need-returns invariant_loop decreases_loop
+returns : tie.Need-returns-then-not-is_sound invariant_loop decreases_loop
 returns c =
     let i = c.before in
     let r = i.before.before in
     let g = r.before.before in
-    let l = g.before.loop in
+    let l = g.before.loop-left in
     let s = start g in
-    let b = i.before.row-bytes in
-    let e = sym i.is-sound.ensures ∙ not-true i.is-sound.result c.if1.true in
-    sym (judging_bad s.args.form s.args.file.now s.args.count s.args.plain s.pre.0
+    let b = i.before.row_bytes in
+    let e = sym i.is_sound.ensures ∙ not-true i.is_sound.result c.if-not-is_sound.true-raw in
+    sym (judging_bad s.args.form s.args.file.now s.args.count s.args.plain s.requires.0
     (as_row l.last) l.stand l.left l.more l.k l.at l.invariant (omega arith)
-    r.rows-here.result r.rows-here.ensures b.result b.ensures e)
+    r.rows_here-n.result r.rows_here-n.ensures b.result b.ensures e)
 
-rows_here_requires_2 : tie.Need-rows-here-requires-2 invariant_loop decreases_loop
+rows_here_requires_2 : tie.Need-rows_here-m-requires invariant_loop decreases_loop
 rows_here_requires_2 c κs = tt
 
 -- the rows that are to be judged stand in the block
-fits : (c : tie.After-rows-here2 invariant_loop decreases_loop) →
-    let l = (in_loop c).before.loop in
+fits : (c : tie.After-rows_here-m invariant_loop decreases_loop) →
+    let l = (in_loop c).before.loop-left in
     let a = (start (in_loop c)).args in
-    4 + row_bytes_of a.form * c.rows-here2.result ≤ length (take (l.at + 512 - l.at) (drop l.at a.file.now))
-fits c = omega (arith, here_bytes (start (in_loop c)).args.form c.rows-here2.result _ c.rows-here2.ensures, whole (in_loop c))
+    4 + row_bytes_of a.form * c.rows_here-m.result ≤ length (take (l.at + 512 - l.at) (drop l.at a.file.now))
+fits c = omega (arith, here_bytes (start (in_loop c)).args.form c.rows_here-m.result _ c.rows_here-m.ensures, whole (in_loop c))
 
-rows_stand_requires : tie.Need-rows-stand-requires invariant_loop decreases_loop
+rows_stand_requires : tie.Need-rows_stand-stand-requires invariant_loop decreases_loop
 rows_stand_requires c κs = let m = c.before.before in (fits m, length_table)
 
-last_of_requires : tie.Need-last-of-requires invariant_loop decreases_loop
+last_of_requires : tie.Need-last_of-last-requires invariant_loop decreases_loop
 last_of_requires c κs = fits c.before.before.before
 
-sub_left : tie.Need-overflow-sub-left invariant_loop decreases_loop
-sub_left c = omega (arith, (counted (behind c)).rows-here.ensures)
+sub_left : tie.Need-overflow_sub-left invariant_loop decreases_loop
+sub_left c = omega (arith, (counted (behind c)).rows_here-n.ensures)
 
-sub_more : tie.Need-overflow-sub-more invariant_loop decreases_loop
-sub_more c = omega (arith, (behind c).rows-here2.ensures)
+sub_more : tie.Need-overflow_sub-more invariant_loop decreases_loop
+sub_more c = omega (arith, (behind c).rows_here-m.ensures)
 
-add_k : tie.Need-overflow-add-k invariant_loop decreases_loop
+add_k : tie.Need-overflow_add-k invariant_loop decreases_loop
 add_k c =
     let g = in_loop (behind c) in
-    let l = g.before.loop in
+    let l = g.before.loop-left in
     let s = start g in
     omega (
       arith,
-      few_blocks s.args.form s.args.file.now s.args.count s.args.plain s.pre.0
-          (as_row l.last) l.stand l.left l.more l.k l.at l.inv (omega arith),
+      few_blocks s.args.form s.args.file.now s.args.count s.args.plain s.requires.0
+          (as_row l.last) l.stand l.left l.more l.k l.at l.invariant (omega arith),
     )
 
-loop_less : tie.Need-loop-smaller invariant_loop decreases_loop
-loop_less c = omega (arith, (counted (behind c)).rows-here.ensures, some_rows (start (in_loop (behind c))).args.form)
+loop_less : tie.Need-loop-left-smaller invariant_loop decreases_loop
+loop_less c = omega (arith, (counted (behind c)).rows_here-n.ensures, some_rows (start (in_loop (behind c))).args.form)
 
-loop_again : tie.Need-loop-preserved invariant_loop decreases_loop
+loop_again : tie.Need-loop-left-preserved invariant_loop decreases_loop
 loop_again c =
     let t = c.before in
     let m = behind c in
@@ -150,19 +150,19 @@ loop_again c =
     let i = e.before in
     let r = counted m in
     let g = in_loop m in
-    let l = g.before.loop in
+    let l = g.before.loop-left in
     let s = start g in
-    let b = i.before.row-bytes in
-    let y = sym i.is-sound.ensures ∙ not-false i.is-sound.result e.if1.left in
-    judging_next s.args.form s.args.file.now s.args.count s.args.plain s.pre.0
-    (as_row l.last) l.stand l.left l.more l.k l.at l.inv (omega arith)
-    r.rows-here.result r.rows-here.ensures b.result b.ensures y
-    m.rows-here2.result m.rows-here2.ensures t.rows-stand.result t.rows-stand.ensures
-    (as_row c.last_of.result) c.last_of.ensures
+    let b = i.before.row_bytes in
+    let y = sym i.is_sound.ensures ∙ not-false i.is_sound.result e.if-not-is_sound.false-raw in
+    judging_next s.args.form s.args.file.now s.args.count s.args.plain s.requires.0
+    (as_row l.last) l.stand l.left l.more l.k l.at l.invariant (omega arith)
+    r.rows_here-n.result r.rows_here-n.ensures b.result b.ensures y
+    m.rows_here-m.result m.rows_here-m.ensures t.rows_stand-stand.result t.rows_stand-stand.ensures
+    (as_row c.last_of-last.result) c.last_of-last.ensures
 
-returns_2 : tie.Need-returns-2 invariant_loop decreases_loop
+returns_2 : tie.Need-returns invariant_loop decreases_loop
 returns_2 c =
-    let l = c.before.loop in
+    let l = c.before.loop-left in
     let s = c.before.before.before.before in
     sym (judging_end s.args.form s.args.file.now s.args.count s.args.plain s.requires.0
     (as_row l.last) l.stand l.left l.more l.k l.at l.invariant (omega arith))

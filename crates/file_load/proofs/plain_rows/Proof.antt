@@ -4,35 +4,35 @@ use borrow.Author.Rules.{rules}
 use Rattle.file_load.proofs.plain_rows.Statement.{statement}
 use Rattle.file_load.proofs.plain_rows.Tie as tie
 
-enum_told : tie.Need-enum-told
+enum_told : tie.Need-enum_told-1
 enum_told c = search rules
 
-enum_known_read : tie.Need-enum-known-read
+enum_known_read : tie.Need-enum_known-read
 enum_known_read c = search rules
 
-enum_told_2 : tie.Need-enum-told-2
+enum_told_2 : tie.Need-enum_told-in-None
 enum_told_2 c = search rules
 
-returns : tie.Need-returns
+returns : tie.Need-returns-then-count-eq0
 returns c =
     let m = c.before in
-    (rw (m.before.before.before.read.given.1, m.enum-told2.given.1) (omega arith), omega arith)
+    (rw (m.before.in-Ends.is, m.in-None.is) (omega arith), omega arith)
 
-sub_result : tie.Need-overflow-sub-result
+sub_result : tie.Need-overflow_sub-result
 sub_result c = search rules
 
-enum_told_3 : tie.Need-enum-told-3
+enum_told_3 : tie.Need-enum_told-in-Refused
 enum_told_3 c = search rules
 
-returns_2 : tie.Need-returns-2
+returns_2 : tie.Need-returns-in-Nothing
 returns_2 c = search rules
 
-returns_3 : tie.Need-returns-3
+returns_3 : tie.Need-returns-else-count-eq0
 returns_3 c =
     let m = c.before in
-    (rw (m.before.before.before.read.given.1, m.enum-told2.given.1), omega arith)
+    (rw (m.before.in-Ends.is, m.in-None.is), omega arith)
 
-returns_4 : tie.Need-returns-4
+returns_4 : tie.Need-returns-in-Refused
 returns_4 c = search rules
 
 pub plain_rows_spec : {M : Type 1} → statement M

@@ -11,81 +11,81 @@ use Rattle.file_load.proofs.told.Tie as tie
 
 -- ---- the places on the way: the function's entry, block 0 is sound, and it says form 1
 
-abbrev start : tie.Else1 → tie.Start
+abbrev start : tie.Else-file-lt-BLOCK → tie.Start
 start c = c.before.before
 
-abbrev is_long : tie.Else2 → tie.Else1
+abbrev is_long : tie.Else-not-is_sound → tie.Else-file-lt-BLOCK
 is_long c = c.before.before.before
 
-abbrev is_sound : tie.Else3 → tie.Else2
+abbrev is_sound : tie.Else-word_at-ne-NUMBER → tie.Else-not-is_sound
 is_sound c = c.before.before
 
-abbrev is_full : tie.After-length-for → tie.Else3
+abbrev is_full : tie.After-length_for → tie.Else-word_at-ne-NUMBER
 is_full c = c.before.before
 
 -- block 0 is sound
-said : (c : tie.Else2) → let a = (start (is_long c)).args in load_told a.file.now a.room ≡ said_told a.file.now a.room
+said : (c : tie.Else-not-is_sound) → let a = (start (is_long c)).args in load_told a.file.now a.room ≡ said_told a.file.now a.room
 said c =
     let i = c.before in
     let e = is_long c in
     let a = (start e).args in
-    told_said a.file.now a.room e.if1.left (sym i.is-sound.ensures ∙ not-false i.is-sound.result c.if2.false)
+    told_said a.file.now a.room e.if-file-lt-BLOCK.false (sym i.is_sound.ensures ∙ not-false i.is_sound.result c.if-not-is_sound.false-raw)
 
 -- how long the file is to be
-whole : (c : tie.After-length-for) →
+whole : (c : tie.After-length_for) →
     let a = (start (is_long (is_sound (is_full c)))).args in
-    c.length-for.result ≡ file_length row_bytes (count_said a.file.now)
-whole c = c.length-for.ensures ∙ ap (file_length row_bytes) c.before.word-at2.ensures
+    c.length_for.result ≡ file_length row_bytes (count_said a.file.now)
+whole c = c.length_for.ensures ∙ ap (file_length row_bytes) c.before.word_at-count.ensures
 
-returns : tie.Need-returns
-returns c = let a = c.before.before.args in sym (told_short a.file.now a.room c.if1.true)
+returns : tie.Need-returns-then-file-lt-BLOCK
+returns c = let a = c.before.before.args in sym (told_short a.file.now a.room c.if-file-lt-BLOCK.true)
 
-sub_is_sound : tie.Need-overflow-sub-is-sound
+sub_is_sound : tie.Need-slice_bounds-is_sound-count
 sub_is_sound c = search rules
 
-part_is_sound_start : tie.Need-slice-bounds-is-sound-start
+part_is_sound_start : tie.Need-slice_bounds-is_sound-start
 part_is_sound_start c = search rules
 
-part_is_sound_end : tie.Need-slice-bounds-is-sound-end
+part_is_sound_end : tie.Need-slice_bounds-is_sound-end
 part_is_sound_end c = search rules
 
-is_sound_requires : tie.Need-is-sound-requires
+is_sound_requires : tie.Need-is_sound-requires
 is_sound_requires c κs = search rules
 
-returns_2 : tie.Need-returns-2
+returns_2 : tie.Need-returns-then-not-is_sound
 returns_2 c =
     let i = c.before in
     let e = i.before.before in
     let a = (start e).args in
-    sym (told_bad a.file.now a.room e.if1.false (sym i.is-sound.ensures ∙ not-true i.is-sound.result c.if2.true))
+    sym (told_bad a.file.now a.room e.if-file-lt-BLOCK.false (sym i.is_sound.ensures ∙ not-true i.is_sound.result c.if-not-is_sound.true-raw))
 
-word_at_requires : tie.Need-word-at-requires
+word_at_requires : tie.Need-word_at-requires
 word_at_requires c κs = search rules
 
-returns_3 : tie.Need-returns-3
+returns_3 : tie.Need-returns-then-word_at-ne-NUMBER
 returns_3 c =
     let w = c.before in
     let a = (start (is_long w.before)).args in
-    sym (said w.before ∙ told_other a.file.now a.room (λ e. c.if3.true (w.word-at.ensures ∙ e)))
+    sym (said w.before ∙ told_other a.file.now a.room (λ e. c.if-word_at-ne-NUMBER.true (w.word_at.ensures ∙ e)))
 
-word_at_requires_2 : tie.Need-word-at-requires-2
+word_at_requires_2 : tie.Need-word_at-count-requires
 word_at_requires_2 c κs = search rules
 
-length_for_requires : tie.Need-length-for-requires
+length_for_requires : tie.Need-length_for-requires
 length_for_requires c κs = search rules
 
-returns_4 : tie.Need-returns-4
+returns_4 : tie.Need-returns-then-file-length_for
 returns_4 c =
     let l = c.before in
     let f = is_full l in
     let a = (start (is_long (is_sound f))).args in
     sym (said (is_sound f)
-    ∙ told_cut a.file.now a.room (sym f.before.word-at.ensures ∙ f.if3.left) (λ e. c.if4.true (e ∙ sym (whole l))))
+    ∙ told_cut a.file.now a.room (sym f.before.word_at.ensures ∙ f.if-word_at-ne-NUMBER.false) (λ e. c.if-file-length_for.true (e ∙ sym (whole l))))
 
-told_blocks_requires : tie.Need-told-blocks-requires
+told_blocks_requires : tie.Need-told_blocks-requires
 told_blocks_requires c κs = search rules
 
-returns_5 : tie.Need-returns-5
+returns_5 : tie.Need-returns
 returns_5 c =
     let e = c.before in
     let l = e.before in
@@ -93,7 +93,7 @@ returns_5 c =
     let a = (start (is_long (is_sound f))).args in
     c.told_blocks.ensures ∙ full_blocks a.file.now a.room
     ∙ sym (said (is_sound f)
-    ∙ blocks_told a.file.now a.room (sym f.before.word-at.ensures ∙ f.if3.left) (e.if4.false ∙ whole l))
+    ∙ blocks_told a.file.now a.room (sym f.before.word_at.ensures ∙ f.if-word_at-ne-NUMBER.false) (e.if-file-length_for.false ∙ whole l))
 
 pub told_spec : {M : Type 1} → statement M
 told_spec =

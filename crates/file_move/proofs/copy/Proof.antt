@@ -10,30 +10,30 @@ use lib.Seq.{paste, paste-zero, paste-suc, take-length}
 use Rattle.file_move.proofs.copy.Statement.{statement}
 use Rattle.file_move.proofs.copy.Tie as tie
 
-abbrev invariant_loop : tie.invariant-loop
+abbrev invariant_loop : tie.invariant-loop-i
 invariant_loop from to₀ i₀ to i = (i ≤ length from) × (length to ≡ length to₀) × (to ≡ paste to₀ 0 from i)
 
-abbrev decreases_loop : tie.decreases-loop
+abbrev decreases_loop : tie.decreases-loop-i
 decreases_loop from to₀ i₀ to i = length from - i
 
-loop_holds : tie.Need-loop-init invariant_loop decreases_loop
+loop_holds : tie.Need-loop-i-init invariant_loop decreases_loop
 loop_holds c = (omega arith, refl, paste-zero c.args.to.now 0 c.args.from.now)
 
-shared_slice_read_to : tie.Need-shared-slice-read-to invariant_loop decreases_loop
+shared_slice_read_to : tie.Need-bounds-from-i invariant_loop decreases_loop
 shared_slice_read_to c = omega arith
 
-slice_write_to : tie.Need-slice-write-to invariant_loop decreases_loop
-slice_write_to c = omega (arith, c.before.before.loop.invariant.1, c.before.before.before.requires)
+slice_write_to : tie.Need-bounds-to-i invariant_loop decreases_loop
+slice_write_to c = omega (arith, c.before.before.loop-i.invariant.1, c.before.before.before.requires)
 
-add_i : tie.Need-overflow-add-i invariant_loop decreases_loop
+add_i : tie.Need-overflow_add-i invariant_loop decreases_loop
 add_i c = omega arith
 
-loop_less : tie.Need-loop-smaller invariant_loop decreases_loop
+loop_less : tie.Need-loop-i-smaller invariant_loop decreases_loop
 loop_less c = omega arith
 
-loop_again : tie.Need-loop-preserved invariant_loop decreases_loop
+loop_again : tie.Need-loop-i-preserved invariant_loop decreases_loop
 loop_again c =
-    let l = c.before.before.loop in
+    let l = c.before.before.loop-i in
     let s = c.before.before.before in
     let d = s.args.to.now in
     let t = s.args.from.now in
@@ -46,12 +46,12 @@ loop_again c =
           ∙ ap (λ (k : ℕ). paste d 0 t k) (sym (add-one l.i)),
     )
 
-same_length : tie.Need-same-length invariant_loop decreases_loop
-same_length c = c.before.loop.invariant.1
+same_length : tie.Need-shape_of-to invariant_loop decreases_loop
+same_length c = c.before.loop-i.invariant.1
 
 returns : tie.Need-returns invariant_loop decreases_loop
 returns c =
-    let l = c.before.loop in
+    let l = c.before.loop-i in
     let s = c.before.before in
     let e : l.i ≡ length s.args.from.now = omega arith in
     l.invariant.2 ∙ rw (zero-add, e, take-length s.args.from.now)

@@ -16,58 +16,58 @@ use Rattle.file_move.proofs.move_table.Tie as tie
 
 -- ---- the places on the way
 
-abbrev start : tie.After-length-for → tie.Start
+abbrev start : tie.After-length_for-length → tie.Start
 start c = c.before.before.before.before
 
-abbrev at_agrees : tie.After-agrees → tie.After-length-for
+abbrev at_agrees : tie.After-agrees → tie.After-length_for-length
 at_agrees c = c.before.before
 
-abbrev at_put : tie.After-put-moved-arg → tie.After-agrees
+abbrev at_put : tie.After-put_moved-arg-1 → tie.After-agrees
 at_put c = c.before.before
 
 -- ---- what is known there
 
-room : (c : tie.Else1) → let a = (start c.before).args in size a.form a.table.count ≤ length a.moved.now
-room c = rw c.before.length-for.ensures at c.if1.false
+room : (c : tie.Else-moved-length) → let a = (start c.before).args in size a.form a.table.count ≤ length a.moved.now
+room c = rw c.before.length_for-length.ensures at c.if-moved-length.false
 
-agree : (c : tie.Else2) → let a = (start (at_agrees c.before)).args in agrees_beside a.text.now a.file.now a.table ≡ true
-agree c = sym c.before.agrees.ensures ∙ not-false c.before.agrees.result c.if2.false
+agree : (c : tie.Else-not-agrees) → let a = (start (at_agrees c.before)).args in agrees_beside a.text.now a.file.now a.table ≡ true
+agree c = sym c.before.agrees.ensures ∙ not-false c.before.agrees.result c.if-not-agrees.false-raw
 
-length_for_requires : tie.Need-length-for-requires
+length_for_requires : tie.Need-length_for-length-requires
 length_for_requires c κs = search rules
 
-returns : tie.Need-returns
+returns : tie.Need-returns-then-moved-length
 returns c =
     let a = (start c.before).args in
-    let h = rw c.before.length-for.ensures at c.if1.true in
+    let h = rw c.before.length_for-length.ensures at c.if-moved-length.true in
     (sym (told_full a.form a.text.now a.file.now a.table (length a.moved.now) h), refl)
 
 agrees_requires : tie.Need-agrees-requires
 agrees_requires c κs = search rules
 
-returns_2 : tie.Need-returns-2
+returns_2 : tie.Need-returns-then-not-agrees
 returns_2 c =
     let g = c.before in
     let a = (start (at_agrees g)).args in
-    let e = sym g.agrees.ensures ∙ not-true g.agrees.result c.if2.true in
+    let e = sym g.agrees.ensures ∙ not-true g.agrees.result c.if-not-agrees.true-raw in
     (sym (told_other a.form a.text.now a.file.now a.table (length a.moved.now) (room g.before) e), refl)
 
-put_moved_requires : tie.Need-put-moved-requires
+put_moved_requires : tie.Need-put_moved-requires
 put_moved_requires c κs =
     let g = at_put c in
     (record { holds = (start (at_agrees g)).requires; agrees = agree c.before }, room g.before)
 
-cast_bytes : tie.Need-overflow-cast-bytes
+cast_bytes : tie.Need-overflow_cast-bytes
 cast_bytes c =
     let l = at_agrees (at_put c.before.before.before) in
     let s = start l in
     let a = s.args in
-    omega (arith, l.length-for.ensures, short_file a.form a.table.count, few_held a.file.now a.table s.pre)
+    omega (arith, l.length_for-length.ensures, short_file a.form a.table.count, few_held a.file.now a.table s.requires)
 
-same_length : tie.Need-same-length
+same_length : tie.Need-shape_of-moved
 same_length c = search rules
 
-returns_3 : tie.Need-returns-3
+returns_3 : tie.Need-returns
 returns_3 c =
     let p = c.before.before in
     let g = at_put p.before in
@@ -75,7 +75,7 @@ returns_3 c =
     let a = (start l).args in
     let h = room g.before in
     let t = told_bytes a.form a.text.now a.file.now a.table (length a.moved.now) h (agree p.before.before) in
-    (ap moved.Bytes l.length-for.ensures ∙ sym t, rw l.length-for.ensures p.put-moved.ensures)
+    (ap moved.Bytes l.length_for-length.ensures ∙ sym t, rw l.length_for-length.ensures p.put_moved.ensures)
 
 pub move_table_spec : {M : Type 1} → statement M
 move_table_spec =

@@ -16,53 +16,53 @@ use Rattle.file_move.proofs.move_to.Tie as tie
 abbrev start : tie.After-judge → tie.Start
 start c = c.before.before.before.before
 
-abbrev at_refused : tie.After-why → tie.After-judge
-at_refused c = c.before.before
+abbrev at_refused : tie.In-Refused → tie.After-judge
+at_refused c = c.before
 
-abbrev at_table : tie.After-table → tie.After-judge
-at_table c = c.before.before
+abbrev at_table : tie.In-Rows → tie.After-judge
+at_table c = c.before
 
 -- what is judged
-holds : (c : tie.After-table) → judged (start (at_table c)).args.file.now ≡ loaded.Rows c.table.given.0.0
-holds c = sym (at_table c).judge.ensures ∙ c.table.given.1
+holds : (c : tie.In-Rows) → judged (start (at_table c)).args.file.now ≡ loaded.Rows c.in-Rows.table
+holds c = sym (at_table c).judge.ensures ∙ c.in-Rows.is
 
 judge_requires : tie.Need-judge-requires
 judge_requires c κs = search rules
 
-enum_known_why : tie.Need-enum-known-why
+enum_known_why : tie.Need-enum_known-why
 enum_known_why c = search rules
 
-enum_known_table : tie.Need-enum-known-table
+enum_known_table : tie.Need-enum_known-table
 enum_known_table c = search rules
 
-move_table_requires : tie.Need-move-table-requires
-move_table_requires c κs = holds c.before.before
+move_table_requires : tie.Need-move_table-requires
+move_table_requires c κs = holds c.before
 
-returns : tie.Need-returns
+returns : tie.Need-returns-in-Refused
 returns c =
-    let r = c.before in
+    let r = c in
     let a = (start (at_refused r)).args in
-    let why = r.why.given.0.0 in
-    let e = sym r.why.given.1 ∙ (at_refused r).judge.ensures in
+    let why = r.in-Refused.why in
+    let e = sym r.in-Refused.is ∙ (at_refused r).judge.ensures in
     let room : ℕ = length a.moved.now in
     let t = told_by a.form a.text.now a.file.now room (loaded.Refused why) e
     ∙ told_refused (number_of a.form) a.text.now a.file.now room why in
     (sym t, sym (move_untouched a.text.now a.file.now (number_of a.form) a.moved.now _ t))
 
-same_length : tie.Need-same-length
+same_length : tie.Need-shape_of-moved
 same_length c = search rules
 
-returns_2 : tie.Need-returns-2
+returns_2 : tie.Need-returns-in-Rows
 returns_2 c =
     let w = c.before.before in
-    let k = w.before.before.before in
+    let k = w.before.before in
     let a = (start (at_table k)).args in
     let room : ℕ = length a.moved.now in
-    let u = k.table.given.0.0 in
+    let u = k.in-Rows.table in
     let j = told_by a.form a.text.now a.file.now room (loaded.Rows u) (sym (holds k)) in
-    let t = j ∙ sym w.move-table.ensures.0 in
-    let left = leaves_by (number_of a.form) a.text.now a.file.now a.moved.now u (holds k) w.move-table.result t in
-    (sym t, w.move-table.ensures.1 ∙ sym left)
+    let t = j ∙ sym w.move_table.ensures.0 in
+    let left = leaves_by (number_of a.form) a.text.now a.file.now a.moved.now u (holds k) w.move_table.result t in
+    (sym t, w.move_table.ensures.1 ∙ sym left)
 
 pub move_to_spec : {M : Type 1} → statement M
 move_to_spec =

@@ -25,34 +25,34 @@ use Rattle.file_move.proofs.put_moved.Tie as tie
 abbrev start : tie.After-number → tie.Start
 start c = c.before.before.before.before
 
-abbrev numbered : tie.After-number2 → tie.After-number
+abbrev numbered : tie.After-number-2 → tie.After-number
 numbered c = c.before.before
 
-abbrev at_copy : tie.After-copy-arg → tie.Start
+abbrev at_copy : tie.After-copy-arg-1 → tie.Start
 at_copy c = start (numbered c.before.before)
 
-abbrev at_blocks : tie.After-put-blocks → tie.Start
+abbrev at_blocks : tie.After-put_blocks-last → tie.Start
 at_blocks c = start (numbered c.before.before.before)
 
-abbrev at_table : tie.After-table-beside → tie.After-put-blocks
+abbrev at_table : tie.After-table_beside-beside → tie.After-put_blocks-last
 at_table c = c.before.before.before
 
 -- the file has the form asked for
-same : (c : tie.Then1) → let a = (start (numbered c.before)).args in number_of a.form ≡ number_of (form_of a.file.now)
+same : (c : tie.Then-number) → let a = (start (numbered c.before)).args in number_of a.form ≡ number_of (form_of a.file.now)
 same c =
     let n = numbered c.before in
     let f = c.before.before in
-    sym n.number.ensures ∙ c.if1.true ∙ c.before.number2.ensures ∙ ap number_of f.form_of.ensures
+    sym n.number.ensures ∙ c.if-number.true ∙ c.before.number-2.ensures ∙ ap number_of f.form_of.ensures
 
 -- a lent file is bytes
 bytes : (c : tie.After-number) → Bytes (start c).args.file.now
-bytes c = below_from 256 (start c).args.file.now (λ i. (c.before.before.shared-slice-known2.given i).fits)
+bytes c = below_from 256 (start c).args.file.now (λ i. (c.before.before.shared_slice_known-2-1.given i).fits)
 
 number_requires : tie.Need-number-requires
 number_requires c κs = search rules
 
-form_of_requires : tie.Need-form-of-requires
-form_of_requires c κs = let s = start c in (known s.args.file.now s.args.table s.pre.0.holds).long
+form_of_requires : tie.Need-form_of-requires
+form_of_requires c κs = let s = start c in (known s.args.file.now s.args.table s.requires.0.holds).long
 
 number_requires_2 : tie.Need-number-requires-2
 number_requires_2 c κs = search rules
@@ -61,47 +61,47 @@ copy_requires : tie.Need-copy-requires
 copy_requires c κs =
     let s = at_copy c in
     let a = s.args in
-    omega (arith, own_size a.file.now a.table s.pre.0.holds a.form (same c.before), s.pre.1)
+    omega (arith, own_size a.file.now a.table s.requires.0.holds a.form (same c.before), s.requires.1)
 
-same_length : tie.Need-same-length
+same_length : tie.Need-shape_of-moved-then-number
 same_length c = search rules
 
-returns : tie.Need-returns
+returns : tie.Need-returns-then-number
 returns c =
     let k = c.before.before in
     let s = at_copy k.before in
     let a = s.args in
     let e = same k.before.before in
-    let l = own_size a.file.now a.table s.pre.0.holds a.form e in
+    let l = own_size a.file.now a.table s.requires.0.holds a.form e in
     let b = bytes (numbered k.before.before.before) in
-    let w = own_bytes a.file.now a.table s.pre.0.holds a.form e a.text.now b in
+    let w = own_bytes a.file.now a.table s.requires.0.holds a.form e a.text.now b in
     k.copy.ensures ∙ rw (w, l)
 
-put_blocks_requires : tie.Need-put-blocks-requires
+put_blocks_requires : tie.Need-put_blocks-last-requires
 put_blocks_requires c κs = search rules
 
-table_beside_requires : tie.Need-table-beside-requires
+table_beside_requires : tie.Need-table_beside-beside-requires
 table_beside_requires c κs = search rules
 
-sub_put_said : tie.Need-overflow-sub-put-said
+sub_put_said : tie.Need-slice_bounds-put_said-count
 sub_put_said c = search rules
 
-part_put_said_start : tie.Need-slice-bounds-put-said-start
+part_put_said_start : tie.Need-slice_bounds-put_said-start
 part_put_said_start c = search rules
 
-part_put_said_end : tie.Need-slice-bounds-put-said-end
+part_put_said_end : tie.Need-slice_bounds-put_said-end
 part_put_said_end c =
     let b = at_table c in
     let s = at_blocks b in
-    omega (arith, s.pre.1, some_length s.args.form s.args.table.count, b.put-blocks.kept.1.1.1.1.0)
+    omega (arith, s.requires.1, some_length s.args.form s.args.table.count, b.put_blocks-last.auto.moved)
 
-put_said_requires : tie.Need-put-said-requires
+put_said_requires : tie.Need-put_said-requires
 put_said_requires c κs = search rules
 
-same_length_2 : tie.Need-same-length-2
+same_length_2 : tie.Need-shape_of-moved
 same_length_2 c = search rules
 
-returns_2 : tie.Need-returns-2
+returns_2 : tie.Need-returns
 unfolding blocks_of table_beside
 returns_2 c =
     let p = c.before.before in
@@ -109,12 +109,12 @@ returns_2 c =
     let b = at_table t in
     let s = at_blocks b in
     let a = s.args in
-    let front : List ℕ = p.put-said.new.1.0 in
-    let e = p.put-said.ensures ∙ ap (λ (u : Table). block 0 0 (bytes_of (said_in a.form u))) t.table_beside.ensures in
+    let front : List ℕ = p.put_said.new.bytes in
+    let e = p.put_said.ensures ∙ ap (λ (u : Table). block 0 0 (bytes_of (said_in a.form u))) t.table_beside-beside.ensures in
     let u : Table = table_beside a.text.now a.file.now a.table in
     let ws : List ℕ = rows_beside a.text.now a.file.now in
-    ap (λ (m : List ℕ). put_mid 0 block_bytes m front) b.put-blocks.ensures.0
-    ∙ file_put a.form ws a.moved.now front u (all_words s.pre.0) s.pre.1 e
+    ap (λ (m : List ℕ). put_mid 0 block_bytes m front) b.put_blocks-last.ensures.0
+    ∙ file_put a.form ws a.moved.now front u (all_words s.requires.0) s.requires.1 e
 
 pub put_moved_spec : {M : Type 1} → statement M
 put_moved_spec =

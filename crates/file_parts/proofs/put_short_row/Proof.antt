@@ -6,94 +6,94 @@ use Rattle.file_parts.proofs.put_short_row.Tie as tie
 
 -- ---- the places on the way, from each word back to the one before it
 
-abbrev at_sixth : tie.After-slice-known7 → tie.After-put-word6
+abbrev at_sixth : tie.After-slice_known-7-1 → tie.After-put_word-6
 at_sixth c = c.before.before
 
-abbrev at_fifth : tie.After-put-word6 → tie.After-put-word5
+abbrev at_fifth : tie.After-put_word-6 → tie.After-put_word-5
 at_fifth c = c.before.before.before.before.before
 
-abbrev at_fourth : tie.After-put-word5 → tie.After-put-word4
+abbrev at_fourth : tie.After-put_word-5 → tie.After-put_word-4
 at_fourth c = c.before.before.before.before.before
 
-abbrev at_third : tie.After-put-word4 → tie.After-put-word3
+abbrev at_third : tie.After-put_word-4 → tie.After-put_word-3
 at_third c = c.before.before.before.before.before
 
-abbrev at_second : tie.After-put-word3 → tie.After-put-word2
+abbrev at_second : tie.After-put_word-3 → tie.After-put_word-2
 at_second c = c.before.before.before.before.before
 
-abbrev at_first : tie.After-put-word2 → tie.After-put-word
+abbrev at_first : tie.After-put_word-2 → tie.After-put_word
 at_first c = c.before.before.before.before.before
 
-abbrev at_start : tie.After-put-word → tie.Start
+abbrev at_start : tie.After-put_word → tie.Start
 at_start c = c.before.before.before.before.before
 
-shared_slice_read_put_word : tie.Need-shared-slice-read-put-word
+shared_slice_read_put_word : tie.Need-bounds-rows-0
 shared_slice_read_put_word c = search rules
 
-put_word_requires : tie.Need-put-word-requires
+put_word_requires : tie.Need-put_word-requires
 put_word_requires c κs = search rules
 
-mul_put_word : tie.Need-overflow-mul-put-word
+mul_put_word : tie.Need-overflow_mul-put_word
 mul_put_word c = search rules
 
-add_put_word : tie.Need-overflow-add-put-word
+add_put_word : tie.Need-overflow_add-at
 add_put_word c = search rules
 
-shared_slice_read_put_word_2 : tie.Need-shared-slice-read-put-word-2
+shared_slice_read_put_word_2 : tie.Need-bounds-rows-1
 shared_slice_read_put_word_2 c = search rules
 
-put_word_requires_2 : tie.Need-put-word-requires-2
+put_word_requires_2 : tie.Need-put_word-requires-2
 put_word_requires_2 c κs = search rules
 
-mul_put_word_2 : tie.Need-overflow-mul-put-word-2
+mul_put_word_2 : tie.Need-overflow_mul-put_word-2
 mul_put_word_2 c = search rules
 
-add_put_word_2 : tie.Need-overflow-add-put-word-2
+add_put_word_2 : tie.Need-overflow_add-at-2
 add_put_word_2 c = search rules
 
-shared_slice_read_put_word_3 : tie.Need-shared-slice-read-put-word-3
+shared_slice_read_put_word_3 : tie.Need-bounds-rows-2
 shared_slice_read_put_word_3 c = search rules
 
-put_word_requires_3 : tie.Need-put-word-requires-3
+put_word_requires_3 : tie.Need-put_word-requires-3
 put_word_requires_3 c κs = search rules
 
-mul_put_word_3 : tie.Need-overflow-mul-put-word-3
+mul_put_word_3 : tie.Need-overflow_mul-put_word-3
 mul_put_word_3 c = search rules
 
-add_put_word_3 : tie.Need-overflow-add-put-word-3
+add_put_word_3 : tie.Need-overflow_add-at-3
 add_put_word_3 c = search rules
 
-shared_slice_read_put_word_4 : tie.Need-shared-slice-read-put-word-4
+shared_slice_read_put_word_4 : tie.Need-bounds-rows-5
 shared_slice_read_put_word_4 c = search rules
 
-put_word_requires_4 : tie.Need-put-word-requires-4
+put_word_requires_4 : tie.Need-put_word-requires-4
 put_word_requires_4 c κs = search rules
 
-mul_put_word_4 : tie.Need-overflow-mul-put-word-4
+mul_put_word_4 : tie.Need-overflow_mul-put_word-4
 mul_put_word_4 c = search rules
 
-add_put_word_4 : tie.Need-overflow-add-put-word-4
+add_put_word_4 : tie.Need-overflow_add-at-4
 add_put_word_4 c = search rules
 
-shared_slice_read_put_word_5 : tie.Need-shared-slice-read-put-word-5
+shared_slice_read_put_word_5 : tie.Need-bounds-rows-6
 shared_slice_read_put_word_5 c = search rules
 
-put_word_requires_5 : tie.Need-put-word-requires-5
+put_word_requires_5 : tie.Need-put_word-requires-5
 put_word_requires_5 c κs = search rules
 
-mul_put_word_5 : tie.Need-overflow-mul-put-word-5
+mul_put_word_5 : tie.Need-overflow_mul-put_word-5
 mul_put_word_5 c = search rules
 
-add_put_word_5 : tie.Need-overflow-add-put-word-5
+add_put_word_5 : tie.Need-overflow_add-at-5
 add_put_word_5 c = search rules
 
-shared_slice_read_put_word_6 : tie.Need-shared-slice-read-put-word-6
+shared_slice_read_put_word_6 : tie.Need-bounds-rows-7
 shared_slice_read_put_word_6 c = search rules
 
-put_word_requires_6 : tie.Need-put-word-requires-6
+put_word_requires_6 : tie.Need-put_word-requires-6
 put_word_requires_6 c κs = search rules
 
-same_length : tie.Need-same-length
+same_length : tie.Need-shape_of-bytes
 same_length c = search rules
 
 returns : tie.Need-returns
@@ -105,9 +105,9 @@ returns c =
     let b = at_second q in
     let a = at_first b in
     let s = at_start a in
-    row_put s.args.bytes.now s.args.at s.args.rows.now a.put_word.last.0 b.put-word2.last.0 q.put-word3.last.0
-    d.put-word4.last.0 e.put-word5.last.0 f.put-word6.last.0 s.pre.0 a.put_word.ensures b.put-word2.ensures
-    q.put-word3.ensures d.put-word4.ensures e.put-word5.ensures f.put-word6.ensures
+    row_put s.args.bytes.now s.args.at s.args.rows.now a.put_word.new.bytes b.put_word-2.new.bytes q.put_word-3.new.bytes
+    d.put_word-4.new.bytes e.put_word-5.new.bytes f.put_word-6.new.bytes s.requires.0 a.put_word.ensures b.put_word-2.ensures
+    q.put_word-3.ensures d.put_word-4.ensures e.put_word-5.ensures f.put_word-6.ensures
 
 pub put_short_row_spec : {M : Type 1} → statement M
 put_short_row_spec =

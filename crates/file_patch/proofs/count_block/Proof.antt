@@ -8,24 +8,24 @@ use Rattle.file_patch.proofs.count_block.Tie as tie
 
 -- ---- the function's entry, as it is seen from both ends
 
-abbrev at_right : tie.Then1 → tie.Start
+abbrev at_right : tie.Then-is_right → tie.Start
 at_right c = c.before.before.before.before
 
-abbrev at_wrong : tie.Else1 → tie.Start
+abbrev at_wrong : tie.Else-is_right → tie.Start
 at_wrong c = c.before.before.before.before
 
-is_right_requires : tie.Need-is-right-requires
+is_right_requires : tie.Need-is_right-requires
 is_right_requires c κs = search rules
 
-returns : tie.Need-returns
+returns : tie.Need-returns-then-is_right
 returns c =
     let a = (at_right c).args in
-    sym (ap length (entry_right a.fresh.now a.file.now a.k (sym c.before.is_right.ensures ∙ c.if1.true)))
+    sym (ap length (entry_right a.fresh.now a.file.now a.k (sym c.before.is_right.ensures ∙ c.if-is_right.true)))
 
-returns_2 : tie.Need-returns-2
+returns_2 : tie.Need-returns
 returns_2 c =
     let a = (at_wrong c).args in
-    let f = sym c.before.is_right.ensures ∙ c.if1.false in
+    let f = sym c.before.is_right.ensures ∙ c.if-is_right.false in
     sym (ap length (entry_wrong a.fresh.now a.file.now a.k f))
 
 pub count_block_spec : {M : Type 1} → statement M

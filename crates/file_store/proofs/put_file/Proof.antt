@@ -8,37 +8,37 @@ use Rattle.file_store.proofs.put_file.Tie as tie
 
 -- ---- the places on the way, from the last call back to the function's entry
 
-abbrev at_rows : tie.After-slice-known3 → tie.After-put-rows
+abbrev at_rows : tie.After-slice_known-3-1 → tie.After-put_rows
 at_rows c = c.before.before
 
-abbrev at_count : tie.After-put-rows → tie.After-struct-known
+abbrev at_count : tie.After-put_rows → tie.After-struct_known-1
 at_count c = c.before.before
 
-abbrev at_said : tie.After-struct-known → tie.After-put-said
+abbrev at_said : tie.After-struct_known-1 → tie.After-put_said
 at_said c = c.before.before.before
 
-abbrev at_start : tie.After-put-said → tie.Start
+abbrev at_start : tie.After-put_said → tie.Start
 at_start c = c.before.before.before.before
 
-sub_put_said : tie.Need-overflow-sub-put-said
+sub_put_said : tie.Need-slice_bounds-put_said-count
 sub_put_said c = search rules
 
-part_put_said_start : tie.Need-slice-bounds-put-said-start
+part_put_said_start : tie.Need-slice_bounds-put_said-start
 part_put_said_start c = search rules
 
-part_put_said_end : tie.Need-slice-bounds-put-said-end
+part_put_said_end : tie.Need-slice_bounds-put_said-end
 part_put_said_end c = let s = c.before.before in omega (arith, s.requires.1, some_length s.args.table.count)
 
-put_said_requires : tie.Need-put-said-requires
+put_said_requires : tie.Need-put_said-requires
 put_said_requires c κs = search rules
 
-cast_put_rows : tie.Need-overflow-cast-put-rows
+cast_put_rows : tie.Need-overflow_cast-table
 cast_put_rows c = search rules
 
-put_rows_requires : tie.Need-put-rows-requires
+put_rows_requires : tie.Need-put_rows-requires
 put_rows_requires c κs = search rules
 
-same_length : tie.Need-same-length
+same_length : tie.Need-shape_of-file
 same_length c = search rules
 
 returns : tie.Need-returns
@@ -47,7 +47,7 @@ returns c =
     let b = at_said (at_count r) in
     let s = at_start b in
     let a = s.args in
-    r.put-rows.ensures ∙ file_put a.rows.now a.file.now b.put-said.last.1.0 a.table s.pre.1 b.put-said.ensures
+    r.put_rows.ensures ∙ file_put a.rows.now a.file.now b.put_said.new.bytes a.table s.requires.1 b.put_said.ensures
 
 pub put_file_spec : {M : Type 1} → statement M
 put_file_spec =

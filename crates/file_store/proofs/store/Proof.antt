@@ -18,77 +18,77 @@ use Rattle.file_store.proofs.store.Tie as tie
 
 -- ---- the places on the way: the function's entry, as it is seen from behind each test
 
-abbrev start : tie.After-well-formed → tie.Start
+abbrev start : tie.After-well_formed-2 → tie.Start
 start c = c.before.before.before
 
-abbrev at_count : tie.Else2 → tie.Start
+abbrev at_count : tie.Else-count-gt-MOST_ROWS → tie.Start
 at_count c = start c.before.before
 
-abbrev at_length : tie.After-length-for → tie.Start
+abbrev at_length : tie.After-length_for-length → tie.Start
 at_length c = at_count c.before
 
-abbrev at_room : tie.After-put-file → tie.Else3
+abbrev at_room : tie.After-put_file → tie.Else-file-length
 at_room c = c.before.before
 
 -- ---- what is known there
 
-well : (c : tie.Else1) → let a = (start c.before).args in well_formed a.rows.now a.table ≡ true
-well c = sym c.before.well-formed-2.ensures ∙ not-false c.before.well-formed-2.result c.if1.false
+well : (c : tie.Else-not-well_formed) → let a = (start c.before).args in well_formed a.rows.now a.table ≡ true
+well c = sym c.before.well_formed-2.ensures ∙ not-false c.before.well_formed-2.result c.if-not-well_formed.false-raw
 
-room : (c : tie.Else3) → let a = (at_length c.before).args in file_length row_bytes a.table.count ≤ length a.file.now
-room c = rw c.before.length-for.ensures at c.if3.false
+room : (c : tie.Else-file-length) → let a = (at_length c.before).args in file_length row_bytes a.table.count ≤ length a.file.now
+room c = rw c.before.length_for-length.ensures at c.if-file-length.false
 
-well_formed_requires : tie.Need-well-formed-requires
+well_formed_requires : tie.Need-well_formed-requires
 well_formed_requires c κs = search rules
 
-returns : tie.Need-returns
+returns : tie.Need-returns-then-not-well_formed
 returns c =
     let a = (start c.before).args in
-    let u = sym c.before.well-formed-2.ensures ∙ not-true c.before.well-formed-2.result c.if1.true in
+    let u = sym c.before.well_formed-2.ensures ∙ not-true c.before.well_formed-2.result c.if-not-well_formed.true-raw in
     let t = store_unformed a.rows.now a.table (length a.file.now) u in
     (sym t, sym (store_untouched a.rows.now a.table a.file.now _ t))
 
-returns_2 : tie.Need-returns-2
+returns_2 : tie.Need-returns-then-count-gt-MOST_ROWS
 returns_2 c =
     let a = (start c.before.before).args in
-    let t = store_many a.rows.now a.table (length a.file.now) (well c.before) c.if2.true in
+    let t = store_many a.rows.now a.table (length a.file.now) (well c.before) c.if-count-gt-MOST_ROWS.true in
     (sym t, sym (store_untouched a.rows.now a.table a.file.now _ t))
 
-length_for_requires : tie.Need-length-for-requires
+length_for_requires : tie.Need-length_for-length-requires
 length_for_requires c κs = search rules
 
-returns_3 : tie.Need-returns-3
+returns_3 : tie.Need-returns-then-file-length
 returns_3 c =
     let l = c.before in
     let a = (at_length l).args in
-    let h = rw l.length-for.ensures at c.if3.true in
-    let t = store_full a.rows.now a.table (length a.file.now) (well l.before.before) l.before.if2.false h in
+    let h = rw l.length_for-length.ensures at c.if-file-length.true in
+    let t = store_full a.rows.now a.table (length a.file.now) (well l.before.before) l.before.if-count-gt-MOST_ROWS.false h in
     (sym t, sym (store_untouched a.rows.now a.table a.file.now _ t))
 
-put_file_requires : tie.Need-put-file-requires
+put_file_requires : tie.Need-put_file-requires
 put_file_requires c κs =
     let l = c.before.before in
     let a = (at_length l).args in
     let f = fine a.rows.now a.table (well l.before.before) in
-    ((omega (arith, f.lent), l.before.if2.false), room c.before)
+    ((omega (arith, f.lent), l.before.if-count-gt-MOST_ROWS.false), room c.before)
 
-cast_t18 : tie.Need-overflow-cast-t18
+cast_t18 : tie.Need-overflow_cast-result
 cast_t18 c =
     let l = (at_room c.before.before).before in
-    omega (arith, l.length-for.ensures, most_length (at_length l).args.table.count l.before.if2.left)
+    omega (arith, l.length_for-length.ensures, most_length (at_length l).args.table.count l.before.if-count-gt-MOST_ROWS.false)
 
-same_length : tie.Need-same-length
+same_length : tie.Need-shape_of-file
 same_length c = search rules
 
-returns_4 : tie.Need-returns-4
+returns_4 : tie.Need-returns
 returns_4 c =
     let f = c.before.before in
     let l = (at_room f).before in
     let a = (at_length l).args in
     let e = l.before in
-    let t = store_fits a.rows.now a.table (length a.file.now) (well e.before) e.if2.left (room (at_room f)) in
+    let t = store_fits a.rows.now a.table (length a.file.now) (well e.before) e.if-count-gt-MOST_ROWS.false (room (at_room f)) in
     let written = store_written a.rows.now a.table a.file.now _ t in
-    (ap stored.Bytes l.length-for.ensures ∙ sym t, f.put-file.ensures ∙ sym written)
+    (ap stored.Bytes l.length_for-length.ensures ∙ sym t, f.put_file.ensures ∙ sym written)
 
 pub store_spec : {M : Type 1} → statement M
 store_spec =

@@ -15,59 +15,57 @@ use Rattle.parse.proofs.parse.Tie as tie
 abbrev start : tie.After-judge → tie.Start
 start c = c.before.before.before.before
 
-abbrev entry : tie.After-enum-told → tie.Start
-entry c = start c.before.before
+abbrev entry : tie.In-Fine → tie.Start
+entry c = start c.before
 
-abbrev unrefused : tie.After-enum-told2 → tie.After-enum-told
-unrefused c = c.before.before
+abbrev unrefused : tie.In-None → tie.In-Fine
+unrefused c = c.before
 
 -- the table is well formed
-well : (c : tie.After-enum-told) → judged (entry c).args.text.now (entry c).args.rows.now (entry c).args.table ≡ verdict.Fine
-well c = sym c.before.before.judge.ensures ∙ c.enum_told.given.1
+well : (c : tie.In-Fine) → judged (entry c).args.text.now (entry c).args.rows.now (entry c).args.table ≡ verdict.Fine
+well c = sym c.before.judge.ensures ∙ c.in-Fine.is
 
 judge_requires : tie.Need-judge-requires
 judge_requires c κs = search rules
 
-enum_known_why : tie.Need-enum-known-why
+enum_known_why : tie.Need-enum_known-why
 enum_known_why c = search rules
 
-returns : tie.Need-returns
+returns : tie.Need-returns-in-Refused
 returns c =
-    let j = c.before.before.before in
+    let j = c.before in
     let a = (start j).args in
-    let y = c.before.why.given in
-    whole_refused a.text.now a.rows.now a.table a.nodes.now y.0.0 y.0.1.0 (sym j.judge.ensures ∙ y.1)
+    whole_refused a.text.now a.rows.now a.table a.nodes.now c.in-Refused.why c.in-Refused.at (sym j.judge.ensures ∙ c.in-Refused.is)
 
-enum_told : tie.Need-enum-told
+enum_told : tie.Need-enum_told-1
 enum_told c = search rules
 
-enum_known_ending : tie.Need-enum-known-ending
+enum_known_ending : tie.Need-enum_known-ending
 enum_known_ending c = search rules
 
-returns_2 : tie.Need-returns-2
+returns_2 : tie.Need-returns-in-Refused-ending
 returns_2 c =
-    let d = c.before.before.before in
+    let d = c.before in
     let a = (entry d).args in
-    let y = c.before.ending.given in
-    whole_ending a.text.now a.rows.now a.table a.nodes.now (well d) y.0.0 y.0.1.0 y.1
+    whole_ending a.text.now a.rows.now a.table a.nodes.now (well d) c.in-Refused-ending.why c.in-Refused-ending.at c.in-Refused-ending.is
 
-enum_told_2 : tie.Need-enum-told-2
+enum_told_2 : tie.Need-enum_told-in-None
 enum_told_2 c = search rules
 
-cast_count : tie.Need-overflow-cast-count
+cast_count : tie.Need-overflow_cast-count
 cast_count c = search rules
 
 outer_requires : tie.Need-outer-requires
 outer_requires c κs = search rules
 
-returns_3 : tie.Need-returns-3
+returns_3 : tie.Need-returns-then-nodes-count
 unfolding node_room
 returns_3 c =
     let e = c.before.before.before in
     let d = unrefused e in
     let a = (entry d).args in
-    whole_tight a.text.now a.rows.now a.table a.nodes.now (well d) e.enum-told2.given.1
-    c.before.if1.true _ c.outer.ensures
+    whole_tight a.text.now a.rows.now a.table a.nodes.now (well d) e.in-None.is
+    c.before.if-nodes-count.true _ c.outer.ensures
 
 twice_requires : tie.Need-twice-requires
 unfolding node_room
@@ -76,13 +74,13 @@ twice_requires c κs =
     let d = unrefused e in
     let a = (entry d).args in
     let w = judged_fine a.text.now a.rows.now a.table (well d) in
-    asks_whole (fine a.rows.now a.table w.0) a.text.now w.1 e.enum-told2.given.1
-    a.nodes.now c.before.if1.false
+    asks_whole (fine a.rows.now a.table w.0) a.text.now w.1 e.in-None.is
+    a.nodes.now c.before.if-nodes-count.false
 
-same_length : tie.Need-same-length
+same_length : tie.Need-shape_of-nodes
 same_length c = search rules
 
-returns_4 : tie.Need-returns-4
+returns_4 : tie.Need-returns
 unfolding node_room
 returns_4 c =
     let t = c.before.before in
@@ -90,8 +88,8 @@ returns_4 c =
     let e = r.before.before in
     let d = unrefused e in
     let a = (entry d).args in
-    whole_read a.text.now a.rows.now a.table a.nodes.now (well d) e.enum-told2.given.1
-    r.if1.false _ _ t.twice.ensures
+    whole_read a.text.now a.rows.now a.table a.nodes.now (well d) e.in-None.is
+    r.if-nodes-count.false _ _ t.twice.ensures
 
 pub parse_spec : {M : Type 1} → statement M
 parse_spec =

@@ -27,37 +27,37 @@ use Rattle.parse.proofs.program.Tie as tie
 abbrev Reading : List Tok → List ℕ → At → List ℕ → Type 0
 Reading ts m s m' = Listing Flat ts Eof tops (Parse.top ts) (Parse.list_to ts Eof tops (Parse.top ts) 0) 0 0 m s m'
 
-abbrev invariant_loop : tie.invariant-loop
+abbrev invariant_loop : tie.invariant-loop-nodes
 invariant_loop text rows count nodes₀ s₀ nodes s = (ts : List Tok) → Names ts text rows count → Reading ts nodes₀ s nodes
 
-abbrev decreases_loop : tie.decreases-loop
+abbrev decreases_loop : tie.decreases-loop-nodes
 decreases_loop text rows count nodes₀ s₀ nodes s = count - s.row
 
 -- ---- the places on the way, as they are seen from the function's entry
 
 abbrev Turning : Type 0
-Turning = tie.At-loop invariant_loop decreases_loop
+Turning = tie.At-loop-nodes invariant_loop decreases_loop
 
 abbrev entry : Turning → tie.Start invariant_loop decreases_loop
 entry c = c.before.before.before.before
 
-abbrev at_end : tie.After-ended invariant_loop decreases_loop → tie.After-kind-at invariant_loop decreases_loop
+abbrev at_end : tie.After-ended invariant_loop decreases_loop → tie.After-kind_at invariant_loop decreases_loop
 at_end c = c.before.before.before
 
-abbrev at_top : tie.After-top invariant_loop decreases_loop → tie.Else1 invariant_loop decreases_loop
+abbrev at_top : tie.After-top invariant_loop decreases_loop → tie.Else-kind_at-eq-EOF invariant_loop decreases_loop
 at_top c = c.before.before
 
 abbrev turn : tie.After-top invariant_loop decreases_loop → Turning
 turn c = (at_top c).before.before
 
-abbrev behind_top : tie.After-t invariant_loop decreases_loop → tie.After-top invariant_loop decreases_loop
-behind_top c = c.before.before.before.before
+abbrev behind_top : tie.In-Done invariant_loop decreases_loop → tie.After-top invariant_loop decreases_loop
+behind_top c = c.before.before.before
 
-abbrev counting : tie.After-struct-known invariant_loop decreases_loop → tie.After-t invariant_loop decreases_loop
-counting c = c.before.before
+abbrev counting : tie.After-struct_known-1 invariant_loop decreases_loop → tie.In-Done invariant_loop decreases_loop
+counting c = c.before
 
 abbrev refusing : tie.After-instead invariant_loop decreases_loop → tie.After-top invariant_loop decreases_loop
-refusing c = c.before.before.before.before.before.before
+refusing c = c.before.before.before.before
 
 abbrev Told : List Tok → Turning → Type 0
 Told ts c = Names ts (entry c).args.text.now (entry c).args.rows.now (entry c).args.count
@@ -69,39 +69,39 @@ own c = tokens (entry c).args.text.now (rows_in (entry c).args.count (entry c).a
 told : (c : Turning) → Told (own c) c
 told c = names_told (entry c).args.text.now (entry c).args.rows.now (entry c).args.count
 
-some : (c : Turning) → Reading (own c) (entry c).args.nodes.now c.loop.s c.loop.nodes
-some c = c.loop.invariant _ (told c)
+some : (c : Turning) → Reading (own c) (entry c).args.nodes.now c.loop-nodes.s c.loop-nodes.nodes
+some c = c.loop-nodes.invariant _ (told c)
 
 -- the kind of the row at the loop's head
-head_is : (c : tie.After-kind-at invariant_loop decreases_loop) (ts : List Tok) → Told ts c.before
-    → c.kind-at.result ≡ kind_at ts c.before.loop.s.row
+head_is : (c : tie.After-kind_at invariant_loop decreases_loop) (ts : List Tok) → Told ts c.before
+    → c.kind_at.result ≡ kind_at ts c.before.loop-nodes.s.row
 head_is c ts h =
     let a = (entry c.before).args in
-    seen ts a.rows.now a.count h.tells c.before.loop.s.row c.kind-at.result c.kind-at.ensures
+    seen ts a.rows.now a.count h.tells c.before.loop-nodes.s.row c.kind_at.result c.kind_at.ensures
 
-goes_on : (c : tie.Else1 invariant_loop decreases_loop) (ts : List Tok) → Told ts c.before.before
-    → kind_at ts c.before.before.loop.s.row ≡ Eof → ⊥
-goes_on c ts h e = c.if1.false (head_is c.before ts h ∙ e)
+goes_on : (c : tie.Else-kind_at-eq-EOF invariant_loop decreases_loop) (ts : List Tok) → Told ts c.before.before
+    → kind_at ts c.before.before.loop-nodes.s.row ≡ Eof → ⊥
+goes_on c ts h e = c.if-kind_at-eq-EOF.false (head_is c.before ts h ∙ e)
 
 -- the declaration that was read there
-got : (c : tie.After-t invariant_loop decreases_loop) (ts : List Tok) → Told ts (turn (behind_top c))
-    → Came (TopEnds ts (turn (behind_top c)).loop.s.row) ts (Parse.top ts (turn (behind_top c)).loop.s.row)
-    (turn (behind_top c)).loop.s.row (turn (behind_top c)).loop.s.node (turn (behind_top c)).loop.nodes c.t.given.0.0
-    (behind_top c).top.new.1.1.1.0
+got : (c : tie.In-Done invariant_loop decreases_loop) (ts : List Tok) → Told ts (turn (behind_top c))
+    → Came (TopEnds ts (turn (behind_top c)).loop-nodes.s.row) ts (Parse.top ts (turn (behind_top c)).loop-nodes.s.row)
+    (turn (behind_top c)).loop-nodes.s.row (turn (behind_top c)).loop-nodes.s.node (turn (behind_top c)).loop-nodes.nodes c.in-Done.t
+    (behind_top c).top.new.nodes
 got c ts h =
-    let l = (turn (behind_top c)).loop in
+    let l = (turn (behind_top c)).loop-nodes in
     let f = (behind_top c).top in
-    top_came ts l.s.row l.s.node l.nodes c.t.given.0.0 f.last.1.1.1.0 f.result (f.ensures ts h) c.t.given.1
+    top_came ts l.s.row l.s.node l.nodes c.in-Done.t f.new.nodes f.result (f.ensures ts h) c.in-Done.is
 
 -- ---- needs
 
-loop_holds : tie.Need-loop-init invariant_loop decreases_loop
+loop_holds : tie.Need-loop-nodes-init invariant_loop decreases_loop
 loop_holds c ts h =
     list_start Flat ts Eof tops (Parse.top ts) (Parse.list_to ts Eof tops (Parse.top ts) 0) 0 0
     c.before.before.before.args.nodes.now _ refl
     (omega arith) refl flat_none
 
-kind_at_requires : tie.Need-kind-at-requires invariant_loop decreases_loop
+kind_at_requires : tie.Need-kind_at-requires invariant_loop decreases_loop
 kind_at_requires c κs = (entry c).requires.lent
 
 ended_requires : tie.Need-ended-requires invariant_loop decreases_loop
@@ -110,24 +110,24 @@ ended_requires c κs =
     let w = some d in
     omega (arith, w.stands, w.few, w.counts, w.inside, (told d).tells.long, (entry d).requires.short)
 
-same_length : tie.Need-same-length invariant_loop decreases_loop
+same_length : tie.Need-shape_of-nodes-then-kind_at-eq-EOF invariant_loop decreases_loop
 same_length c =
     let e = c.before.before in
-    e.ended.auto.0 ∙ same_len _ _ _ _ _ _ (some (at_end e).before).stands
+    e.ended.auto.nodes ∙ same_len _ _ _ _ _ _ (some (at_end e).before).stands
 
-returns : tie.Need-returns invariant_loop decreases_loop
+returns : tie.Need-returns-then-kind_at-eq-EOF invariant_loop decreases_loop
 returns c ts h =
     let e = c.before.before in
     let d = at_end e in
-    let l = d.before.loop in
+    let l = d.before.loop-nodes in
     let a = (entry d.before).args in
-    let v = l.inv ts h in
+    let v = l.invariant ts h in
     let f = list_ends Flat ts Eof tops (Parse.top ts) _ 0 0 a.nodes.now l.s l.nodes v
-    (sym (head_is d ts h) ∙ e.before.before.if1.true) in
+    (sym (head_is d ts h) ∙ e.before.before.if-kind_at-eq-EOF.true) in
     let r = ap (λ (x : At). x.row) e.ended.ensures.0 in
     met_ok _ _ _ (program v.tree) _ _ e.ended.result
     (parse_is ts ∙ then_ok _ _ v.tree l.s.row f ∙ ap (ok (program v.tree)) (sym r))
-    (stands_program a.nodes.now l.nodes e.ended.new.0 l.s e.ended.result
+    (stands_program a.nodes.now l.nodes e.ended.new.nodes l.s e.ended.result
     v.tree v.stands e.ended.ensures.0 e.ended.ensures.1)
 
 top_requires : tie.Need-top-requires invariant_loop decreases_loop
@@ -137,59 +137,58 @@ top_requires c κs =
     let a = (entry d).args in
     let p = (entry d).requires in
     let w = some d in
-    let i = word_in a.rows.now a.count d.loop.s.row (λ e. c.before.if1.false (k.kind-at.ensures ∙ e)) in
+    let i = word_in a.rows.now a.count d.loop-nodes.s.row (λ e. c.before.if-kind_at-eq-EOF.false (k.kind_at.ensures ∙ e)) in
     (record { lent = p.lent; inside = i; few = omega (arith, w.stands, w.few); short = p.short; nest = omega arith }, p.spans)
 
-enum_known_t : tie.Need-enum-known-t invariant_loop decreases_loop
+enum_known_t : tie.Need-enum_known-t invariant_loop decreases_loop
 enum_known_t c = search rules
 
-add_counted : tie.Need-overflow-add-counted invariant_loop decreases_loop
+add_counted : tie.Need-overflow_add-s invariant_loop decreases_loop
 add_counted c =
     let d = turn (behind_top (counting c)) in
     let w = some d in
-    omega (arith, w.inside, w.stands, w.counts, (entry d).pre.short, (told d).tells.long)
+    omega (arith, w.inside, w.stands, w.counts, (entry d).requires.short, (told d).tells.long)
 
-counted_requires : tie.Need-counted-requires invariant_loop decreases_loop
+counted_requires : tie.Need-counted-s-requires invariant_loop decreases_loop
 counted_requires c κs = search rules
 
-loop_less : tie.Need-loop-smaller invariant_loop decreases_loop
+loop_less : tie.Need-loop-nodes-smaller invariant_loop decreases_loop
 loop_less c =
     let d = turn (behind_top (counting c.before)) in
     let g = got (counting c.before) _ (told d) in
-    let r = ap (λ (x : At). x.row) c.counted.ensures in
+    let r = ap (λ (x : At). x.row) c.counted-s.ensures in
     omega (arith, g.inside, top_up _ _ _ _ _ _ g, (told d).tells.long)
 
-loop_again : tie.Need-loop-preserved invariant_loop decreases_loop
+loop_again : tie.Need-loop-nodes-preserved invariant_loop decreases_loop
 loop_again c ts h =
     let t = counting c.before in
     let f = behind_top t in
-    let l = (turn f).loop in
+    let l = (turn f).loop-nodes in
     let a = (entry (turn f)).args in
     let g = got t ts h in
-    list_again Flat ts Eof tops (Parse.top ts) _ 0 0 a.nodes.now l.s l.nodes (l.inv ts h) (goes_on (at_top f) ts h) Flat _
-    t.t.given.0.0 f.top.last.1.1.1.0 c.counted.result g (top_up _ _ _ _ _ _ g) c.counted.ensures
+    list_again Flat ts Eof tops (Parse.top ts) _ 0 0 a.nodes.now l.s l.nodes (l.invariant ts h) (goes_on (at_top f) ts h) Flat _
+    t.in-Done.t f.top.new.nodes c.counted-s.result g (top_up _ _ _ _ _ _ g) c.counted-s.ensures
     (flat_seq _ g.tree g.known.1)
 
-enum_known_why : tie.Need-enum-known-why invariant_loop decreases_loop
+enum_known_why : tie.Need-enum_known-why invariant_loop decreases_loop
 enum_known_why c = search rules
 
 instead_requires : tie.Need-instead-requires invariant_loop decreases_loop
 instead_requires c κs = search rules
 
-same_length_2 : tie.Need-same-length-2 invariant_loop decreases_loop
-same_length_2 c = (refusing c).top.auto.1.1.1.0 ∙ same_len _ _ _ _ _ _ (some (turn (refusing c))).stands
+same_length_2 : tie.Need-shape_of-nodes-in-Refused invariant_loop decreases_loop
+same_length_2 c = (refusing c).top.auto.nodes ∙ same_len _ _ _ _ _ _ (some (turn (refusing c))).stands
 
-returns_2 : tie.Need-returns-2 invariant_loop decreases_loop
+returns_2 : tie.Need-returns-in-Refused invariant_loop decreases_loop
 returns_2 c ts h =
     let f = refusing c in
-    let l = (turn f).loop in
+    let l = (turn f).loop-nodes in
     let a = (entry (turn f)).args in
-    let y = c.before.before.why.given in
-    let e = refused _ _ _ _ _ _ _ _ (f.top.ensures ts h) y.1 in
-    let v = l.inv ts h in
+    let e = refused _ _ _ _ _ _ _ _ (f.top.ensures ts h) c.before.in-Refused.is in
+    let v = l.invariant ts h in
     let n : l.s.hanging ≡ false = v.stands.hanging ∙ v.known.known in
     let q = list_fails_flat Flat ts Eof tops (Parse.top ts) _ 0 0 a.nodes.now l.s l.nodes v (goes_on (at_top f) ts h) n
-    y.0.0 y.0.1.0 f.top.last.1.1.1.0 e in
+    c.before.in-Refused.why c.before.in-Refused.r f.top.new.nodes e in
     met_told _ _ _ _ _ _ _ _ (parse_is ts ∙ then_no _ _ _ _ (refused _ _ _ _ _ _ _ _ q refl)) c.instead.ensures
 
 pub program_spec : {M : Type 1} → statement M

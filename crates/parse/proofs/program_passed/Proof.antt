@@ -22,32 +22,32 @@ use Rattle.parse.proofs.Passing.{Passing, passing_start, passing_ends, passing_a
 use Rattle.parse.proofs.program_passed.Statement.{statement}
 use Rattle.parse.proofs.program_passed.Tie as tie
 
-abbrev invariant_loop : tie.invariant-loop
+abbrev invariant_loop : tie.invariant-loop-count
 invariant_loop text rows count none₀ at₀ none at =
     ((ts : List Tok) → Names ts text rows count → Proper ts → Passing ts at) × (length none ≡ 0)
 
-abbrev decreases_loop : tie.decreases-loop
+abbrev decreases_loop : tie.decreases-loop-count
 decreases_loop text rows count none₀ at₀ none at = count - at
 
 -- ---- the places on the way, as they are seen from the function's entry
 
 abbrev Turning : Type 0
-Turning = tie.At-loop invariant_loop decreases_loop
+Turning = tie.At-loop-count invariant_loop decreases_loop
 
 abbrev entry : Turning → tie.Start invariant_loop decreases_loop
 entry c = c.before.before.before.before
 
-abbrev at_top : tie.After-top-passed invariant_loop decreases_loop → tie.Else1 invariant_loop decreases_loop
+abbrev at_top : tie.After-top_passed invariant_loop decreases_loop → tie.Else-kind_at-eq-EOF invariant_loop decreases_loop
 at_top c = c.before.before
 
-abbrev turn : tie.After-top-passed invariant_loop decreases_loop → Turning
+abbrev turn : tie.After-top_passed invariant_loop decreases_loop → Turning
 turn c = (at_top c).before.before
 
-abbrev behind_top : tie.After-end invariant_loop decreases_loop → tie.After-top-passed invariant_loop decreases_loop
-behind_top c = c.before.before.before.before
+abbrev behind_top : tie.In-To invariant_loop decreases_loop → tie.After-top_passed invariant_loop decreases_loop
+behind_top c = c.before.before.before
 
-abbrev refusing : tie.After-instead invariant_loop decreases_loop → tie.After-top-passed invariant_loop decreases_loop
-refusing c = c.before.before.before.before.before.before
+abbrev refusing : tie.After-instead invariant_loop decreases_loop → tie.After-top_passed invariant_loop decreases_loop
+refusing c = c.before.before.before.before
 
 abbrev Told : List Tok → Turning → Type 0
 Told ts c = Names ts (entry c).args.text.now (entry c).args.rows.now (entry c).args.count
@@ -62,91 +62,90 @@ told c = names_told (entry c).args.text.now (entry c).args.rows.now (entry c).ar
 proper : (c : Turning) → Proper (own c)
 proper c = tokens_proper (entry c).args.text.now (rows_in (entry c).args.count (entry c).args.rows.now)
 
-some : (c : Turning) → Passing (own c) c.loop.at
-some c = c.loop.invariant.0 _ (told c) (proper c)
+some : (c : Turning) → Passing (own c) c.loop-count.at
+some c = c.loop-count.invariant.0 _ (told c) (proper c)
 
 -- the kind of the row at the loop's head
-head_is : (c : tie.After-kind-at invariant_loop decreases_loop) (ts : List Tok) → Told ts c.before → c.kind-at.result ≡ kind_at ts c.before.loop.at
+head_is : (c : tie.After-kind_at invariant_loop decreases_loop) (ts : List Tok) → Told ts c.before → c.kind_at.result ≡ kind_at ts c.before.loop-count.at
 head_is c ts h =
     let a = (entry c.before).args in
-    seen ts a.rows.now a.count h.tells c.before.loop.at c.kind-at.result c.kind-at.ensures
+    seen ts a.rows.now a.count h.tells c.before.loop-count.at c.kind_at.result c.kind_at.ensures
 
-goes_on : (c : tie.Else1 invariant_loop decreases_loop) (ts : List Tok) → Told ts c.before.before → kind_at ts c.before.before.loop.at ≡ Eof → ⊥
-goes_on c ts h e = c.if1.false (head_is c.before ts h ∙ e)
+goes_on : (c : tie.Else-kind_at-eq-EOF invariant_loop decreases_loop) (ts : List Tok) → Told ts c.before.before → kind_at ts c.before.before.loop-count.at ≡ Eof → ⊥
+goes_on c ts h e = c.if-kind_at-eq-EOF.false (head_is c.before ts h ∙ e)
 
 -- the declaration that was passed there
-got : (c : tie.After-end invariant_loop decreases_loop) (ts : List Tok) → Told ts (turn (behind_top c)) → Proper ts
-    → Reached (Parse.top ts (turn (behind_top c)).loop.at) c.end.given.0.0
-got c ts h p = let f = (behind_top c).top-passed in reached _ f.result c.end.given.0.0 (f.ensures ts h p) c.end.given.1
+got : (c : tie.In-To invariant_loop decreases_loop) (ts : List Tok) → Told ts (turn (behind_top c)) → Proper ts
+    → Reached (Parse.top ts (turn (behind_top c)).loop-count.at) c.in-To.end
+got c ts h p = let f = (behind_top c).top_passed in reached _ f.result c.in-To.end (f.ensures ts h p) c.in-To.is
 
 -- ---- needs
 
-loop_holds : tie.Need-loop-init invariant_loop decreases_loop
+loop_holds : tie.Need-loop-count-init invariant_loop decreases_loop
 loop_holds c = (λ ts h p. passing_start ts, c.before.before.before.requires.1)
 
-kind_at_requires : tie.Need-kind-at-requires invariant_loop decreases_loop
+kind_at_requires : tie.Need-kind_at-requires invariant_loop decreases_loop
 kind_at_requires c κs = (entry c).requires.0.table.lent
 
-add_t11 : tie.Need-overflow-add-t11 invariant_loop decreases_loop
+add_t11 : tie.Need-overflow_add-result invariant_loop decreases_loop
 add_t11 c =
     let d = c.before.before in
     omega (arith, (some d).inside, (told d).tells.long, (entry d).requires.0.table.short)
 
-same_length : tie.Need-same-length invariant_loop decreases_loop
-same_length c = let d = c.before.before in d.loop.invariant.1 ∙ sym (entry d).requires.1
+same_length : tie.Need-shape_of-none-then-kind_at-eq-EOF invariant_loop decreases_loop
+same_length c = let d = c.before.before in d.loop-count.invariant.1 ∙ sym (entry d).requires.1
 
-returns : tie.Need-returns invariant_loop decreases_loop
+returns : tie.Need-returns-then-kind_at-eq-EOF invariant_loop decreases_loop
 returns c ts h p =
     let k = c.before in
-    passing_ends ts _ (k.before.loop.invariant.0 ts h p) (sym (head_is k ts h) ∙ c.if1.true)
+    passing_ends ts _ (k.before.loop-count.invariant.0 ts h p) (sym (head_is k ts h) ∙ c.if-kind_at-eq-EOF.true)
 
-top_passed_requires : tie.Need-top-passed-requires invariant_loop decreases_loop
+top_passed_requires : tie.Need-top_passed-requires invariant_loop decreases_loop
 top_passed_requires c κs =
     let k = c.before.before in
     let d = k.before in
     let a = (entry d).args in
-    let i = word_in a.rows.now a.count d.loop.at (λ e. c.before.if1.false (k.kind-at.ensures ∙ e)) in
-    ((entry d).requires.0, (i, d.loop.invariant.1))
+    let i = word_in a.rows.now a.count d.loop-count.at (λ e. c.before.if-kind_at-eq-EOF.false (k.kind_at.ensures ∙ e)) in
+    ((entry d).requires.0, (i, d.loop-count.invariant.1))
 
-enum_known_end : tie.Need-enum-known-end invariant_loop decreases_loop
+enum_known_end : tie.Need-enum_known-end invariant_loop decreases_loop
 enum_known_end c = search rules
 
-loop_less : tie.Need-loop-smaller invariant_loop decreases_loop
+loop_less : tie.Need-loop-count-smaller invariant_loop decreases_loop
 loop_less c =
-    let t = c.before in
+    let t = c in
     let f = behind_top t in
     let d = turn f in
     let g = got t _ (told d) (proper d) in
     let n = passing_again _ _ (some d) (goes_on (at_top f) _ (told d)) _ g in
     omega (arith, n.inside, top_on _ _ _ _ g.is, (told d).tells.long)
 
-loop_again : tie.Need-loop-preserved invariant_loop decreases_loop
+loop_again : tie.Need-loop-count-preserved invariant_loop decreases_loop
 loop_again c =
-    let t = c.before in
+    let t = c in
     let f = behind_top t in
-    let l = (turn f).loop in (
-      λ ts h p. passing_again ts l.at (l.inv.0 ts h p) (goes_on (at_top f) ts h) t.end.given.0.0 (got t ts h p),
-      f.top-passed.kept.1.1.1.0 ∙ l.inv.1,
+    let l = (turn f).loop-count in (
+      λ ts h p. passing_again ts l.at (l.invariant.0 ts h p) (goes_on (at_top f) ts h) t.in-To.end (got t ts h p),
+      f.top_passed.auto.none ∙ l.invariant.1,
     )
 
-enum_known_why : tie.Need-enum-known-why invariant_loop decreases_loop
+enum_known_why : tie.Need-enum_known-why invariant_loop decreases_loop
 enum_known_why c = search rules
 
 instead_requires : tie.Need-instead-requires invariant_loop decreases_loop
 instead_requires c κs = search rules
 
-same_length_2 : tie.Need-same-length-2 invariant_loop decreases_loop
+same_length_2 : tie.Need-shape_of-none-in-Refused invariant_loop decreases_loop
 same_length_2 c =
     let f = refusing c in
-    f.top-passed.kept.1.1.1.0 ∙ (turn f).loop.inv.1 ∙ sym (entry (turn f)).pre.1
+    f.top_passed.auto.none ∙ (turn f).loop-count.invariant.1 ∙ sym (entry (turn f)).requires.1
 
-returns_2 : tie.Need-returns-2 invariant_loop decreases_loop
+returns_2 : tie.Need-returns-in-Refused invariant_loop decreases_loop
 returns_2 c ts h p =
     let f = refusing c in
-    let l = (turn f).loop in
-    let y = c.before.before.why.given in
-    passing_refused ts l.at (l.inv.0 ts h p) (goes_on (at_top f) ts h) y.0.0 _ y.0.1.0
-    (stopped _ _ _ _ (f.top-passed.ensures ts h p) y.1) c.instead.ensures
+    let l = (turn f).loop-count in
+    passing_refused ts l.at (l.invariant.0 ts h p) (goes_on (at_top f) ts h) c.before.in-Refused.why _ c.before.in-Refused.r
+    (stopped _ _ _ _ (f.top_passed.ensures ts h p) c.before.in-Refused.is) c.instead.ensures
 
 pub program_passed_spec : {M : Type 1} → statement M
 program_passed_spec =

@@ -15,75 +15,74 @@ use Rattle.parse.proofs.top_passed.Tie as tie
 
 -- ---- the places on the way, as they are seen from the function's entry
 
-abbrev looked : tie.After-kind-at → tie.Start
+abbrev looked : tie.After-kind_at → tie.Start
 looked c = c.before.before.before.before
 
 abbrev entry : tie.After-top → tie.Start
 entry c = looked c.before.before.before
 
-abbrev came_to : tie.After-t → tie.After-top
-came_to c = c.before.before.before.before
+abbrev came_to : tie.In-Done → tie.After-top
+came_to c = c.before.before.before
 
-abbrev stopped_at : tie.After-why → tie.After-top
-stopped_at c = c.before.before.before.before
+abbrev stopped_at : tie.In-Refused → tie.After-top
+stopped_at c = c.before.before.before
 
 abbrev Told : List Tok → tie.Start → Type 0
 Told ts s = Names ts s.args.text.now s.args.rows.now s.args.count
 
 -- the declaration that `top` read
-got : (c : tie.After-t) (ts : List Tok) → Told ts (entry (came_to c))
+got : (c : tie.In-Done) (ts : List Tok) → Told ts (entry (came_to c))
     → Came (TopEnds ts (entry (came_to c)).args.row) ts (Parse.top ts (entry (came_to c)).args.row) (entry (came_to c)).args.row 0
-    (entry (came_to c)).args.none.now c.t.given.0.0 (came_to c).top.new.1.1.1.0
+    (entry (came_to c)).args.none.now c.in-Done.t (came_to c).top.new.nodes
 got c ts h =
     let f = (came_to c).top in
     let a = (entry (came_to c)).args in
-    top_came ts a.row 0 a.none.now c.t.given.0.0 f.last.1.1.1.0 f.result (f.ensures ts h) c.t.given.1
+    top_came ts a.row 0 a.none.now c.in-Done.t f.new.nodes f.result (f.ensures ts h) c.in-Done.is
 
-kind_at_requires : tie.Need-kind-at-requires
+kind_at_requires : tie.Need-kind_at-requires
 kind_at_requires c κs = search rules
 
-unit_requires : tie.Need-unit-requires
+unit_requires : tie.Need-unit-end-requires
 unit_requires c κs =
     let k = c.before in
     let a = (looked k).args in
     let p = (looked k).requires in
     let b = p.0 in (
       record { lent = b.table.lent; inside = p.1.0; short = b.table.short; closed = b.closed; nest = omega arith },
-      sym (word_at_lem a.rows.now a.count a.row p.1.0) ∙ sym k.kind-at.ensures ∙ c.if1.true,
+      sym (word_at_lem a.rows.now a.count a.row p.1.0) ∙ sym k.kind_at.ensures ∙ c.if-kind_at-eq-UNIT.true,
     )
 
-returns : tie.Need-returns
+returns : tie.Need-returns-then-end-ne0
 returns c ts h p =
     let u = c.before in
     let a = (looked u.before.before).args in
-    passed_read ts a.row u.unit.result ((u.unit.ensures c.if2.true).read ts h.tells) p
+    passed_read ts a.row u.unit-end.result ((u.unit-end.ensures c.if-end-ne0.true).read ts h.tells) p
 
 top_requires : tie.Need-top-requires
 top_requires c κs = search rules
 
-enum_known_t : tie.Need-enum-known-t
+enum_known_t : tie.Need-enum_known-t
 enum_known_t c = search rules
 
-enum_known_why : tie.Need-enum-known-why
+enum_known_why : tie.Need-enum_known-why
 enum_known_why c = search rules
 
-same_length : tie.Need-same-length
+same_length : tie.Need-shape_of-none-in-Done
 same_length c = search rules
 
-returns_2 : tie.Need-returns-2
-returns_2 c ts h p = let g = got c.before ts h in passed_ok _ g.tree _ g.is
+returns_2 : tie.Need-returns-in-Done
+returns_2 c ts h p = let g = got c ts h in passed_ok _ g.tree _ g.is
 
-same_length_2 : tie.Need-same-length-2
+same_length_2 : tie.Need-shape_of-none-in-Refused
 same_length_2 c = search rules
 
-returns_3 : tie.Need-returns-3
+returns_3 : tie.Need-returns-in-Refused
 returns_3 c ts h p =
-    let y = c.before.why.given in
-    let f = stopped_at c.before in
+    let f = stopped_at c in
     let a = (entry f).args in
     let g = f.top in
-    passed_no (Parse.top ts a.row) y.0.0 y.0.0 y.0.1.0
-    (refused _ a.row 0 a.none.now g.last.1.1.1.0 g.result y.0.0 y.0.1.0 (g.ensures ts h) y.1) refl
+    passed_no (Parse.top ts a.row) c.in-Refused.why c.in-Refused.why c.in-Refused.r
+    (refused _ a.row 0 a.none.now g.new.nodes g.result c.in-Refused.why c.in-Refused.r (g.ensures ts h) c.in-Refused.is) refl
 
 pub top_passed_spec : {M : Type 1} → statement M
 top_passed_spec =

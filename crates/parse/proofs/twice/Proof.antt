@@ -21,53 +21,53 @@ use Rattle.parse.proofs.twice.Tie as tie
 
 -- ---- the places on the way, as they are seen from the function's entry
 
-abbrev start : tie.After-program-passed → tie.Start
+abbrev start : tie.After-program_passed → tie.Start
 start c = c.before.before.before.before.before
 
-abbrev behind_first : tie.After-enum-told → tie.After-program-passed
-behind_first c = c.before.before.before.before
+abbrev behind_first : tie.In-To → tie.After-program_passed
+behind_first c = c.before.before.before
 
-abbrev stopping : tie.After-why → tie.After-program-passed
-stopping c = c.before.before.before.before
+abbrev stopping : tie.In-Refused → tie.After-program_passed
+stopping c = c.before.before.before
 
 -- what the reading of the rows gives
 abbrev whole : tie.Start → Out
 whole s = reading_of s.args.text.now s.args.rows.now s.args.count
 
-first : (c : tie.After-program-passed) → PassedAs (whole (start c)) c.program-passed.result
+first : (c : tie.After-program_passed) → PassedAs (whole (start c)) c.program_passed.result
 first c =
     let a = (start c).args in
-    c.program-passed.ensures _ (names_told a.text.now a.rows.now a.count)
+    c.program_passed.ensures _ (names_told a.text.now a.rows.now a.count)
     (tokens_proper a.text.now (rows_in a.count a.rows.now))
 
-accepted : (c : tie.After-enum-told) → Accepted (whole (start (behind_first c)))
+accepted : (c : tie.In-To) → Accepted (whole (start (behind_first c)))
 accepted c =
-    let v = reached _ _ _ (first (behind_first c)) c.enum_told.given.1 in
+    let v = reached _ _ _ (first (behind_first c)) c.in-To.is in
     record { tree = v.tree; behind = _; is = v.is }
 
-stopped : (c : tie.After-why) → whole (start (stopping c)) ≡ no c.why.given.0.0 c.why.given.0.1.0
-stopped c = Passing.stopped _ _ _ _ (first (stopping c)) c.why.given.1
+stopped : (c : tie.In-Refused) → whole (start (stopping c)) ≡ no c.in-Refused.why c.in-Refused.r
+stopped c = Passing.stopped _ _ _ _ (first (stopping c)) c.in-Refused.is
 
 -- the first pass leaves node memory as it was
-untouched : (c : tie.After-program-passed) → c.program-passed.new.1.1.1.0 ++ (start c).args.nodes.now ≡ (start c).args.nodes.now
-untouched c = none_written c.program-passed.new.1.1.1.0 (start c).args.nodes.now c.program-passed.auto.1.1.1.0
+untouched : (c : tie.After-program_passed) → c.program_passed.new.none ++ (start c).args.nodes.now ≡ (start c).args.nodes.now
+untouched c = none_written c.program_passed.new.none (start c).args.nodes.now c.program_passed.auto.none
 
 -- There is room for a node: what rules out a first pass that may write one is what it asks, not a bound.
-room_for_one : (c : tie.After-slice-known) → 8 ≤ length c.before.before.before.args.nodes.now
+room_for_one : (c : tie.After-slice_known-1) → 8 ≤ length c.before.before.before.args.nodes.now
 unfolding node_room
 room_for_one c = let p = c.before.before.before.requires in omega (arith, p.ended.some, p.room)
 
-slice_relend_prefix_program_passed : tie.Need-slice-relend-prefix-program-passed
+slice_relend_prefix_program_passed : tie.Need-slice_bounds-program_passed-end
 slice_relend_prefix_program_passed c = omega (arith, room_for_one c)
 
-slice_aggregate_program_passed : tie.Need-slice-aggregate-program-passed
+slice_aggregate_program_passed : tie.Need-slice_bounds-program_passed-end-2
 slice_aggregate_program_passed c =
     omega (arith, length-take-le 8 c.before.before.before.before.args.nodes.now (room_for_one c.before))
 
-program_passed_requires : tie.Need-program-passed-requires
+program_passed_requires : tie.Need-program_passed-requires
 program_passed_requires c κs = (c.before.before.before.before.requires.ended, refl)
 
-enum_told : tie.Need-enum-told
+enum_told : tie.Need-enum_told-1
 enum_told c = search rules
 
 written_requires : tie.Need-written-requires
@@ -75,52 +75,50 @@ written_requires c κs =
     let e = c.before in
     let f = behind_first e in
     let a = (start f).args in (
-      subst (λ (x : List ℕ). AsksWhole a.text.now a.rows.now a.count x) (sym (untouched f)) (start f).pre,
+      subst (λ (x : List ℕ). AsksWhole a.text.now a.rows.now a.count x) (sym (untouched f)) (start f).requires,
       accepted e,
     )
 
-enum_known_why : tie.Need-enum-known-why
+enum_known_why : tie.Need-enum_known-why
 enum_known_why c = search rules
 
-row_at_requires : tie.Need-row-at-requires
+row_at_requires : tie.Need-row_at-row-requires
 row_at_requires c κs =
-    let w = c.before in
+    let w = c in
     let s = start (stopping w) in
     let a = s.args in
-    let y = w.why.given in
-    refused_in a.text.now a.rows.now a.count a.nodes.now s.pre y.0.0 y.0.1.0 (stopped w)
+    refused_in a.text.now a.rows.now a.count a.nodes.now s.requires w.in-Refused.why w.in-Refused.r (stopped w)
 
-row_place_requires : tie.Need-row-place-requires
+row_place_requires : tie.Need-row_place-requires
 row_place_requires c κs = search rules
 
-found_told_requires : tie.Need-found-told-requires
+found_told_requires : tie.Need-found_told-requires
 found_told_requires c κs = search rules
 
-same_length : tie.Need-same-length
+same_length : tie.Need-shape_of-nodes-in-To
 same_length c = search rules
 
-returns : tie.Need-returns
+returns : tie.Need-returns-in-To
 returns c =
     let w = c.before.before in
     let f = behind_first w.before.before in
     let a = (start f).args in
-    subst (λ (x : List ℕ). Final a.rows.now (whole (start f)) x w.written.new.1.1.1.0 w.written.result) (untouched f)
+    subst (λ (x : List ℕ). Final a.rows.now (whole (start f)) x w.written.new.nodes w.written.result) (untouched f)
     w.written.ensures
 
-same_length_2 : tie.Need-same-length-2
+same_length_2 : tie.Need-shape_of-nodes-in-Refused
 same_length_2 c = search rules
 
-returns_2 : tie.Need-returns-2
+returns_2 : tie.Need-returns-in-Refused
 unfolding place_of_row
 returns_2 c =
-    let r = c.before.before.row_at in
-    let w = c.before.before.before.before in
+    let r = c.before.before.row_at-row in
+    let w = c.before.before.before in
     let s = start (stopping w) in
     let a = s.args in
-    let y = w.why.given in
-    final_no a.rows.now (whole s) a.nodes.now _ y.0.0 y.0.1.0 _ _ (stopped w)
-    (c.before.row-place.ensures ∙ ap row_place r.ensures)
-    (c.found-told.ensures ∙ ap (λ (x : Row). found_told y.0.0 x.kind) r.ensures)
+    final_no a.rows.now (whole s) a.nodes.now _ w.in-Refused.why w.in-Refused.r _ _ (stopped w)
+    (c.before.row_place.ensures ∙ ap row_place r.ensures)
+    (c.found_told.ensures ∙ ap (λ (x : Row). found_told w.in-Refused.why x.kind) r.ensures)
     (untouched (stopping w))
 
 pub twice_spec : {M : Type 1} → statement M

@@ -23,23 +23,22 @@ use Rattle.parse_events.proofs.event.Tie as tie
 abbrev start : tie.After-opened → tie.Start
 start c = c.before.before.before
 
-abbrev header : tie.After-fields-arg → tie.After-opened
-header c = c.before.before.before.before
+abbrev header : tie.After-fields-arg-1 → tie.After-opened
+header c = c.before.before
 
 -- the header is there
-opens : (c : tie.After-fields-arg)
+opens : (c : tie.After-fields-arg-1)
     → Opens (start (header c)).args.rows.now (start (header c)).args.count (start (header c)).args.row (start (header c)).args.node
-    c.before.before.start.given.0.0
+    c.before.in-Done.start
 opens c =
     let h = header c in
     let a = (start h).args in
-    let y = c.before.before.start.given in
-    header_gave a.rows.now a.count a.row a.node h.opened.result y.0.0 h.opened.ensures y.1
+    header_gave a.rows.now a.count a.row a.node h.opened.result c.before.in-Done.start h.opened.ensures c.before.in-Done.is
 
 opened_requires : tie.Need-opened-requires
 opened_requires c κs = search rules
 
-enum_known_start : tie.Need-enum-known-start
+enum_known_start : tie.Need-enum_known-start
 enum_known_start c = search rules
 
 fields_requires : tie.Need-fields-requires
@@ -55,13 +54,13 @@ fields_requires c κs =
       first = o.state ∙ ap (λ (x : ℕ). state_at (a.row + 1 + 1 + 1) x (a.row + 1 + 1 + 1)) e;
     }
 
-enum_known_why : tie.Need-enum-known-why
+enum_known_why : tie.Need-enum_known-why
 enum_known_why c = search rules
 
-same_length : tie.Need-same-length
+same_length : tie.Need-shape_of-nodes
 same_length c = search rules
 
-returns : tie.Need-returns
+returns : tie.Need-returns-in-Done
 returns c ts h =
     let d = c.before.before.before in
     let a = (start (header d)).args in
@@ -69,16 +68,15 @@ returns c ts h =
     let f = c.before.before.fields in
     let w : List ℕ = spelling_of (tok_at ts (a.row + 1)) in
     met_as _ _ _ _ _ _ _ (event_is ts a.row ∙ listed_on ts a.rows.now a.count h event_fields (Parse.event_field ts) _ a.row o.name o.brace)
-    (subst (λ (x : ℕ). Met (fields_of ts w a.row) a.row x a.nodes.now f.new.1.1.0 f.result) (ap (λ (x : At). x.node) o.state) (f.ensures ts h w))
+    (subst (λ (x : ℕ). Met (fields_of ts w a.row) a.row x a.nodes.now f.new.nodes f.result) (ap (λ (x : At). x.node) o.state) (f.ensures ts h w))
 
-returns_2 : tie.Need-returns-2
+returns_2 : tie.Need-returns-in-Refused
 returns_2 c ts h =
-    let d = c.before.before.before in
+    let d = c.before in
     let a = (start d).args in
-    let y = c.before.why.given in
     met_no _ _ _ _ _ _ _
     (event_is ts a.row
-    ∙ header_refused a.rows.now a.count a.row a.node d.opened.result ts h y.0.0 y.0.1.0 d.opened.ensures y.1
+    ∙ header_refused a.rows.now a.count a.row a.node d.opened.result ts h c.in-Refused.why c.in-Refused.r d.opened.ensures c.in-Refused.is
     event_fields (Parse.event_field ts) _)
 
 pub event_spec : {M : Type 1} → statement M

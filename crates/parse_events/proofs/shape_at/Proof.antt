@@ -18,75 +18,75 @@ use Rattle.parse_events.proofs.shape_at.Tie as tie
 
 -- ---- the places on the way
 
-abbrev start : tie.After-kind-at → tie.Start
+abbrev start : tie.After-kind_at-k → tie.Start
 start c = c.before.before
 
-abbrev at_bytes : tie.After-kind-at2 → tie.After-kind-at
+abbrev at_bytes : tie.After-kind_at → tie.After-kind_at-k
 at_bytes c = c.before.before
 
 abbrev Told : List Tok → tie.Start → Type 0
 Told ts s = Tells ts s.args.rows.now s.args.count
 
 -- the kind of the row
-kind_is : (c : tie.After-kind-at) (ts : List Tok) → Told ts (start c) → c.kind-at.result ≡ kind_at ts (start c).args.row
+kind_is : (c : tie.After-kind_at-k) (ts : List Tok) → Told ts (start c) → c.kind_at-k.result ≡ kind_at ts (start c).args.row
 kind_is c ts h =
     let a = (start c).args in
-    seen ts a.rows.now a.count h a.row c.kind-at.result c.kind-at.ensures
+    seen ts a.rows.now a.count h a.row c.kind_at-k.result c.kind_at-k.ensures
 
-kind_at_requires : tie.Need-kind-at-requires
+kind_at_requires : tie.Need-kind_at-k-requires
 kind_at_requires c κs = search rules
 
-add_open : tie.Need-overflow-add-open
+add_open : tie.Need-overflow_add-open
 add_open c = search rules
 
-kind_at_requires_2 : tie.Need-kind-at-requires-2
+kind_at_requires_2 : tie.Need-kind_at-requires
 kind_at_requires_2 c κs = search rules
 
 wanted_requires : tie.Need-wanted-requires
 wanted_requires c κs = search rules
 
-returns : tie.Need-returns
+returns : tie.Need-returns-then-kind_at-ne-LBRACKET
 returns c ts h w =
     let d = c.before.before in
     let a = (start (at_bytes d)).args in
     found_told _ _ _ _
-    (event_bytes ts w a.row (sym (kind_is (at_bytes d) ts h) ∙ d.before.if1.true)
-    ∙ want_unmet ts a.rows.now a.count h (a.row + 1) d.kind-at2.result d.kind-at2.ensures LBracket _ c.before.if2.true)
+    (event_bytes ts w a.row (sym (kind_is (at_bytes d) ts h) ∙ d.before.if-k-eq-BYTES.true)
+    ∙ want_unmet ts a.rows.now a.count h (a.row + 1) d.kind_at.result d.kind_at.ensures LBracket _ c.before.if-kind_at-ne-LBRACKET.true)
     c.wanted.ensures
 
-add_length_at : tie.Need-overflow-add-length-at
+add_length_at : tie.Need-overflow_add-open-then-k-eq-BYTES
 add_length_at c = search rules
 
-length_at_requires : tie.Need-length-at-requires
+length_at_requires : tie.Need-length_at-requires
 length_at_requires c κs =
     let s = start (at_bytes c.before) in
     let a = s.args in
-    let p = s.pre in
-    let h = word_here a.rows.now a.count (a.row + 1) LBracket (sym c.before.kind-at2.ensures ∙ c.if2.false) refl in
+    let p = s.requires in
+    let h = word_here a.rows.now a.count (a.row + 1) LBracket (sym c.before.kind_at.ensures ∙ c.if-kind_at-ne-LBRACKET.false) refl in
     record { lent = p.lent; inside = omega arith; few = omega arith; short = p.short; nest = p.nest }
 
-returns_2 : tie.Need-returns-2
+returns_2 : tie.Need-returns-then-k-eq-BYTES
 returns_2 c ts h w =
     let d = c.before.before in
     let a = (start (at_bytes d)).args in
     found_as _ _ _
-    (event_bytes ts w a.row (sym (kind_is (at_bytes d) ts h) ∙ d.before.if1.true)
-    ∙ want_met ts a.rows.now a.count h (a.row + 1) d.kind-at2.result d.kind-at2.ensures LBracket _ c.before.if2.false)
+    (event_bytes ts w a.row (sym (kind_is (at_bytes d) ts h) ∙ d.before.if-k-eq-BYTES.true)
+    ∙ want_met ts a.rows.now a.count h (a.row + 1) d.kind_at.result d.kind_at.ensures LBracket _ c.before.if-kind_at-ne-LBRACKET.false)
     (c.length_at.ensures ts h (λ v. bytes_field w v) (λ v. bytes w v))
 
-typed_at_requires : tie.Need-typed-at-requires
+typed_at_requires : tie.Need-typed_at-requires
 typed_at_requires c κs = search rules
 
-returns_3 : tie.Need-returns-3
+returns_3 : tie.Need-returns-then-k
 returns_3 c ts h w =
     let d = c.before.before.before in
-    found_as _ _ _ (event_type ts w (start d).args.row (ap is_type (sym (kind_is d ts h)) ∙ c.before.if3.true)) (c.typed_at.ensures ts h w)
+    found_as _ _ _ (event_type ts w (start d).args.row (ap is_type (sym (kind_is d ts h)) ∙ c.before.if-k.true)) (c.typed_at.ensures ts h w)
 
-returns_4 : tie.Need-returns-4
+returns_4 : tie.Need-returns
 returns_4 c ts h w =
     let d = c.before.before in
     let q = kind_is d ts h in
-    found_no _ _ _ (event_other ts w (start d).args.row (ap is_type (sym q) ∙ c.if3.false) (λ e. c.before.if1.false (q ∙ e)))
+    found_no _ _ _ (event_other ts w (start d).args.row (ap is_type (sym q) ∙ c.if-k.false) (λ e. c.before.if-k-eq-BYTES.false (q ∙ e)))
 
 pub shape_at_spec : {M : Type 1} → statement M
 shape_at_spec =

@@ -19,10 +19,10 @@ use Rattle.parse_events.proofs.typed_at.Tie as tie
 
 -- ---- the places on the way
 
-abbrev start : tie.After-kind-at → tie.Start
+abbrev start : tie.After-kind_at-k → tie.Start
 start c = c.before.before.before
 
-abbrev at_end : tie.Else1 → tie.Start
+abbrev at_end : tie.Else-k-eq-LBRACKET → tie.Start
 at_end c = start c.before
 
 abbrev Told : List Tok → tie.Start → Type 0
@@ -32,66 +32,66 @@ Told ts s = Tells ts s.args.rows.now s.args.count
 type_is : (s : tie.Start) (ts : List Tok) → Told ts s → s.args.kind ≡ kind_at ts s.args.row
 type_is s ts h = seen ts s.args.rows.now s.args.count h s.args.row s.args.kind s.requires.word
 
-next_is : (c : tie.After-kind-at) (ts : List Tok) → Told ts (start c) → c.kind-at.result ≡ kind_at ts ((start c).args.row + 1)
+next_is : (c : tie.After-kind_at-k) (ts : List Tok) → Told ts (start c) → c.kind_at-k.result ≡ kind_at ts ((start c).args.row + 1)
 next_is c ts h =
     let a = (start c).args in
-    seen ts a.rows.now a.count h (a.row + 1) c.kind-at.result c.kind-at.ensures
+    seen ts a.rows.now a.count h (a.row + 1) c.kind_at-k.result c.kind_at-k.ensures
 
 -- what holds of the number of the kind that is told holds of the number that was asked for
-element : (c : tie.After-kind-at) (k : ℕ) (C : ℕ → Type 0) → (start c).args.kind ≡ k → C (type_number k) → C c.before.type-number.result
-element c k C e h = subst C (sym (c.before.type-number.ensures ∙ ap (λ (x : ℕ). type_number x) e)) h
+element : (c : tie.After-kind_at-k) (k : ℕ) (C : ℕ → Type 0) → (start c).args.kind ≡ k → C (type_number k) → C c.before.type_number-element.result
+element c k C e h = subst C (sym (c.before.type_number-element.ensures ∙ ap (λ (x : ℕ). type_number x) e)) h
 
-add_next : tie.Need-overflow-add-next
+add_next : tie.Need-overflow_add-next
 add_next c = search rules
 
-type_number_requires : tie.Need-type-number-requires
+type_number_requires : tie.Need-type_number-element-requires
 type_number_requires c κs = let s = c.before in omega (arith, type_low s.args.kind s.requires.type)
 
-kind_at_requires : tie.Need-kind-at-requires
+kind_at_requires : tie.Need-kind_at-k-requires
 kind_at_requires c κs = search rules
 
-add_length_at : tie.Need-overflow-add-length-at
+add_length_at : tie.Need-overflow_add-next-then-k-eq-LBRACKET
 add_length_at c = search rules
 
-length_at_requires : tie.Need-length-at-requires
+length_at_requires : tie.Need-length_at-requires
 length_at_requires c κs =
     let a = (start c.before).args in
     let p = (start c.before).requires.at in
-    let h = word_here a.rows.now a.count (a.row + 1) LBracket (sym c.before.kind-at.ensures ∙ c.if1.true) refl in
+    let h = word_here a.rows.now a.count (a.row + 1) LBracket (sym c.before.kind_at-k.ensures ∙ c.if-k-eq-LBRACKET.true) refl in
     record { lent = p.lent; inside = omega arith; few = omega arith; short = p.short; nest = p.nest }
 
-returns : tie.Need-returns
+returns : tie.Need-returns-then-k-eq-LBRACKET
 returns c ts h w =
     let d = c.before.before in
     let a = (start d).args in
     let k : ℕ = kind_at ts a.row in
-    found_as _ _ _ (array_yes ts w a.row (sym (next_is d ts h) ∙ c.before.if1.true))
+    found_as _ _ _ (array_yes ts w a.row (sym (next_is d ts h) ∙ c.before.if-k-eq-LBRACKET.true))
     (c.length_at.ensures ts h (λ v. array_field w k v)
     (λ v. element d k (λ (x : ℕ). Shows (array_field w k v) 3 x v) (type_is (start d) ts h) (array w k v)))
 
 wrong_requires : tie.Need-wrong-requires
 wrong_requires c κs = search rules
 
-returns_2 : tie.Need-returns-2
+returns_2 : tie.Need-returns-then-k-ne-SEMICOLON
 returns_2 c ts h w =
     let d = c.before.before.before in
     let a = (start d).args in
     found_told _ _ _ _
-    (array_no ts w a.row (λ e. c.before.before.if1.false (next_is d ts h ∙ e))
-    ∙ want_in_no ts _ Semicolon _ (a.row + 1) (λ e. c.before.if2.true (next_is d ts h ∙ e)))
+    (array_no ts w a.row (λ e. c.before.before.if-k-eq-LBRACKET.false (next_is d ts h ∙ e))
+    ∙ want_in_no ts _ Semicolon _ (a.row + 1) (λ e. c.before.if-k-ne-SEMICOLON.true (next_is d ts h ∙ e)))
     c.wrong.ensures
 
-add_t11 : tie.Need-overflow-add-t11
+add_t11 : tie.Need-overflow_add-result
 add_t11 c = search rules
 
-returns_3 : tie.Need-returns-3
+returns_3 : tie.Need-returns
 returns_3 c ts h w =
     let d = c.before.before in
     let a = (start d).args in
     let k : ℕ = kind_at ts a.row in
     found_ok _ (plain_field w k) _ _ _ _
-    (array_no ts w a.row (λ e. c.before.if1.false (next_is d ts h ∙ e))
-    ∙ want_in_yes ts _ Semicolon _ (a.row + 1) (sym (next_is d ts h) ∙ c.if2.false))
+    (array_no ts w a.row (λ e. c.before.if-k-eq-LBRACKET.false (next_is d ts h ∙ e))
+    ∙ want_in_yes ts _ Semicolon _ (a.row + 1) (sym (next_is d ts h) ∙ c.if-k-ne-SEMICOLON.false))
     (element d k (λ (x : ℕ). Shows (plain_field w k) 1 x 0) (type_is (start d) ts h) (plain w k))
 
 pub typed_at_spec : {M : Type 1} → statement M

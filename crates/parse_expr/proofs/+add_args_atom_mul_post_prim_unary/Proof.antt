@@ -35,8 +35,8 @@ use Rattle.parse_expr.proofs.+add_args_atom_mul_post_prim_unary.Proof.Unary as u
 use Rattle.parse_expr.proofs.+add_args_atom_mul_post_prim_unary.{statement}
 use Rattle.parse_expr.proofs.+add_args_atom_mul_post_prim_unary.Tie.{close}
 
-pub +add-args-atom-mul-post-prim-unary-spec : {M : Type 1} → statement M
-+add-args-atom-mul-post-prim-unary-spec =
+pub +add_args_atom_mul_post_prim_unary_spec : {M : Type 1} → statement M
++add_args_atom_mul_post_prim_unary_spec =
     close μ-add μ-args μ-atom μ-mul μ-post μ-prim μ-unary
     (λ t. add_lts.spec (add_proof.cs t) (add_at t) add.Post add_proof.InvLoop add_proof.μ-loop
     (add_proof.unread_requires t) (add_proof.loop_holds t) (add_proof.mul_requires t) (add_proof.enum_known_t t)
@@ -55,9 +55,9 @@ pub +add-args-atom-mul-post-prim-unary-spec : {M : Type 1} → statement M
     (atom_proof.kind_at_requires t) (atom_proof.mul_at t) (atom_proof.add_number t) (atom_proof.mul_number t)
     (atom_proof.shared_slice_read_number t) (atom_proof.add_number_2 t) (atom_proof.mul_number_2 t)
     (atom_proof.shared_slice_read_number_2 t) (atom_proof.number_requires t) (atom_proof.same_length t) (atom_proof.returns t)
-    (atom_proof.returns_2 t) (atom_proof.add-overflow-add t) (atom_proof.overflow-sub-add t) (atom_proof.add_requires t) (atom_proof.enum_known_t t)
+    (atom_proof.returns_2 t) (atom_proof.add_add t) (atom_proof.sub_add t) (atom_proof.add_requires t) (atom_proof.enum_known_t t)
     (atom_proof.kind_at_requires_2 t) (atom_proof.add_t36 t) (atom_proof.same_length_2 t) (atom_proof.returns_3 t)
-    (atom_proof.unended_requires t) (atom_proof.overflow-cast-t38 t) (atom_proof.same_length_3 t) (atom_proof.returns_4 t)
+    (atom_proof.unended_requires t) (atom_proof.cast_t38 t) (atom_proof.same_length_3 t) (atom_proof.returns_4 t)
     (atom_proof.enum_known_why t) (atom_proof.same_length_4 t) (atom_proof.returns_5 t) (atom_proof.variable_requires t)
     (atom_proof.same_length_5 t) (atom_proof.returns_6 t) (atom_proof.wrong_requires t) (atom_proof.returns_7 t))
     (λ t. mul_lts.spec (mul_proof.cs t) (mul_at t) mul.Post mul_proof.InvLoop mul_proof.μ-loop

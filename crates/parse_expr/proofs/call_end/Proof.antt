@@ -5,37 +5,37 @@ use Rattle.parse_expr.proofs.call_end.Statement.{statement}
 use Rattle.parse_expr.proofs.call_end.Tie as tie
 
 -- the receiver is a variable, as it is seen from behind the node
-abbrev on_variable : tie.After-close → tie.Then1
+abbrev on_variable : tie.After-close → tie.Then-s
 on_variable c = c.before.before.before
 
-add_name : tie.Need-overflow-add-name
+add_name : tie.Need-overflow_add-name
 add_name c = search rules
 
-add_close : tie.Need-overflow-add-close
+add_close : tie.Need-overflow_add-count
 add_close c = search rules
 
 close_requires : tie.Need-close-requires
 close_requires c κs = search rules
 
-add_t11 : tie.Need-overflow-add-t11
+add_t11 : tie.Need-overflow_add-result
 add_t11 c = search rules
 
-same_length : tie.Need-same-length
+same_length : tie.Need-shape_of-nodes-then-s
 same_length c = search rules
 
-returns : tie.Need-returns
+returns : tie.Need-returns-then-s
 returns c =
     let p = c.before.before in
-    rw (on_variable p).if1.true (refl, p.close.ensures)
+    rw (on_variable p).if-s.true (refl, p.close.ensures)
 
-add_t14 : tie.Need-overflow-add-t14
+add_t14 : tie.Need-overflow_add-result-2
 add_t14 c = search rules
 
-cast_t15 : tie.Need-overflow-cast-t15
+cast_t15 : tie.Need-overflow_cast-result
 cast_t15 c = search rules
 
-returns_2 : tie.Need-returns-2
-returns_2 c = rw c.before.if1.false refl
+returns_2 : tie.Need-returns
+returns_2 c = rw c.before.if-s.false refl
 
 pub call_end_spec : {M : Type 1} → statement M
 call_end_spec =

@@ -5,40 +5,40 @@ use borrow.Author.Rules.{rules}
 use Rattle.parse_maps.proofs.bits_at.Statement.{statement}
 use Rattle.parse_maps.proofs.bits_at.Tie as tie
 
-mul_at : tie.Need-overflow-mul-at
+mul_at : tie.Need-overflow_mul-at
 mul_at c = search rules
 
-add_result : tie.Need-overflow-add-result
+add_result : tie.Need-overflow_add-result
 add_result c = search rules
 
-mul_result : tie.Need-overflow-mul-result
+mul_result : tie.Need-offset_bounds-rows-at
 mul_result c = search rules
 
-shared_slice_read_result : tie.Need-shared-slice-read-result
+shared_slice_read_result : tie.Need-bounds-rows-at
 shared_slice_read_result c = search rules
 
-cast_result : tie.Need-overflow-cast-result
-cast_result c = omega (arith, c.shared-slice-known.given (c.before.args.row * 8 + 6))
+cast_result : tie.Need-overflow_cast-result
+cast_result c = omega (arith, c.shared_slice_known-1.given (c.before.args.row * 8 + 6))
 
-mul_result_2 : tie.Need-overflow-mul-result-2
-mul_result_2 c = omega (arith, c.shared-slice-known.given (c.before.args.row * 8 + 6))
+mul_result_2 : tie.Need-overflow_mul-result
+mul_result_2 c = omega (arith, c.shared_slice_known-1.given (c.before.args.row * 8 + 6))
 
-add_result_2 : tie.Need-overflow-add-result-2
+add_result_2 : tie.Need-overflow_add-result-2
 add_result_2 c = search rules
 
-mul_result_3 : tie.Need-overflow-mul-result-3
+mul_result_3 : tie.Need-offset_bounds-rows-at-2
 mul_result_3 c = search rules
 
-shared_slice_read_result_2 : tie.Need-shared-slice-read-result-2
+shared_slice_read_result_2 : tie.Need-bounds-rows-at-2
 shared_slice_read_result_2 c = search rules
 
-cast_result_2 : tie.Need-overflow-cast-result-2
-cast_result_2 c = omega (arith, c.shared-slice-known2.given (c.before.before.args.row * 8 + 5))
+cast_result_2 : tie.Need-overflow_cast-result-2
+cast_result_2 c = omega (arith, c.shared_slice_known-2-1.given (c.before.before.args.row * 8 + 5))
 
-add_result_3 : tie.Need-overflow-add-result-3
+add_result_3 : tie.Need-overflow_add-result-3
 add_result_3 c =
     let i : ℕ = c.before.before.args.row * 8 in
-    omega (arith, c.shared-slice-known2.given (i + 6), c.shared-slice-known2.given (i + 5))
+    omega (arith, c.shared_slice_known-2-1.given (i + 6), c.shared_slice_known-2-1.given (i + 5))
 
 returns : tie.Need-returns
 returns c = search rules

@@ -28,34 +28,34 @@ use Rattle.parse_maps.proofs.chain.Tie as tie
 abbrev Shifting : List Tok → ℕ → Sum → Type 0
 Shifting ts i s = Loop (λ t. max_bits t ≡ s.bits) ts (λ r. is_shift (kind_at ts r)) (Parse.chain_step ts) (Parse.chain ts i) s.row
 
-abbrev invariant_loop : tie.invariant-loop
+abbrev invariant_loop : tie.invariant-loop-s
 invariant_loop rows count row s₀ s = (ts : List Tok) → Tells ts rows count → Shifting ts row s
 
-abbrev decreases_loop : tie.decreases-loop
+abbrev decreases_loop : tie.decreases-loop-s
 decreases_loop rows count row s₀ s = count - s.row
 
 -- ---- the places on the way, as they are seen from the function's entry
 
-abbrev start : tie.After-kind-at invariant_loop decreases_loop → tie.Start invariant_loop decreases_loop
+abbrev start : tie.After-kind_at invariant_loop decreases_loop → tie.Start invariant_loop decreases_loop
 start c = c.before.before
 
-abbrev at_number : tie.Else1 invariant_loop decreases_loop → tie.Start invariant_loop decreases_loop
+abbrev at_number : tie.Else-kind_at-ne-NUMBER invariant_loop decreases_loop → tie.Start invariant_loop decreases_loop
 at_number c = start c.before
 
 abbrev Turning : Type 0
-Turning = tie.At-loop invariant_loop decreases_loop
+Turning = tie.At-loop-s invariant_loop decreases_loop
 
 abbrev entry : Turning → tie.Start invariant_loop decreases_loop
 entry c = at_number c.before.before
 
-abbrev turn : tie.After-shift-step invariant_loop decreases_loop → Turning
+abbrev turn : tie.After-shift_step invariant_loop decreases_loop → Turning
 turn c = c.before.before.before
 
-abbrev behind_shift : tie.After-t invariant_loop decreases_loop → tie.After-shift-step invariant_loop decreases_loop
-behind_shift c = c.before.before
+abbrev behind_shift : tie.In-Done invariant_loop decreases_loop → tie.After-shift_step invariant_loop decreases_loop
+behind_shift c = c.before
 
-abbrev refusing : tie.After-known-told2 invariant_loop decreases_loop → tie.After-shift-step invariant_loop decreases_loop
-refusing c = c.before.before.before
+abbrev refusing : tie.In-Refused invariant_loop decreases_loop → tie.After-shift_step invariant_loop decreases_loop
+refusing c = c.before
 
 abbrev Told : List Tok → tie.Start invariant_loop decreases_loop → Type 0
 Told ts s = Tells ts s.args.rows.now s.args.count
@@ -67,121 +67,120 @@ told s = tells_some s.args.rows.now s.args.count
 -- ---- what the parser does on the way
 
 -- the number is in the table
-inside : (c : tie.Else1 invariant_loop decreases_loop) → (at_number c).args.row < (at_number c).args.count
+inside : (c : tie.Else-kind_at-ne-NUMBER invariant_loop decreases_loop) → (at_number c).args.row < (at_number c).args.count
 inside c =
     let a = (at_number c).args in
-    word_here a.rows.now a.count a.row Number (sym c.before.kind-at.ensures ∙ c.if1.false) refl
+    word_here a.rows.now a.count a.row Number (sym c.before.kind_at.ensures ∙ c.if-kind_at-ne-NUMBER.false) refl
 
 -- the row at the loop's head is a shift's sign
-more : (c : tie.Then2 invariant_loop decreases_loop) (ts : List Tok) → Told ts (entry c.before.before)
-    → is_shift (kind_at ts c.before.before.loop.s.row) ≡ true
+more : (c : tie.Then-sign invariant_loop decreases_loop) (ts : List Tok) → Told ts (entry c.before.before)
+    → is_shift (kind_at ts c.before.before.loop-s.s.row) ≡ true
 more c ts h =
     let a = (entry c.before.before).args in
-    let k = c.before.kind-at2 in
-    ap is_shift (sym (seen ts a.rows.now a.count h c.before.before.loop.s.row k.result k.ensures)) ∙ c.if2.true
+    let k = c.before.kind_at-sign in
+    ap is_shift (sym (seen ts a.rows.now a.count h c.before.before.loop-s.s.row k.result k.ensures)) ∙ c.if-sign.true
 
 -- one shift more, and how far it goes
 abbrev Stepped : (l : Turning) (ts : List Tok) → Told ts (entry l) → Sum → Type 0
 Stepped l ts h s =
-    Summing (Parse.chain_step ts (l.loop.inv ts h).tree l.loop.s.row) s × ((l.loop.s.row < s.row) × (s.row ≤ length ts))
+    Summing (Parse.chain_step ts (l.loop-s.invariant ts h).tree l.loop-s.s.row) s × ((l.loop-s.s.row < s.row) × (s.row ≤ length ts))
 
-step : (c : tie.After-t invariant_loop decreases_loop) (ts : List Tok) (h : Told ts (entry (turn (behind_shift c))))
-    → Stepped (turn (behind_shift c)) ts h c.t.given.0.0
+step : (c : tie.In-Done invariant_loop decreases_loop) (ts : List Tok) (h : Told ts (entry (turn (behind_shift c))))
+    → Stepped (turn (behind_shift c)) ts h c.in-Done.t
 step c ts h =
     let b = behind_shift c in
-    let i : ℕ = (turn b).loop.s.row in
-    let v = (turn b).loop.inv ts h in
-    let s = c.t.given.0.0 in
-    let r = b.shift-step in
-    let g = sum_gave (Parse.chain_step ts v.tree i) r.result s (r.ensures ts h v.tree v.known) c.t.given.1 in
+    let i : ℕ = (turn b).loop-s.s.row in
+    let v = (turn b).loop-s.invariant ts h in
+    let s = c.in-Done.t in
+    let r = b.shift_step in
+    let g = sum_gave (Parse.chain_step ts v.tree i) r.result s (r.ensures ts h v.tree v.known) c.in-Done.is in
     (g, all_ok (λ u k. (i < k) × (k ≤ length ts)) _ g.tree s.row (shift_on ts v.tree i) g.is)
 
 -- ---- needs
 
-kind_at_requires : tie.Need-kind-at-requires invariant_loop decreases_loop
+kind_at_requires : tie.Need-kind_at-requires invariant_loop decreases_loop
 kind_at_requires c κs = c.before.requires.lent
 
 wanted_requires : tie.Need-wanted-requires invariant_loop decreases_loop
 wanted_requires c κs = search rules
 
-returns : tie.Need-returns invariant_loop decreases_loop
+returns : tie.Need-returns-then-kind_at-ne-NUMBER invariant_loop decreases_loop
 returns c ts h =
     let d = c.before.before in
     let a = (start d).args in
-    let k = d.kind-at in
-    answer_told _ _ _ _ _ _ _
-    (chain_is ts a.row ∙ valued_unmet ts a.rows.now a.count h a.row k.result k.ensures _ c.before.if1.true)
+    let k = d.kind_at in
+    answer_told summed.Done summed.Refused sum_of _ _ _ _
+    (chain_is ts a.row ∙ valued_unmet ts a.rows.now a.count h a.row k.result k.ensures _ c.before.if-kind_at-ne-NUMBER.true)
     c.wanted.ensures
 
-add_t10 : tie.Need-overflow-add-t10 invariant_loop decreases_loop
+add_t10 : tie.Need-overflow_add-s invariant_loop decreases_loop
 add_t10 c = omega (arith, (at_number c).requires)
 
-bits_at_requires : tie.Need-bits-at-requires invariant_loop decreases_loop
+bits_at_requires : tie.Need-bits_at-requires invariant_loop decreases_loop
 bits_at_requires c κs = omega (arith, inside c, (at_number c).requires)
 
-loop_holds : tie.Need-loop-init invariant_loop decreases_loop
+loop_holds : tie.Need-loop-s-init invariant_loop decreases_loop
 unfolding max_bits
 loop_holds c ts h =
     let d = c.before in
     let a = (at_number d).args in
-    let k = d.before.kind-at in
+    let k = d.before.kind_at in
     begins _ ts _ _ _ (a.row + 1) (first (bits_at a.rows.now a.row))
-    (chain_is ts a.row ∙ valued_met ts a.rows.now a.count h a.row k.result k.ensures _ d.if1.false)
+    (chain_is ts a.row ∙ valued_met ts a.rows.now a.count h a.row k.result k.ensures _ d.if-kind_at-ne-NUMBER.false)
     (omega (arith, inside d, h.long)) (sym c.bits_at.ensures)
 
-kind_at_requires_2 : tie.Need-kind-at-requires-2 invariant_loop decreases_loop
+kind_at_requires_2 : tie.Need-kind_at-sign-requires invariant_loop decreases_loop
 kind_at_requires_2 c κs = (entry c).requires.lent
 
-shift_step_requires : tie.Need-shift-step-requires invariant_loop decreases_loop
+shift_step_requires : tie.Need-shift_step-requires invariant_loop decreases_loop
 shift_step_requires c κs =
     let d = c.before.before in
     let p = (entry d).requires in
-    let l = (d.loop.invariant _ (told (entry d))).inside in
+    let l = (d.loop-s.invariant _ (told (entry d))).inside in
     let e = (told (entry d)).long in
     record {
       at = record { lent = p.lent; inside = omega (arith, l, e); few = omega arith; short = p.short; nest = p.nest };
-      word = c.before.kind-at2.ensures;
+      word = c.before.kind_at-sign.ensures;
     }
 
-enum_known_t : tie.Need-enum-known-t invariant_loop decreases_loop
+enum_known_t : tie.Need-enum_known-t invariant_loop decreases_loop
 enum_known_t c = search rules
 
-loop_less : tie.Need-loop-smaller invariant_loop decreases_loop
+loop_less : tie.Need-loop-s-smaller invariant_loop decreases_loop
 loop_less c =
-    let h = told (entry (turn (behind_shift c.before))) in
-    omega (arith, (step c.before _ h).1, h.long)
+    let h = told (entry (turn (behind_shift c))) in
+    omega (arith, (step c _ h).1, h.long)
 
-loop_again : tie.Need-loop-preserved invariant_loop decreases_loop
+loop_again : tie.Need-loop-s-preserved invariant_loop decreases_loop
 loop_again c ts h =
-    let b = behind_shift c.before in
-    let l = (turn b).loop in
-    let g = step c.before ts h in
-    goes_on _ ts _ _ _ l.s.row (l.inv ts h) (more b.before ts h) _ g.0.tree c.before.t.given.0.0.row
+    let b = behind_shift c in
+    let l = (turn b).loop-s in
+    let g = step c ts h in
+    goes_on _ ts _ _ _ l.s.row (l.invariant ts h) (more b.before ts h) _ g.0.tree c.in-Done.t.row
     g.0.is g.1.0 g.1.1 g.0.bits
 
-enum_known_why : tie.Need-enum-known-why invariant_loop decreases_loop
+enum_known_why : tie.Need-enum_known-why invariant_loop decreases_loop
 enum_known_why c = search rules
 
-returns_2 : tie.Need-returns-2 invariant_loop decreases_loop
+returns_2 : tie.Need-returns-in-Refused invariant_loop decreases_loop
 returns_2 c ts h =
     let b = refusing c in
-    let l = (turn b).loop in
-    let v = l.inv ts h in
-    let y = c.before.why.given in
-    answer_no _ _ _ _ _ _
-    (fails _ ts _ _ _ l.s.row v (more b.before ts h) y.0.0 y.0.1.0
-    (sum_refused _ b.shift-step.result _ _ (b.shift-step.ensures ts h v.tree v.known) y.1))
+    let l = (turn b).loop-s in
+    let v = l.invariant ts h in
+    answer_no summed.Done summed.Refused sum_of _ _ _
+    (fails _ ts _ _ _ l.s.row v (more b.before ts h) c.in-Refused.why c.in-Refused.r
+    (sum_refused _ b.shift_step.result _ _ (b.shift_step.ensures ts h v.tree v.known) c.in-Refused.is))
 
-returns_3 : tie.Need-returns-3 invariant_loop decreases_loop
+returns_3 : tie.Need-returns-else-sign invariant_loop decreases_loop
 returns_3 c ts h =
     let d = c.before.before in
     let a = (entry d).args in
-    let s = d.loop.s in
-    let v = d.loop.invariant ts h in
-    let k = c.before.kind-at2 in
+    let s = d.loop-s.s in
+    let v = d.loop-s.invariant ts h in
+    let k = c.before.kind_at-sign in
     let q = seen ts a.rows.now a.count h s.row k.result k.ensures in
     subst (λ (x : ℕ). Adds (Parse.chain ts a.row) (summed.Done (record { row = s.row; bits = x }))) v.known
-    (answer_ok _ _ sum_of _ v.tree s.row (ends _ ts _ _ _ s.row v (ap is_shift (sym q) ∙ c.if2.false)))
+    (answer_ok summed.Done summed.Refused sum_of _ v.tree s.row (ends _ ts _ _ _ s.row v (ap is_shift (sym q) ∙ c.if-sign.false)))
 
 pub chain_spec : {M : Type 1} → statement M
 chain_spec =

@@ -7,16 +7,16 @@ use Rattle.parse_maps.proofs.map_node.Tie as tie
 abbrev start : tie.After-store → tie.Start
 start c = c.before.before.before.before
 
-sub_t8 : tie.Need-overflow-sub-t8
+sub_t8 : tie.Need-overflow_sub-f
 sub_t8 c = search rules
 
-cast_t9 : tie.Need-overflow-cast-t9
+cast_t9 : tie.Need-overflow_cast-f
 cast_t9 c = search rules
 
 store_requires : tie.Need-store-requires
 store_requires c κs = search rules
 
-same_length : tie.Need-same-length
+same_length : tie.Need-shape_of-nodes
 same_length c = search rules
 
 returns : tie.Need-returns

@@ -38,8 +38,8 @@ use Rattle.parse_pass_expr.proofs.+arguments_expression_factor_group_operand_pro
 use Rattle.parse_pass_expr.proofs.+arguments_expression_factor_group_operand_product_variable.{statement}
 use Rattle.parse_pass_expr.proofs.+arguments_expression_factor_group_operand_product_variable.Tie.{close}
 
-pub +arguments-expression-factor-group-operand-product-variable-spec : {M : Type 1} → statement M
-+arguments-expression-factor-group-operand-product-variable-spec =
+pub +arguments_expression_factor_group_operand_product_variable_spec : {M : Type 1} → statement M
++arguments_expression_factor_group_operand_product_variable_spec =
     close μ-arguments μ-expression μ-factor μ-group μ-operand μ-product μ-variable
     (λ t. arguments_lts.spec (arguments_proof.cs t) (arguments_at t) arguments.Post arguments_proof.InvLoop arguments_proof.μ-loop
     (arguments_proof.loop_holds t) (arguments_proof.expression_requires t) (arguments_proof.returns t)

@@ -23,38 +23,38 @@ no_leaf : (k : ℕ) → not (eqb k Identifier) && not (eqb k Number) ≡ not (is
 no_leaf k = not_either (eqb k Identifier) (eqb k Number)
 
 -- whether the test is met
-other : (c : tie.Then1) → is_leaf c.before.kind.result ≡ false
-other c = let k = c.before.kind.result in not-true (is_leaf k) (sym (no_leaf k) ∙ c.if1.true)
+other : (c : tie.Then-k) → is_leaf c.before.kind-k.result ≡ false
+other c = let k = c.before.kind-k.result in not-true (is_leaf k) (sym (no_leaf k) ∙ c.if-k.true)
 
-leaf : (c : tie.Else1) → is_leaf c.before.kind.result ≡ true
-leaf c = let k = c.before.kind.result in not-false (is_leaf k) (sym (no_leaf k) ∙ c.if1.false)
+leaf : (c : tie.Else-k) → is_leaf c.before.kind-k.result ≡ true
+leaf c = let k = c.before.kind-k.result in not-false (is_leaf k) (sym (no_leaf k) ∙ c.if-k.false)
 
 -- the row behind
-next : (c : tie.Else1) → (let a = c.before.before.before.args in Looks a.rows.now a.count (a.row + 1) 0)
+next : (c : tie.Else-k) → (let a = c.before.before.before.args in Looks a.rows.now a.count (a.row + 1) 0)
 next c =
     let s = c.before.before.before in
     let a = s.args in
-    let k = c.before.kind.result in
+    let k = c.before.kind-k.result in
     either_kind (λ x. k ≡ x → Looks a.rows.now a.count (a.row + 1) 0) k Identifier Number (leaf c)
-    (λ e. behind s.requires _ refl (sym c.before.kind.ensures ∙ e) refl)
-    (λ e. behind s.requires _ refl (sym c.before.kind.ensures ∙ e) refl) refl
+    (λ e. behind s.requires _ refl (sym c.before.kind-k.ensures ∙ e) refl)
+    (λ e. behind s.requires _ refl (sym c.before.kind-k.ensures ∙ e) refl) refl
 
-kind_requires : tie.Need-kind-requires
+kind_requires : tie.Need-kind-k-requires
 kind_requires c κs = search rules
 
-returns : tie.Need-returns
+returns : tie.Need-returns-then-k
 unfolding is_alone
-returns c = rw (← c.before.kind.ensures, other c)
+returns c = rw (← c.before.kind-k.ensures, other c)
 
-add_kind : tie.Need-overflow-add-kind
+add_kind : tie.Need-overflow_add-row
 add_kind c = search rules
 
-kind_requires_2 : tie.Need-kind-requires-2
+kind_requires_2 : tie.Need-kind-requires
 kind_requires_2 c κs = lent_here (next c)
 
-returns_2 : tie.Need-returns-2
+returns_2 : tie.Need-returns
 unfolding is_alone
-returns_2 c = rw (← c.kind2.ensures, ← c.before.before.kind.ensures, leaf c.before)
+returns_2 c = rw (← c.kind.ensures, ← c.before.before.kind-k.ensures, leaf c.before)
 
 pub is_alone_spec : {M : Type 1} → statement M
 is_alone_spec = tie.close (tie.spec kind_requires returns add_kind kind_requires_2 returns_2)

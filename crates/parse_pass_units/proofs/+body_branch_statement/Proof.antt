@@ -17,8 +17,8 @@ use Rattle.parse_pass_units.proofs.+body_branch_statement.Proof.Statement as s
 use Rattle.parse_pass_units.proofs.+body_branch_statement.{statement}
 use Rattle.parse_pass_units.proofs.+body_branch_statement.Tie.{close}
 
-pub +body-branch-statement-spec : {M : Type 1} → statement M
-+body-branch-statement-spec =
+pub +body_branch_statement_spec : {M : Type 1} → statement M
++body_branch_statement_spec =
     close μ-body μ-branch μ-statement
     (λ t. body_lts.spec (b.cs t) (body_at t) body.Post b.InvLoop b.μ-loop
     (b.kind_requires t) (b.returns t) (b.returns_2 t) (b.add_at t) (b.loop_holds t) (b.kind_requires_2 t) (b.add_result t) (b.returns_3 t)
@@ -27,5 +27,5 @@ pub +body-branch-statement-spec : {M : Type 1} → statement M
     (g.head_requires t) (g.returns t) (g.body_requires t) (g.returns_2 t) (g.kind_requires t) (g.add_body t) (g.body_requires_2 t)
     (g.returns_3 t) (g.returns_4 t))
     (λ t. statement_lts.spec (s.cs t) (statement_at t) statement'.Post
-    (s.kind-requires t) (s.declaration-requires t) (s.returns t) (s.giving-requires t) (s.returns-2 t) (s.branch-requires t) (s.returns-3 t)
-    (s.effect-requires t) (s.returns-4 t))
+    (s.kind_requires t) (s.declaration_requires t) (s.returns t) (s.giving_requires t) (s.returns_2 t) (s.branch_requires t) (s.returns_3 t)
+    (s.effect_requires t) (s.returns_4 t))

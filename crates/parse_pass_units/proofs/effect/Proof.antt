@@ -16,13 +16,13 @@ use Rattle.parse_pass_units.proofs.effect.Tie as tie
 
 -- ---- the places on the way
 
-abbrev start : tie.After-expression → tie.Start
+abbrev start : tie.After-expression-end → tie.Start
 start c = c.before.before
 
-abbrev called : tie.After-kind → tie.After-expression
+abbrev called : tie.After-kind-k → tie.After-expression-end
 called c = c.before.before
 
-abbrev looked : tie.Else3 → tie.After-kind
+abbrev looked : tie.Else-k → tie.After-kind-k
 looked c = c.before.before
 
 -- one of two holds where not both fail
@@ -32,76 +32,76 @@ either false true f = refl
 either false false f = absurd (f refl refl)
 
 -- the sign behind the first expression is one of an assignment: were it none, the test before it would have held
-sign : (c : tie.Else3) → is_assign (kind_in (start (called (looked c))).args.rows.now (called (looked c)).expression.result) ≡ true
+sign : (c : tie.Else-k) → is_assign (kind_in (start (called (looked c))).args.rows.now (called (looked c)).expression-end.result) ≡ true
 sign c =
-    let k = (looked c).kind in
+    let k = (looked c).kind-k in
     ap is_assign (sym k.ensures)
-    ∙ either (eqb k.result Equals) (eqb k.result PlusEquals) (λ x y. true≢false (simp (x, y) at c.if3.false))
+    ∙ either (eqb k.result Equals) (eqb k.result PlusEquals) (λ x y. true≢false (simp (x, y) at c.if-k.false))
 
-sign_behind : (c : tie.Else3) → (called (looked c)).expression.result + 1 < (start (called (looked c))).args.count
+sign_behind : (c : tie.Else-k) → (called (looked c)).expression-end.result + 1 < (start (called (looked c))).args.count
 sign_behind c =
     let d = called (looked c) in
     let a = (start d).args in
-    let j = d.expression.result in
+    let j = d.expression-end.result in
     let k = kind_in a.rows.now j in
-    let s = d.expression.ensures (looked c).before.if1.false in
-    row_behind a.rows.now a.count j k (start d).pre.closed s.inside refl
+    let s = d.expression-end.ensures (looked c).before.if-end-eq0.false in
+    row_behind a.rows.now a.count j k (start d).requires.closed s.inside refl
     (either_kind (λ x. eqb x Eof ≡ false) k Equals PlusEquals (sign c) refl refl)
 
 -- ---- needs
 
-expression_requires : tie.Need-expression-requires
+expression_requires : tie.Need-expression-end-requires
 expression_requires c κs = search rules
 
-returns : tie.Need-returns
+returns : tie.Need-returns-then-end-eq0
 returns c h = absurd (h refl)
 
-kind_requires : tie.Need-kind-requires
+kind_requires : tie.Need-kind-k-requires
 kind_requires c κs =
-    let s = c.before.expression.ensures c.if1.false in
+    let s = c.before.expression-end.ensures c.if-end-eq0.false in
     omega (arith, s.inside, (start c.before).requires.lent)
 
-add_result : tie.Need-overflow-add-result
+add_result : tie.Need-overflow_add-result
 add_result c =
     let d = called c.before in
-    let s = d.expression.ensures c.before.before.if1.false in
-    omega (arith, s.inside, (start d).pre.short)
+    let s = d.expression-end.ensures c.before.before.if-end-eq0.false in
+    omega (arith, s.inside, (start d).requires.short)
 
-returns_2 : tie.Need-returns-2
+returns_2 : tie.Need-returns-then-k-eq-SEMICOLON
 returns_2 c h =
     let d = called c.before in
     let e = start d in
     let a = e.args in
-    let s = d.expression.ensures c.before.before.if1.false in
-    plains a.rows.now a.count e.pre.closed a.left a.row d.expression.result s
-    (sym c.before.kind.ensures ∙ c.if2.true)
+    let s = d.expression-end.ensures c.before.before.if-end-eq0.false in
+    plains a.rows.now a.count e.requires.closed a.left a.row d.expression-end.result s
+    (sym c.before.kind-k.ensures ∙ c.if-k-eq-SEMICOLON.true)
 
-returns_3 : tie.Need-returns-3
+returns_3 : tie.Need-returns-then-k
 returns_3 c h = absurd (h refl)
 
-add_closed : tie.Need-overflow-add-closed
+add_closed : tie.Need-overflow_add-end
 add_closed c = omega (arith, sign_behind c, (start (called (looked c))).requires.short)
 
-closed_requires : tie.Need-closed-requires
-closed_requires c κs = let d = called (looked c) in looking (start d).pre (d.expression.result + 1) (sign_behind c)
+closed_requires : tie.Need-closed-last-requires
+closed_requires c κs = let d = called (looked c) in looking (start d).requires (d.expression-end.result + 1) (sign_behind c)
 
-returns_4 : tie.Need-returns-4
+returns_4 : tie.Need-returns-then-last-eq0
 returns_4 c h = absurd (h refl)
 
-add_result_2 : tie.Need-overflow-add-result-2
+add_result_2 : tie.Need-overflow_add-result-2
 add_result_2 c =
-    let u = c.before.closed.ensures c.if4.false in
+    let u = c.before.closed-last.ensures c.if-last-eq0.false in
     omega (arith, u.0.inside, (start (called (looked c.before.before))).requires.short)
 
-returns_5 : tie.Need-returns-5
+returns_5 : tie.Need-returns
 returns_5 c h =
     let f = c.before.before in
     let d = called (looked f) in
     let e = start d in
     let a = e.args in
-    let s = d.expression.ensures (looked f).before.if1.false in
-    let u = c.before.closed.ensures c.if4.false in
-    assigns a.rows.now a.count e.pre.closed a.left a.row d.expression.result c.before.closed.result
+    let s = d.expression-end.ensures (looked f).before.if-end-eq0.false in
+    let u = c.before.closed-last.ensures c.if-last-eq0.false in
+    assigns a.rows.now a.count e.requires.closed a.left a.row d.expression-end.result c.before.closed-last.result
     s (sign f) u.0 u.1
 
 pub effect_spec : {M : Type 1} → statement M

@@ -21,8 +21,8 @@ use Rattle.parse_stmt.proofs.+body_branch_otherwise_stmt.Proof.Stmt as s
 use Rattle.parse_stmt.proofs.+body_branch_otherwise_stmt.{statement}
 use Rattle.parse_stmt.proofs.+body_branch_otherwise_stmt.Tie.{close}
 
-pub +body-branch-otherwise-stmt-spec : {M : Type 1} → statement M
-+body-branch-otherwise-stmt-spec =
+pub +body_branch_otherwise_stmt_spec : {M : Type 1} → statement M
++body_branch_otherwise_stmt_spec =
     close μ-body μ-branch μ-otherwise μ-stmt
     (λ t. body_lts.spec (b.cs t) (body_at t) body.Post b.InvLoop b.μ-loop
     (b.returns t) (b.add_t16 t) (b.add_t17 t) (b.loop_holds t) (b.kind_at_requires t) (b.sub_kind_at t)

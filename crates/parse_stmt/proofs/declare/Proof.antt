@@ -24,29 +24,29 @@ use Rattle.parse_stmt.proofs.declare.Tie as tie
 
 -- ---- the places on the way
 
-abbrev start : tie.After-kind-at → tie.Start
+abbrev start : tie.After-kind_at → tie.Start
 start c = c.before.before.before
 
-abbrev at_name : tie.After-kind-at2 → tie.After-kind-at
+abbrev at_name : tie.After-kind_at-2 → tie.After-kind_at
 at_name c = c.before.before
 
-abbrev at_sign : tie.After-add → tie.After-kind-at2
+abbrev at_sign : tie.After-add → tie.After-kind_at-2
 at_sign c = c.before.before.before
 
 abbrev entry : tie.After-add → tie.Start
 entry c = start (at_name (at_sign c))
 
-abbrev called : tie.After-t → tie.After-add
-called c = c.before.before.before.before
+abbrev called : tie.In-Done → tie.After-add
+called c = c.before.before.before
 
-abbrev at_end : tie.After-kind-at3 → tie.After-t
-at_end c = c.before.before
+abbrev at_end : tie.After-kind_at-in-Done → tie.In-Done
+at_end c = c.before
 
-abbrev at_lead : tie.After-kind-at4 → tie.After-t
+abbrev at_lead : tie.After-kind_at-in-Done-2 → tie.In-Done
 at_lead c = at_end c.before.before
 
-abbrev refusing : tie.After-why → tie.After-add
-refusing c = c.before.before.before.before
+abbrev refusing : tie.In-Refused → tie.After-add
+refusing c = c.before.before.before
 
 abbrev Told : List Tok → tie.Start → Type 0
 Told ts s = Tells ts s.args.rows.now s.args.count
@@ -65,129 +65,129 @@ abbrev value : List Tok → tie.Start → P
 value ts s j = then (Parse.expr ts s.args.left j) (λ e k. Parse.end ts Semicolon e (ok (declared ts s e)) k)
 
 -- up to the sign, up to the expression
-named : (c : tie.After-kind-at2) (ts : List Tok) → Told ts (start (at_name c))
+named : (c : tie.After-kind_at-2) (ts : List Tok) → Told ts (start (at_name c))
     → whole ts (start (at_name c)) ≡ Parse.want ts Equals (value ts (start (at_name c))) ((start (at_name c)).args.row + 1 + 1)
 named c ts h =
     let a = (start (at_name c)).args in
-    let k = (at_name c).kind-at in
+    let k = (at_name c).kind_at in
     declaring_is ts a.left (Parse.body ts a.left) a.row
-    ∙ named_met ts a.rows.now a.count h (a.row + 1) k.result k.ensures _ c.before.if1.false
+    ∙ named_met ts a.rows.now a.count h (a.row + 1) k.result k.ensures _ c.before.if-kind_at-ne-IDENTIFIER.false
 
 asked : (c : tie.After-add) (ts : List Tok) → Told ts (entry c) → whole ts (entry c) ≡ value ts (entry c) ((entry c).args.row + 1 + 1 + 1)
 asked c ts h =
     let a = (entry c).args in
-    let k = (at_sign c).kind-at2 in
+    let k = (at_sign c).kind_at-2 in
     named (at_sign c) ts h
     ∙ want_met ts a.rows.now a.count h (a.row + 1 + 1) k.result k.ensures Equals (value ts (entry c))
-    c.before.before.if2.false
+    c.before.before.if-kind_at-ne-EQUALS.false
 
 -- the expression
-got : (c : tie.After-t) (ts : List Tok) → Told ts (entry (called c))
+got : (c : tie.In-Done) (ts : List Tok) → Told ts (entry (called c))
     → (let a = (entry (called c)).args in
     Came (Reads ts Add a.left (a.row + 1 + 1 + 1)) ts (Parse.expr ts a.left (a.row + 1 + 1 + 1))
-    (a.row + 1 + 1 + 1) a.node a.nodes.now c.t.given.0.0 (called c).add.new.1.1.0)
-got c ts h = expr_came ((called c).add.ensures ts h) c.t.given.1
+    (a.row + 1 + 1 + 1) a.node a.nodes.now c.in-Done.t (called c).add.new.nodes)
+got c ts h = expr_came ((called c).add.ensures ts h) c.in-Done.is
 
 -- ---- needs
 
-add_name : tie.Need-overflow-add-name
+add_name : tie.Need-overflow_add-name
 add_name c = search rules
 
-kind_at_requires : tie.Need-kind-at-requires
+kind_at_requires : tie.Need-kind_at-requires
 kind_at_requires c κs = search rules
 
 wanted_requires : tie.Need-wanted-requires
 wanted_requires c κs = search rules
 
-cast_t17 : tie.Need-overflow-cast-t17
+cast_t17 : tie.Need-overflow_cast-result
 cast_t17 c = search rules
 
-returns : tie.Need-returns
+returns : tie.Need-returns-then-kind_at-ne-IDENTIFIER
 returns c ts h =
     let d = c.before.before in
     let a = (start d).args in
     met_told _ _ _ _ _ _ _ _
     (declaring_is ts a.left (Parse.body ts a.left) a.row
-    ∙ named_unmet ts a.rows.now a.count h (a.row + 1) d.kind-at.result d.kind-at.ensures _ c.before.if1.true)
+    ∙ named_unmet ts a.rows.now a.count h (a.row + 1) d.kind_at.result d.kind_at.ensures _ c.before.if-kind_at-ne-IDENTIFIER.true)
     c.wanted.ensures
 
-add_sign : tie.Need-overflow-add-sign
+add_sign : tie.Need-overflow_add-sign
 add_sign c = search rules
 
-kind_at_requires_2 : tie.Need-kind-at-requires-2
+kind_at_requires_2 : tie.Need-kind_at-requires-2
 kind_at_requires_2 c κs = search rules
 
-wanted_requires_2 : tie.Need-wanted-requires-2
+wanted_requires_2 : tie.Need-wanted-requires-then-kind_at-ne-EQUALS
 wanted_requires_2 c κs = search rules
 
-cast_t19 : tie.Need-overflow-cast-t19
+cast_t19 : tie.Need-overflow_cast-result-then-kind_at-ne-EQUALS
 cast_t19 c = search rules
 
-returns_2 : tie.Need-returns-2
+returns_2 : tie.Need-returns-then-kind_at-ne-EQUALS
 returns_2 c ts h =
     let d = c.before.before in
     let a = (start (at_name d)).args in
-    let k = d.kind-at2 in
+    let k = d.kind_at-2 in
     met_told _ _ _ _ _ _ _ _
     (named d ts h
-    ∙ want_unmet ts a.rows.now a.count h (a.row + 1 + 1) k.result k.ensures Equals _ c.before.if2.true)
-    c.wanted2.ensures
+    ∙ want_unmet ts a.rows.now a.count h (a.row + 1 + 1) k.result k.ensures Equals _ c.before.if-kind_at-ne-EQUALS.true)
+    c.wanted-then-kind_at-ne-EQUALS.ensures
 
-add_add : tie.Need-overflow-add-add
+add_add : tie.Need-overflow_add-sign-2
 add_add c = search rules
 
 add_requires : tie.Need-add-requires
 add_requires c κs =
     let d = c.before.before in
     let a = (start (at_name d)).args in
-    let h = word_here a.rows.now a.count (a.row + 1 + 1) Equals (sym d.kind-at2.ensures ∙ c.before.if2.false) refl in
+    let h = word_here a.rows.now a.count (a.row + 1 + 1) Equals (sym d.kind_at-2.ensures ∙ c.before.if-kind_at-ne-EQUALS.false) refl in
     omega (arith, (start (at_name d)).requires)
 
-enum_known_t : tie.Need-enum-known-t
+enum_known_t : tie.Need-enum_known-t
 enum_known_t c = search rules
 
-kind_at_requires_3 : tie.Need-kind-at-requires-3
+kind_at_requires_3 : tie.Need-kind_at-requires-in-Done
 kind_at_requires_3 c κs = search rules
 
 unended_requires : tie.Need-unended-requires
 unended_requires c κs = let l = (entry (called (at_end c.before))).requires.lent in omega arith
 
-cast_t27 : tie.Need-overflow-cast-t27
+cast_t27 : tie.Need-overflow_cast-result-then-kind_at-ne-SEMICOLON
 cast_t27 c = search rules
 
-same_length : tie.Need-same-length
+same_length : tie.Need-shape_of-nodes-then-kind_at-ne-SEMICOLON
 same_length c = search rules
 
-returns_3 : tie.Need-returns-3
+returns_3 : tie.Need-returns-then-kind_at-ne-SEMICOLON
 returns_3 c ts h =
     let d = c.before.before in
     let p = at_end d in
     met_told _ _ _ _ _ _ _ _
     (asked (called p) ts h
-    ∙ expr_open h _ (got p ts h) (declared ts (entry (called p))) (λ e. c.before.if3.true (d.kind-at3.ensures ∙ e)))
+    ∙ expr_open h _ (got p ts h) (declared ts (entry (called p))) (λ e. c.before.if-kind_at-ne-SEMICOLON.true (d.kind_at-in-Done.ensures ∙ e)))
     c.unended.ensures
 
-kind_at_requires_4 : tie.Need-kind-at-requires-4
+kind_at_requires_4 : tie.Need-kind_at-requires-in-Done-2
 kind_at_requires_4 c κs = search rules
 
-decl_node_requires : tie.Need-decl-node-requires
+decl_node_requires : tie.Need-decl_node-kind-requires
 decl_node_requires c κs = search rules
 
-named_end_requires : tie.Need-named-end-requires
+named_end_requires : tie.Need-named_end-requires
 named_end_requires c κs =
     let p = at_lead c.before.before in
     let s = entry (called p) in
     let l = tells_some s.args.rows.now s.args.count in
     let w = got p _ l in
-    omega (arith, w.stands, w.few, w.inside, l.long, s.pre)
+    omega (arith, w.stands, w.few, w.inside, l.long, s.requires)
 
-enum_known_why : tie.Need-enum-known-why
+enum_known_why : tie.Need-enum_known-why
 enum_known_why c = search rules
 
-same_length_2 : tie.Need-same-length-2
+same_length_2 : tie.Need-shape_of-nodes-else-kind_at-ne-SEMICOLON
 same_length_2 c = search rules
 
-returns_4 : tie.Need-returns-4
+returns_4 : tie.Need-returns-else-kind_at-ne-SEMICOLON
 returns_4 c ts h =
     let n = c.before.before in
     let l = n.before.before.before in
@@ -195,23 +195,23 @@ returns_4 c ts h =
     let s = entry (called p) in
     let a = s.args in
     let v = got p ts h in
-    let r = n.named-end.ensures in
-    let k : n.before.before.decl-node.result ≡ decl_node (kind_at ts a.row) = n.before.before.decl-node.ensures
-    ∙ ap decl_node (seen ts a.rows.now a.count h a.row l.kind-at4.result l.kind-at4.ensures) in
+    let r = n.named_end.ensures in
+    let k : n.before.before.decl_node-kind.result ≡ decl_node (kind_at ts a.row) = n.before.before.decl_node-kind.ensures
+    ∙ ap decl_node (seen ts a.rows.now a.count h a.row l.kind_at-in-Done-2.result l.kind_at-in-Done-2.ensures) in
     met_ok (whole ts s) _ _ (declared ts s v.tree) _ _ _
-    (asked (called p) ts h ∙ expr_ends h _ v (declared ts s) (sym l.before.before.kind-at3.ensures ∙ l.before.if3.false)
+    (asked (called p) ts h ∙ expr_ends h _ v (declared ts s) (sym l.before.before.kind_at-in-Done.ensures ∙ l.before.if-kind_at-ne-SEMICOLON.false)
     ∙ ap (λ (y : ℕ). ok (declared ts s v.tree) y) (sym (ap (λ (y : At). y.row) r.0)))
-    (stands_decl a.row a.node a.nodes.now (called p).add.last.1.1.0 p.t.given.0.0 v.tree n.named-end.result
-    n.named-end.new.0 (kind_at ts a.row) (spelling_of (tok_at ts (a.row + 1))) v.stands r.0 (rw (← k) r.1))
+    (stands_decl a.row a.node a.nodes.now (called p).add.new.nodes p.in-Done.t v.tree n.named_end.result
+    n.named_end.new.nodes (kind_at ts a.row) (spelling_of (tok_at ts (a.row + 1))) v.stands r.0 (rw (← k) r.1))
 
-same_length_3 : tie.Need-same-length-3
+same_length_3 : tie.Need-shape_of-nodes-in-Refused
 same_length_3 c = search rules
 
-returns_5 : tie.Need-returns-5
+returns_5 : tie.Need-returns-in-Refused
 returns_5 c ts h =
-    let d = refusing c.before in
+    let d = refusing c in
     met_no (whole ts (entry d)) _ _ _ _ _ _
-    (asked d ts h ∙ expr_refused ts _ _ _ _ _ _ _ _ (d.add.ensures ts h) c.before.why.given.1 _)
+    (asked d ts h ∙ expr_refused ts _ _ _ _ _ _ _ _ (d.add.ensures ts h) c.in-Refused.is _)
 
 pub declare_spec : {M : Type 1} → statement M
 declare_spec =

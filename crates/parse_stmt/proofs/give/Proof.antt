@@ -25,20 +25,20 @@ use Rattle.parse_stmt.proofs.give.Tie as tie
 abbrev start : tie.After-add → tie.Start
 start c = c.before.before.before.before
 
-abbrev called : tie.After-t → tie.After-add
-called c = c.before.before.before.before
+abbrev called : tie.In-Done → tie.After-add
+called c = c.before.before.before
 
-abbrev entry : tie.After-t → tie.Start
+abbrev entry : tie.In-Done → tie.Start
 entry c = start (called c)
 
-abbrev at_end : tie.After-kind-at → tie.After-t
-at_end c = c.before.before
+abbrev at_end : tie.After-kind_at → tie.In-Done
+at_end c = c.before
 
-abbrev ending : tie.After-ended → tie.After-kind-at
+abbrev ending : tie.After-ended → tie.After-kind_at
 ending c = c.before.before.before
 
-abbrev refusing : tie.After-why → tie.After-add
-refusing c = c.before.before.before.before
+abbrev refusing : tie.In-Refused → tie.After-add
+refusing c = c.before.before.before
 
 abbrev Told : List Tok → tie.Start → Type 0
 Told ts s = Tells ts s.args.rows.now s.args.count
@@ -53,41 +53,41 @@ asked : (s : tie.Start) (ts : List Tok)
 asked s ts = returning_is ts s.args.left (Parse.body ts s.args.left) s.args.row
 
 -- the expression
-got : (c : tie.After-t) (ts : List Tok) → Told ts (entry c)
+got : (c : tie.In-Done) (ts : List Tok) → Told ts (entry c)
     → (let a = (entry c).args in
     Came (Reads ts Add a.left (a.row + 1)) ts (Parse.expr ts a.left (a.row + 1)) (a.row + 1) a.node a.nodes.now
-    c.t.given.0.0 (called c).add.new.1.1.0)
-got c ts h = expr_came ((called c).add.ensures ts h) c.t.given.1
+    c.in-Done.t (called c).add.new.nodes)
+got c ts h = expr_came ((called c).add.ensures ts h) c.in-Done.is
 
 -- ---- needs
 
-add_place : tie.Need-overflow-add-place
+add_place : tie.Need-overflow_add-place
 add_place c = search rules
 
 add_requires : tie.Need-add-requires
 add_requires c κs = search rules
 
-enum_known_t : tie.Need-enum-known-t
+enum_known_t : tie.Need-enum_known-t
 enum_known_t c = search rules
 
-kind_at_requires : tie.Need-kind-at-requires
+kind_at_requires : tie.Need-kind_at-requires
 kind_at_requires c κs = search rules
 
 unended_requires : tie.Need-unended-requires
 unended_requires c κs = let l = (entry (at_end c.before)).requires.lent in omega arith
 
-cast_t19 : tie.Need-overflow-cast-t19
+cast_t19 : tie.Need-overflow_cast-result
 cast_t19 c = search rules
 
-same_length : tie.Need-same-length
+same_length : tie.Need-shape_of-nodes-then-kind_at-ne-SEMICOLON
 same_length c = search rules
 
-returns : tie.Need-returns
+returns : tie.Need-returns-then-kind_at-ne-SEMICOLON
 returns c ts h =
     let d = c.before.before in
     let p = at_end d in
     met_told _ _ _ _ _ _ _ _
-    (asked (entry p) ts ∙ expr_open h _ (got p ts h) (λ e. ret e) (λ e. c.before.if1.true (d.kind-at.ensures ∙ e)))
+    (asked (entry p) ts ∙ expr_open h _ (got p ts h) (λ e. ret e) (λ e. c.before.if-kind_at-ne-SEMICOLON.true (d.kind_at.ensures ∙ e)))
     c.unended.ensures
 
 ended_requires : tie.Need-ended-requires
@@ -96,15 +96,15 @@ ended_requires c κs =
     let s = entry p in
     let l = tells_some s.args.rows.now s.args.count in
     let w = got p _ l in
-    omega (arith, w.stands, w.few, w.inside, l.long, s.pre)
+    omega (arith, w.stands, w.few, w.inside, l.long, s.requires)
 
-enum_known_why : tie.Need-enum-known-why
+enum_known_why : tie.Need-enum_known-why
 enum_known_why c = search rules
 
-same_length_2 : tie.Need-same-length-2
+same_length_2 : tie.Need-shape_of-nodes-else-kind_at-ne-SEMICOLON
 same_length_2 c = search rules
 
-returns_2 : tie.Need-returns-2
+returns_2 : tie.Need-returns-else-kind_at-ne-SEMICOLON
 returns_2 c ts h =
     let n = c.before.before in
     let d = ending n in
@@ -113,19 +113,19 @@ returns_2 c ts h =
     let v = got p ts h in
     let r = n.ended.ensures in
     met_ok (whole ts (entry p)) _ _ (ret v.tree) _ _ _
-    (asked (entry p) ts ∙ expr_ends h _ v (λ e. ret e) (sym d.kind-at.ensures ∙ n.before.before.if1.false)
+    (asked (entry p) ts ∙ expr_ends h _ v (λ e. ret e) (sym d.kind_at.ensures ∙ n.before.before.if-kind_at-ne-SEMICOLON.false)
     ∙ ap (λ (y : ℕ). ok (ret v.tree) y) (sym (ap (λ (y : At). y.row) r.0)))
-    (stands_ret a.row a.node a.nodes.now (called p).add.last.1.1.0 p.t.given.0.0 v.tree n.ended.result
-    n.ended.new.0 v.stands r.0 r.1)
+    (stands_ret a.row a.node a.nodes.now (called p).add.new.nodes p.in-Done.t v.tree n.ended.result
+    n.ended.new.nodes v.stands r.0 r.1)
 
-same_length_3 : tie.Need-same-length-3
+same_length_3 : tie.Need-shape_of-nodes-in-Refused
 same_length_3 c = search rules
 
-returns_3 : tie.Need-returns-3
+returns_3 : tie.Need-returns-in-Refused
 returns_3 c ts h =
-    let d = refusing c.before in
+    let d = refusing c in
     met_no (whole ts (start d)) _ _ _ _ _ _
-    (asked (start d) ts ∙ expr_refused ts _ _ _ _ _ _ _ _ (d.add.ensures ts h) c.before.why.given.1 _)
+    (asked (start d) ts ∙ expr_refused ts _ _ _ _ _ _ _ _ (d.add.ensures ts h) c.in-Refused.is _)
 
 pub give_spec : {M : Type 1} → statement M
 give_spec =

@@ -21,74 +21,74 @@ use Rattle.parse_units.proofs.item.Tie as tie
 
 -- ---- the places on the way, as they are seen from the function's entry
 
-abbrev entry : tie.Else1 → tie.Start
+abbrev entry : tie.Else-k → tie.Start
 entry c = c.before.before.before.before.before.before
 
-abbrev at_stmt : tie.After-stmt → tie.Else1
+abbrev at_stmt : tie.After-stmt → tie.Else-k
 at_stmt c = c.before.before
 
-abbrev behind_stmt : tie.After-t → tie.After-stmt
-behind_stmt c = c.before.before.before.before
+abbrev behind_stmt : tie.In-Done → tie.After-stmt
+behind_stmt c = c.before.before.before
 
-abbrev counting : tie.After-counted → tie.After-t
-counting c = c.before.before.before
+abbrev counting : tie.After-counted-at → tie.In-Done
+counting c = c.before.before
 
-abbrev refusing : tie.After-known-told2 → tie.After-stmt
-refusing c = c.before.before.before.before.before
+abbrev refusing : tie.In-Refused → tie.After-stmt
+refusing c = c.before.before.before
 
 abbrev Told : List Tok → tie.Start → Type 0
 Told ts s = Names ts s.args.text.now s.args.rows.now s.args.count
 
 -- the row begins a statement
-plainly : (c : tie.Else1) (ts : List Tok) → Told ts (entry c)
+plainly : (c : tie.Else-k) (ts : List Tok) → Told ts (entry c)
     → Parse.item ts (entry c).args.u.at.row ≡ Parse.stmt ts most_open (Parse.body ts most_open) (entry c).args.u.at.row
 plainly c ts h =
     let a = (entry c).args in
-    let k = c.before.kind-at in
+    let k = c.before.kind_at-k in
     item_stmt ts a.u.at.row
-    (ap is_text (sym (seen ts a.rows.now a.count h.tells a.u.at.row k.result k.ensures)) ∙ c.if1.false)
+    (ap is_text (sym (seen ts a.rows.now a.count h.tells a.u.at.row k.result k.ensures)) ∙ c.if-k.false)
 
-kind_at_requires : tie.Need-kind-at-requires
+kind_at_requires : tie.Need-kind_at-k-requires
 kind_at_requires c κs = search rules
 
-text_item_requires : tie.Need-text-item-requires
+text_item_requires : tie.Need-text_item-requires
 text_item_requires c κs = search rules
 
-same_length : tie.Need-same-length
+same_length : tie.Need-shape_of-nodes-then-k
 same_length c = search rules
 
-returns : tie.Need-returns
+returns : tie.Need-returns-then-k
 returns c = search rules
 
 stmt_requires : tie.Need-stmt-requires
 stmt_requires c κs = search rules
 
-enum_known_t : tie.Need-enum-known-t
+enum_known_t : tie.Need-enum_known-t
 enum_known_t c = search rules
 
-add_counted : tie.Need-overflow-add-counted
+add_counted : tie.Need-overflow_add-here
 add_counted c = search rules
 
-counted_requires : tie.Need-counted-requires
+counted_requires : tie.Need-counted-at-requires
 counted_requires c κs = search rules
 
-enum_known_why : tie.Need-enum-known-why
+enum_known_why : tie.Need-enum_known-why
 enum_known_why c = search rules
 
-same_length_2 : tie.Need-same-length-2
+same_length_2 : tie.Need-shape_of-nodes-in-Done
 same_length_2 c = search rules
 
-returns_2 : tie.Need-returns-2
+returns_2 : tie.Need-returns-in-Done
 returns_2 c ts h =
     let b = counting c in
     let f = behind_stmt b in
     let a = (entry (at_stmt f)).args in
     let u = a.u in
-    let t = b.t.given.0.0 in
+    let t = b.in-Done.t in
     let g = came_reads ts Stmt most_open (Parse.stmt ts most_open (Parse.body ts most_open) u.at.row)
     u.at.row u.at.node a.nodes.now
-    f.stmt.last.1.1.0 f.stmt.result t (stmt_sound ts most_open u.at.row)
-    (f.stmt.ensures ts h.tells) b.t.given.1 in
+    f.stmt.new.nodes f.stmt.result t (stmt_sound ts most_open u.at.row)
+    (f.stmt.ensures ts h.tells) b.in-Done.is in
     let e : counted_at t u.at.place (u.at.things + 1) ≡ over_at u g.tree t.row =
     λ k. record {
       row = t.row;
@@ -100,16 +100,16 @@ returns_2 c ts h =
       hanging = g.stands.hanging k;
     } in
     adds_ok u _ _ _ g.tree t.row _ (plainly (at_stmt f) ts h ∙ g.is)
-    (with_stmt u g.tree c.counted.result t.row g.known.is (c.counted.ensures ∙ e)) g.stands.mem
+    (with_stmt u g.tree c.counted-at.result t.row g.known.is (c.counted-at.ensures ∙ e)) g.stands.mem
 
-same_length_3 : tie.Need-same-length-3
+same_length_3 : tie.Need-shape_of-nodes-in-Refused
 same_length_3 c = search rules
 
-returns_3 : tie.Need-returns-3
+returns_3 : tie.Need-returns-in-Refused
 returns_3 c ts h =
     let f = refusing c in
     adds_no (entry (at_stmt f)).args.u _ _ _ _ _
-    (plainly (at_stmt f) ts h ∙ refused _ _ _ _ _ _ _ _ (f.stmt.ensures ts h.tells) c.before.why.given.1)
+    (plainly (at_stmt f) ts h ∙ refused _ _ _ _ _ _ _ _ (f.stmt.ensures ts h.tells) c.in-Refused.is)
 
 pub item_spec : {M : Type 1} → statement M
 item_spec =

@@ -10,23 +10,23 @@ part_requires : tie.Need-part-requires
 part_requires c κs =
     let s = c.before.before.before.before.before in
     let a = s.args in
-    fewer a.prelude.now a.prelude-rows.now (a.row + 1) a.prelude-count (omega arith) s.requires.of_prelude
+    fewer a.prelude.now a.prelude_rows.now (a.row + 1) a.prelude_count (omega arith) s.requires.of_prelude
 
-returns : tie.Need-returns
+returns : tie.Need-returns-then-row-prelude_count
 returns c =
     let a = c.before.before.before.before.before.before.args in
-    c.part.ensures ∙ sym (spelled_front a.prelude.now a.prelude-rows.now a.prelude-count a.text.now a.rows.now a.row c.before.if1.true)
+    c.part.ensures ∙ sym (spelled_front a.prelude.now a.prelude_rows.now a.prelude_count a.text.now a.rows.now a.row c.before.if-row-prelude_count.true)
 
 part_requires_2 : tie.Need-part-requires-2
 part_requires_2 c κs =
     let s = c.before.before.before.before.before in
     let a = s.args in
-    fewer a.text.now a.rows.now (a.row - a.prelude-count + 1) (a.row + 1 - a.prelude-count) (omega arith) s.requires.of_probe
+    fewer a.text.now a.rows.now (a.row - a.prelude_count + 1) (a.row + 1 - a.prelude_count) (omega arith) s.requires.of_probe
 
-returns_2 : tie.Need-returns-2
+returns_2 : tie.Need-returns
 returns_2 c =
     let a = c.before.before.before.before.before.before.args in
-    c.part2.ensures ∙ sym (spelled_later a.prelude.now a.prelude-rows.now a.prelude-count a.text.now a.rows.now a.row c.before.if1.false)
+    c.part-2.ensures ∙ sym (spelled_later a.prelude.now a.prelude_rows.now a.prelude_count a.text.now a.rows.now a.row c.before.if-row-prelude_count.false)
 
 pub spelling_spec : {M : Type 1} → statement M
 spelling_spec = tie.close (tie.spec part_requires returns part_requires_2 returns_2)

@@ -10,42 +10,42 @@ use Rattle.scan_blanks.proofs.Blanks.{blanked_start, blanked_on}
 use Rattle.scan_blanks.proofs.past_newlines.Statement.{statement}
 use Rattle.scan_blanks.proofs.past_newlines.Tie as tie
 
-abbrev invariant_loop : tie.invariant-loop
+abbrev invariant_loop : tie.invariant-loop-i
 invariant_loop text cursor₀ i₀ cursor i = Blanked text (record { at = i₀; cursor = cursor₀ }) (record { at = i; cursor = cursor })
 
-abbrev decreases_loop : tie.decreases-loop
+abbrev decreases_loop : tie.decreases-loop-i
 decreases_loop text cursor₀ i₀ cursor i = length text - i
 
-loop_holds : tie.Need-loop-init invariant_loop decreases_loop
+loop_holds : tie.Need-loop-i-init invariant_loop decreases_loop
 loop_holds c = let s = c.before.before in blanked_start s.args.text.now s.args.from s.requires
 
-shared_slice_read_if1 : tie.Need-shared-slice-read-if1 invariant_loop decreases_loop
+shared_slice_read_if1 : tie.Need-bounds-text-i invariant_loop decreases_loop
 shared_slice_read_if1 c = omega arith
 
-returns : tie.Need-returns invariant_loop decreases_loop
-returns c = c.before.before.before.loop.invariant
+returns : tie.Need-returns-then-text-i-ne10 invariant_loop decreases_loop
+returns c = c.before.before.before.loop-i.invariant
 
-advance_requires : tie.Need-advance-requires invariant_loop decreases_loop
+advance_requires : tie.Need-advance-cursor-requires invariant_loop decreases_loop
 advance_requires c κs =
     let n = c.before.before in
-    let l = n.before.loop in
+    let l = n.before.loop-i in
     roomy_less (length n.before.before.before.before.args.text.now - l.i) 1 l.cursor (omega arith) l.invariant.ahead.roomy
 
-add_i : tie.Need-overflow-add-i invariant_loop decreases_loop
+add_i : tie.Need-overflow_add-i invariant_loop decreases_loop
 add_i c = omega arith
 
-loop_less : tie.Need-loop-smaller invariant_loop decreases_loop
+loop_less : tie.Need-loop-i-smaller invariant_loop decreases_loop
 loop_less c = omega arith
 
-loop_again : tie.Need-loop-preserved invariant_loop decreases_loop
+loop_again : tie.Need-loop-i-preserved invariant_loop decreases_loop
 unfolding is_blank
 loop_again c =
     let n = c.before.before.before in
-    let e = c.before.if1.false in
-    blanked_on n.before.loop.invariant n.loop-test.true (rw e refl) (rw e c.advance.ensures)
+    let e = c.before.if-text-i-ne10.false in
+    blanked_on n.before.loop-i.invariant n.loop-i-test.true (rw e refl) (rw e c.advance-cursor.ensures)
 
-returns_2 : tie.Need-returns-2 invariant_loop decreases_loop
-returns_2 c = c.before.loop.invariant
+returns_2 : tie.Need-returns invariant_loop decreases_loop
+returns_2 c = c.before.loop-i.invariant
 
 pub past_newlines_spec : {M : Type 1} → statement M
 past_newlines_spec =

@@ -13,81 +13,81 @@ use Rattle.scan_meet.proofs.find.Statement.{statement}
 use Rattle.scan_meet.proofs.find.Tie as tie
 
 -- the function's entry, as it is seen from behind each look
-abbrev start : tie.After-struct-known → tie.Start
+abbrev start : tie.After-struct_known-1 → tie.Start
 start c = c.before.before.before.before
 
-abbrev behind_target : tie.After-struct-known2 → tie.After-struct-known
+abbrev behind_target : tie.After-struct_known-2-1 → tie.After-struct_known-1
 behind_target c = c.before.before.before.before
 
 -- the offset is not before least, and a byte stands there
-late : (c : tie.After-struct-known2) → let a = (start (behind_target c)).args in (a.olds.least ≤ a.here.cursor.offset.0) × (0 < length (drop a.here.at a.text.now))
+late : (c : tie.After-struct_known-2-1) → let a = (start (behind_target c)).args in (a.olds.least ≤ a.here.cursor.offset.0) × (0 < length (drop a.here.at a.text.now))
 late c =
     let e = c.before.before in
     let a = (start (behind_target c)).args in
-    (omega (arith, e.before.if1.false, e.before.before.before.wide.ensures), omega (arith, e.if2.false, length-drop a.here.at a.text.now))
+    (omega (arith, e.before.if-offset-olds.false, e.before.before.before.wide-offset.ensures), omega (arith, e.if-text-at.false, length-drop a.here.at a.text.now))
 
 -- the old offset of what stands there
-target : (c : tie.After-seek) → let w = behind_target c.before in let a = (start w).args in
-    w.before.wide.result + c.before.before.wide2.result - a.olds.least ≡ a.here.cursor.offset.0 + a.olds.b - a.olds.least
-target c = omega (arith, (behind_target c.before).before.wide.ensures, c.before.before.wide2.ensures)
+target : (c : tie.After-seek-next) → let w = behind_target c.before in let a = (start w).args in
+    w.before.wide-offset.result + c.before.before.wide.result - a.olds.least ≡ a.here.cursor.offset.0 + a.olds.b - a.olds.least
+target c = omega (arith, (behind_target c.before).before.wide-offset.ensures, c.before.before.wide.ensures)
 
 -- the row that is sought
-sought : (c : tie.After-seek) → let a = (start (behind_target c.before)).args in Sought a.old.now a.olds.count a.row (a.here.cursor.offset.0 + a.olds.b - a.olds.least) c.seek.result
+sought : (c : tie.After-seek-next) → let a = (start (behind_target c.before)).args in Sought a.old.now a.olds.count a.row (a.here.cursor.offset.0 + a.olds.b - a.olds.least) c.seek-next.result
 sought c =
     let a = (start (behind_target c.before)).args in
-    subst (λ (x : ℕ). Sought a.old.now a.olds.count a.row x c.seek.result) (target c) c.seek.ensures
+    subst (λ (x : ℕ). Sought a.old.now a.olds.count a.row x c.seek-next.result) (target c) c.seek-next.ensures
 
-wide_requires : tie.Need-wide-requires
+wide_requires : tie.Need-wide-offset-requires
 wide_requires c κs = search rules
 
-returns : tie.Need-returns
+returns : tie.Need-returns-then-offset-olds
 returns c =
     let s = start c.before in
     let a = s.args in
-    finds_early a.old.now a.olds.count a.olds.least a.olds.b a.row a.here.cursor.offset.0 (drop a.here.at a.text.now) s.pre.1.1 s.pre.0.1
-    (omega (arith, c.if1.true, c.before.before.wide.ensures))
+    finds_early a.old.now a.olds.count a.olds.least a.olds.b a.row a.here.cursor.offset.0 (drop a.here.at a.text.now) s.requires.1.1 s.requires.0.1
+    (omega (arith, c.if-offset-olds.true, c.before.before.wide-offset.ensures))
 
-returns_2 : tie.Need-returns-2
+returns_2 : tie.Need-returns-then-text-at
 returns_2 c =
     let s = start c.before.before in
     let a = s.args in
-    finds_late a.old.now a.olds.count a.olds.least a.olds.b a.row a.here.cursor.offset.0 (drop a.here.at a.text.now) s.pre.1.1 s.pre.0.1
-    (omega (arith, c.if2.true, length-drop a.here.at a.text.now))
+    finds_late a.old.now a.olds.count a.olds.least a.olds.b a.row a.here.cursor.offset.0 (drop a.here.at a.text.now) s.requires.1.1 s.requires.0.1
+    (omega (arith, c.if-text-at.true, length-drop a.here.at a.text.now))
 
-wide_requires_2 : tie.Need-wide-requires-2
+wide_requires_2 : tie.Need-wide-requires
 wide_requires_2 c κs = search rules
 
-add_target : tie.Need-overflow-add-target
+add_target : tie.Need-overflow_add-target
 add_target c = search rules
 
-sub_target : tie.Need-overflow-sub-target
+sub_target : tie.Need-overflow_sub-target
 sub_target c = search rules
 
-seek_requires : tie.Need-seek-requires
+seek_requires : tie.Need-seek-next-requires
 seek_requires c κs = search rules
 
-gap_opens_requires : tie.Need-gap-opens-requires
+gap_opens_requires : tie.Need-gap_opens-requires
 gap_opens_requires c κs = search rules
 
-returns_3 : tie.Need-returns-3
+returns_3 : tie.Need-returns-then-gap_opens
 returns_3 c =
     let k = c.before.before in
     let s = start (behind_target k.before) in
     let a = s.args in
-    finds_gap a.old.now a.olds.count a.olds.least a.olds.b a.row a.here.cursor.offset.0 (drop a.here.at a.text.now) s.pre.1.1
-    (late k.before).0 (late k.before).1 k.seek.result (sought k) (sym c.before.gap-opens.ensures ∙ c.if3.true)
+    finds_gap a.old.now a.olds.count a.olds.least a.olds.b a.row a.here.cursor.offset.0 (drop a.here.at a.text.now) s.requires.1.1
+    (late k.before).0 (late k.before).1 k.seek-next.result (sought k) (sym c.before.gap_opens.ensures ∙ c.if-gap_opens.true)
 
 starts_requires : tie.Need-starts-requires
 starts_requires c κs = search rules
 
-returns_4 : tie.Need-returns-4
+returns_4 : tie.Need-returns
 returns_4 c =
     let k = c.before.before.before in
     let s = start (behind_target k.before) in
     let a = s.args in
-    let z = c.starts.ensures ∙ ap (λ (x : ℕ). ltb k.seek.result a.olds.count && eqb (row_no a.old.now k.seek.result).start x) (target k) in
-    finds_row a.old.now a.olds.count a.olds.least a.olds.b a.row a.here.cursor.offset.0 (drop a.here.at a.text.now) s.pre.1.1
-    (late k.before).0 (late k.before).1 k.seek.result (sought k) (sym c.before.before.gap-opens.ensures ∙ c.before.if3.false) s.pre.1.0 c.starts.result z
+    let z = c.starts.ensures ∙ ap (λ (x : ℕ). ltb k.seek-next.result a.olds.count && eqb (row_no a.old.now k.seek-next.result).start x) (target k) in
+    finds_row a.old.now a.olds.count a.olds.least a.olds.b a.row a.here.cursor.offset.0 (drop a.here.at a.text.now) s.requires.1.1
+    (late k.before).0 (late k.before).1 k.seek-next.result (sought k) (sym c.before.before.gap_opens.ensures ∙ c.before.if-gap_opens.false) s.requires.1.0 c.starts.result z
 
 pub find_spec : {M : Type 1} → statement M
 find_spec =

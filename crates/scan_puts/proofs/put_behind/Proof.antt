@@ -8,39 +8,39 @@ use borrow.Author.Rules.{rules}
 use Rattle.scan_puts.proofs.put_behind.Statement.{statement}
 use Rattle.scan_puts.proofs.put_behind.Tie as tie
 
-mul_base : tie.Need-overflow-mul-base
+mul_base : tie.Need-overflow_mul-base
 mul_base c = search rules
 
-mul_put : tie.Need-overflow-mul-put
+mul_put : tie.Need-offset_bounds-rows-base
 mul_put c = search rules
 
-sub_put : tie.Need-overflow-sub-put
+sub_put : tie.Need-slice_bounds-put-count
 sub_put c = search rules
 
-part_put_start : tie.Need-slice-bounds-put-start
+part_put_start : tie.Need-slice_bounds-put-start
 part_put_start c = search rules
 
-part_put_end : tie.Need-slice-bounds-put-end
+part_put_end : tie.Need-slice_bounds-put-end
 part_put_end c = search rules
 
 put_requires : tie.Need-put-requires
 put_requires c κs = search rules
 
-same_length : tie.Need-same-length
+same_length : tie.Need-shape_of-rows
 same_length c = search rules
 
-returns : tie.Need-returns
+returns : tie.Need-returns-then-n-rows
 unfolding room_of placed
 returns c =
     let s = c.before.before.before.before.before.before in
     let n = s.args.n in
     let xs = s.args.rows.now in
-    rw (lt-ltb _ _ c.before.before.before.before.if1.true, c.before.before.put.ensures)
+    rw (lt-ltb _ _ c.before.before.before.before.if-n-rows.true, c.before.before.put.ensures)
     (row_back n (row_of s.args.at s.args.comments s.args.told) xs (omega arith))
 
-returns_2 : tie.Need-returns-2
+returns_2 : tie.Need-returns-else-n-rows
 unfolding room_of placed
-returns_2 c = rw (le-ltb _ _ c.if1.false)
+returns_2 c = rw (le-ltb _ _ c.if-n-rows.false)
 
 pub put_behind_spec : {M : Type 1} → statement M
 put_behind_spec =

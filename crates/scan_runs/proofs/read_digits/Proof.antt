@@ -3,17 +3,17 @@ use borrow.Author.Rules.{rules}
 use Rattle.scan_runs.proofs.read_digits.Statement.{statement}
 use Rattle.scan_runs.proofs.read_digits.Tie as tie
 
-digits_in_requires : tie.Need-digits-in-requires
+digits_in_requires : tie.Need-digits_in-requires
 digits_in_requires c κs = search rules
 
-returns : tie.Need-returns
-returns c = rw c.before.if1.true c.digits_in.ensures
+returns : tie.Need-returns-then-hex
+returns c = rw c.before.if-hex.true c.digits_in.ensures
 
-digits_in_requires_2 : tie.Need-digits-in-requires-2
+digits_in_requires_2 : tie.Need-digits_in-requires-2
 digits_in_requires_2 c κs = search rules
 
-returns_2 : tie.Need-returns-2
-returns_2 c = rw c.before.if1.false c.digits-in2.ensures
+returns_2 : tie.Need-returns
+returns_2 c = rw c.before.if-hex.false c.digits_in-2.ensures
 
 pub read_digits_spec : {M : Type 1} → statement M
 read_digits_spec = tie.close (tie.spec digits_in_requires returns digits_in_requires_2 returns_2)

@@ -38,11 +38,11 @@ cs t = (
 )
 
 -- what holds where the loop begins holds at each turn
-abbrev pub InvLoop : lts.invariant_loop
+abbrev pub InvLoop : lts.invariant-loop-s
 InvLoop rows count nodes₀ row node left s₀ nodes s =
     (ts : List Tok) → Tells ts rows count → (m : List ℕ) → Argued ts left row node m s₀ nodes₀ → Argued ts left row node m s nodes
 
-abbrev pub μ-loop : lts.decreases_loop
+abbrev pub μ-loop : lts.decreases-loop-s
 μ-loop rows count nodes₀ row node left s₀ nodes s = count - s.row
 
 module _ (t : ℕ) where
@@ -52,22 +52,22 @@ module _ (t : ℕ) where
   Entry = lts.Start (cs t) (args_at t) args.Post InvLoop μ-loop
 
   abbrev Nesting : Type 0
-  Nesting = lts.Else1 (cs t) (args_at t) args.Post InvLoop μ-loop
+  Nesting = lts.Else-left-eq0 (cs t) (args_at t) args.Post InvLoop μ-loop
 
   abbrev First : Type 0
   First = lts.After-add (cs t) (args_at t) args.Post InvLoop μ-loop
 
   abbrev Looping : Type 0
-  Looping = lts.At-loop (cs t) (args_at t) args.Post InvLoop μ-loop
+  Looping = lts.At-loop-s (cs t) (args_at t) args.Post InvLoop μ-loop
 
   abbrev Going : Type 0
-  Going = lts.Else2 (cs t) (args_at t) args.Post InvLoop μ-loop
+  Going = lts.Else-kind_at-ne-COMMA (cs t) (args_at t) args.Post InvLoop μ-loop
 
   abbrev Second : Type 0
-  Second = lts.After-add2 (cs t) (args_at t) args.Post InvLoop μ-loop
+  Second = lts.After-add-in-loop-s (cs t) (args_at t) args.Post InvLoop μ-loop
 
   abbrev Joining : Type 0
-  Joining = lts.After-t2 (cs t) (args_at t) args.Post InvLoop μ-loop
+  Joining = lts.In-Done-add (cs t) (args_at t) args.Post InvLoop μ-loop
 
   -- the entry from where nesting is left, and that from behind the first call
   abbrev entry : Nesting → Entry
@@ -77,11 +77,11 @@ module _ (t : ℕ) where
   nesting c = c.before.before
 
   -- the first call, from behind its state and from behind its refusal
-  abbrev first_done : lts.After-known-told (cs t) (args_at t) args.Post InvLoop μ-loop → First
-  first_done c = c.before.before.before.before.before
+  abbrev first_done : lts.In-Done (cs t) (args_at t) args.Post InvLoop μ-loop → First
+  first_done c = c.before.before.before
 
-  abbrev first_refused : lts.After-known-told2 (cs t) (args_at t) args.Post InvLoop μ-loop → First
-  first_refused c = c.before.before.before.before.before
+  abbrev first_refused : lts.In-Refused (cs t) (args_at t) args.Post InvLoop μ-loop → First
+  first_refused c = c.before.before.before
 
   -- the first call and the entry from the loop, the turn of the loop from behind its test, the test from behind the second call
   abbrev looping : Looping → First
@@ -101,10 +101,10 @@ module _ (t : ℕ) where
 
   -- the second call, from behind its state and from behind its refusal
   abbrev second_done : Joining → Second
-  second_done c = c.before.before.before.before
+  second_done c = c.before.before.before
 
-  abbrev second_refused : lts.After-known-told4 (cs t) (args_at t) args.Post InvLoop μ-loop → Second
-  second_refused c = c.before.before.before.before.before
+  abbrev second_refused : lts.In-Refused-add (cs t) (args_at t) args.Post InvLoop μ-loop → Second
+  second_refused c = c.before.before.before
 
   abbrev Told : List Tok → Entry → Type 0
   Told ts e = Tells ts e.args.rows.now e.args.count
@@ -113,136 +113,136 @@ module _ (t : ℕ) where
 
   -- what the loop has read, as it began with what the first call gave
   turn : (c : Looping) (ts : List Tok) → Told ts (at_loop c)
-      → (let a = (at_loop c).args in Argued ts a.left a.row a.node a.nodes.now c.loop.s c.loop.nodes)
+      → (let a = (at_loop c).args in Argued ts a.left a.row a.node a.nodes.now c.loop-s.s c.loop-s.nodes)
   turn c ts tl =
-      c.loop.invariant ts tl (at_loop c).args.nodes.now
-      (argued_start (nesting (looping c)).if1.left (add_came ((looping c).add.ensures ts tl) c.before.before.before.t.given.1)
-      c.before.counted.ensures)
+      c.loop-s.invariant ts tl (at_loop c).args.nodes.now
+      (argued_start (nesting (looping c)).if-left-eq0.false (add_came ((looping c).add.ensures ts tl) c.before.before.in-Done.is)
+      c.before.counted-s.ensures)
 
-  kind_is : (c : lts.After-kind-at (cs t) (args_at t) args.Post InvLoop μ-loop) (ts : List Tok) → Told ts (at_loop c.before)
-      → c.kind-at.result ≡ kind_at ts c.before.loop.s.row
-  kind_is c ts tl = c.kind-at.ensures ∙ tells_kind ts _ _ tl c.before.loop.s.row
+  kind_is : (c : lts.After-kind_at (cs t) (args_at t) args.Post InvLoop μ-loop) (ts : List Tok) → Told ts (at_loop c.before)
+      → c.kind_at.result ≡ kind_at ts c.before.loop-s.s.row
+  kind_is c ts tl = c.kind_at.ensures ∙ tells_kind ts _ _ tl c.before.loop-s.s.row
 
-  is_comma : (c : Going) (ts : List Tok) → Told ts (at_loop (turning c)) → kind_at ts (turning c).loop.s.row ≡ Comma
-  is_comma c ts tl = sym (kind_is c.before ts tl) ∙ c.if2.false
+  is_comma : (c : Going) (ts : List Tok) → Told ts (at_loop (turning c)) → kind_at ts (turning c).loop-s.s.row ≡ Comma
+  is_comma c ts tl = sym (kind_is c.before ts tl) ∙ c.if-kind_at-ne-COMMA.false
 
-  in_row : (c : Going) → (turning c).loop.s.row < (at_loop (turning c)).args.count
-  in_row c = word_here _ _ _ Comma (sym c.before.kind-at.ensures ∙ c.if2.false) refl
+  in_row : (c : Going) → (turning c).loop-s.s.row < (at_loop (turning c)).args.count
+  in_row c = word_here _ _ _ Comma (sym c.before.kind_at.ensures ∙ c.if-kind_at-ne-COMMA.false) refl
 
   -- what the call in the loop gave
   got : (c : Joining) (ts : List Tok) → Told ts (at_second (second_done c))
       → (let a = (at_second (second_done c)).args in
-      let l = (turning (going (second_done c))).loop in
+      let l = (turning (going (second_done c))).loop-s in
       Came (Reads ts Add (a.left - 1) (l.s.row + 1)) ts (Parse.add ts (Parse.inner ts (a.left - 1)) (l.s.row + 1))
-      (l.s.row + 1) l.s.node l.nodes c.t2.given.0.0 (second_done c).add2.new.1.1.0)
-  got c ts tl = add_came ((second_done c).add2.ensures ts tl) c.t2.given.1
+      (l.s.row + 1) l.s.node l.nodes c.in-Done-add.t (second_done c).add-in-loop-s.new.nodes)
+  got c ts tl = add_came ((second_done c).add-in-loop-s.ensures ts tl) c.in-Done-add.is
 
   -- ---- the needs
 
-  pub returns : lts.Need-returns (cs t) (args_at t) args.Post InvLoop μ-loop
+  pub returns : lts.Need-returns-then-left-eq0 (cs t) (args_at t) args.Post InvLoop μ-loop
   returns c = λ ts tl.
       let a = c.before.before.before.args in
-      args_deep ts a.left a.row a.node a.nodes.now c.if1.true
+      args_deep ts a.left a.row a.node a.nodes.now c.if-left-eq0.true
 
-  pub add_add : lts.Need-add-overflow-add (cs t) (args_at t) args.Post InvLoop μ-loop
-  add_add c = omega (arith, (entry c.before).pre.1)
+  pub add_add : lts.Need-overflow_add-row (cs t) (args_at t) args.Post InvLoop μ-loop
+  add_add c = omega (arith, (entry c.before).requires.1)
 
-  pub sub_add : lts.Need-overflow-sub-add (cs t) (args_at t) args.Post InvLoop μ-loop
+  pub sub_add : lts.Need-overflow_sub-left (cs t) (args_at t) args.Post InvLoop μ-loop
   sub_add c = search rules
 
   pub add_requires : lts.Need-add-requires (cs t) (args_at t) args.Post InvLoop μ-loop
-  add_requires c κs = omega (arith, (entry c.before).pre, c.before.if1.false)
+  add_requires c κs = omega (arith, (entry c.before).requires, c.before.if-left-eq0.false)
 
-  pub enum_known_t : lts.Need-enum-known-t (cs t) (args_at t) args.Post InvLoop μ-loop
+  pub enum_known_t : lts.Need-enum_known-t (cs t) (args_at t) args.Post InvLoop μ-loop
   enum_known_t c = search rules
 
-  pub counted_requires : lts.Need-counted-requires (cs t) (args_at t) args.Post InvLoop μ-loop
+  pub counted_requires : lts.Need-counted-s-requires (cs t) (args_at t) args.Post InvLoop μ-loop
   counted_requires c κs = search rules
 
-  pub enum_known_why : lts.Need-enum-known-why (cs t) (args_at t) args.Post InvLoop μ-loop
+  pub enum_known_why : lts.Need-enum_known-why (cs t) (args_at t) args.Post InvLoop μ-loop
   enum_known_why c = search rules
 
-  pub add_instead : lts.Need-add-instead (cs t) (args_at t) args.Post InvLoop μ-loop
-  add_instead c = omega (arith, (entry (nesting (first_refused c))).pre.1)
+  pub add_instead : lts.Need-overflow_add-row-in-Refused (cs t) (args_at t) args.Post InvLoop μ-loop
+  add_instead c = omega (arith, (entry (nesting (first_refused c))).requires.1)
 
   pub instead_requires : lts.Need-instead-requires (cs t) (args_at t) args.Post InvLoop μ-loop
   instead_requires c κs = search rules
 
-  pub same_length : lts.Need-same-length (cs t) (args_at t) args.Post InvLoop μ-loop
+  pub same_length : lts.Need-shape_of-nodes-in-Refused (cs t) (args_at t) args.Post InvLoop μ-loop
   same_length c = search rules
 
-  pub returns_2 : lts.Need-returns-2 (cs t) (args_at t) args.Post InvLoop μ-loop
+  pub returns_2 : lts.Need-returns-in-Refused (cs t) (args_at t) args.Post InvLoop μ-loop
   returns_2 c = λ ts tl.
       let f = first_refused c.before in
       let a = (entry (nesting f)).args in
-      args_refused ts a.left a.row a.node a.nodes.now f.add.last.1.1.0 (nesting f).if1.left
-      (f.add.ensures ts tl) c.before.before.why.given.1 c.instead.ensures
+      args_refused ts a.left a.row a.node a.nodes.now f.add.new.nodes (nesting f).if-left-eq0.false
+      (f.add.ensures ts tl) c.before.in-Refused.is c.instead.ensures
 
-  pub loop_holds : lts.Need-loop-init (cs t) (args_at t) args.Post InvLoop μ-loop
+  pub loop_holds : lts.Need-loop-s-init (cs t) (args_at t) args.Post InvLoop μ-loop
   loop_holds c = λ ts tl m h. h
 
-  pub kind_at_requires : lts.Need-kind-at-requires (cs t) (args_at t) args.Post InvLoop μ-loop
+  pub kind_at_requires : lts.Need-kind_at-requires (cs t) (args_at t) args.Post InvLoop μ-loop
   kind_at_requires c κs = (at_loop c).requires.1.lent
 
-  pub same_length_2 : lts.Need-same-length-2 (cs t) (args_at t) args.Post InvLoop μ-loop
+  pub same_length_2 : lts.Need-shape_of-nodes-then-kind_at-ne-COMMA (cs t) (args_at t) args.Post InvLoop μ-loop
   same_length_2 c = (argued_fit (turn c.before.before _ (tells_some _ _))).long
 
-  pub returns_3 : lts.Need-returns-3 (cs t) (args_at t) args.Post InvLoop μ-loop
-  returns_3 c = λ ts tl. argued_done (turn c.before.before ts tl) (λ e. c.if2.true (kind_is c.before ts tl ∙ e))
+  pub returns_3 : lts.Need-returns-then-kind_at-ne-COMMA (cs t) (args_at t) args.Post InvLoop μ-loop
+  returns_3 c = λ ts tl. argued_done (turn c.before.before ts tl) (λ e. c.if-kind_at-ne-COMMA.true (kind_is c.before ts tl ∙ e))
 
-  pub add_add_2 : lts.Need-add-overflow-add-2 (cs t) (args_at t) args.Post InvLoop μ-loop
-  add_add_2 c = omega (arith, in_row c.before, (at_loop (turning c.before)).pre.1)
+  pub add_add_2 : lts.Need-overflow_add-at (cs t) (args_at t) args.Post InvLoop μ-loop
+  add_add_2 c = omega (arith, in_row c.before, (at_loop (turning c.before)).requires.1)
 
-  pub sub_add_2 : lts.Need-overflow-sub-add-2 (cs t) (args_at t) args.Post InvLoop μ-loop
-  sub_add_2 c = omega (arith, (nesting (looping (turning c.before))).if1.left)
+  pub sub_add_2 : lts.Need-overflow_sub-left-in-loop-s (cs t) (args_at t) args.Post InvLoop μ-loop
+  sub_add_2 c = omega (arith, (nesting (looping (turning c.before))).if-left-eq0.false)
 
-  pub add_requires_2 : lts.Need-add-requires-2 (cs t) (args_at t) args.Post InvLoop μ-loop
+  pub add_requires_2 : lts.Need-add-requires-in-loop-s (cs t) (args_at t) args.Post InvLoop μ-loop
   add_requires_2 c κs =
       let l = turning c.before in
       let w = argued_fit (turn l _ (tells_some _ _)) in
       let h = in_row c.before in
-      omega (arith, w.few, (at_loop l).pre, (nesting (looping l)).if1.left)
+      omega (arith, w.few, (at_loop l).requires, (nesting (looping l)).if-left-eq0.false)
 
-  pub enum_known_t_2 : lts.Need-enum-known-t-2 (cs t) (args_at t) args.Post InvLoop μ-loop
+  pub enum_known_t_2 : lts.Need-enum_known-t-in-Done-add-2 (cs t) (args_at t) args.Post InvLoop μ-loop
   enum_known_t_2 c = search rules
 
-  pub add_counted : lts.Need-add-counted (cs t) (args_at t) args.Post InvLoop μ-loop
+  pub add_counted : lts.Need-overflow_add-s (cs t) (args_at t) args.Post InvLoop μ-loop
   add_counted c =
-      let p = second_done c.before.before in
+      let p = second_done c.before in
       let e = at_second p in
       let l = tells_some e.args.rows.now e.args.count in
       let w = argued_fit (turn (turning (going p)) _ l) in
-      omega (arith, w.counts, w.inside, l.long, e.pre.1)
+      omega (arith, w.counts, w.inside, l.long, e.requires.1)
 
-  pub counted_requires_2 : lts.Need-counted-requires-2 (cs t) (args_at t) args.Post InvLoop μ-loop
+  pub counted_requires_2 : lts.Need-counted-s-requires-in-Done-add (cs t) (args_at t) args.Post InvLoop μ-loop
   counted_requires_2 c κs = search rules
 
-  pub loop_less : lts.Need-loop-smaller (cs t) (args_at t) args.Post InvLoop μ-loop
+  pub loop_less : lts.Need-loop-s-smaller (cs t) (args_at t) args.Post InvLoop μ-loop
   loop_less c =
-      let j = c.before.before.before in
+      let j = c.before.before in
       let h = in_row (going (second_done j)) in
       let v = got j _ (tells_some _ _) in
-      let r = ap (λ (x : At). x.row) c.counted2.ensures in
+      let r = ap (λ (x : At). x.row) c.counted-s-in-Done-add.ensures in
       omega (arith, v.stands.rows)
 
-  pub loop_again : lts.Need-loop-preserved (cs t) (args_at t) args.Post InvLoop μ-loop
+  pub loop_again : lts.Need-loop-s-preserved (cs t) (args_at t) args.Post InvLoop μ-loop
   loop_again c = λ ts tl m h.
-      let j = c.before.before.before in
+      let j = c.before.before in
       let g = going (second_done j) in
-      argued_again ((turning g).loop.inv ts tl m h) (is_comma g ts tl) (nesting (looping (turning g))).if1.left
-      (got j ts tl) c.counted2.ensures
+      argued_again ((turning g).loop-s.invariant ts tl m h) (is_comma g ts tl) (nesting (looping (turning g))).if-left-eq0.false
+      (got j ts tl) c.counted-s-in-Done-add.ensures
 
-  pub enum_known_why_2 : lts.Need-enum-known-why-2 (cs t) (args_at t) args.Post InvLoop μ-loop
+  pub enum_known_why_2 : lts.Need-enum_known-why-in-Refused-add-2 (cs t) (args_at t) args.Post InvLoop μ-loop
   enum_known_why_2 c = search rules
 
-  pub same_length_3 : lts.Need-same-length-3 (cs t) (args_at t) args.Post InvLoop μ-loop
+  pub same_length_3 : lts.Need-shape_of-nodes-in-Refused-add (cs t) (args_at t) args.Post InvLoop μ-loop
   same_length_3 c =
       let f = second_refused c in
-      f.add2.kept.1.1.0 ∙ (argued_fit (turn (turning (going f)) _ (tells_some _ _))).long
+      f.add-in-loop-s.auto.nodes ∙ (argued_fit (turn (turning (going f)) _ (tells_some _ _))).long
 
-  pub returns_4 : lts.Need-returns-4 (cs t) (args_at t) args.Post InvLoop μ-loop
+  pub returns_4 : lts.Need-returns-in-Refused-add (cs t) (args_at t) args.Post InvLoop μ-loop
   returns_4 c = λ ts tl.
       let f = second_refused c in
       let g = going f in
-      argued_fails (turn (turning g) ts tl) (is_comma g ts tl) (nesting (looping (turning g))).if1.left f.add2.last.1.1.0
-      (f.add2.ensures ts tl) c.before.why2.given.1
+      argued_fails (turn (turning g) ts tl) (is_comma g ts tl) (nesting (looping (turning g))).if-left-eq0.false f.add-in-loop-s.new.nodes
+      (f.add-in-loop-s.ensures ts tl) c.in-Refused-add.is

@@ -50,11 +50,11 @@ cs t = (
   is_mul_reads.Learnt,
 )
 
-abbrev pub InvLoop : lts.invariant_loop
+abbrev pub InvLoop : lts.invariant-loop-t
 InvLoop rows count nodes₀ row node left s₀ k₀ at₀ nodes s k at =
     (ts : List Tok) → Tells ts rows count → Factors ts left row node nodes₀ s k at nodes
 
-abbrev pub μ-loop : lts.decreases_loop
+abbrev pub μ-loop : lts.decreases-loop-t
 μ-loop rows count nodes₀ row node left s₀ k₀ at₀ nodes s k at = count - at
 
 module _ (t : ℕ) where
@@ -64,32 +64,32 @@ module _ (t : ℕ) where
   Entry = lts.Start (cs t) (mul_at t) mul.Post InvLoop μ-loop
 
   abbrev Looping : Type 0
-  Looping = lts.At-loop (cs t) (mul_at t) mul.Post InvLoop μ-loop
+  Looping = lts.At-loop-t (cs t) (mul_at t) mul.Post InvLoop μ-loop
 
   abbrev Called : Type 0
   Called = lts.After-unary (cs t) (mul_at t) mul.Post InvLoop μ-loop
 
   abbrev Joining : Type 0
-  Joining = lts.After-t (cs t) (mul_at t) mul.Post InvLoop μ-loop
+  Joining = lts.In-Done (cs t) (mul_at t) mul.Post InvLoop μ-loop
 
   abbrev Joined : Type 0
-  Joined = lts.After-joined (cs t) (mul_at t) mul.Post InvLoop μ-loop
+  Joined = lts.After-joined-s (cs t) (mul_at t) mul.Post InvLoop μ-loop
 
   abbrev Looked : Type 0
-  Looked = lts.After-kind-at (cs t) (mul_at t) mul.Post InvLoop μ-loop
+  Looked = lts.After-kind_at-k (cs t) (mul_at t) mul.Post InvLoop μ-loop
 
   abbrev Going : Type 0
-  Going = lts.Else2 (cs t) (mul_at t) mul.Post InvLoop μ-loop
+  Going = lts.Else-not-is_mul (cs t) (mul_at t) mul.Post InvLoop μ-loop
 
   -- the entry from the loop, the turn of the loop from behind the call
-  abbrev start : lts.Else1 (cs t) (mul_at t) mul.Post InvLoop μ-loop → Entry
+  abbrev start : lts.Else-is_lone (cs t) (mul_at t) mul.Post InvLoop μ-loop → Entry
   start c = c.before.before.before.before
 
   abbrev entry : Looping → Entry
   entry c = start c.before.before
 
   -- the entry, from where a lone operand is written
-  abbrev at_leaf : lts.After-leaf-arg (cs t) (mul_at t) mul.Post InvLoop μ-loop → Entry
+  abbrev at_leaf : lts.After-leaf-arg-1 (cs t) (mul_at t) mul.Post InvLoop μ-loop → Entry
   at_leaf c = c.before.before.before.before.before
 
   abbrev turning : Called → Looping
@@ -97,14 +97,14 @@ module _ (t : ℕ) where
 
   -- the call, from behind its state and from behind its refusal
   abbrev done : Joining → Called
-  done c = c.before.before.before.before
+  done c = c.before.before.before
 
-  abbrev refused : lts.After-why (cs t) (mul_at t) mul.Post InvLoop μ-loop → Called
-  refused c = c.before.before.before.before
+  abbrev refused : lts.In-Refused (cs t) (mul_at t) mul.Post InvLoop μ-loop → Called
+  refused c = c.before.before.before
 
   -- its state from behind the operator's node, that node from behind the look at the row, the look from behind the test
   abbrev joining : Joined → Joining
-  joining c = c.before.before.before
+  joining c = c.before.before
 
   abbrev joined : Looked → Joined
   joined c = c.before.before.before
@@ -123,120 +123,120 @@ module _ (t : ℕ) where
 
   -- there is room for the operand
   room : (c : Looping) (ts : List Tok) → Told ts (entry c)
-      → (let a = (entry c).args in Room ts a.row a.node a.nodes.now c.loop.s c.loop.at c.loop.nodes)
-  room c ts tl = next_room level_fit (omega (arith, tl.long, (entry c).requires.1)) (c.loop.invariant ts tl)
+      → (let a = (entry c).args in Room ts a.row a.node a.nodes.now c.loop-t.s c.loop-t.at c.loop-t.nodes)
+  room c ts tl = next_room level_fit (omega (arith, tl.long, (entry c).requires.1)) (c.loop-t.invariant ts tl)
 
   -- what the call gave
   got : (c : Joining) (ts : List Tok) → Told ts (entry (turning (done c)))
       → (let a = (entry (turning (done c))).args in
-      let l = (turning (done c)).loop in
+      let l = (turning (done c)).loop-t in
       Came (Reads ts Unary a.left l.at) ts (Parse.unary ts (Parse.inner ts a.left) l.at)
-      l.at l.s.node l.nodes c.t.given.0.0 (done c).unary.new.1.1.0)
-  got c ts tl = unary_came ((done c).unary.ensures ts tl) c.t.given.1
+      l.at l.s.node l.nodes c.in-Done.t (done c).unary.new.nodes)
+  got c ts tl = unary_came ((done c).unary.ensures ts tl) c.in-Done.is
 
   -- what is read with it
   read : (c : Joined) (ts : List Tok) → Told ts (entry (turn c))
-      → (let a = (entry (turn c)).args in Products ts a.left a.row a.node a.nodes.now c.joined.result c.joined.new.0)
-  read c ts tl = factors_read ((turn c).loop.invariant ts tl) (got (joining c) ts tl) c.joined.ensures
+      → (let a = (entry (turn c)).args in Products ts a.left a.row a.node a.nodes.now c.joined-s.result c.joined-s.new.nodes)
+  read c ts tl = factors_read ((turn c).loop-t.invariant ts tl) (got (joining c) ts tl) c.joined-s.ensures
 
   -- the row's kind, and what the test says of it
   kind_is : (c : Looked) (ts : List Tok) → Told ts (entry (turn (joined c)))
-      → c.kind-at.result ≡ kind_at ts (joined c).joined.result.row
-  kind_is c ts tl = c.kind-at.ensures ∙ tells_kind ts _ _ tl (joined c).joined.result.row
+      → c.kind_at-k.result ≡ kind_at ts (joined c).joined-s.result.row
+  kind_is c ts tl = c.kind_at-k.ensures ∙ tells_kind ts _ _ tl (joined c).joined-s.result.row
 
-  goes_on : (c : Going) → is_mul (looked c).kind-at.result ≡ true
-  goes_on c = sym c.before.is_mul.ensures ∙ not-false _ c.if2.false
+  goes_on : (c : Going) → is_mul (looked c).kind_at-k.result ≡ true
+  goes_on c = sym c.before.is_mul.ensures ∙ not-false _ c.if-not-is_mul.false-raw
 
-  in_row : (c : Going) → (joined (looked c)).joined.result.row < (entry (turn (joined (looked c)))).args.count
-  in_row c = word_test _ _ _ is_mul refl (ap is_mul (sym (looked c).kind-at.ensures) ∙ goes_on c)
+  in_row : (c : Going) → (joined (looked c)).joined-s.result.row < (entry (turn (joined (looked c)))).args.count
+  in_row c = word_test _ _ _ is_mul refl (ap is_mul (sym (looked c).kind_at-k.ensures) ∙ goes_on c)
 
   -- ---- the needs
 
-  pub is_lone_requires : lts.Need-is-lone-requires (cs t) (mul_at t) mul.Post InvLoop μ-loop
+  pub is_lone_requires : lts.Need-is_lone-requires (cs t) (mul_at t) mul.Post InvLoop μ-loop
   is_lone_requires c κs = omega (arith, c.before.before.requires.1)
 
   pub leaf_requires : lts.Need-leaf-requires (cs t) (mul_at t) mul.Post InvLoop μ-loop
   leaf_requires c κs = omega (arith, (at_leaf c).requires.1)
 
-  pub same_length : lts.Need-same-length (cs t) (mul_at t) mul.Post InvLoop μ-loop
+  pub same_length : lts.Need-shape_of-nodes-then-is_lone (cs t) (mul_at t) mul.Post InvLoop μ-loop
   same_length c = search rules
 
-  pub returns : lts.Need-returns (cs t) (mul_at t) mul.Post InvLoop μ-loop
+  pub returns : lts.Need-returns-then-is_lone (cs t) (mul_at t) mul.Post InvLoop μ-loop
   returns c = λ ts tl.
       let l = c.before.before in
       let a = (at_leaf l.before).args in
       let o = l.before.before in
-      met_lone ts (Parse.inner ts a.left) a.row a.node a.nodes.now l.leaf.new.1.1.0 l.leaf.result
-      (rw (← tells_kind ts _ _ tl a.row, ← tells_kind ts _ _ tl (a.row + 1)) (sym o.before.is-lone.ensures ∙ o.if1.true))
+      met_lone ts (Parse.inner ts a.left) a.row a.node a.nodes.now l.leaf.new.nodes l.leaf.result
+      (rw (← tells_kind ts _ _ tl a.row, ← tells_kind ts _ _ tl (a.row + 1)) (sym o.before.is_lone.ensures ∙ o.if-is_lone.true))
       (l.leaf.ensures ts tl)
 
-  pub unread_requires : lts.Need-unread-requires (cs t) (mul_at t) mul.Post InvLoop μ-loop
+  pub unread_requires : lts.Need-unread-s-requires (cs t) (mul_at t) mul.Post InvLoop μ-loop
   unread_requires c κs = search rules
 
-  pub loop_holds : lts.Need-loop-init (cs t) (mul_at t) mul.Post InvLoop μ-loop
-  loop_holds c = λ ts tl. first (ap (λ (x : At). x.node) c.unread.ensures) refl refl refl
+  pub loop_holds : lts.Need-loop-t-init (cs t) (mul_at t) mul.Post InvLoop μ-loop
+  loop_holds c = λ ts tl. first (ap (λ (x : At). x.node) c.unread-s.ensures) refl refl refl
 
   pub unary_requires : lts.Need-unary-requires (cs t) (mul_at t) mul.Post InvLoop μ-loop
   unary_requires c κs =
       let e = entry c.before in
       let l = tells_some e.args.rows.now e.args.count in
       let w = room c.before _ l in
-      omega (arith, w.few, w.inside, l.long, e.pre)
+      omega (arith, w.few, w.inside, l.long, e.requires)
 
-  pub enum_known_t : lts.Need-enum-known-t (cs t) (mul_at t) mul.Post InvLoop μ-loop
+  pub enum_known_t : lts.Need-enum_known-t (cs t) (mul_at t) mul.Post InvLoop μ-loop
   enum_known_t c = search rules
 
-  pub joined_requires : lts.Need-joined-requires (cs t) (mul_at t) mul.Post InvLoop μ-loop
+  pub joined_requires : lts.Need-joined-s-requires (cs t) (mul_at t) mul.Post InvLoop μ-loop
   joined_requires c κs =
-      let j = c.before.before in
+      let j = c.before in
       let d = turning (done j) in
       let e = entry d in
       let l = tells_some e.args.rows.now e.args.count in
       let w = room d _ l in
       let v = came_fit (got j _ l) in
-      omega (arith, w.few, v.few, v.inside, l.long, e.pre.1)
+      omega (arith, w.few, v.few, v.inside, l.long, e.requires.1)
 
-  pub enum_known_why : lts.Need-enum-known-why (cs t) (mul_at t) mul.Post InvLoop μ-loop
+  pub enum_known_why : lts.Need-enum_known-why (cs t) (mul_at t) mul.Post InvLoop μ-loop
   enum_known_why c = search rules
 
-  pub same_length_2 : lts.Need-same-length-2 (cs t) (mul_at t) mul.Post InvLoop μ-loop
+  pub same_length_2 : lts.Need-shape_of-nodes-in-Refused (cs t) (mul_at t) mul.Post InvLoop μ-loop
   same_length_2 c =
-      let f = refused c.before in
-      f.unary.kept.1.1.0 ∙ (room (turning f) _ (tells_some _ _)).long
+      let f = refused c in
+      f.unary.auto.nodes ∙ (room (turning f) _ (tells_some _ _)).long
 
-  pub returns_2 : lts.Need-returns-2 (cs t) (mul_at t) mul.Post InvLoop μ-loop
+  pub returns_2 : lts.Need-returns-in-Refused (cs t) (mul_at t) mul.Post InvLoop μ-loop
   returns_2 c = λ ts tl.
-      let f = refused c.before in
-      factors_fail f.unary.last.1.1.0 ((turning f).loop.inv ts tl) (f.unary.ensures ts tl) c.before.why.given.1
+      let f = refused c in
+      factors_fail f.unary.new.nodes ((turning f).loop-t.invariant ts tl) (f.unary.ensures ts tl) c.in-Refused.is
 
-  pub kind_at_requires : lts.Need-kind-at-requires (cs t) (mul_at t) mul.Post InvLoop μ-loop
-  kind_at_requires c κs = (entry (turn c.before.before)).pre.1.lent
+  pub kind_at_requires : lts.Need-kind_at-k-requires (cs t) (mul_at t) mul.Post InvLoop μ-loop
+  kind_at_requires c κs = (entry (turn c.before.before)).requires.1.lent
 
-  pub is_mul_requires : lts.Need-is-mul-requires (cs t) (mul_at t) mul.Post InvLoop μ-loop
+  pub is_mul_requires : lts.Need-is_mul-requires (cs t) (mul_at t) mul.Post InvLoop μ-loop
   is_mul_requires c κs = search rules
 
-  pub same_length_3 : lts.Need-same-length-3 (cs t) (mul_at t) mul.Post InvLoop μ-loop
+  pub same_length_3 : lts.Need-shape_of-nodes-then-not-is_mul (cs t) (mul_at t) mul.Post InvLoop μ-loop
   same_length_3 c = (level_fit (read (joined c.before.before) _ (tells_some _ _))).long
 
-  pub returns_3 : lts.Need-returns-3 (cs t) (mul_at t) mul.Post InvLoop μ-loop
+  pub returns_3 : lts.Need-returns-then-not-is_mul (cs t) (mul_at t) mul.Post InvLoop μ-loop
   returns_3 c = λ ts tl.
       let k = c.before.before in
       level_done (read (joined k) ts tl)
-      (ap is_mul (sym (kind_is k ts tl)) ∙ sym c.before.is_mul.ensures ∙ not-true _ c.if2.true)
+      (ap is_mul (sym (kind_is k ts tl)) ∙ sym c.before.is_mul.ensures ∙ not-true _ c.if-not-is_mul.true-raw)
 
-  pub add_at_row : lts.Need-add-at (cs t) (mul_at t) mul.Post InvLoop μ-loop
-  add_at_row c = omega (arith, in_row c, (entry (turn (joined (looked c)))).pre.1)
+  pub add_at_row : lts.Need-overflow_add-at (cs t) (mul_at t) mul.Post InvLoop μ-loop
+  add_at_row c = omega (arith, in_row c, (entry (turn (joined (looked c)))).requires.1)
 
-  pub loop_less : lts.Need-loop-smaller (cs t) (mul_at t) mul.Post InvLoop μ-loop
+  pub loop_less : lts.Need-loop-t-smaller (cs t) (mul_at t) mul.Post InvLoop μ-loop
   loop_less c =
       let j = joined (looked c) in
       let p = joining j in
-      let l = (turn j).loop in
+      let l = (turn j).loop-t in
       let v = got p _ (tells_some _ _) in
-      let r = joined_row (eqb l.k Eof) l.s p.t.given.0.0 l.k (done p).unary.last.1.1.0 j.joined.last.0
-      j.joined.result j.joined.ensures in
+      let r = joined_row (eqb l.k Eof) l.s p.in-Done.t l.k (done p).unary.new.nodes j.joined-s.new.nodes
+      j.joined-s.result j.joined-s.ensures in
       omega (arith, in_row c, r, v.stands.rows)
 
-  pub loop_again : lts.Need-loop-preserved (cs t) (mul_at t) mul.Post InvLoop μ-loop
+  pub loop_again : lts.Need-loop-t-preserved (cs t) (mul_at t) mul.Post InvLoop μ-loop
   loop_again c = λ ts tl.
       further (read (joined (looked c)) ts tl) (kind_is (looked c) ts tl) (goes_on c) refl (omega (arith, in_row c, tl.long))

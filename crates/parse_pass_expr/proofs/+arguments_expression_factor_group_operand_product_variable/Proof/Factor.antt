@@ -15,21 +15,21 @@ abbrev pub cs : ℕ → lts.Claims
 cs t = (is_alone_reads.Asked, is_alone_reads.Learnt, operand_below t, operand.Post)
 
 module _ (t : ℕ) where
-  alone : (c : lts.Then1 (cs t) (factor_at t) factor.Post) → (let e = c.before.before.before in
+  alone : (c : lts.Then-is_alone (cs t) (factor_at t) factor.Post) → (let e = c.before.before.before in
       Seen Unary e.args.left e.args.rows.now e.args.count e.args.row (e.args.row + 1))
-  alone c = seen_alone c.before.before.before.requires.1 (sym c.before.is-alone.ensures ∙ c.if1.true)
+  alone c = seen_alone c.before.before.before.requires.1 (sym c.before.is_alone.ensures ∙ c.if-is_alone.true)
 
-  pub is_alone_requires : lts.Need-is-alone-requires (cs t) (factor_at t) factor.Post
+  pub is_alone_requires : lts.Need-is_alone-requires (cs t) (factor_at t) factor.Post
   is_alone_requires c κs = looks_less c.before.requires.1 (omega arith)
 
-  pub add_result : lts.Need-overflow-add-result (cs t) (factor_at t) factor.Post
+  pub add_result : lts.Need-overflow_add-result (cs t) (factor_at t) factor.Post
   add_result c = omega (arith, (alone c).inside, c.before.before.before.requires.1)
 
-  pub returns : lts.Need-returns (cs t) (factor_at t) factor.Post
+  pub returns : lts.Need-returns-then-is_alone (cs t) (factor_at t) factor.Post
   returns c = λ z. alone c
 
   pub operand_requires : lts.Need-operand-requires (cs t) (factor_at t) factor.Post
   operand_requires c κs = let e = c.before.before.before in (omega (arith, e.requires.0), e.requires.1)
 
-  pub returns_2 : lts.Need-returns-2 (cs t) (factor_at t) factor.Post
+  pub returns_2 : lts.Need-returns (cs t) (factor_at t) factor.Post
   returns_2 c = c.operand.ensures

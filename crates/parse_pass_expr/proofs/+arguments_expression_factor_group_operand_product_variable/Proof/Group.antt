@@ -24,16 +24,16 @@ module _ (t : ℕ) where
   Entry = lts.Start (cs t) (group_at t) group.Post
 
   abbrev Opened : Type 0
-  Opened = lts.Else1 (cs t) (group_at t) group.Post
+  Opened = lts.Else-kind-ne-LPAREN (cs t) (group_at t) group.Post
 
   abbrev Nesting : Type 0
-  Nesting = lts.Else2 (cs t) (group_at t) group.Post
+  Nesting = lts.Else-left-eq0 (cs t) (group_at t) group.Post
 
   abbrev Ended : Type 0
-  Ended = lts.Else3 (cs t) (group_at t) group.Post
+  Ended = lts.Else-end-eq0 (cs t) (group_at t) group.Post
 
   abbrev Shut : Type 0
-  Shut = lts.Else4 (cs t) (group_at t) group.Post
+  Shut = lts.Else-kind-ne-RPAREN (cs t) (group_at t) group.Post
 
   abbrev entry : Opened → Entry
   entry c = c.before.before.before
@@ -54,56 +54,56 @@ module _ (t : ℕ) where
   -- ---- what holds there
 
   is_open : (c : Opened) → kind_in (entry c).args.rows.now (entry c).args.row ≡ LParen
-  is_open c = sym c.before.kind.ensures ∙ c.if1.false
+  is_open c = sym c.before.kind.ensures ∙ c.if-kind-ne-LPAREN.false
 
   inner : (c : Opened) → LooksAt (entry c) ((entry c).args.row + 1)
   inner c = behind (entry c).requires.1 _ refl (is_open c) refl
 
   whole : (c : Ended) → (let e = at_end c in
-      Seen Add (e.args.left - 1) e.args.rows.now e.args.count (e.args.row + 1) c.before.expression.result)
-  whole c = c.before.expression.ensures c.if3.false
+      Seen Add (e.args.left - 1) e.args.rows.now e.args.count (e.args.row + 1) c.before.expression-end.result)
+  whole c = c.before.expression-end.ensures c.if-end-eq0.false
 
   shut : (c : Shut) → (let e = at_end (ended c) in
-      Seen Basic e.args.left e.args.rows.now e.args.count e.args.row ((ended c).before.expression.result + 1))
+      Seen Basic e.args.left e.args.rows.now e.args.count e.args.row ((ended c).before.expression-end.result + 1))
   shut c =
       let n = nesting (ended c) in
-      seen_group (entry n.before).pre.1 n.if2.left (is_open n.before) (whole (ended c))
-      (sym c.before.kind2.ensures ∙ c.if4.false)
+      seen_group (entry n.before).requires.1 n.if-left-eq0.false (is_open n.before) (whole (ended c))
+      (sym c.before.kind-2.ensures ∙ c.if-kind-ne-RPAREN.false)
 
   -- ---- the needs
 
   pub kind_requires : lts.Need-kind-requires (cs t) (group_at t) group.Post
   kind_requires c κs = lent_here c.before.requires.1
 
-  pub returns : lts.Need-returns (cs t) (group_at t) group.Post
+  pub returns : lts.Need-returns-then-kind-ne-LPAREN (cs t) (group_at t) group.Post
   returns c = λ z. absurd (z refl)
 
-  pub returns_2 : lts.Need-returns-2 (cs t) (group_at t) group.Post
+  pub returns_2 : lts.Need-returns-then-left-eq0 (cs t) (group_at t) group.Post
   returns_2 c = λ z. absurd (z refl)
 
-  pub add_expression : lts.Need-overflow-add-expression (cs t) (group_at t) group.Post
+  pub add_expression : lts.Need-overflow_add-row (cs t) (group_at t) group.Post
   add_expression c = omega (arith, inner c.before)
 
-  pub sub_expression : lts.Need-overflow-sub-expression (cs t) (group_at t) group.Post
+  pub sub_expression : lts.Need-overflow_sub-left (cs t) (group_at t) group.Post
   sub_expression c = search rules
 
-  pub expression_requires : lts.Need-expression-requires (cs t) (group_at t) group.Post
-  expression_requires c κs = (omega (arith, (entry c.before).pre.0, c.if2.false), looks_less (inner c.before) (omega arith))
+  pub expression_requires : lts.Need-expression-end-requires (cs t) (group_at t) group.Post
+  expression_requires c κs = (omega (arith, (entry c.before).requires.0, c.if-left-eq0.false), looks_less (inner c.before) (omega arith))
 
-  pub returns_3 : lts.Need-returns-3 (cs t) (group_at t) group.Post
+  pub returns_3 : lts.Need-returns-then-end-eq0 (cs t) (group_at t) group.Post
   returns_3 c = λ z. absurd (z refl)
 
   pub kind_requires_2 : lts.Need-kind-requires-2 (cs t) (group_at t) group.Post
   kind_requires_2 c κs = lent_here (looks_at (at_end c).requires.1 (whole c).inside)
 
-  pub returns_4 : lts.Need-returns-4 (cs t) (group_at t) group.Post
+  pub returns_4 : lts.Need-returns-then-kind-ne-RPAREN (cs t) (group_at t) group.Post
   returns_4 c = λ z. absurd (z refl)
 
-  pub add_fields : lts.Need-overflow-add-fields (cs t) (group_at t) group.Post
-  add_fields c = omega (arith, (shut c).inside, (at_end (ended c)).pre.1)
+  pub add_fields : lts.Need-overflow_add-end (cs t) (group_at t) group.Post
+  add_fields c = omega (arith, (shut c).inside, (at_end (ended c)).requires.1)
 
   pub fields_requires : lts.Need-fields-requires (cs t) (group_at t) group.Post
-  fields_requires c κs = looks_less (looks_at (at_end (ended c)).pre.1 (shut c).inside) (omega arith)
+  fields_requires c κs = looks_less (looks_at (at_end (ended c)).requires.1 (shut c).inside) (omega arith)
 
-  pub returns_5 : lts.Need-returns-5 (cs t) (group_at t) group.Post
+  pub returns_5 : lts.Need-returns (cs t) (group_at t) group.Post
   returns_5 c = with_fields (shut c.before) c.fields.ensures

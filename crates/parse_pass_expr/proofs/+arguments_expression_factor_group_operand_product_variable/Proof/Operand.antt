@@ -38,16 +38,16 @@ module _ (t : ℕ) where
   Entry = lts.Start (cs t) (operand_at t) operand.Post
 
   abbrev Asked : Type 0
-  Asked = lts.After-kind (cs t) (operand_at t) operand.Post
+  Asked = lts.After-kind-k (cs t) (operand_at t) operand.Post
 
   abbrev Numbered : Type 0
-  Numbered = lts.Then2 (cs t) (operand_at t) operand.Post
+  Numbered = lts.Then-k-eq-NUMBER (cs t) (operand_at t) operand.Post
 
   abbrev Starred : Type 0
-  Starred = lts.Then3 (cs t) (operand_at t) operand.Post
+  Starred = lts.Then-k-eq-STAR (cs t) (operand_at t) operand.Post
 
   abbrev Nesting : Type 0
-  Nesting = lts.Else4 (cs t) (operand_at t) operand.Post
+  Nesting = lts.Else-left-eq0 (cs t) (operand_at t) operand.Post
 
   abbrev entry : Asked → Entry
   entry c = c.before.before
@@ -64,60 +64,60 @@ module _ (t : ℕ) where
   -- ---- what holds there
 
   is_number : (c : Numbered) → kind_in (entry (numbered c)).args.rows.now (entry (numbered c)).args.row ≡ Number
-  is_number c = sym (numbered c).kind.ensures ∙ c.if2.true
+  is_number c = sym (numbered c).kind-k.ensures ∙ c.if-k-eq-NUMBER.true
 
   number : (c : Numbered) → (let e = entry (numbered c) in
       Seen Basic e.args.left e.args.rows.now e.args.count e.args.row (e.args.row + 1))
-  number c = seen_number (entry (numbered c)).pre.1 (is_number c)
+  number c = seen_number (entry (numbered c)).requires.1 (is_number c)
 
   is_star : (c : Starred) → kind_in (entry (starred c)).args.rows.now (entry (starred c)).args.row ≡ Star
-  is_star c = sym (starred c).kind.ensures ∙ c.if3.true
+  is_star c = sym (starred c).kind-k.ensures ∙ c.if-k-eq-STAR.true
 
   next : (c : Starred) → (let e = entry (starred c) in
       Looks e.args.rows.now e.args.count (e.args.row + 1) e.args.left)
-  next c = behind (entry (starred c)).pre.1 _ refl (is_star c) refl
+  next c = behind (entry (starred c)).requires.1 _ refl (is_star c) refl
 
   -- ---- the needs
 
-  pub kind_requires : lts.Need-kind-requires (cs t) (operand_at t) operand.Post
+  pub kind_requires : lts.Need-kind-k-requires (cs t) (operand_at t) operand.Post
   kind_requires c κs = lent_here c.before.requires.1
 
   pub variable_requires : lts.Need-variable-requires (cs t) (operand_at t) operand.Post
   variable_requires c κs =
       let e = entry c.before in
-      (omega (arith, e.pre.0), (e.pre.1, sym c.before.kind.ensures ∙ c.if1.true))
+      (omega (arith, e.requires.0), (e.requires.1, sym c.before.kind-k.ensures ∙ c.if-k-eq-IDENTIFIER.true))
 
-  pub returns : lts.Need-returns (cs t) (operand_at t) operand.Post
+  pub returns : lts.Need-returns-then-k-eq-IDENTIFIER (cs t) (operand_at t) operand.Post
   returns c = λ z. seen_as (λ ts r. Parts.prim r) (c.variable.ensures z)
 
-  pub add_fields : lts.Need-overflow-add-fields (cs t) (operand_at t) operand.Post
-  add_fields c = omega (arith, (number c).inside, (entry (numbered c)).pre.1)
+  pub add_fields : lts.Need-overflow_add-row (cs t) (operand_at t) operand.Post
+  add_fields c = omega (arith, (number c).inside, (entry (numbered c)).requires.1)
 
   pub fields_requires : lts.Need-fields-requires (cs t) (operand_at t) operand.Post
-  fields_requires c κs = looks_less (looks_at (entry (numbered c)).pre.1 (number c).inside) (omega arith)
+  fields_requires c κs = looks_less (looks_at (entry (numbered c)).requires.1 (number c).inside) (omega arith)
 
-  pub returns_2 : lts.Need-returns-2 (cs t) (operand_at t) operand.Post
+  pub returns_2 : lts.Need-returns-then-k-eq-NUMBER (cs t) (operand_at t) operand.Post
   returns_2 c = λ z. seen_as (λ ts r. Parts.prim r) (with_fields (number c.before) c.fields.ensures z)
 
-  pub returns_3 : lts.Need-returns-3 (cs t) (operand_at t) operand.Post
+  pub returns_3 : lts.Need-returns-then-left-eq0 (cs t) (operand_at t) operand.Post
   returns_3 c = λ z. absurd (z refl)
 
-  pub add_operand : lts.Need-overflow-add-operand (cs t) (operand_at t) operand.Post
+  pub add_operand : lts.Need-overflow_add-row-then-k-eq-STAR (cs t) (operand_at t) operand.Post
   add_operand c = omega (arith, next c.before)
 
-  pub sub_operand : lts.Need-overflow-sub-operand (cs t) (operand_at t) operand.Post
+  pub sub_operand : lts.Need-overflow_sub-left (cs t) (operand_at t) operand.Post
   sub_operand c = search rules
 
   pub operand_requires : lts.Need-operand-requires (cs t) (operand_at t) operand.Post
-  operand_requires c κs = (omega (arith, (at_star c).requires.0, c.if4.false), looks_less (next c.before) (omega arith))
+  operand_requires c κs = (omega (arith, (at_star c).requires.0, c.if-left-eq0.false), looks_less (next c.before) (omega arith))
 
-  pub returns_4 : lts.Need-returns-4 (cs t) (operand_at t) operand.Post
+  pub returns_4 : lts.Need-returns-then-k-eq-STAR (cs t) (operand_at t) operand.Post
   returns_4 c = λ z.
       let s = c.before in
-      seen_star (at_star s).requires.1 s.if4.false (is_star s.before) (c.operand.ensures z)
+      seen_star (at_star s).requires.1 s.if-left-eq0.false (is_star s.before) (c.operand.ensures z)
 
   pub group_requires : lts.Need-group-requires (cs t) (operand_at t) operand.Post
-  group_requires c κs = let e = entry c.before.before.before in (omega (arith, e.pre.0), e.pre.1)
+  group_requires c κs = let e = entry c.before.before.before in (omega (arith, e.requires.0), e.requires.1)
 
-  pub returns_5 : lts.Need-returns-5 (cs t) (operand_at t) operand.Post
+  pub returns_5 : lts.Need-returns (cs t) (operand_at t) operand.Post
   returns_5 c = λ z. seen_as (λ ts r. Parts.prim r) (c.group.ensures z)

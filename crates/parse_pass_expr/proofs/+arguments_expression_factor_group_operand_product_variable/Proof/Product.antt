@@ -19,23 +19,23 @@ use Rattle.parse_pass_expr.proofs.+arguments_expression_factor_group_operand_pro
 abbrev pub cs : ℕ → lts.Claims
 cs t = (factor_below t, factor.Post, kind_reads.Asked, kind_reads.Learnt, is_mul_reads.Asked, is_mul_reads.Learnt)
 
-abbrev pub InvLoop : lts.invariant_loop
+abbrev pub InvLoop : lts.invariant-loop-count
 InvLoop rows count row left at₀ at = Turn Mul is_mul left rows count row at
 
-abbrev pub μ-loop : lts.decreases_loop
+abbrev pub μ-loop : lts.decreases-loop-count
 μ-loop rows count row left at₀ at = count - at
 
 module _ (t : ℕ) where
   -- ---- the places on the way: a turn of the loop, behind an operand, behind an operator
 
   abbrev Turning : Type 0
-  Turning = lts.At-loop (cs t) (product_at t) product.Post InvLoop μ-loop
+  Turning = lts.At-loop-count (cs t) (product_at t) product.Post InvLoop μ-loop
 
   abbrev Ended : Type 0
-  Ended = lts.Else1 (cs t) (product_at t) product.Post InvLoop μ-loop
+  Ended = lts.Else-end-eq0 (cs t) (product_at t) product.Post InvLoop μ-loop
 
   abbrev Joining : Type 0
-  Joining = lts.Else2 (cs t) (product_at t) product.Post InvLoop μ-loop
+  Joining = lts.Else-not-is_mul (cs t) (product_at t) product.Post InvLoop μ-loop
 
   abbrev entry : Turning → lts.Start (cs t) (product_at t) product.Post InvLoop μ-loop
   entry c = c.before.before
@@ -48,49 +48,49 @@ module _ (t : ℕ) where
 
   -- ---- what holds there
 
-  turn : (c : Turning) → (let a = (entry c).args in Looks a.rows.now a.count c.loop.at a.left)
-  turn c = looks_at (entry c).requires.1 c.loop.invariant.inside
+  turn : (c : Turning) → (let a = (entry c).args in Looks a.rows.now a.count c.loop-count.at a.left)
+  turn c = looks_at (entry c).requires.1 c.loop-count.invariant.inside
 
   -- the operand, and all that is read up to its end
   operand : (c : Ended) → (let a = (entry (turning c)).args in
-      Seen Unary a.left a.rows.now a.count (turning c).loop.at c.before.factor.result)
-  operand c = c.before.factor.ensures c.if1.false
+      Seen Unary a.left a.rows.now a.count (turning c).loop-count.at c.before.factor-end.result)
+  operand c = c.before.factor-end.ensures c.if-end-eq0.false
 
   whole : (c : Ended) → (let a = (entry (turning c)).args in
-      Seen Mul a.left a.rows.now a.count a.row c.before.factor.result)
-  whole c = turn_seen products (turning c).loop.invariant (operand c)
+      Seen Mul a.left a.rows.now a.count a.row c.before.factor-end.result)
+  whole c = turn_seen products (turning c).loop-count.invariant (operand c)
 
   again : (c : Joining) → (let a = (entry (turning (ended c))).args in
-      Turn Mul is_mul a.left a.rows.now a.count a.row ((ended c).before.factor.result + 1))
+      Turn Mul is_mul a.left a.rows.now a.count a.row ((ended c).before.factor-end.result + 1))
   again c =
-      turn_again products (entry (turning (ended c))).pre.1 (whole (ended c))
-      (ap is_mul (sym c.before.before.kind.ensures) ∙ sym c.before.is_mul.ensures ∙ not-false _ c.if2.false)
+      turn_again products (entry (turning (ended c))).requires.1 (whole (ended c))
+      (ap is_mul (sym c.before.before.kind.ensures) ∙ sym c.before.is_mul.ensures ∙ not-false _ c.if-not-is_mul.false-raw)
 
   -- ---- the needs
 
-  pub loop_holds : lts.Need-loop-init (cs t) (product_at t) product.Post InvLoop μ-loop
+  pub loop_holds : lts.Need-loop-count-init (cs t) (product_at t) product.Post InvLoop μ-loop
   loop_holds c = turn_first c.before.requires.1.inside
 
-  pub factor_requires : lts.Need-factor-requires (cs t) (product_at t) product.Post InvLoop μ-loop
+  pub factor_requires : lts.Need-factor-end-requires (cs t) (product_at t) product.Post InvLoop μ-loop
   factor_requires c κs = (omega (arith, (entry c).requires.0), turn c)
 
-  pub returns : lts.Need-returns (cs t) (product_at t) product.Post InvLoop μ-loop
+  pub returns : lts.Need-returns-then-end-eq0 (cs t) (product_at t) product.Post InvLoop μ-loop
   returns c = λ z. absurd (z refl)
 
   pub kind_requires : lts.Need-kind-requires (cs t) (product_at t) product.Post InvLoop μ-loop
   kind_requires c κs = lent_here (looks_at (turn (turning c)) (whole c).inside)
 
-  pub is_mul_requires : lts.Need-is-mul-requires (cs t) (product_at t) product.Post InvLoop μ-loop
+  pub is_mul_requires : lts.Need-is_mul-requires (cs t) (product_at t) product.Post InvLoop μ-loop
   is_mul_requires c κs = search rules
 
-  pub returns_2 : lts.Need-returns-2 (cs t) (product_at t) product.Post InvLoop μ-loop
+  pub returns_2 : lts.Need-returns-then-not-is_mul (cs t) (product_at t) product.Post InvLoop μ-loop
   returns_2 c = λ z. whole c.before.before.before
 
-  pub add_at : lts.Need-overflow-add-at (cs t) (product_at t) product.Post InvLoop μ-loop
+  pub add_at : lts.Need-overflow_add-at (cs t) (product_at t) product.Post InvLoop μ-loop
   add_at c = omega (arith, (again c).inside, turn (turning (ended c)))
 
-  pub loop_less : lts.Need-loop-smaller (cs t) (product_at t) product.Post InvLoop μ-loop
+  pub loop_less : lts.Need-loop-count-smaller (cs t) (product_at t) product.Post InvLoop μ-loop
   loop_less c = omega (arith, (again c).inside, (operand (ended c)).up)
 
-  pub loop_again : lts.Need-loop-preserved (cs t) (product_at t) product.Post InvLoop μ-loop
+  pub loop_again : lts.Need-loop-count-preserved (cs t) (product_at t) product.Post InvLoop μ-loop
   loop_again c = again c

@@ -28,36 +28,36 @@ cs t = (
 
 module _ (t : ℕ) where
   abbrev Looked : Type 0
-  Looked = lts.After-kind (cs t) (statement_at t) statement'.Post
+  Looked = lts.After-kind-k (cs t) (statement_at t) statement'.Post
 
   abbrev entry : Looked → lts.Start (cs t) (statement_at t) statement'.Post
   entry c = c.before.before
 
-  pub kind_requires : lts.Need-kind-requires (cs t) (statement_at t) statement'.Post
+  pub kind_requires : lts.Need-kind-k-requires (cs t) (statement_at t) statement'.Post
   kind_requires c κs = omega (arith, c.before.requires.1.lent, c.before.requires.1.inside)
 
   pub declaration_requires : lts.Need-declaration-requires (cs t) (statement_at t) statement'.Post
-  declaration_requires c κs = ((entry c.before).pre.1, ap is_declaring (sym c.before.kind.ensures) ∙ c.if1.true)
+  declaration_requires c κs = ((entry c.before).requires.1, ap is_declaring (sym c.before.kind-k.ensures) ∙ c.if-k.true)
 
-  pub returns : lts.Need-returns (cs t) (statement_at t) statement'.Post
+  pub returns : lts.Need-returns-then-k (cs t) (statement_at t) statement'.Post
   returns c h = c.declaration.ensures h
 
   pub giving_requires : lts.Need-giving-requires (cs t) (statement_at t) statement'.Post
-  giving_requires c κs = let d = c.before.before in ((entry d).requires.1, sym d.kind.ensures ∙ c.if2.true)
+  giving_requires c κs = let d = c.before.before in ((entry d).requires.1, sym d.kind-k.ensures ∙ c.if-k-eq-RETURN.true)
 
-  pub returns_2 : lts.Need-returns-2 (cs t) (statement_at t) statement'.Post
+  pub returns_2 : lts.Need-returns-then-k-eq-RETURN (cs t) (statement_at t) statement'.Post
   returns_2 c h = c.giving.ensures h
 
-  pub branch_requires : lts.Need-branch-requires (cs t) (statement_at t) statement'.Post
+  pub branch_requires : lts.Need-branch-rows-requires (cs t) (statement_at t) statement'.Post
   branch_requires c κs =
       let d = c.before.before.before in
-      (omega (arith, (entry d).requires.0), ((entry d).requires.1, sym d.kind.ensures ∙ c.if3.true))
+      (omega (arith, (entry d).requires.0), ((entry d).requires.1, sym d.kind-k.ensures ∙ c.if-k-eq-IF.true))
 
-  pub returns_3 : lts.Need-returns-3 (cs t) (statement_at t) statement'.Post
-  returns_3 c h = c.branch.ensures h
+  pub returns_3 : lts.Need-returns-then-k-eq-IF (cs t) (statement_at t) statement'.Post
+  returns_3 c h = c.branch-rows.ensures h
 
   pub effect_requires : lts.Need-effect-requires (cs t) (statement_at t) statement'.Post
-  effect_requires c κs = (entry c.before.before.before).pre.1
+  effect_requires c κs = (entry c.before.before.before).requires.1
 
-  pub returns_4 : lts.Need-returns-4 (cs t) (statement_at t) statement'.Post
+  pub returns_4 : lts.Need-returns (cs t) (statement_at t) statement'.Post
   returns_4 c h = c.effect.ensures h

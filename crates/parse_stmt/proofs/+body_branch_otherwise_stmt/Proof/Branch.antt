@@ -46,19 +46,19 @@ module _ (t : ℕ) where
   Headed = lts.After-head (cs t) (branch_at t) branch.Post
 
   abbrev Braced : Type 0
-  Braced = lts.After-brace (cs t) (branch_at t) branch.Post
+  Braced = lts.In-Brace (cs t) (branch_at t) branch.Post
 
   abbrev Called : Type 0
   Called = lts.After-body (cs t) (branch_at t) branch.Post
 
   abbrev Read : Type 0
-  Read = lts.After-t (cs t) (branch_at t) branch.Post
+  Read = lts.In-Done (cs t) (branch_at t) branch.Post
 
   abbrev entry : Headed → Entry
   entry c = c.before.before.before
 
   abbrev headed : Braced → Headed
-  headed c = c.before.before
+  headed c = c.before
 
   -- the entry, from the brace
   abbrev at_brace : Braced → Entry
@@ -66,7 +66,7 @@ module _ (t : ℕ) where
 
   -- the brace, from behind the name's node
   abbrev braced : lts.After-close (cs t) (branch_at t) branch.Post → Braced
-  braced c = c.before.before.before
+  braced c = c.before.before
 
   -- that node, from behind the call for the then body
   abbrev named : Called → lts.After-close (cs t) (branch_at t) branch.Post
@@ -77,10 +77,10 @@ module _ (t : ℕ) where
 
   -- that call, from behind its state, and from behind its refusal
   abbrev called : Read → Called
-  called c = c.before.before.before.before
+  called c = c.before.before.before
 
-  abbrev refusing : lts.After-why (cs t) (branch_at t) branch.Post → Called
-  refusing c = c.before.before.before.before
+  abbrev refusing : lts.In-Refused-body (cs t) (branch_at t) branch.Post → Called
+  refusing c = c.before.before.before
 
   abbrev Told : List Tok → Entry → Type 0
   Told ts e = Tells ts e.args.rows.now e.args.count
@@ -92,13 +92,13 @@ module _ (t : ℕ) where
 
   -- the brace's row
   abbrev brace : Braced → ℕ
-  brace c = c.brace.given.0.0
+  brace c = c.in-Brace.brace
 
   -- what the rows of the guard say
   says : (c : Braced) → HeadSays (at_brace c).args.rows.now (at_brace c).args.count (at_brace c).args.row (Brace (brace c))
   says c =
       let a = (at_brace c).args in
-      subst (HeadSays a.rows.now a.count a.row) c.brace.given.1 (headed c).head.ensures
+      subst (HeadSays a.rows.now a.count a.row) c.in-Brace.is (headed c).head.ensures
 
   -- the row in front of the brace is no `else`
   then_kind : (c : Braced)
@@ -112,85 +112,85 @@ module _ (t : ℕ) where
   answered : (c : Called) (ts : List Tok) → Told ts (at_brace (at_body c))
       → (let b = at_body c in
       let a = (at_brace b).args in
-      BodyMet (Parse.body ts a.left (brace b)) NodeThen (brace b) (a.node + 1) (named c).close.new.0 c.body.new.1.1.0
+      BodyMet (Parse.body ts a.left (brace b)) NodeThen (brace b) (a.node + 1) (named c).close.new.nodes c.body.new.nodes
       c.body.result)
   answered c ts h =
       let b = at_body c in
       let a = (at_brace b).args in
       subst
-      (λ (x : ℕ). BodyMet (Parse.body ts a.left (brace b)) x (brace b) (a.node + 1) (named c).close.new.0
-      c.body.new.1.1.0 c.body.result)
+      (λ (x : ℕ). BodyMet (Parse.body ts a.left (brace b)) x (brace b) (a.node + 1) (named c).close.new.nodes
+      c.body.new.nodes c.body.result)
       (then_kind b) (c.body.ensures ts h)
 
   -- what the call for the then body gave
   got : (c : Read) (ts : List Tok) → Told ts (at_brace (at_body (called c)))
       → (let b = at_body (called c) in
       let a = (at_brace b).args in
-      Bodied ts (Parse.body ts a.left (brace b)) NodeThen (brace b) (a.node + 1) (named (called c)).close.last.0 c.t.given.0.0
-      (called c).body.new.1.1.0)
+      Bodied ts (Parse.body ts a.left (brace b)) NodeThen (brace b) (a.node + 1) (named (called c)).close.new.nodes c.in-Done.t
+      (called c).body.new.nodes)
   got c ts h =
       let f = (called c).body in
       let b = at_body (called c) in
       let a = (at_brace b).args in
-      bodied ts (Parse.body ts a.left (brace b)) NodeThen (brace b) (a.node + 1) (named (called c)).close.last.0 f.last.1.1.0
-      f.result c.t.given.0.0 (ends_body ts a.left (brace b) (omega (arith, h.long, (says b).1)))
-      (answered (called c) ts h) c.t.given.1
+      bodied ts (Parse.body ts a.left (brace b)) NodeThen (brace b) (a.node + 1) (named (called c)).close.new.nodes f.new.nodes
+      f.result c.in-Done.t (ends_body ts a.left (brace b) (omega (arith, h.long, (says b).1)))
+      (answered (called c) ts h) c.in-Done.is
 
   -- ---- the needs
 
   pub head_requires : lts.Need-head-requires (cs t) (branch_at t) branch.Post
   head_requires c κs = omega (arith, c.before.before.requires.1)
 
-  pub enum_known_brace : lts.Need-enum-known-brace (cs t) (branch_at t) branch.Post
+  pub enum_known_brace : lts.Need-enum_known-brace (cs t) (branch_at t) branch.Post
   enum_known_brace c = search rules
 
-  pub add_name : lts.Need-overflow-add-name (cs t) (branch_at t) branch.Post
-  add_name c = omega (arith, (at_brace c.before).pre.1)
+  pub add_name : lts.Need-overflow_add-name (cs t) (branch_at t) branch.Post
+  add_name c = omega (arith, (at_brace c).requires.1)
 
   pub close_requires : lts.Need-close-requires (cs t) (branch_at t) branch.Post
-  close_requires c κs = omega (arith, (at_brace c.before.before).pre.1)
+  close_requires c κs = omega (arith, (at_brace c.before).requires.1)
 
-  pub add_body : lts.Need-overflow-add-body (cs t) (branch_at t) branch.Post
-  add_body c = omega (arith, (at_brace (braced c.before.before.before)).pre.1)
+  pub add_body : lts.Need-overflow_add-node (cs t) (branch_at t) branch.Post
+  add_body c = omega (arith, (at_brace (braced c.before.before.before)).requires.1)
 
   pub body_requires : lts.Need-body-requires (cs t) (branch_at t) branch.Post
   body_requires c κs =
       let b = braced c.before.before.before in
       let h = says b in
-      omega (arith, h.0, h.1, (at_brace b).pre)
+      omega (arith, h.0, h.1, (at_brace b).requires)
 
-  pub enum_known_t : lts.Need-enum-known-t (cs t) (branch_at t) branch.Post
+  pub enum_known_t : lts.Need-enum_known-t (cs t) (branch_at t) branch.Post
   enum_known_t c = search rules
 
-  pub add_otherwise : lts.Need-overflow-add-otherwise (cs t) (branch_at t) branch.Post
-  add_otherwise c = omega (arith, (at_brace (at_body (called c.before.before))).pre.1)
+  pub add_otherwise : lts.Need-overflow_add-row (cs t) (branch_at t) branch.Post
+  add_otherwise c = omega (arith, (at_brace (at_body (called c.before))).requires.1)
 
   pub otherwise_requires : lts.Need-otherwise-requires (cs t) (branch_at t) branch.Post
   otherwise_requires c κs =
-      let p = c.before.before in
+      let p = c.before in
       let b = at_body (called p) in
       let e = at_brace b in
       let l = tells_some e.args.rows.now e.args.count in
       let w = got p _ l in
       let n = l.long in
-      omega (arith, (says b).0, w.rows, w.nodes, w.few, w.inside, e.pre)
+      omega (arith, (says b).0, w.rows, w.nodes, w.few, w.inside, e.requires)
 
-  pub enum_known_why : lts.Need-enum-known-why (cs t) (branch_at t) branch.Post
+  pub enum_known_why : lts.Need-enum_known-why (cs t) (branch_at t) branch.Post
   enum_known_why c = search rules
 
-  pub enum_known_why_2 : lts.Need-enum-known-why-2 (cs t) (branch_at t) branch.Post
+  pub enum_known_why_2 : lts.Need-enum_known-why-in-Refused-head (cs t) (branch_at t) branch.Post
   enum_known_why_2 c = search rules
 
-  pub cast_t27 : lts.Need-overflow-cast-t27 (cs t) (branch_at t) branch.Post
+  pub cast_t27 : lts.Need-overflow_cast-result (cs t) (branch_at t) branch.Post
   cast_t27 c = search rules
 
-  pub same_length : lts.Need-same-length (cs t) (branch_at t) branch.Post
+  pub same_length : lts.Need-shape_of-nodes-in-Done (cs t) (branch_at t) branch.Post
   same_length c = search rules
 
-  pub returns : lts.Need-returns (cs t) (branch_at t) branch.Post
+  pub returns : lts.Need-returns-in-Done (cs t) (branch_at t) branch.Post
   returns c ts h =
       let o = c.before.before in
-      let p = o.before.before.before in
+      let p = o.before.before in
       let f = (called p).body in
       let n = (named (called p)).close in
       let b = at_body (called p) in
@@ -198,32 +198,30 @@ module _ (t : ℕ) where
       let v = got p ts h in
       let k = says b in
       met_as (whole ts (at_brace b)) _ _ _ _ _ _
-      (k.3 ts h a.left (Parse.body ts a.left) ∙ then_ok _ _ v.list p.t.given.0.0.row v.is)
+      (k.3 ts h a.left (Parse.body ts a.left) ∙ then_ok _ _ v.list p.in-Done.t.row v.is)
       (o.otherwise.ensures ts h a.row a.node (spelling_of (tok_at ts (a.row + 3))) v.list a.nodes.now refl
-      (guarded ts a.row a.node a.nodes.now f.last.1.1.0 p.t.given.0.0 (Parse.body ts a.left (brace b)) (brace b)
-      n.last.0 v k.0 n.ensures))
+      (guarded ts a.row a.node a.nodes.now f.new.nodes p.in-Done.t (Parse.body ts a.left (brace b)) (brace b)
+      n.new.nodes v k.0 n.ensures))
 
-  pub same_length_2 : lts.Need-same-length-2 (cs t) (branch_at t) branch.Post
+  pub same_length_2 : lts.Need-shape_of-nodes-in-Refused-body (cs t) (branch_at t) branch.Post
   same_length_2 c = search rules
 
-  pub returns_2 : lts.Need-returns-2 (cs t) (branch_at t) branch.Post
+  pub returns_2 : lts.Need-returns-in-Refused-body (cs t) (branch_at t) branch.Post
   returns_2 c ts h =
-      let q = refusing c.before in
+      let q = refusing c in
       let f = q.body in
       let b = at_body q in
       let a = (at_brace b).args in
-      let w = c.before.why.given in
       met_no (whole ts (at_brace b)) _ _ _ _ _ _
       ((says b).3 ts h a.left (Parse.body ts a.left)
-      ∙ then_no _ _ w.0.0 w.0.1.0
-      (body_refused (Parse.body ts a.left (brace b)) NodeThen (brace b) (a.node + 1) (named q).close.last.0 f.last.1.1.0
-      f.result w.0.0 w.0.1.0 (answered q ts h) w.1))
+      ∙ then_no _ _ c.in-Refused-body.why c.in-Refused-body.r
+      (body_refused (Parse.body ts a.left (brace b)) NodeThen (brace b) (a.node + 1) (named q).close.new.nodes f.new.nodes
+      f.result c.in-Refused-body.why c.in-Refused-body.r (answered q ts h) c.in-Refused-body.is))
 
-  pub returns_3 : lts.Need-returns-3 (cs t) (branch_at t) branch.Post
+  pub returns_3 : lts.Need-returns-in-Refused (cs t) (branch_at t) branch.Post
   returns_3 c ts h =
-      let d = c.before.before.before in
+      let d = c.before in
       let a = (entry d).args in
-      let w = c.before.why2.given in
-      let k : HeadSays a.rows.now a.count a.row (Refused w.0.0 w.0.1.0) =
-      subst (HeadSays a.rows.now a.count a.row) w.1 d.head.ensures in
+      let k : HeadSays a.rows.now a.count a.row (Refused c.in-Refused.why c.in-Refused.r) =
+      subst (HeadSays a.rows.now a.count a.row) c.in-Refused.is d.head.ensures in
       met_no (whole ts (entry d)) _ _ _ _ _ _ (k ts h a.left (Parse.body ts a.left))

@@ -49,16 +49,16 @@ module _ (t : ℕ) where
   Entry = lts.Start (cs t) (otherwise_at t) otherwise.Post
 
   abbrev Looked : Type 0
-  Looked = lts.After-kind-at (cs t) (otherwise_at t) otherwise.Post
+  Looked = lts.After-kind_at (cs t) (otherwise_at t) otherwise.Post
 
   abbrev Behind : Type 0
-  Behind = lts.After-kind-at2 (cs t) (otherwise_at t) otherwise.Post
+  Behind = lts.After-kind_at-2 (cs t) (otherwise_at t) otherwise.Post
 
   abbrev Called : Type 0
   Called = lts.After-body (cs t) (otherwise_at t) otherwise.Post
 
   abbrev Read : Type 0
-  Read = lts.After-u (cs t) (otherwise_at t) otherwise.Post
+  Read = lts.In-Done (cs t) (otherwise_at t) otherwise.Post
 
   abbrev entry : Looked → Entry
   entry c = c.before.before.before
@@ -79,10 +79,10 @@ module _ (t : ℕ) where
 
   -- that call, from behind its state, and from behind its refusal
   abbrev called : Read → Called
-  called c = c.before.before.before.before
+  called c = c.before.before.before
 
-  abbrev refusing : lts.After-why (cs t) (otherwise_at t) otherwise.Post → Called
-  refusing c = c.before.before.before.before
+  abbrev refusing : lts.In-Refused (cs t) (otherwise_at t) otherwise.Post → Called
+  refusing c = c.before.before.before
 
   abbrev Told : List Tok → Entry → Type 0
   Told ts e = Tells ts e.args.rows.now e.args.count
@@ -93,20 +93,20 @@ module _ (t : ℕ) where
   whole ts e w l = else_at ts e.args.left (Parse.body ts e.args.left) w l e.args.t.row
 
   -- the kinds of the next row, and of the row behind `else`
-  kind_is : (c : Looked) (ts : List Tok) → Told ts (entry c) → c.kind-at.result ≡ kind_at ts (entry c).args.t.row
+  kind_is : (c : Looked) (ts : List Tok) → Told ts (entry c) → c.kind_at.result ≡ kind_at ts (entry c).args.t.row
   kind_is c ts h =
       let a = (entry c).args in
-      seen ts a.rows.now a.count h a.t.row c.kind-at.result c.kind-at.ensures
+      seen ts a.rows.now a.count h a.t.row c.kind_at.result c.kind_at.ensures
 
-  brace_is : (c : Behind) (ts : List Tok) → Told ts (at_brace c) → c.kind-at2.result ≡ kind_at ts ((at_brace c).args.t.row + 1)
+  brace_is : (c : Behind) (ts : List Tok) → Told ts (at_brace c) → c.kind_at-2.result ≡ kind_at ts ((at_brace c).args.t.row + 1)
   brace_is c ts h =
       let a = (at_brace c).args in
-      seen ts a.rows.now a.count h (a.t.row + 1) c.kind-at2.result c.kind-at2.ensures
+      seen ts a.rows.now a.count h (a.t.row + 1) c.kind_at-2.result c.kind_at-2.ensures
 
-  else_here : (c : lts.Else1 (cs t) (otherwise_at t) otherwise.Post) → (entry c.before).args.t.row < (entry c.before).args.count
+  else_here : (c : lts.Else-kind_at-ne-ELSE (cs t) (otherwise_at t) otherwise.Post) → (entry c.before).args.t.row < (entry c.before).args.count
   else_here c =
       let a = (entry c.before).args in
-      word_here a.rows.now a.count a.t.row KeywordElse (sym c.before.kind-at.ensures ∙ c.if1.false) refl
+      word_here a.rows.now a.count a.t.row KeywordElse (sym c.before.kind_at.ensures ∙ c.if-kind_at-ne-ELSE.false) refl
 
   -- the parser's answer, up to the brace and up to the body
   asked : (c : Behind) (ts : List Tok) → Told ts (at_brace c) → (w : List ℕ) (l : Tree)
@@ -115,7 +115,7 @@ module _ (t : ℕ) where
       ≡ then (Parse.need ts LBrace (Parse.body ts a.left) (a.t.row + 1)) (λ e r. ok (guard w (then_body l) (else_body e)) r))
   asked c ts h w l =
       let a = (at_brace c).args in
-      else_yes ts a.left (Parse.body ts a.left) w (then_body l) a.t.row (sym (kind_is (at_else c) ts h) ∙ c.before.if1.false)
+      else_yes ts a.left (Parse.body ts a.left) w (then_body l) a.t.row (sym (kind_is (at_else c) ts h) ∙ c.before.if-kind_at-ne-ELSE.false)
 
   opened : (c : Called) (ts : List Tok) → Told ts (at_body c) → (w : List ℕ) (l : Tree)
       → (let a = (at_body c).args in
@@ -124,7 +124,7 @@ module _ (t : ℕ) where
       let a = (at_body c).args in
       asked (braced c) ts h w l
       ∙ ap (λ (x : Out). then x (λ e r. ok (guard w (then_body l) (else_body e)) r))
-      (need_yes ts LBrace (Parse.body ts a.left) (a.t.row + 1) (sym (brace_is (braced c) ts h) ∙ c.before.before.if2.false))
+      (need_yes ts LBrace (Parse.body ts a.left) (a.t.row + 1) (sym (brace_is (braced c) ts h) ∙ c.before.before.if-kind_at-ne-LBRACE.false))
 
   -- the row in front of the brace is `else`
   else_kind : (c : Called)
@@ -134,75 +134,75 @@ module _ (t : ℕ) where
       let a = (at_body c).args in
       let e : a.t.row + 1 - 1 ≡ a.t.row = omega arith in
       ap (λ (x : ℕ). body_node (kind_word a.rows.now a.count x)) e
-      ∙ ap body_node (sym (at_else (braced c)).kind-at.ensures ∙ (braced c).before.if1.false)
+      ∙ ap body_node (sym (at_else (braced c)).kind_at.ensures ∙ (braced c).before.if-kind_at-ne-ELSE.false)
 
   answered : (c : Called) (ts : List Tok) → Told ts (at_body c)
       → (let a = (at_body c).args in
-      BodyMet (Parse.body ts a.left (a.t.row + 1)) NodeElse (a.t.row + 1) a.t.node a.nodes.now c.body.new.1.1.0
+      BodyMet (Parse.body ts a.left (a.t.row + 1)) NodeElse (a.t.row + 1) a.t.node a.nodes.now c.body.new.nodes
       c.body.result)
   answered c ts h =
       let a = (at_body c).args in
       subst
       (λ (x : ℕ). BodyMet (Parse.body ts a.left (a.t.row + 1)) x (a.t.row + 1) a.t.node a.nodes.now
-      c.body.new.1.1.0 c.body.result)
+      c.body.new.nodes c.body.result)
       (else_kind c) (c.body.ensures ts h)
 
   -- what the call for the body gave
   got : (c : Read) (ts : List Tok) → Told ts (at_body (called c))
       → (let a = (at_body (called c)).args in
-      Bodied ts (Parse.body ts a.left (a.t.row + 1)) NodeElse (a.t.row + 1) a.t.node a.nodes.now c.u.given.0.0
-      (called c).body.new.1.1.0)
+      Bodied ts (Parse.body ts a.left (a.t.row + 1)) NodeElse (a.t.row + 1) a.t.node a.nodes.now c.in-Done.u
+      (called c).body.new.nodes)
   got c ts h =
       let a = (at_body (called c)).args in
       let f = (called c).body in
-      bodied ts (Parse.body ts a.left (a.t.row + 1)) NodeElse (a.t.row + 1) a.t.node a.nodes.now f.last.1.1.0
-      f.result c.u.given.0.0
+      bodied ts (Parse.body ts a.left (a.t.row + 1)) NodeElse (a.t.row + 1) a.t.node a.nodes.now f.new.nodes
+      f.result c.in-Done.u
       (ends_body ts a.left (a.t.row + 1)
-      (here ts (a.t.row + 1) LBrace (sym (brace_is (braced (called c)) ts h) ∙ (called c).before.before.if2.false) refl))
-      (answered (called c) ts h) c.u.given.1
+      (here ts (a.t.row + 1) LBrace (sym (brace_is (braced (called c)) ts h) ∙ (called c).before.before.if-kind_at-ne-LBRACE.false) refl))
+      (answered (called c) ts h) c.in-Done.is
 
   -- ---- the needs
 
-  pub kind_at_requires : lts.Need-kind-at-requires (cs t) (otherwise_at t) otherwise.Post
+  pub kind_at_requires : lts.Need-kind_at-requires (cs t) (otherwise_at t) otherwise.Post
   kind_at_requires c κs = c.before.before.requires.1.lent
 
-  pub hanging_if_requires : lts.Need-hanging-if-requires (cs t) (otherwise_at t) otherwise.Post
-  hanging_if_requires c κs = omega (arith, (entry c.before.before).pre.1)
+  pub hanging_if_requires : lts.Need-hanging_if-requires (cs t) (otherwise_at t) otherwise.Post
+  hanging_if_requires c κs = omega (arith, (entry c.before.before).requires.1)
 
-  pub same_length : lts.Need-same-length (cs t) (otherwise_at t) otherwise.Post
+  pub same_length : lts.Need-shape_of-nodes-then-kind_at-ne-ELSE (cs t) (otherwise_at t) otherwise.Post
   same_length c = search rules
 
-  pub returns : lts.Need-returns (cs t) (otherwise_at t) otherwise.Post
+  pub returns : lts.Need-returns-then-kind_at-ne-ELSE (cs t) (otherwise_at t) otherwise.Post
   returns c ts h i n w l m₀ g st =
       let o = c.before.before in
       let f = o.before.before in
       let a = (entry f.before).args in
-      let r = o.hanging-if.ensures in
+      let r = o.hanging_if.ensures in
       met_ok (whole ts (entry f.before) w l) i n (guard w (then_body l) none) m₀ _ _
-      (else_no ts a.left (Parse.body ts a.left) w (then_body l) a.t.row (λ e. f.if1.true (kind_is f.before ts h ∙ e))
+      (else_no ts a.left (Parse.body ts a.left) w (then_body l) a.t.row (λ e. f.if-kind_at-ne-ELSE.true (kind_is f.before ts h ∙ e))
       ∙ ap (λ (y : ℕ). ok (guard w (then_body l) none) y) (sym (ap (λ (y : At). y.row) r.0)))
-      (stands_guard ts i n m₀ a.nodes.now a.t l st w o.hanging-if.result o.hanging-if.new.0
+      (stands_guard ts i n m₀ a.nodes.now a.t l st w o.hanging_if.result o.hanging_if.new.nodes
       (rw (← g) r.0) (rw (← g) r.1))
 
-  pub add_brace : lts.Need-overflow-add-brace (cs t) (otherwise_at t) otherwise.Post
-  add_brace c = omega (arith, else_here c, (entry c.before).pre.1)
+  pub add_brace : lts.Need-overflow_add-brace (cs t) (otherwise_at t) otherwise.Post
+  add_brace c = omega (arith, else_here c, (entry c.before).requires.1)
 
-  pub kind_at_requires_2 : lts.Need-kind-at-requires-2 (cs t) (otherwise_at t) otherwise.Post
-  kind_at_requires_2 c κs = (entry c.before).pre.1.lent
+  pub kind_at_requires_2 : lts.Need-kind_at-requires-2 (cs t) (otherwise_at t) otherwise.Post
+  kind_at_requires_2 c κs = (entry c.before).requires.1.lent
 
   pub wanted_requires : lts.Need-wanted-requires (cs t) (otherwise_at t) otherwise.Post
   wanted_requires c κs = search rules
 
-  pub cast_t19 : lts.Need-overflow-cast-t19 (cs t) (otherwise_at t) otherwise.Post
+  pub cast_t19 : lts.Need-overflow_cast-result (cs t) (otherwise_at t) otherwise.Post
   cast_t19 c = search rules
 
-  pub returns_2 : lts.Need-returns-2 (cs t) (otherwise_at t) otherwise.Post
+  pub returns_2 : lts.Need-returns-then-kind_at-ne-LBRACE (cs t) (otherwise_at t) otherwise.Post
   returns_2 c ts h i n w l m₀ g st =
       let d = c.before.before in
       let a = (at_brace d).args in
       met_told (whole ts (at_brace d) w l) _ _ _ _ _ _ _
       (asked d ts h w l
-      ∙ then_no _ _ _ _ (need_no ts LBrace (Parse.body ts a.left) (a.t.row + 1) (λ f. c.before.if2.true (brace_is d ts h ∙ f))))
+      ∙ then_no _ _ _ _ (need_no ts LBrace (Parse.body ts a.left) (a.t.row + 1) (λ f. c.before.if-kind_at-ne-LBRACE.true (brace_is d ts h ∙ f))))
       c.wanted.ensures
 
   pub body_requires : lts.Need-body-requires (cs t) (otherwise_at t) otherwise.Post
@@ -210,51 +210,50 @@ module _ (t : ℕ) where
       let d = c.before.before in
       let e = at_brace d in
       let a = e.args in
-      let h = word_here a.rows.now a.count (a.t.row + 1) LBrace (sym d.kind-at2.ensures ∙ c.before.if2.false) refl in
-      omega (arith, e.pre)
+      let h = word_here a.rows.now a.count (a.t.row + 1) LBrace (sym d.kind_at-2.ensures ∙ c.before.if-kind_at-ne-LBRACE.false) refl in
+      omega (arith, e.requires)
 
-  pub enum_known_u : lts.Need-enum-known-u (cs t) (otherwise_at t) otherwise.Post
+  pub enum_known_u : lts.Need-enum_known-u (cs t) (otherwise_at t) otherwise.Post
   enum_known_u c = search rules
 
   pub shut_requires : lts.Need-shut-requires (cs t) (otherwise_at t) otherwise.Post
   shut_requires c κs =
-      let p = c.before.before in
+      let p = c.before in
       let e = at_body (called p) in
       let l = tells_some e.args.rows.now e.args.count in
       let w = got p _ l in
-      omega (arith, w.rows, w.nodes, w.few, w.inside, l.long, e.pre.1)
+      omega (arith, w.rows, w.nodes, w.few, w.inside, l.long, e.requires.1)
 
-  pub enum_known_why : lts.Need-enum-known-why (cs t) (otherwise_at t) otherwise.Post
+  pub enum_known_why : lts.Need-enum_known-why (cs t) (otherwise_at t) otherwise.Post
   enum_known_why c = search rules
 
-  pub same_length_2 : lts.Need-same-length-2 (cs t) (otherwise_at t) otherwise.Post
+  pub same_length_2 : lts.Need-shape_of-nodes-in-Done (cs t) (otherwise_at t) otherwise.Post
   same_length_2 c = search rules
 
-  pub returns_3 : lts.Need-returns-3 (cs t) (otherwise_at t) otherwise.Post
+  pub returns_3 : lts.Need-returns-in-Done (cs t) (otherwise_at t) otherwise.Post
   returns_3 c ts h i n w l m₀ g st =
       let o = c.before.before in
-      let p = o.before.before.before in
+      let p = o.before.before in
       let a = (at_body (called p)).args in
       let v = got p ts h in
       let r = o.shut.ensures in
-      let u : At = p.u.given.0.0 in
+      let u : At = p.in-Done.u in
       met_ok (whole ts (at_body (called p)) w l) i n (guard w (then_body l) (else_body v.list)) m₀ _ _
       (opened (called p) ts h w l ∙ then_ok _ _ v.list u.row v.is
       ∙ ap (λ (y : ℕ). ok (guard w (then_body l) (else_body v.list)) y) (sym (ap (λ (y : At). y.row) r.0)))
-      (stands_otherwise ts i n m₀ a.nodes.now a.t l st w (Parse.body ts a.left (a.t.row + 1)) u (called p).body.new.1.1.0
-      v o.shut.result o.shut.new.0 (rw (← g) r.0) (rw (← g) r.1))
+      (stands_otherwise ts i n m₀ a.nodes.now a.t l st w (Parse.body ts a.left (a.t.row + 1)) u (called p).body.new.nodes
+      v o.shut.result o.shut.new.nodes (rw (← g) r.0) (rw (← g) r.1))
 
-  pub same_length_3 : lts.Need-same-length-3 (cs t) (otherwise_at t) otherwise.Post
+  pub same_length_3 : lts.Need-shape_of-nodes-in-Refused (cs t) (otherwise_at t) otherwise.Post
   same_length_3 c = search rules
 
-  pub returns_4 : lts.Need-returns-4 (cs t) (otherwise_at t) otherwise.Post
+  pub returns_4 : lts.Need-returns-in-Refused (cs t) (otherwise_at t) otherwise.Post
   returns_4 c ts h i n w l m₀ g st =
-      let q = refusing c.before in
+      let q = refusing c in
       let a = (at_body q).args in
       let f = q.body in
-      let y = c.before.why.given in
       met_no (whole ts (at_body q) w l) _ _ _ _ _ _
       (opened q ts h w l
-      ∙ then_no _ _ y.0.0 y.0.1.0
-      (body_refused (Parse.body ts a.left (a.t.row + 1)) NodeElse (a.t.row + 1) a.t.node a.nodes.now f.last.1.1.0
-      f.result y.0.0 y.0.1.0 (answered q ts h) y.1))
+      ∙ then_no _ _ c.in-Refused.why c.in-Refused.r
+      (body_refused (Parse.body ts a.left (a.t.row + 1)) NodeElse (a.t.row + 1) a.t.node a.nodes.now f.new.nodes
+      f.result c.in-Refused.why c.in-Refused.r (answered q ts h) c.in-Refused.is))

@@ -46,10 +46,10 @@ module _ (t : ℕ) where
   Entry = lts.Start (cs t) (stmt_at t) stmt.Post
 
   abbrev Looked : Type 0
-  Looked = lts.After-kind-at (cs t) (stmt_at t) stmt.Post
+  Looked = lts.After-kind_at-k (cs t) (stmt_at t) stmt.Post
 
   abbrev Tested : Type 0
-  Tested = lts.After-is-declaring (cs t) (stmt_at t) stmt.Post
+  Tested = lts.After-is_declaring (cs t) (stmt_at t) stmt.Post
 
   abbrev looked : Tested → Looked
   looked c = c.before
@@ -58,10 +58,10 @@ module _ (t : ℕ) where
   entry c = (looked c).before.before.before
 
   -- no declaration, and no return
-  abbrev no_decl : lts.Else1 (cs t) (stmt_at t) stmt.Post → Tested
+  abbrev no_decl : lts.Else-is_declaring (cs t) (stmt_at t) stmt.Post → Tested
   no_decl c = c.before
 
-  abbrev no_return : lts.Else2 (cs t) (stmt_at t) stmt.Post → lts.Else1 (cs t) (stmt_at t) stmt.Post
+  abbrev no_return : lts.Else-k-eq-RETURN (cs t) (stmt_at t) stmt.Post → lts.Else-is_declaring (cs t) (stmt_at t) stmt.Post
   no_return c = c.before
 
   abbrev Told : List Tok → Entry → Type 0
@@ -73,21 +73,21 @@ module _ (t : ℕ) where
   whole ts e = Parse.stmt ts e.args.left (Parse.body ts e.args.left) e.args.row
 
   -- the row's kind, and whether it declares
-  kind_is : (c : Tested) (ts : List Tok) → Told ts (entry c) → (looked c).kind-at.result ≡ kind_at ts (entry c).args.row
+  kind_is : (c : Tested) (ts : List Tok) → Told ts (entry c) → (looked c).kind_at-k.result ≡ kind_at ts (entry c).args.row
   kind_is c ts h =
       let a = (entry c).args in
-      let k = (looked c).kind-at in
+      let k = (looked c).kind_at-k in
       seen ts a.rows.now a.count h a.row k.result k.ensures
 
-  test_is : (c : Tested) (ts : List Tok) → Told ts (entry c) → c.is-declaring.result ≡ is_declaring (kind_at ts (entry c).args.row)
-  test_is c ts h = c.is-declaring.ensures ∙ ap is_declaring (kind_is c ts h)
+  test_is : (c : Tested) (ts : List Tok) → Told ts (entry c) → c.is_declaring.result ≡ is_declaring (kind_at ts (entry c).args.row)
+  test_is c ts h = c.is_declaring.ensures ∙ ap is_declaring (kind_is c ts h)
 
   -- ---- the needs
 
-  pub kind_at_requires : lts.Need-kind-at-requires (cs t) (stmt_at t) stmt.Post
+  pub kind_at_requires : lts.Need-kind_at-k-requires (cs t) (stmt_at t) stmt.Post
   kind_at_requires c κs = c.before.before.requires.1.lent
 
-  pub is_declaring_requires : lts.Need-is-declaring-requires (cs t) (stmt_at t) stmt.Post
+  pub is_declaring_requires : lts.Need-is_declaring-requires (cs t) (stmt_at t) stmt.Post
   is_declaring_requires c κs = search rules
 
   pub declare_requires : lts.Need-declare-requires (cs t) (stmt_at t) stmt.Post
@@ -95,68 +95,68 @@ module _ (t : ℕ) where
       let d = c.before.before in
       let a = (entry d).args in
       let h : a.row < a.count = word_test a.rows.now a.count a.row is_declaring refl
-      (ap is_declaring (sym (looked d).kind-at.ensures) ∙ sym d.is-declaring.ensures ∙ c.before.if1.true) in
+      (ap is_declaring (sym (looked d).kind_at-k.ensures) ∙ sym d.is_declaring.ensures ∙ c.before.if-is_declaring.true) in
       omega (arith, (entry d).requires.1)
 
-  pub same_length : lts.Need-same-length (cs t) (stmt_at t) stmt.Post
+  pub same_length : lts.Need-shape_of-nodes-then-is_declaring (cs t) (stmt_at t) stmt.Post
   same_length c = search rules
 
-  pub returns : lts.Need-returns (cs t) (stmt_at t) stmt.Post
+  pub returns : lts.Need-returns-then-is_declaring (cs t) (stmt_at t) stmt.Post
   returns c ts h =
       let r = c.before.before in
       let f = r.before.before in
       let d = f.before in
       let a = (entry d).args in
       met_as (whole ts (entry d)) _ _ _ _ _ _
-      (lead_declaring ts a.left (Parse.body ts a.left) a.row (sym (test_is d ts h) ∙ f.if1.true)) (r.declare.ensures ts h)
+      (lead_declaring ts a.left (Parse.body ts a.left) a.row (sym (test_is d ts h) ∙ f.if-is_declaring.true)) (r.declare.ensures ts h)
 
   pub give_requires : lts.Need-give-requires (cs t) (stmt_at t) stmt.Post
   give_requires c κs =
       let d = no_decl c.before.before in
       let a = (entry d).args in
       let h : a.row < a.count = word_here a.rows.now a.count a.row KeywordReturn
-      (sym (looked d).kind-at.ensures ∙ c.before.if2.true) refl in
-      omega (arith, (entry d).pre.1)
+      (sym (looked d).kind_at-k.ensures ∙ c.before.if-k-eq-RETURN.true) refl in
+      omega (arith, (entry d).requires.1)
 
-  pub same_length_2 : lts.Need-same-length-2 (cs t) (stmt_at t) stmt.Post
+  pub same_length_2 : lts.Need-shape_of-nodes-then-k-eq-RETURN (cs t) (stmt_at t) stmt.Post
   same_length_2 c = search rules
 
-  pub returns_2 : lts.Need-returns-2 (cs t) (stmt_at t) stmt.Post
+  pub returns_2 : lts.Need-returns-then-k-eq-RETURN (cs t) (stmt_at t) stmt.Post
   returns_2 c ts h =
       let r = c.before.before in
       let f = r.before.before in
       let d = no_decl f.before in
       let a = (entry d).args in
       met_as (whole ts (entry d)) _ _ _ _ _ _
-      (lead_returning ts a.left (Parse.body ts a.left) a.row (sym (kind_is d ts h) ∙ f.if2.true)) (r.give.ensures ts h)
+      (lead_returning ts a.left (Parse.body ts a.left) a.row (sym (kind_is d ts h) ∙ f.if-k-eq-RETURN.true)) (r.give.ensures ts h)
 
-  pub branch_requires : lts.Need-branch-requires (cs t) (stmt_at t) stmt.Post
+  pub branch_requires : lts.Need-branch-rows-requires (cs t) (stmt_at t) stmt.Post
   branch_requires c κs =
       let d = no_decl (no_return c.before.before) in
       let a = (entry d).args in
       let h : a.row < a.count = word_here a.rows.now a.count a.row KeywordIf
-      (sym (looked d).kind-at.ensures ∙ c.before.if3.true) refl in
-      omega (arith, (entry d).pre)
+      (sym (looked d).kind_at-k.ensures ∙ c.before.if-k-eq-IF.true) refl in
+      omega (arith, (entry d).requires)
 
-  pub same_length_3 : lts.Need-same-length-3 (cs t) (stmt_at t) stmt.Post
+  pub same_length_3 : lts.Need-shape_of-nodes-then-k-eq-IF (cs t) (stmt_at t) stmt.Post
   same_length_3 c = search rules
 
-  pub returns_3 : lts.Need-returns-3 (cs t) (stmt_at t) stmt.Post
+  pub returns_3 : lts.Need-returns-then-k-eq-IF (cs t) (stmt_at t) stmt.Post
   returns_3 c ts h =
       let r = c.before.before in
       let f = r.before.before in
       let d = no_decl (no_return f.before) in
       let a = (entry d).args in
       met_as (whole ts (entry d)) _ _ _ _ _ _
-      (lead_branching ts a.left (Parse.body ts a.left) a.row (sym (kind_is d ts h) ∙ f.if3.true)) (r.branch.ensures ts h)
+      (lead_branching ts a.left (Parse.body ts a.left) a.row (sym (kind_is d ts h) ∙ f.if-k-eq-IF.true)) (r.branch-rows.ensures ts h)
 
   pub effect_requires : lts.Need-effect-requires (cs t) (stmt_at t) stmt.Post
-  effect_requires c κs = (entry (no_decl (no_return c.before.before))).pre.1
+  effect_requires c κs = (entry (no_decl (no_return c.before.before))).requires.1
 
-  pub same_length_4 : lts.Need-same-length-4 (cs t) (stmt_at t) stmt.Post
+  pub same_length_4 : lts.Need-shape_of-nodes (cs t) (stmt_at t) stmt.Post
   same_length_4 c = search rules
 
-  pub returns_4 : lts.Need-returns-4 (cs t) (stmt_at t) stmt.Post
+  pub returns_4 : lts.Need-returns (cs t) (stmt_at t) stmt.Post
   returns_4 c ts h =
       let r = c.before.before in
       let f = r.before.before in
@@ -165,6 +165,6 @@ module _ (t : ℕ) where
       let a = (entry d).args in
       let e = kind_is d ts h in
       met_as (whole ts (entry d)) _ _ _ _ _ _
-      (lead_expression ts a.left (Parse.body ts a.left) a.row (sym (test_is d ts h) ∙ g.if1.left)
-      (λ q. f.before.if2.false (e ∙ q)) (λ q. f.if3.false (e ∙ q)))
+      (lead_expression ts a.left (Parse.body ts a.left) a.row (sym (test_is d ts h) ∙ g.if-is_declaring.false)
+      (λ q. f.before.if-k-eq-RETURN.false (e ∙ q)) (λ q. f.if-k-eq-IF.false (e ∙ q)))
       (r.effect.ensures ts h)

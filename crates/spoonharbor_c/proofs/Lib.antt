@@ -1,0 +1,2 @@
+-- That the exports are the calls of the outer face.
+pub mod Same
