@@ -5,19 +5,19 @@ use Rattle.edit.proofs.Calls.{tested_by, edited_by}
 use Rattle.edit.proofs.edit_tested.Statement.{statement}
 use Rattle.edit.proofs.edit_tested.Tie as tie
 
-abbrev start : tie.After-job-of → tie.Start
+abbrev start : tie.After-job_of → tie.Start
 start c = c.before.before.before.before
 
-job_of_requires : tie.Need-job-of-requires
+job_of_requires : tie.Need-job_of-requires
 job_of_requires c κs = c.before.before.before.requires
 
-do_job_requires : tie.Need-do-job-requires
+do_job_requires : tie.Need-do_job-requires
 do_job_requires c κs =
     let k = c.before in
     let a = (start k).args in
-    tested_by a.old.now a.table a.a a.b a.n k.Job-of.result k.Job-of.ensures (start k).requires
+    tested_by a.old.now a.table a.a a.b a.n k.job_of.result k.job_of.ensures (start k).requires
 
-same_length : tie.Need-same-length
+same_length : tie.Need-shape_of-new
 same_length c = search rules
 
 returns : tie.Need-returns
@@ -25,9 +25,9 @@ returns c =
     let r = c.before.before in
     let k = r.before.before in
     let a = (start k).args in
-    edited_by a.old.now a.table a.a a.b a.n k.Job-of.result k.Job-of.ensures
+    edited_by a.old.now a.table a.a a.b a.n k.job_of.result k.job_of.ensures
     a.start a.window.now (room_of a.new.now) a.new.now
-    r.do-job.result r.do-job.new.1.1.1.1.0 r.do-job.ensures
+    r.do_job.result r.do_job.new.new r.do_job.ensures
 
 pub edit_tested_spec : {M : Type 1} → statement M
 edit_tested_spec = tie.close (tie.spec job_of_requires do_job_requires same_length returns)

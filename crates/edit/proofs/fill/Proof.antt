@@ -14,54 +14,54 @@ use Rattle.edit.proofs.Jobs.{few_kept, lent_old, copied, copied_part, few_all}
 use Rattle.edit.proofs.fill.Statement.{statement}
 use Rattle.edit.proofs.fill.Tie as tie
 
-copy_rows_requires : tie.Need-copy-rows-requires
+copy_rows_requires : tie.Need-copy_rows-requires
 copy_rows_requires c κs =
     let s = c.before.before.before.before.before in
-    (omega (arith, c.before.if1.true, few_kept s.requires.ready, lent_old s.requires.ready), omega arith)
+    (omega (arith, c.before.if-room-kept.true, few_kept s.requires.ready, lent_old s.requires.ready), omega arith)
 
 tell_requires : tie.Need-tell-requires
 unfolding TellsFit
 tell_requires c κs =
     let s = c.before.before.before.before.before.before.before.before in
-    omega (arith, c.before.before.before.before.if1.true, few_kept s.requires.ready)
+    omega (arith, c.before.before.before.before.if-room-kept.true, few_kept s.requires.ready)
 
-same_length : tie.Need-same-length
+same_length : tie.Need-shape_of-new-then-room-kept
 same_length c = search rules
 
-returns : tie.Need-returns
+returns : tie.Need-returns-then-room-kept
 unfolding room_of
 returns c =
     let k = c.before.before.before in
     let s = k.before.before.before.before.before.before in
     let a = s.args in
-    let l : length a.new.now / 8 < a.job.kept = k.before.before.if1.true in
+    let l : length a.new.now / 8 < a.job.kept = k.before.before.if-room-kept.true in
     let q = kept_full (kept a.job.a (old_rows a.old.now a.job)) (job_rows a.old.now a.job a.window.now a.whole) (job_ending a.old.now a.job a.window.now a.whole) a.new.now a.size a.job.kept
     (omega (arith, s.requires.ready.kept)) in (
       c.tell.ensures ∙ q.0,
-      k.copy-rows.ensures ∙ ap (λ (z : List ℕ). z ++ drop (8 * (length a.new.now / 8)) a.new.now) (copied_part s.requires.ready (length a.new.now / 8) (omega arith)) ∙ q.1,
+      k.copy_rows.ensures ∙ ap (λ (z : List ℕ). z ++ drop (8 * (length a.new.now / 8)) a.new.now) (copied_part s.requires.ready (length a.new.now / 8) (omega arith)) ∙ q.1,
     )
 
-copy_rows_requires_2 : tie.Need-copy-rows-requires-2
+copy_rows_requires_2 : tie.Need-copy_rows-requires-2
 copy_rows_requires_2 c κs =
     let s = c.before.before.before.before.before in
-    (omega (arith, few_kept s.requires.ready, lent_old s.requires.ready), omega (arith, c.before.if1.false))
+    (omega (arith, few_kept s.requires.ready, lent_old s.requires.ready), omega (arith, c.before.if-room-kept.false))
 
-mul_base : tie.Need-overflow-mul-base
+mul_base : tie.Need-overflow_mul-base
 mul_base c = search rules
 
-mul_fill_tail : tie.Need-overflow-mul-fill-tail
+mul_fill_tail : tie.Need-offset_bounds-new-base
 mul_fill_tail c = search rules
 
-sub_fill_tail : tie.Need-overflow-sub-fill-tail
+sub_fill_tail : tie.Need-slice_bounds-fill_tail-count
 sub_fill_tail c = search rules
 
-part_fill_tail_start : tie.Need-slice-bounds-fill-tail-start
+part_fill_tail_start : tie.Need-slice_bounds-fill_tail-start
 part_fill_tail_start c = search rules
 
-part_fill_tail_end : tie.Need-slice-bounds-fill-tail-end
+part_fill_tail_end : tie.Need-slice_bounds-fill_tail-end
 part_fill_tail_end c = search rules
 
-fill_tail_requires : tie.Need-fill-tail-requires
+fill_tail_requires : tie.Need-fill_tail-tail-requires
 fill_tail_requires c κs = search rules
 
 tell_requires_2 : tie.Need-tell-requires-2
@@ -71,24 +71,24 @@ tell_requires_2 c κs =
     let k = t.before.before.before.before in
     let s = k.before.before.before.before.before.before in
     let a = s.args in
-    let l : a.job.kept ≤ room_of a.new.now = k.before.before.if1.false in
+    let l : a.job.kept ≤ room_of a.new.now = k.before.before.if-room-kept.false in
     kept_fits (kept a.job.a (old_rows a.old.now a.job)) (job_rows a.old.now a.job a.window.now a.whole) (job_ending a.old.now a.job a.window.now a.whole) a.new.now
-    k.copy-rows2.new.1.1.0 a.job.kept (k.copy-rows2.ensures ∙ copied s.requires.ready a.new.now l) (omega (arith, s.requires.ready.kept)) s.requires.ready.kept t.fill-tail.result t.fill-tail.ensures.0 (few_all s.requires.ready a.whole)
+    k.copy_rows-2.new.new a.job.kept (k.copy_rows-2.ensures ∙ copied s.requires.ready a.new.now l) (omega (arith, s.requires.ready.kept)) s.requires.ready.kept t.fill_tail-tail.result t.fill_tail-tail.ensures.0 (few_all s.requires.ready a.whole)
 
-same_length_2 : tie.Need-same-length-2
+same_length_2 : tie.Need-shape_of-new
 same_length_2 c = search rules
 
-returns_2 : tie.Need-returns-2
+returns_2 : tie.Need-returns
 unfolding room_of
 returns_2 c =
     let t = c.before.before.before in
     let k = t.before.before.before.before in
     let s = k.before.before.before.before.before.before in
     let a = s.args in
-    let l : a.job.kept ≤ room_of a.new.now = k.before.before.if1.false in
+    let l : a.job.kept ≤ room_of a.new.now = k.before.before.if-room-kept.false in
     kept_all (kept a.job.a (old_rows a.old.now a.job)) (job_rows a.old.now a.job a.window.now a.whole) (job_ending a.old.now a.job a.window.now a.whole) a.new.now
-    k.copy-rows2.new.1.1.0 a.job.kept (k.copy-rows2.ensures ∙ copied s.requires.ready a.new.now l) (omega (arith, s.requires.ready.kept)) s.requires.ready.kept a.size t.fill-tail.result c.tell2.result
-    t.fill-tail.new.1.1.1.1.0 t.fill-tail.ensures c.tell2.ensures
+    k.copy_rows-2.new.new a.job.kept (k.copy_rows-2.ensures ∙ copied s.requires.ready a.new.now l) (omega (arith, s.requires.ready.kept)) s.requires.ready.kept a.size t.fill_tail-tail.result c.tell-2.result
+    t.fill_tail-tail.new.tail t.fill_tail-tail.ensures c.tell-2.ensures
 
 pub fill_spec : {M : Type 1} → statement M
 fill_spec =

@@ -11,32 +11,32 @@ use Rattle.layout_judge.proofs.is_parse.Reads as is_parse_reads
 use Rattle.layout_judge.proofs.is_scan.Reads as is_scan_reads
 
 -- src/lib.rt:33:9
-is_scan_requires : tie.Need-is-scan-requires
+is_scan_requires : tie.Need-is_scan-requires
 is_scan_requires c κs = search rules
 
 -- src/lib.rt:34:9
-returns : tie.Need-returns
+returns : tie.Need-returns-then-not-is_scan
 returns c =
     let k = c.before in
     let a = k.before.before.before.before.before.args in
-    let e = sym k.is-scan.ensures.0 ∙ not-true k.is-scan.result c.if1.true in (
+    let e = sym k.is_scan.ensures.0 ∙ not-true k.is_scan.result c.if-not-is_scan.true-raw in (
       not_scanned a.text.now a.rows.now a.table a.nodes.now a.count e,
-      left_scan a.text.now a.rows.now a.table a.scratch.now e k.is-scan.ensures.1,
+      left_scan a.text.now a.rows.now a.table a.scratch.now e k.is_scan.ensures.1,
     )
 
 -- src/lib.rt:36:5
-is_parse_requires : tie.Need-is-parse-requires
+is_parse_requires : tie.Need-is_parse-requires
 is_parse_requires c κs = search rules
 
 -- src/lib.rt:22:1
-returns_2 : tie.Need-returns-2
+returns_2 : tie.Need-returns
 returns_2 c =
     let l = c.before.before in
     let k = l.before in
     let a = k.before.before.before.before.before.args in
-    let e = sym k.is-scan.ensures.0 ∙ not-false k.is-scan.result l.if1.false in (
-      as_parsed a.text.now a.rows.now a.table a.nodes.now a.count e c.is-parse.ensures.0,
-      left_parse a.text.now a.rows.now a.table a.scratch.now e k.is-scan.ensures.1 c.is-parse.ensures.1,
+    let e = sym k.is_scan.ensures.0 ∙ not-false k.is_scan.result l.if-not-is_scan.false-raw in (
+      as_parsed a.text.now a.rows.now a.table a.nodes.now a.count e c.is_parse.ensures.0,
+      left_parse a.text.now a.rows.now a.table a.scratch.now e k.is_scan.ensures.1 c.is_parse.ensures.1,
     )
 
 pub is_tree_spec : {M : Type 1} → statement M

@@ -7,7 +7,7 @@ use Rattle.layout.proofs.measured.Lts as lts
 use Rattle.layout_write.proofs.write.Reads as write_reads
 
 -- src/lib.rt:44:51
-slice_aggregate_write : tie.Need-slice-aggregate-write
+slice_aggregate_write : tie.Need-slice_bounds-write-end
 slice_aggregate_write c = search rules
 
 -- src/lib.rt:44:5

@@ -5,28 +5,28 @@ use Prim.Native.Nat.{◌+◌, ◌*◌, ◌-◌, ◌≤◌, ◌<◌}
 use Rattle.program_heap.proofs.gather.Statement.{statement}
 use Rattle.program_heap.proofs.gather.Tie as tie
 
-abbrev invariant_loop : tie.invariant-loop
+abbrev invariant_loop : tie.invariant-loop-k
 invariant_loop prelude prelude_rows prelude_count text rows count heap₀ above total n₀ k₀ heap n k = (k ≤ prelude_count + count) × (n ≤ 2048)
 
-abbrev decreases_loop : tie.decreases-loop
+abbrev decreases_loop : tie.decreases-loop-k
 decreases_loop prelude prelude_rows prelude_count text rows count heap₀ above total n₀ k₀ heap n k = prelude_count + count - k
 
-add_total : tie.Need-overflow-add-total invariant_loop decreases_loop
+add_total : tie.Need-overflow_add-total invariant_loop decreases_loop
 add_total c = omega arith
 
-loop_holds : tie.Need-loop-init invariant_loop decreases_loop
+loop_holds : tie.Need-loop-k-init invariant_loop decreases_loop
 loop_holds c = omega arith
 
-offer_row_requires : tie.Need-offer-row-requires invariant_loop decreases_loop
+offer_row_requires : tie.Need-offer_row-n-requires invariant_loop decreases_loop
 offer_row_requires c κs = search rules
 
-add_k : tie.Need-overflow-add-k invariant_loop decreases_loop
+add_k : tie.Need-overflow_add-k invariant_loop decreases_loop
 add_k c = omega arith
 
-loop_less : tie.Need-loop-smaller invariant_loop decreases_loop
+loop_less : tie.Need-loop-k-smaller invariant_loop decreases_loop
 loop_less c = omega arith
 
-loop_again : tie.Need-loop-preserved invariant_loop decreases_loop
+loop_again : tie.Need-loop-k-preserved invariant_loop decreases_loop
 loop_again c = omega arith
 
 returns : tie.Need-returns invariant_loop decreases_loop

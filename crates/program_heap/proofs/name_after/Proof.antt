@@ -6,13 +6,13 @@ use borrow.Author.Rules.{rules}
 use Rattle.program_heap.proofs.name_after.Statement.{statement}
 use Rattle.program_heap.proofs.name_after.Tie as tie
 
-add_next : tie.Need-overflow-add-next
+add_next : tie.Need-overflow_add-next
 add_next c = search rules
 
-add_if1 : tie.Need-overflow-add-if1
+add_if1 : tie.Need-overflow_add-prelude_count
 add_if1 c = search rules
 
-add_spelling : tie.Need-overflow-add-spelling
+add_spelling : tie.Need-overflow_add-k
 add_spelling c = search rules
 
 spelling_requires : tie.Need-spelling-requires
@@ -20,19 +20,19 @@ spelling_requires c κs =
     let s = c.before.before.before.before.before in
     row_of s.requires (s.args.k + 1) (omega arith)
 
-returns : tie.Need-returns
+returns : tie.Need-returns-then-next-prelude_count
 returns c = search rules
 
-sub_result : tie.Need-overflow-sub-result
+sub_result : tie.Need-slice_bounds-result-count
 sub_result c = search rules
 
-part_result_start : tie.Need-slice-bounds-result-start
+part_result_start : tie.Need-slice_bounds-result-start
 part_result_start c = search rules
 
-part_result_end : tie.Need-slice-bounds-result-end
+part_result_end : tie.Need-slice_bounds-result-end
 part_result_end c = search rules
 
-returns_2 : tie.Need-returns-2
+returns_2 : tie.Need-returns
 returns_2 c = search rules
 
 pub name_after_spec : {M : Type 1} → statement M

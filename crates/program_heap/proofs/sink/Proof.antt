@@ -5,88 +5,88 @@ use Prim.Native.Nat.{◌+◌, ◌*◌, ◌-◌, ◌≤◌, ◌<◌}
 use Rattle.program_heap.proofs.sink.Statement.{statement}
 use Rattle.program_heap.proofs.sink.Tie as tie
 
-abbrev invariant_loop : tie.invariant-loop
+abbrev invariant_loop : tie.invariant-loop-at
 invariant_loop prelude prelude_rows prelude_count text rows count heap₀ n at₀ heap at = (at < 2048) × (n ≤ 2048)
 
-abbrev decreases_loop : tie.decreases-loop
+abbrev decreases_loop : tie.decreases-loop-at
 decreases_loop prelude prelude_rows prelude_count text rows count heap₀ n at₀ heap at = 2048 - at
 
-loop_holds : tie.Need-loop-init invariant_loop decreases_loop
+loop_holds : tie.Need-loop-at-init invariant_loop decreases_loop
 loop_holds c = omega arith
 
-mul_loop : tie.Need-overflow-mul-loop invariant_loop decreases_loop
+mul_loop : tie.Need-overflow_mul-at invariant_loop decreases_loop
 mul_loop c = omega arith
 
-add_loop : tie.Need-overflow-add-loop invariant_loop decreases_loop
+add_loop : tie.Need-overflow_add-at invariant_loop decreases_loop
 add_loop c = omega arith
 
-mul_left : tie.Need-overflow-mul-left invariant_loop decreases_loop
+mul_left : tie.Need-overflow_mul-left invariant_loop decreases_loop
 mul_left c = omega arith
 
-add_left : tie.Need-overflow-add-left invariant_loop decreases_loop
+add_left : tie.Need-overflow_add-left invariant_loop decreases_loop
 add_left c = omega arith
 
-mul_x : tie.Need-overflow-mul-x invariant_loop decreases_loop
+mul_x : tie.Need-offset_bounds-heap-left invariant_loop decreases_loop
 mul_x c = omega arith
 
-element_copy_out_x : tie.Need-element-copy-out-x invariant_loop decreases_loop
+element_copy_out_x : tie.Need-bounds-heap-left invariant_loop decreases_loop
 element_copy_out_x c = omega arith
 
-add_y : tie.Need-overflow-add-y invariant_loop decreases_loop
+add_y : tie.Need-overflow_add-y invariant_loop decreases_loop
 add_y c = omega arith
 
-mul_y : tie.Need-overflow-mul-y invariant_loop decreases_loop
+mul_y : tie.Need-offset_bounds-heap-left-in-loop-at invariant_loop decreases_loop
 mul_y c = omega arith
 
-element_copy_out_y : tie.Need-element-copy-out-y invariant_loop decreases_loop
+element_copy_out_y : tie.Need-bounds-heap-left-in-loop-at invariant_loop decreases_loop
 element_copy_out_y c = omega arith
 
 larger_requires : tie.Need-larger-requires invariant_loop decreases_loop
 larger_requires c κs = search rules
 
-add_below : tie.Need-overflow-add-below invariant_loop decreases_loop
+add_below : tie.Need-overflow_add-below invariant_loop decreases_loop
 add_below c = omega arith
 
-mul_heap : tie.Need-overflow-mul-heap invariant_loop decreases_loop
+mul_heap : tie.Need-offset_bounds-heap-below invariant_loop decreases_loop
 mul_heap c = omega arith
 
-element_copy_out_heap : tie.Need-element-copy-out-heap invariant_loop decreases_loop
+element_copy_out_heap : tie.Need-bounds-heap-below invariant_loop decreases_loop
 element_copy_out_heap c = omega arith
 
-mul_heap_2 : tie.Need-overflow-mul-heap-2 invariant_loop decreases_loop
+mul_heap_2 : tie.Need-offset_bounds-heap-at invariant_loop decreases_loop
 mul_heap_2 c = omega arith
 
-element_write_heap : tie.Need-element-write-heap invariant_loop decreases_loop
+element_write_heap : tie.Need-bounds-heap-at invariant_loop decreases_loop
 element_write_heap c = omega arith
 
-loop_less : tie.Need-loop-smaller invariant_loop decreases_loop
+loop_less : tie.Need-loop-at-smaller invariant_loop decreases_loop
 loop_less c = omega arith
 
-loop_again : tie.Need-loop-preserved invariant_loop decreases_loop
+loop_again : tie.Need-loop-at-preserved invariant_loop decreases_loop
 loop_again c = omega arith
 
-mul_last : tie.Need-overflow-mul-last invariant_loop decreases_loop
+mul_last : tie.Need-overflow_mul-last invariant_loop decreases_loop
 mul_last c = omega arith
 
-add_last : tie.Need-overflow-add-last invariant_loop decreases_loop
+add_last : tie.Need-overflow_add-last invariant_loop decreases_loop
 add_last c = omega arith
 
-mul_heap_3 : tie.Need-overflow-mul-heap-3 invariant_loop decreases_loop
+mul_heap_3 : tie.Need-offset_bounds-heap-last invariant_loop decreases_loop
 mul_heap_3 c = omega arith
 
-element_copy_out_heap_2 : tie.Need-element-copy-out-heap-2 invariant_loop decreases_loop
+element_copy_out_heap_2 : tie.Need-bounds-heap-last invariant_loop decreases_loop
 element_copy_out_heap_2 c = omega arith
 
-mul_heap_4 : tie.Need-overflow-mul-heap-4 invariant_loop decreases_loop
+mul_heap_4 : tie.Need-offset_bounds-heap-at-then-last-n invariant_loop decreases_loop
 mul_heap_4 c = omega arith
 
-element_write_heap_2 : tie.Need-element-write-heap-2 invariant_loop decreases_loop
+element_write_heap_2 : tie.Need-bounds-heap-at-then-last-n invariant_loop decreases_loop
 element_write_heap_2 c = omega arith
 
-returns : tie.Need-returns invariant_loop decreases_loop
+returns : tie.Need-returns-then-last-n invariant_loop decreases_loop
 returns c = omega arith
 
-returns_2 : tie.Need-returns-2 invariant_loop decreases_loop
+returns_2 : tie.Need-returns invariant_loop decreases_loop
 returns_2 c = omega arith
 
 pub sink_spec : {M : Type 1} → statement M

@@ -5,40 +5,40 @@ use Prim.Native.Nat.{◌+◌, ◌*◌, ◌-◌, ◌≤◌, ◌<◌}
 use Rattle.program_heap.proofs.sort.Statement.{statement}
 use Rattle.program_heap.proofs.sort.Tie as tie
 
-abbrev invariant_loop : tie.invariant-loop
+abbrev invariant_loop : tie.invariant-loop-m
 invariant_loop prelude prelude_rows prelude_count text rows count heap₀ n m₀ heap m = m ≤ 2048
 
-abbrev decreases_loop : tie.decreases-loop
+abbrev decreases_loop : tie.decreases-loop-m
 decreases_loop prelude prelude_rows prelude_count text rows count heap₀ n m₀ heap m = m
 
-loop_holds : tie.Need-loop-init invariant_loop decreases_loop
+loop_holds : tie.Need-loop-m-init invariant_loop decreases_loop
 loop_holds c = omega arith
 
-sub_m : tie.Need-overflow-sub-m invariant_loop decreases_loop
+sub_m : tie.Need-overflow_sub-m invariant_loop decreases_loop
 sub_m c = omega arith
 
-mul_x : tie.Need-overflow-mul-x invariant_loop decreases_loop
+mul_x : tie.Need-offset_bounds-heap-m invariant_loop decreases_loop
 mul_x c = omega arith
 
-element_copy_out_x : tie.Need-element-copy-out-x invariant_loop decreases_loop
+element_copy_out_x : tie.Need-bounds-heap-m invariant_loop decreases_loop
 element_copy_out_x c = omega arith
 
-element_copy_out_heap : tie.Need-element-copy-out-heap invariant_loop decreases_loop
+element_copy_out_heap : tie.Need-bounds-heap-0 invariant_loop decreases_loop
 element_copy_out_heap c = omega arith
 
-mul_heap : tie.Need-overflow-mul-heap invariant_loop decreases_loop
+mul_heap : tie.Need-offset_bounds-heap-m-in-loop-m invariant_loop decreases_loop
 mul_heap c = omega arith
 
-element_write_heap : tie.Need-element-write-heap invariant_loop decreases_loop
+element_write_heap : tie.Need-bounds-heap-m-in-loop-m invariant_loop decreases_loop
 element_write_heap c = omega arith
 
 replace_requires : tie.Need-replace-requires invariant_loop decreases_loop
 replace_requires c κs = search rules
 
-loop_less : tie.Need-loop-smaller invariant_loop decreases_loop
+loop_less : tie.Need-loop-m-smaller invariant_loop decreases_loop
 loop_less c = omega arith
 
-loop_again : tie.Need-loop-preserved invariant_loop decreases_loop
+loop_again : tie.Need-loop-m-preserved invariant_loop decreases_loop
 loop_again c = omega arith
 
 returns : tie.Need-returns invariant_loop decreases_loop

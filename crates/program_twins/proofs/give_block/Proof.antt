@@ -6,35 +6,35 @@ use borrow.Author.Rules.{rules}
 use Rattle.program_twins.proofs.give_block.Statement.{statement}
 use Rattle.program_twins.proofs.give_block.Tie as tie
 
-abbrev invariant_loop : tie.invariant-loop
+abbrev invariant_loop : tie.invariant-loop-i
 invariant_loop prelude prelude_rows prelude_count text rows count heap n s₀ i₀ s i =
     (n ≤ 2048) × CheckedBoth prelude prelude_rows prelude_count text rows count s
 
-abbrev decreases_loop : tie.decreases-loop
+abbrev decreases_loop : tie.decreases-loop-i
 decreases_loop prelude prelude_rows prelude_count text rows count heap n s₀ i₀ s i = n - i
 
-loop_holds : tie.Need-loop-init invariant_loop decreases_loop
+loop_holds : tie.Need-loop-i-init invariant_loop decreases_loop
 loop_holds c = let s = c.before.before.before.before in (s.requires.1.0, s.requires.1.1)
 
-row_in_requires : tie.Need-row-in-requires invariant_loop decreases_loop
+row_in_requires : tie.Need-row_in-k-requires invariant_loop decreases_loop
 row_in_requires c κs = omega arith
 
-give_requires : tie.Need-give-requires invariant_loop decreases_loop
+give_requires : tie.Need-give-s-requires invariant_loop decreases_loop
 give_requires c κs =
     let l = c.before.before in
-    (l.before.before.before.before.before.requires.0, l.loop.invariant.1)
+    (l.before.before.before.before.before.requires.0, l.loop-i.invariant.1)
 
-add_i : tie.Need-overflow-add-i invariant_loop decreases_loop
+add_i : tie.Need-overflow_add-i invariant_loop decreases_loop
 add_i c = omega arith
 
-loop_less : tie.Need-loop-smaller invariant_loop decreases_loop
+loop_less : tie.Need-loop-i-smaller invariant_loop decreases_loop
 loop_less c = omega arith
 
-loop_again : tie.Need-loop-preserved invariant_loop decreases_loop
-loop_again c = (c.before.before.before.loop.invariant.0, c.give.ensures)
+loop_again : tie.Need-loop-i-preserved invariant_loop decreases_loop
+loop_again c = (c.before.before.before.loop-i.invariant.0, c.give-s.ensures)
 
 returns : tie.Need-returns invariant_loop decreases_loop
-returns c = c.before.loop.invariant.1
+returns c = c.before.loop-i.invariant.1
 
 pub give_block_spec : {M : Type 1} → statement M
 give_block_spec =

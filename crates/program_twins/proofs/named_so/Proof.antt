@@ -10,18 +10,18 @@ use borrow.Author.Rules.{rules}
 use Rattle.program_twins.proofs.named_so.Statement.{statement}
 use Rattle.program_twins.proofs.named_so.Tie as tie
 
-is_head_requires : tie.Need-is-head-requires
+is_head_requires : tie.Need-is_head-requires
 is_head_requires c κs = search rules
 
-returns : tie.Need-returns
+returns : tie.Need-returns-then-not-is_head
 returns c =
     let h = c.before in
-    λ p. true≢false (sym p.0 ∙ (sym h.is-head.ensures ∙ not-true h.is-head.result c.if1.true))
+    λ p. true≢false (sym p.0 ∙ (sym h.is_head.ensures ∙ not-true h.is_head.result c.if-not-is_head.true-raw))
 
-add_spelling : tie.Need-overflow-add-spelling
+add_spelling : tie.Need-overflow_add-row
 add_spelling c = search rules
 
-spelling_requires : tie.Need-spelling-requires
+spelling_requires : tie.Need-spelling-own-requires
 spelling_requires c κs =
     let s = c.before.before.before.before.before.before.before in
     row_of s.requires.0 (s.args.row + 1) s.requires.1
@@ -29,12 +29,12 @@ spelling_requires c κs =
 same_requires : tie.Need-same-requires
 same_requires c κs = search rules
 
-returns_2 : tie.Need-returns-2
+returns_2 : tie.Need-returns
 returns_2 c =
     let h = c.before.before in
     says_named c.same.result _ _ _
-    (sym h.before.is-head.ensures ∙ not-false h.before.is-head.result h.if1.false)
-    c.before.spelling.ensures c.same.ensures
+    (sym h.before.is_head.ensures ∙ not-false h.before.is_head.result h.if-not-is_head.false-raw)
+    c.before.spelling-own.ensures c.same.ensures
 
 pub named_so_spec : {M : Type 1} → statement M
 named_so_spec =

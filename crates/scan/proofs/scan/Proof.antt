@@ -11,25 +11,25 @@ use Rattle.scan.proofs.scan.Statement.{statement}
 use Rattle.scan.proofs.scan.Tie as tie
 
 -- the text is neither too long nor has it a bad byte
-text_well : (c : tie.After-enum-told) → text_judged c.before.before.before.before.before.args.text.now ≡ verdict.Fine
-text_well c = sym c.before.before.judge-text.ensures ∙ c.enum_told.given.1
+text_well : (c : tie.In-Fine) → text_judged c.before.before.before.before.args.text.now ≡ verdict.Fine
+text_well c = sym c.before.judge_text.ensures ∙ c.in-Fine.is
 
-judge_text_requires : tie.Need-judge-text-requires
+judge_text_requires : tie.Need-judge_text-requires
 judge_text_requires c κs = search rules
 
-enum_known_why : tie.Need-enum-known-why
+enum_known_why : tie.Need-enum_known-why
 enum_known_why c = search rules
 
-returns : tie.Need-returns
+returns : tie.Need-returns-in-Refused
 returns c =
-    let j = c.before.before.before in
+    let j = c.before in
     let a = j.before.before.before.args in
-    refused_text a.text.now a.rows.now (sym j.judge-text.ensures ∙ c.before.why.given.1)
+    refused_text a.text.now a.rows.now (sym j.judge_text.ensures ∙ c.in-Refused.is)
 
-enum_told : tie.Need-enum-told
+enum_told : tie.Need-enum_told-1
 enum_told c = search rules
 
-slice_aggregate_walk : tie.Need-slice-aggregate-walk
+slice_aggregate_walk : tie.Need-slice_bounds-walk-end
 slice_aggregate_walk c = search rules
 
 start_requires : tie.Need-start-requires
@@ -38,26 +38,26 @@ start_requires c κs = search rules
 walk_requires : tie.Need-walk-requires
 walk_requires c κs =
     let s = c.before in
-    let t = s.before.before.before.before.before.before.before.args.text.now in
+    let t = s.before.before.before.before.before.before.args.text.now in
     rw s.start.ensures (walkable _ _ t (fine_text t (text_well s.before.before)).0)
 
 told_requires : tie.Need-told-requires
 told_requires c κs =
     let w = c.before.before in
     let s = w.before.before in
-    let t = s.before.before.before.before.before.before.before.args.text.now in
+    let t = s.before.before.before.before.before.before.args.text.now in
     let short = (fine_text t (text_well s.before.before)).0 in
     (omega arith, rw (w.walk.ensures.0, s.start.ensures) (count_fits _ _ t short))
 
-same_length : tie.Need-same-length
+same_length : tie.Need-shape_of-rows
 same_length c = search rules
 
-returns_2 : tie.Need-returns-2
+returns_2 : tie.Need-returns
 unfolding room_of
 returns_2 c =
     let w = c.before.before.before in
     let s = w.before.before in
-    let a = s.before.before.before.before.before.before.before.args in
+    let a = s.before.before.before.before.before.before.args in
     let t = a.text.now in
     let q = all_rows t a.rows.now (text_well s.before.before) in
     let v = w.walk.ensures in
