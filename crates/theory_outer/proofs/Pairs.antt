@@ -19,7 +19,7 @@ use Rattle.rules.specs.Text.{valid}
 use Rattle.rules.specs.Rows.{words_of}
 use Rattle.rules.specs.Scan.{read_rows, scan, room_of, scan_told, scan_leaves}
 use Rattle.rules_pairs.specs.Pairs.{Edit, Lies, after, put, Pair, adjusted, both, in_turn, Covers}
-use Rattle.rules_pairs.specs.Merges.{after_all, AllLie, next, across_all, AllClear}
+use Rattle.rules_pairs.specs.Merges.{after_all, AllLie, none, next, across_all, AllClear}
 use Rattle.laws.proofs.Rows.{words_length}
 use Rattle.theory_calls.proofs.Answers.{scan_rows}
 use Rattle.theory_edits.specs.Scanned as scanned
@@ -175,6 +175,7 @@ module _ {t : List ℕ} {e f : Edit} (p : Pair t e f) where
 pub made_all : {t : List ℕ} {es : List Edit} {rows table room answer new : List ℕ} → AllLie t es → OuterTable t rows table
     → Made t es rows table room answer new
     → OuterLent (after_all t es) room new answer
+made_all none g m = elim m [ ]
 made_all (next h i) g (last c) = made h g c
 made_all (next h i) g (more {lent = lent} c k m) = made_all i (record { lent = lent; scanned = made h g c; table = k }) m
 

@@ -35,6 +35,7 @@ in_list m (x ∷ xs) e = by (eqb m x) refl e (in_list m xs)
 
 not_in_list : (m : ℕ) (xs : List ℕ) → member m xs ≡ false → Member m xs → ⊥
 unfolding member
+not_in_list m [] e q = elim q [ ]
 not_in_list m (x ∷ xs) e here = true≢false (rw (eq-eqb m m refl) at e)
 not_in_list m (x ∷ xs) e (there q) = by (eqb m x) e (λ f. not_in_list m xs f q)
   where
