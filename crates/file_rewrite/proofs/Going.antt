@@ -147,7 +147,7 @@ module _ {form : Form} {text : List ℕ} {n : ℕ} {memory₀ list₀ : List ℕ
           );
       list_room =
           rw (alike (rows_at form text spot.at))
-          (omega (arith, part_entries form k (take n memory₀) (rows_from text spot.at), g.found, f.list_room, g.same-list));
+          (omega (arith, part_entries form k (take n memory₀) (rows_from text spot.at), g.found, f.list_room, g.same_list));
     }
 
     -- Blocks are few.
@@ -177,7 +177,7 @@ module _ {form : Form} {text : List ℕ} {n : ℕ} {memory₀ list₀ : List ℕ
       pub list_size : length list_after ≡ length list₀
       list_size =
           let d = rows_differing form k (rows_at form text spot.at) (take n memory₀) in
-          rw list_is (over_size list d listed list_fits ∙ g.same-list)
+          rw list_is (over_size list d listed list_fits ∙ g.same_list)
 
       -- it is over
       pub going_over : (x : Ending) → r.part.next ≡ Over x → RowsMended form text n first r.listed memory₀ after list₀ list_after
@@ -190,7 +190,7 @@ module _ {form : Form} {text : List ℕ} {n : ℕ} {memory₀ list₀ : List ℕ
           let done = over_done memory memory₀ b (blocks_of form 1 (rows_of text)) (512 * k) 512 _
           (rw o at g.written) g.behind end in
           let told = over_done list list₀ d (rows_differing form 1 (rows_of text) (take n memory₀)) listed first _
-          (rw o at g.entries) g.list-behind (sym listed_is) in
+          (rw o at g.entries) g.list_behind (sym listed_is) in
           record {
             last_is = listed_is ∙ (rw o at g.found);
             file_is = after_is ∙ done;
@@ -262,7 +262,7 @@ module _ {form : Form} {text : List ℕ} {n : ℕ} {memory₀ list₀ : List ℕ
         list_behind_on : drop r.listed list_after ≡ drop r.listed list₀
         list_behind_on =
             let d = rows_differing form k (rows_at form text spot.at) (take n memory₀) in
-            rw (listed_is, list_is) (over_drop list d listed list_fits ∙ behind_more listed (length d) list list₀ g.list-behind)
+            rw (listed_is, list_is) (over_drop list d listed list_fits ∙ behind_more listed (length d) list list₀ g.list_behind)
 
         -- what holds, holds from there
         pub going_on : Going form text n memory₀ list₀ first after list_after s r.listed (k + 1)

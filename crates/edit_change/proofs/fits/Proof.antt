@@ -15,26 +15,26 @@ same_by : (p : Bool) (m n : ℕ) → (p ≡ true → m ≡ n) → (p ≡ false �
 same_by true m n f g = sym (eq-eqb m n (f refl))
 same_by false m n f g = sym (ne_eqb m n (g refl))
 
-returns : tie.Need-returns
+returns : tie.Need-returns-then-b-a
 unfolding fits_change
-returns c = let a = c.before.args in rw (lt-leb a.a a.b c.if1.true)
+returns c = let a = c.before.args in rw (lt-leb a.a a.b c.if-b-a.true)
 
-returns_2 : tie.Need-returns-2
+returns_2 : tie.Need-returns-then-length-b
 unfolding fits_change
 returns_2 c =
     let a = c.before.before.args in
-    rw (le-leb a.a a.b c.before.if1.false, lt-leb a.b a.length c.if2.true)
+    rw (le-leb a.a a.b c.before.if-b-a.false, lt-leb a.b a.length c.if-length-b.true)
 
-new_length_requires : tie.Need-new-length-requires
+new_length_requires : tie.Need-new_length-made-requires
 new_length_requires c κs = search rules
 
-returns_3 : tie.Need-returns-3
+returns_3 : tie.Need-returns
 unfolding fits_change
 returns_3 c =
     let k = c.before in
     let a = k.before.before.args in
-    rw (le-leb a.a a.b k.before.if1.false, le-leb a.b a.length k.if2.false, ← c.new-length.ensures)
-    (same_by _ a.size c.new-length.result (λ e. omega (arith, eqb-true)) (λ e h. omega (arith, eqb-false)))
+    rw (le-leb a.a a.b k.before.if-b-a.false, le-leb a.b a.length k.if-length-b.false, ← c.new_length-made.ensures)
+    (same_by _ a.size c.new_length-made.result (λ e. omega (arith, eqb-true)) (λ e h. omega (arith, eqb-false)))
 
 pub fits_spec : {M : Type 1} → statement M
 fits_spec = tie.close (tie.spec returns returns_2 new_length_requires returns_3)

@@ -9,44 +9,44 @@ use Rattle.file_mend.proofs.mend_in.Tie as tie
 
 -- ---- the places on the way
 
-abbrev judged : tie.After-known-told → tie.After-judge-text
-judged c = c.before.before.before
+abbrev judged : tie.In-Refused → tie.After-judge_text
+judged c = c.before
 
-abbrev start : tie.After-judge-text → tie.Start
+abbrev start : tie.After-judge_text → tie.Start
 start c = c.before.before.before.before
 
-abbrev fine : tie.After-mend-text-arg2 → tie.After-enum-told
+abbrev fine : tie.After-mend_text-arg-in-Fine-1 → tie.In-Fine
 fine c = c.before.before
 
-judge_text_requires : tie.Need-judge-text-requires
+judge_text_requires : tie.Need-judge_text-requires
 judge_text_requires c κs = search rules
 
-enum_known_why : tie.Need-enum-known-why
+enum_known_why : tie.Need-enum_known-why
 enum_known_why c = search rules
 
-enum_told : tie.Need-enum-told
+enum_told : tie.Need-enum_told-1
 enum_told c = search rules
 
-mend_text_requires : tie.Need-mend-text-requires
+mend_text_requires : tie.Need-mend_text-requires
 mend_text_requires c κs =
     let f = fine c in
-    sym f.before.before.judge-text.ensures ∙ f.enum_told.given.1
+    sym f.before.judge_text.ensures ∙ f.in-Fine.is
 
-returns : tie.Need-returns
+returns : tie.Need-returns-in-Refused
 returns c =
     let j = judged c in
     let a = (start j).args in
-    let e = sym j.judge-text.ensures ∙ c.before.why.given.1 in
+    let e = sym j.judge_text.ensures ∙ c.in-Refused.is in
     let t = told_text a.text.now (number_of a.form) a.file.now a.n a.list.now (known a.form) _ _ e in
     refused a.text.now (number_of a.form) a.file.now a.n a.list.now _ _ t
 
-same_length : tie.Need-same-length
+same_length : tie.Need-shape_of-file
 same_length c = search rules
 
-same_length_2 : tie.Need-same-length-2
+same_length_2 : tie.Need-shape_of-list
 same_length_2 c = search rules
 
-returns_2 : tie.Need-returns-2
+returns_2 : tie.Need-returns-in-Fine
 returns_2 c = search rules
 
 pub mend_in_spec : {M : Type 1} → statement M

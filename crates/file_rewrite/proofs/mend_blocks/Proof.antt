@@ -14,112 +14,112 @@ use Rattle.file_rewrite.proofs.mend_blocks.Tie as tie
 
 -- ---- the places on the way
 
-abbrev said : tie.After-mend-block-arg2 → tie.After-put-said
+abbrev said : tie.After-mend_block-arg-2-1 → tie.After-put_said
 said c = c.before.before.before.before
 
-abbrev start : tie.After-put-said → tie.Start
+abbrev start : tie.After-put_said → tie.Start
 start c = c.before.before.before.before.before
 
-abbrev first_of : tie.After-mend-rows-arg2 → tie.After-mend-block
+abbrev first_of : tie.After-mend_rows-arg-2-1 → tie.After-mend_block-first
 first_of c = c.before.before.before.before.before.before
 
-abbrev rows_of : tie.After-length-for → tie.After-mend-rows
+abbrev rows_of : tie.After-length_for-length → tie.After-mend_rows-last
 rows_of c = c.before.before.before.before.before
 
-abbrev begun : tie.After-mend-block → tie.After-put-said
+abbrev begun : tie.After-mend_block-first → tie.After-put_said
 begun c = said c.before
 
-abbrev entered : tie.After-length-for → tie.Start
+abbrev entered : tie.After-length_for-length → tie.Start
 entered c = start (begun (first_of (rows_of c).before))
 
 -- block 0 was made
-made : (c : tie.After-put-said) → let a = (start c).args in c.put-said.new.1.0 ≡ said_block a.form (fresh_table a.text.now)
-made c = c.put-said.ensures ∙ ap (said_block (start c).args.form) (start c).requires.0.1
+made : (c : tie.After-put_said) → let a = (start c).args in c.put_said.new.bytes ≡ said_block a.form (fresh_table a.text.now)
+made c = c.put_said.ensures ∙ ap (said_block (start c).args.form) (start c).requires.0.1
 
 -- the length that was computed
-size : (c : tie.After-length-for) → let a = (entered c).args in
-    c.length-for.result ≡ length (fresh_file (number_of a.form) a.text.now)
+size : (c : tie.After-length_for-length) → let a = (entered c).args in
+    c.length_for-length.result ≡ length (fresh_file (number_of a.form) a.text.now)
 size c =
     let s = entered c in
     let a = s.args in
-    length_is a.form a.text.now a.table _ s.pre.0.1 c.length-for.ensures
+    length_is a.form a.text.now a.table _ s.requires.0.1 c.length_for-length.ensures
 
 -- there is a tail
-longer : (c : tie.Then1) → let a = (entered c.before).args in length (fresh_file (number_of a.form) a.text.now) < a.n
+longer : (c : tie.Then-length-n) → let a = (entered c.before).args in length (fresh_file (number_of a.form) a.text.now) < a.n
 longer c = let z = size c.before in omega arith
 
 -- what both readings left
-left : (c : tie.After-length-for) → let a = (entered c).args in let r = (rows_of c).mend-rows in
-    Left a.form a.text.now a.n a.file.now a.list.now r.result r.last.1.1.0 r.last.1.1.1.1.0
+left : (c : tie.After-length_for-length) → let a = (entered c).args in let r = (rows_of c).mend_rows-last in
+    Left a.form a.text.now a.n a.file.now a.list.now r.result r.new.file r.new.list
 left c =
     let r = rows_of c in
     let m = first_of r.before in
     let p = begun m in
     let s = start p in
     let a = s.args in
-    rows_left a.form a.text.now a.n a.file.now a.list.now s.pre.1.0.0 s.pre.1.0.1 s.pre.1.1 _ (made p)
-    _ _ _ m.mend-block.ensures _ _ _ r.mend-rows.ensures s.pre.0.0
+    rows_left a.form a.text.now a.n a.file.now a.list.now s.requires.1.0.0 s.requires.1.0.1 s.requires.1.1 _ (made p)
+    _ _ _ m.mend_block-first.ensures _ _ _ r.mend_rows-last.ensures s.requires.0.0
 
-slice_aggregate_put_said : tie.Need-slice-aggregate-put-said
+slice_aggregate_put_said : tie.Need-slice_bounds-put_said-end
 slice_aggregate_put_said c = search rules
 
-put_said_requires : tie.Need-put-said-requires
+put_said_requires : tie.Need-put_said-requires
 put_said_requires c κs = search rules
 
-slice_aggregate_mend_block : tie.Need-slice-aggregate-mend-block
+slice_aggregate_mend_block : tie.Need-slice_bounds-mend_block-end
 slice_aggregate_mend_block c = search rules
 
-mend_block_requires : tie.Need-mend-block-requires
+mend_block_requires : tie.Need-mend_block-first-requires
 mend_block_requires c κs =
     let p = said c in
     let s = start p in
     let a = s.args in
     first_fits a.form a.text.now a.n a.file.now a.list.now
-    s.pre.1.0.0 s.pre.1.0.1 s.pre.1.1 _ (made p)
+    s.requires.1.0.0 s.requires.1.0.1 s.requires.1.1 _ (made p)
 
-mend_rows_requires : tie.Need-mend-rows-requires
+mend_rows_requires : tie.Need-mend_rows-last-requires
 mend_rows_requires c κs =
     let m = first_of c in
     let p = begun m in
     let s = start p in
     let a = s.args in
     rows_fit a.form a.text.now a.n a.file.now a.list.now
-    s.pre.1.0.0 s.pre.1.0.1 s.pre.1.1 _ (made p) _ _ _ m.mend-block.ensures s.pre.0.0
+    s.requires.1.0.0 s.requires.1.0.1 s.requires.1.1 _ (made p) _ _ _ m.mend_block-first.ensures s.requires.0.0
 
-length_for_requires : tie.Need-length-for-requires
+length_for_requires : tie.Need-length_for-length-requires
 length_for_requires c κs = search rules
 
-cast_list : tie.Need-overflow-cast-list
+cast_list : tie.Need-overflow_cast-list
 cast_list c =
     let s = entered c.before in
-    omega (arith, size c.before, length_small s.args.form s.args.text.now s.pre.0.0)
+    omega (arith, size c.before, length_small s.args.form s.args.text.now s.requires.0.0)
 
-mul_list : tie.Need-overflow-mul-list
+mul_list : tie.Need-offset_bounds-list-last
 mul_list c = omega (arith, (left c.before).small)
 
-slice_write_list : tie.Need-slice-write-list
+slice_write_list : tie.Need-bounds-list-last
 slice_write_list c = (left c.before).fits (longer c)
 
-same_length : tie.Need-same-length
+same_length : tie.Need-shape_of-file-then-length-n
 same_length c = search rules
 
-same_length_2 : tie.Need-same-length-2
+same_length_2 : tie.Need-shape_of-list-then-length-n
 same_length_2 c =
     let r = rows_of c.before in
-    length-set r.mend-rows.last.1.1.1.1.0 _ _ ∙ (left c.before).same_size (longer c)
+    length-set r.mend_rows-last.new.list _ _ ∙ (left c.before).same_size (longer c)
 
-returns : tie.Need-returns
+returns : tie.Need-returns-then-length-n
 returns c =
     let w = left c.before in
     (w.file, w.tail (longer c) _ (ap (λ (x : ℕ). x / 512) (size c.before)))
 
-same_length_3 : tie.Need-same-length-3
+same_length_3 : tie.Need-shape_of-file-else-length-n
 same_length_3 c = search rules
 
-same_length_4 : tie.Need-same-length-4
+same_length_4 : tie.Need-shape_of-list-else-length-n
 same_length_4 c = search rules
 
-returns_2 : tie.Need-returns-2
+returns_2 : tie.Need-returns-else-length-n
 returns_2 c =
     let w = left c.before in
     let z = size c.before in

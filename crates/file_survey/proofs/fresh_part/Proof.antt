@@ -13,52 +13,52 @@ use Rattle.file_survey.proofs.fresh_part.Tie as tie
 
 -- ---- the places on the way
 
-abbrev start : tie.After-words → tie.Start
+abbrev start : tie.After-words-1 → tie.Start
 start c = c.before.before.before.before
 
-abbrev read : tie.After-words3 → tie.After-read-part
+abbrev read : tie.After-words-3-1 → tie.After-read_part-part
 read c = c.before.before.before
 
-abbrev asked : tie.After-read-part → tie.After-words
+abbrev asked : tie.After-read_part-part → tie.After-words-1
 asked c = c.before
 
-abbrev written : tie.After-slice-known2 → tie.After-put-part
+abbrev written : tie.After-slice_known-2-1 → tie.After-put_part
 written c = c.before.before
 
-abbrev to_write : tie.After-put-part → tie.After-words3
+abbrev to_write : tie.After-put_part → tie.After-words-3-1
 to_write c = c.before
 
 -- how many rows were asked for
-most : (c : tie.After-words) → c.before.block-rows.result ≡ per_block (row_bytes_of (start c).args.form)
-most c = c.before.block-rows.ensures
+most : (c : tie.After-words-1) → c.before.block_rows.result ≡ per_block (row_bytes_of (start c).args.form)
+most c = c.before.block_rows.ensures
 
-part : (c : tie.After-read-part) → let a = (start (asked c)).args in
-    PartOf a.text.now a.spot.at (per_block (row_bytes_of a.form)) c.read-part.result
-part c = rw (most (asked c)) at c.read-part.ensures.0
+part : (c : tie.After-read_part-part) → let a = (start (asked c)).args in
+    PartOf a.text.now a.spot.at (per_block (row_bytes_of a.form)) c.read_part-part.result
+part c = rw (most (asked c)) at c.read_part-part.ensures.0
 
-block_rows_requires : tie.Need-block-rows-requires
+block_rows_requires : tie.Need-block_rows-requires
 block_rows_requires c κs = search rules
 
-slice_aggregate_read_part : tie.Need-slice-aggregate-read-part
+slice_aggregate_read_part : tie.Need-slice_bounds-read_part-end
 slice_aggregate_read_part c = search rules
 
-read_part_requires : tie.Need-read-part-requires
+read_part_requires : tie.Need-read_part-part-requires
 read_part_requires c κs =
     let s = start c in
     let e = most c in
-    ((s.pre.0, omega (arith, some_rows s.args.form)), omega (arith, few_rows s.args.form))
+    ((s.requires.0, omega (arith, some_rows s.args.form)), omega (arith, few_rows s.args.form))
 
-slice_aggregate_put_part : tie.Need-slice-aggregate-put-part
+slice_aggregate_put_part : tie.Need-slice_bounds-put_part-end
 slice_aggregate_put_part c = search rules
 
-put_part_requires : tie.Need-put-part-requires
+put_part_requires : tie.Need-put_part-requires
 put_part_requires c κs =
     let r = read c in
     let s = start (asked r) in
-    let n = words_lent _ _ _ r.read-part.result _ _ r.read-part.ensures.0 r.read-part.ensures.1 in
-    ((s.pre.1, count_most (part r)), n)
+    let n = words_lent _ _ _ r.read_part-part.result _ _ r.read_part-part.ensures.0 r.read_part-part.ensures.1 in
+    ((s.requires.1, count_most (part r)), n)
 
-same_length : tie.Need-same-length
+same_length : tie.Need-shape_of-fresh
 same_length c = search rules
 
 returns : tie.Need-returns
@@ -66,9 +66,9 @@ returns c =
     let w = written c in
     let r = read (to_write w) in
     let a = (start (asked r)).args in
-    let e = r.read-part.ensures in
-    let b = fresh_made a.form a.text.now a.spot.at a.k _ r.read-part.result _ _ (most (asked r)) e.0 e.1 in
-    (part r, w.put-part.ensures ∙ b)
+    let e = r.read_part-part.ensures in
+    let b = fresh_made a.form a.text.now a.spot.at a.k _ r.read_part-part.result _ _ (most (asked r)) e.0 e.1 in
+    (part r, w.put_part.ensures ∙ b)
 
 pub fresh_part_spec : {M : Type 1} → statement M
 fresh_part_spec =

@@ -12,86 +12,86 @@ use Rattle.file_survey.proofs.survey.Tie as tie
 
 -- ---- the places on the way
 
-abbrev counted : tie.After-length-for → tie.After-count-block
+abbrev counted : tie.After-length_for → tie.After-count_block
 counted c = c.before.before
 
-abbrev said : tie.After-count-block → tie.After-put-said
+abbrev said : tie.After-count_block → tie.After-put_said
 said c = c.before.before.before
 
-abbrev rows : tie.After-put-said → tie.After-survey-rows
+abbrev rows : tie.After-put_said → tie.After-survey_rows-held
 rows c = c.before.before.before
 
-abbrev start : tie.After-survey-rows → tie.Start
+abbrev start : tie.After-survey_rows-held → tie.Start
 start c = c.before.before.before
 
 -- the sum of both counts is small
-small : (c : tie.After-count-block) → (rows (said c)).survey-rows.result.listed + c.count-block.result ≤ 65538
+small : (c : tie.After-count_block) → (rows (said c)).survey_rows-held.result.listed + c.count_block.result ≤ 65538
 small c =
     let p = said c in
     let r = rows p in
     let s = start r in
-    let h = r.survey-rows.ensures in
-    survey_few s.args.form s.args.text.now s.args.file.now r.survey-rows.result.table _ _ _ h.table_is
-    p.put-said.ensures h.listed_is c.count-block.ensures s.pre
+    let h = r.survey_rows-held.ensures in
+    survey_few s.args.form s.args.text.now s.args.file.now r.survey_rows-held.result.table _ _ _ h.table_is
+    p.put_said.ensures h.listed_is c.count_block.ensures s.requires
 
 -- the length that was computed
-size : (c : tie.After-length-for) → let a = (start (rows (said (counted c)))).args in
-    c.length-for.result ≡ length (fresh_file (number_of a.form) a.text.now)
+size : (c : tie.After-length_for) → let a = (start (rows (said (counted c)))).args in
+    c.length_for.result ≡ length (fresh_file (number_of a.form) a.text.now)
 size c =
     let r = rows (said (counted c)) in
     let a = (start r).args in
-    length_is a.form a.text.now r.survey-rows.result.table _ r.survey-rows.ensures.table_is c.length-for.ensures
+    length_is a.form a.text.now r.survey_rows-held.result.table _ r.survey_rows-held.ensures.table_is c.length_for.ensures
 
-survey_rows_requires : tie.Need-survey-rows-requires
+survey_rows_requires : tie.Need-survey_rows-held-requires
 survey_rows_requires c κs = search rules
 
-slice_aggregate_put_said : tie.Need-slice-aggregate-put-said
+slice_aggregate_put_said : tie.Need-slice_bounds-put_said-end
 slice_aggregate_put_said c = search rules
 
-put_said_requires : tie.Need-put-said-requires
+put_said_requires : tie.Need-put_said-requires
 put_said_requires c κs = search rules
 
-slice_aggregate_count_block : tie.Need-slice-aggregate-count-block
+slice_aggregate_count_block : tie.Need-slice_bounds-count_block-end
 slice_aggregate_count_block c = search rules
 
-count_block_requires : tie.Need-count-block-requires
+count_block_requires : tie.Need-count_block-requires
 count_block_requires c κs = search rules
 
-add_listed : tie.Need-overflow-add-listed
+add_listed : tie.Need-overflow_add-listed
 add_listed c = omega (arith, small c.before)
 
-length_for_requires : tie.Need-length-for-requires
+length_for_requires : tie.Need-length_for-requires
 length_for_requires c κs = search rules
 
-add_t16 : tie.Need-overflow-add-t16
+add_t16 : tie.Need-overflow_add-result
 add_t16 c = omega (arith, small (counted c.before))
 
-returns : tie.Need-returns
+returns : tie.Need-returns-then-length_for-file
 returns c =
     let l = c.before in
     let k = counted l in
     let p = said k in
     let r = rows p in
     let a = (start r).args in
-    let h = r.survey-rows.ensures in
+    let h = r.survey_rows-held.ensures in
     let z = size l in (
       h.table_is,
-      survey_long a.form a.text.now a.file.now r.survey-rows.result.table _ _ _ h.table_is p.put-said.ensures
-          h.listed_is k.count-block.ensures (omega arith),
+      survey_long a.form a.text.now a.file.now r.survey_rows-held.result.table _ _ _ h.table_is p.put_said.ensures
+          h.listed_is k.count_block.ensures (omega arith),
     )
 
-returns_2 : tie.Need-returns-2
+returns_2 : tie.Need-returns
 returns_2 c =
     let l = c.before in
     let k = counted l in
     let p = said k in
     let r = rows p in
     let a = (start r).args in
-    let h = r.survey-rows.ensures in
+    let h = r.survey_rows-held.ensures in
     let z = size l in (
       h.table_is,
-      survey_all a.form a.text.now a.file.now r.survey-rows.result.table _ _ _ h.table_is p.put-said.ensures
-          h.listed_is k.count-block.ensures (omega arith),
+      survey_all a.form a.text.now a.file.now r.survey_rows-held.result.table _ _ _ h.table_is p.put_said.ensures
+          h.listed_is k.count_block.ensures (omega arith),
     )
 
 pub survey_spec : {M : Type 1} → statement M

@@ -12,77 +12,73 @@ use Rattle.lister_lines.proofs.Rooms.{room_length, text_rows, text_refused}
 use Rattle.lister_lines.proofs.list_text.Statement.{statement}
 use Rattle.lister_lines.proofs.list_text.Tie as tie
 
-slice_aggregate_scan : tie.Need-slice-aggregate-scan
+slice_aggregate_scan : tie.Need-slice_bounds-scan-end
 slice_aggregate_scan c = search rules
 
 scan_requires : tie.Need-scan-requires
 scan_requires c κs = search rules
 
-enum_known_table : tie.Need-enum-known-table
+enum_known_table : tie.Need-enum_known-table
 enum_known_table c = search rules
 
-slice_aggregate_list_rows : tie.Need-slice-aggregate-list-rows
+slice_aggregate_list_rows : tie.Need-slice_bounds-list_rows-end
 slice_aggregate_list_rows c = search rules
 
-list_rows_requires : tie.Need-list-rows-requires
+list_rows_requires : tie.Need-list_rows-listed-requires
 unfolding room
 list_rows_requires c κs =
-    let p = c.before.before.before.before.before.before.scan in
-    let tbl = c.before.before.before.table.given in
-    let e = text_rows _ p.result p.new.1.0 p.ensures.0 p.ensures.1 tbl.0.0 tbl.1 in
-    (omega (arith, e.1, p.auto.1.0, room_length), e.1)
+    let p = c.before.before.before.before.scan in
+    let e = text_rows _ p.result p.new.rows p.ensures.0 p.ensures.1 c.before.before.in-Rows.table c.before.before.in-Rows.is in
+    (omega (arith, e.1, p.auto.rows, room_length), e.1)
 
-slice_aggregate_list_tree : tie.Need-slice-aggregate-list-tree
+slice_aggregate_list_tree : tie.Need-slice_bounds-list_tree-end
 slice_aggregate_list_tree c = search rules
 
-list_tree_requires : tie.Need-list-tree-requires
+list_tree_requires : tie.Need-list_tree-requires
 list_tree_requires c κs = search rules
 
-enum_known_why : tie.Need-enum-known-why
+enum_known_why : tie.Need-enum_known-why
 enum_known_why c = search rules
 
-slice_aggregate_list_rows_2 : tie.Need-slice-aggregate-list-rows-2
+slice_aggregate_list_rows_2 : tie.Need-slice_bounds-list_rows-end-in-Refused
 slice_aggregate_list_rows_2 c = search rules
 
-list_rows_requires_2 : tie.Need-list-rows-requires-2
+list_rows_requires_2 : tie.Need-list_rows-listed-requires-in-Refused
 unfolding room
 list_rows_requires_2 c κs =
-    let p = c.before.before.before.before.before.before.scan in
-    let w = c.before.before.before.why.given in
-    let e = text_refused _ p.result p.new.1.0 p.ensures.0 p.ensures.1 w.0.0 w.0.1.0 w.0.1.1.0 w.1 in
-    (omega (arith, e.1, p.auto.1.0, room_length), e.1)
+    let p = c.before.before.before.before.scan in
+    let e = text_refused _ p.result p.new.rows p.ensures.0 p.ensures.1 c.before.before.in-Refused.why c.before.before.in-Refused.place c.before.before.in-Refused.count c.before.before.in-Refused.is in
+    (omega (arith, e.1, p.auto.rows, room_length), e.1)
 
-outer_number_requires : tie.Need-outer-number-requires
+outer_number_requires : tie.Need-outer_number-requires
 outer_number_requires c κs = search rules
 
-refusal_line_requires : tie.Need-refusal-line-requires
+refusal_line_requires : tie.Need-refusal_line-requires
 refusal_line_requires c κs = search rules
 
-same_length : tie.Need-same-length
+same_length : tie.Need-shape_of-out-in-Rows
 same_length c = search rules
 
-returns : tie.Need-returns
+returns : tie.Need-returns-in-Rows
 unfolding room
 returns c =
-    let p = c.before.before.before.before.before.before.before.before.before.before.before.before.before.before.scan in
-    let tbl = c.before.before.before.before.before.before.before.before.before.before.before.table.given in
-    let e = text_rows _ p.result p.new.1.0 p.ensures.0 p.ensures.1 tbl.0.0 tbl.1 in
-    let x = c.before.before.before.before.before.before.before.list-rows.ensures in
-    let y = c.before.before.list-tree.ensures in
+    let p = c.before.before.before.before.before.before.before.before.before.before.before.before.scan in
+    let e = text_rows _ p.result p.new.rows p.ensures.0 p.ensures.1 c.before.before.before.before.before.before.before.before.before.before.in-Rows.table c.before.before.before.before.before.before.before.before.before.before.in-Rows.is in
+    let x = c.before.before.before.before.before.before.before.list_rows-listed.ensures in
+    let y = c.before.before.list_tree.ensures in
     (adds_same (sym e.0) (adds_then x.0 y.0), omega (arith, simp length-append at (ap length e.0), x.1, y.1))
 
-same_length_2 : tie.Need-same-length-2
+same_length_2 : tie.Need-shape_of-out-in-Refused
 same_length_2 c = search rules
 
-returns_2 : tie.Need-returns-2
+returns_2 : tie.Need-returns-in-Refused
 unfolding room
 returns_2 c =
-    let p = c.before.before.before.before.before.before.before.before.before.before.before.before.before.before.scan in
-    let w = c.before.before.before.before.before.before.before.before.before.before.before.why.given in
-    let e = text_refused _ p.result p.new.1.0 p.ensures.0 p.ensures.1 w.0.0 w.0.1.0 w.0.1.1.0 w.1 in
-    let x = c.before.before.before.before.before.before.before.list-rows2.ensures in
-    let y = c.before.before.refusal-line.ensures in
-    let f = ap (λ (k : ℕ). listed_rows w.0.1.1.0 p.new.1.0 ++ refusal_line k w.0.1.0) c.before.before.before.outer-number.ensures ∙ sym e.0 in
+    let p = c.before.before.before.before.before.before.before.before.before.before.before.before.scan in
+    let e = text_refused _ p.result p.new.rows p.ensures.0 p.ensures.1 c.before.before.before.before.before.before.before.before.before.before.in-Refused.why c.before.before.before.before.before.before.before.before.before.before.in-Refused.place c.before.before.before.before.before.before.before.before.before.before.in-Refused.count c.before.before.before.before.before.before.before.before.before.before.in-Refused.is in
+    let x = c.before.before.before.before.before.before.before.list_rows-listed-in-Refused.ensures in
+    let y = c.before.before.refusal_line.ensures in
+    let f = ap (λ (k : ℕ). listed_rows c.before.before.before.before.before.before.before.before.before.before.in-Refused.count p.new.rows ++ refusal_line k c.before.before.before.before.before.before.before.before.before.before.in-Refused.place) c.before.before.before.outer_number.ensures ∙ sym e.0 in
     (adds_same f (adds_then x.0 y.0), omega (arith, simp length-append at (ap length f), x.1, y.1))
 
 pub list_text_spec : {M : Type 1} → statement M

@@ -11,58 +11,55 @@ use Rattle.lister_lines.proofs.Rooms.{room_length, tree_nodes, tree_refused, tre
 use Rattle.lister_lines.proofs.list_tree.Statement.{statement}
 use Rattle.lister_lines.proofs.list_tree.Tie as tie
 
-slice_aggregate_parse : tie.Need-slice-aggregate-parse
+slice_aggregate_parse : tie.Need-slice_bounds-parse-end
 slice_aggregate_parse c = search rules
 
 parse_requires : tie.Need-parse-requires
 parse_requires c κs = search rules
 
-enum_known_count : tie.Need-enum-known-count
+enum_known_count : tie.Need-enum_known-count
 enum_known_count c = search rules
 
-slice_aggregate_list_nodes : tie.Need-slice-aggregate-list-nodes
+slice_aggregate_list_nodes : tie.Need-slice_bounds-list_nodes-end
 slice_aggregate_list_nodes c = search rules
 
-list_nodes_requires : tie.Need-list-nodes-requires
+list_nodes_requires : tie.Need-list_nodes-requires
 unfolding room
 list_nodes_requires c κs =
-    let p = c.before.before.before.before.before.before.parse in
-    let n = c.before.before.before.count.given in
-    let few = tree_few _ _ _ p.result p.new.1.1.1.0 p.ensures.0 p.ensures.1 n.0.0 n.1 p.auto.1.1.1.0 in
-    (omega (arith, few, p.auto.1.1.1.0, room_length), omega (arith, few))
+    let p = c.before.before.before.before.parse in
+    let few = tree_few _ _ _ p.result p.new.nodes p.ensures.0 p.ensures.1 c.before.before.in-Nodes.count c.before.before.in-Nodes.is p.auto.nodes in
+    (omega (arith, few, p.auto.nodes, room_length), omega (arith, few))
 
-enum_known_why : tie.Need-enum-known-why
+enum_known_why : tie.Need-enum_known-why
 enum_known_why c = search rules
 
-reason_number_requires : tie.Need-reason-number-requires
+reason_number_requires : tie.Need-reason_number-requires
 reason_number_requires c κs = search rules
 
-refusal_line_requires : tie.Need-refusal-line-requires
+refusal_line_requires : tie.Need-refusal_line-requires
 refusal_line_requires c κs = search rules
 
-same_length : tie.Need-same-length
+same_length : tie.Need-shape_of-out-in-Nodes
 same_length c = search rules
 
-returns : tie.Need-returns
+returns : tie.Need-returns-in-Nodes
 unfolding room
 returns c =
-    let p = c.before.before.before.before.before.before.before.before.before.parse in
-    let n = c.before.before.before.before.before.before.count.given in
-    let h = c.before.before.list-nodes.ensures in
-    let e = tree_nodes _ _ _ p.result p.new.1.1.1.0 p.ensures.0 p.ensures.1 n.0.0 n.1 in
+    let p = c.before.before.before.before.before.before.before.parse in
+    let h = c.before.before.list_nodes.ensures in
+    let e = tree_nodes _ _ _ p.result p.new.nodes p.ensures.0 p.ensures.1 c.before.before.before.before.before.in-Nodes.count c.before.before.before.before.before.in-Nodes.is in
     (adds_same (sym e) h.0, omega (arith, ap length e, h.1))
 
-same_length_2 : tie.Need-same-length-2
+same_length_2 : tie.Need-shape_of-out-in-Refused
 same_length_2 c = search rules
 
-returns_2 : tie.Need-returns-2
+returns_2 : tie.Need-returns-in-Refused
 unfolding room
 returns_2 c =
-    let p = c.before.before.before.before.before.before.before.before.before.parse in
-    let w = c.before.before.before.before.before.before.why.given in
-    let h = c.before.before.refusal-line.ensures in
-    let e = tree_refused _ _ _ p.result p.new.1.1.1.0 p.ensures.0 p.ensures.1 w.0.0 w.0.1.0 w.0.1.1.0 w.1 in
-    let f = ap (λ (k : ℕ). refusal_line k w.0.1.0) c.before.before.before.reason-number.ensures ∙ sym e in
+    let p = c.before.before.before.before.before.before.before.parse in
+    let h = c.before.before.refusal_line.ensures in
+    let e = tree_refused _ _ _ p.result p.new.nodes p.ensures.0 p.ensures.1 c.before.before.before.before.before.in-Refused.why c.before.before.before.before.before.in-Refused.place c.before.before.before.before.before.in-Refused.field-2 c.before.before.before.before.before.in-Refused.is in
+    let f = ap (λ (k : ℕ). refusal_line k c.before.before.before.before.before.in-Refused.place) c.before.before.before.reason_number.ensures ∙ sym e in
     (adds_same f h.0, omega (arith, ap length f, h.1))
 
 pub list_tree_spec : {M : Type 1} → statement M

@@ -154,12 +154,12 @@ stands_behind c =
     let s = c.behind-here.result in
     elim j.if-told-lt-BLANK.branch [
       | lts.then-told-lt-BLANK x ↦
-        same_words l s (x.rows-is ∙ x.put_behind.ensures) x.count-is x.comments-is
+          same_words l s (x.rows-is ∙ x.put_behind.ensures) x.count-is x.comments-is
           (going_row (stands p) (none b) (told_of b) (told_here b) s c.behind-here.ensures x.if-told-lt-BLANK.true (left p))
       | lts.else-told-lt-BLANK x ↦
-        same_words l s x.rows-is x.count-is x.comments-is
+          same_words l s x.rows-is x.count-is x.comments-is
           (going_comment (stands p) (none b) (told_of b) (told_here b) s c.behind-here.ensures (omega (arith, x.if-told-lt-BLANK.false))
-            (goes_on j.before) (left p))
+          (goes_on j.before) (left p))
     ]
 
 -- ---- so many rows were asked for

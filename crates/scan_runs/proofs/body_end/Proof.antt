@@ -54,8 +54,8 @@ loop_again c =
     let t = d.before.before.before.args.text.now in
     let e : (eqb (get_or t l.i 0) 42 && eqb (get_or t (l.i + 1) 0) 47) ≡ false =
     elim c.if-text-i-eq42.branch [
-      lts.then-text-i-eq42+else-peek-eq47 w ↦ rw w.if-text-i-eq42.true (ne_eqb _ 47 (λ q. w.if-peek-eq47.false (w.peek.ensures ∙ q))) |
-      lts.else-text-i-eq42 w ↦ rw (ne_eqb _ _ w.if-text-i-eq42.false)
+      | lts.then-text-i-eq42+else-peek-eq47 w ↦ rw w.if-text-i-eq42.true (ne_eqb _ 47 (λ q. w.if-peek-eq47.false (w.peek.ensures ∙ q)))
+      | lts.else-text-i-eq42 w ↦ rw (ne_eqb _ _ w.if-text-i-eq42.false)
     ] in
     (omega arith, omega (arith, body_on t l.i d.loop-i-test.true e, l.invariant.1))
 

@@ -192,12 +192,12 @@ stands_behind c =
     let s = c.behind-here.result in
     elim j.if-told-lt-BLANK.branch [
       | lts.then-told-lt-BLANK x ↦
-        same_words l s f.find-found.result.row (x.rows-is ∙ x.put_behind.ensures) x.count-is x.comments-is
+          same_words l s f.find-found.result.row (x.rows-is ∙ x.put_behind.ensures) x.count-is x.comments-is
           (walking_row (found f) (off b) (none b) (told_of b) (told_here b) s c.behind-here.ensures x.if-told-lt-BLANK.true)
       | lts.else-told-lt-BLANK x ↦
-        same_words l s f.find-found.result.row x.rows-is x.count-is x.comments-is
+          same_words l s f.find-found.result.row x.rows-is x.count-is x.comments-is
           (walking_comment (found f) (off b) (none b) (told_of b) (told_here b) s c.behind-here.ensures (omega (arith, x.if-told-lt-BLANK.false))
-            (goes_on j.before))
+          (goes_on j.before))
     ]
 
 loop_holds : tie.Need-loop-i-init invariant_loop decreases_loop

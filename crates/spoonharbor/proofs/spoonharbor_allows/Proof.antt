@@ -8,11 +8,11 @@ use Rattle.spoonharbor.proofs.spoonharbor_allows.Tie as tie
 allows_requires : tie.Need-allows-requires
 allows_requires c κs = search rules
 
-put_asked_requires : tie.Need-put-asked-requires
+put_asked_requires : tie.Need-put_asked-requires
 put_asked_requires c κs = search rules
 
 returns : tie.Need-returns
-returns c = c.put-asked.ensures ∙ ap asked_words c.before.allows.ensures
+returns c = c.put_asked.ensures ∙ ap asked_words c.before.allows.ensures
 
 pub spoonharbor_allows_spec : {M : Type 1} → statement M
 spoonharbor_allows_spec = tie.close (tie.spec allows_requires put_asked_requires returns)

@@ -8,20 +8,20 @@ use Rattle.spoonharbor.proofs.spoonharbor_mend.Tie as tie
 mend_requires : tie.Need-mend-requires
 mend_requires c κs = search rules
 
-put_mended_requires : tie.Need-put-mended-requires
+put_mended_requires : tie.Need-put_mended-requires
 put_mended_requires c κs = search rules
 
-same_length : tie.Need-same-length
+same_length : tie.Need-shape_of-file
 same_length c = search rules
 
-same_length_2 : tie.Need-same-length-2
+same_length_2 : tie.Need-shape_of-blocks
 same_length_2 c = search rules
 
 returns : tie.Need-returns
 returns c =
     let lent = c.before.before.before in
     let m = lent.before.before.mend.ensures in
-    (c.put-mended.ensures ∙ ap mended_words m.0, m.1)
+    (c.put_mended.ensures ∙ ap mended_words m.0, m.1)
 
 pub spoonharbor_mend_spec : {M : Type 1} → statement M
 spoonharbor_mend_spec = tie.close (tie.spec mend_requires put_mended_requires same_length same_length_2 returns)

@@ -5,19 +5,19 @@ use borrow.Author.Rules.{rules}
 use Rattle.spoonharbor.proofs.spoonharbor_move.Statement.{statement}
 use Rattle.spoonharbor.proofs.spoonharbor_move.Tie as tie
 
-move_file_requires : tie.Need-move-file-requires
+move_file_requires : tie.Need-move_file-requires
 move_file_requires c κs = search rules
 
-put_moved_requires : tie.Need-put-moved-requires
+put_moved_requires : tie.Need-put_moved-requires
 put_moved_requires c κs = search rules
 
-same_length : tie.Need-same-length
+same_length : tie.Need-shape_of-moved
 same_length c = search rules
 
 returns : tie.Need-returns
 returns c =
-    let m = c.before.before.before.move-file.ensures in
-    (c.put-moved.ensures ∙ ap moved_words m.0, m.1)
+    let m = c.before.before.before.move_file.ensures in
+    (c.put_moved.ensures ∙ ap moved_words m.0, m.1)
 
 pub spoonharbor_move_spec : {M : Type 1} → statement M
 spoonharbor_move_spec = tie.close (tie.spec move_file_requires put_moved_requires same_length returns)

@@ -8,14 +8,14 @@ use Rattle.spoonharbor.proofs.spoonharbor_scan.Tie as tie
 scan_requires : tie.Need-scan-requires
 scan_requires c κs = search rules
 
-put_told_requires : tie.Need-put-told-requires
+put_told_requires : tie.Need-put_told-requires
 put_told_requires c κs = search rules
 
-same_length : tie.Need-same-length
+same_length : tie.Need-shape_of-rows
 same_length c = search rules
 
 returns : tie.Need-returns
-returns c = (c.put-told.ensures ∙ ap told_words c.before.before.before.scan.ensures.0, c.before.before.before.scan.ensures.1)
+returns c = (c.put_told.ensures ∙ ap told_words c.before.before.before.scan.ensures.0, c.before.before.before.scan.ensures.1)
 
 pub spoonharbor_scan_spec : {M : Type 1} → statement M
 spoonharbor_scan_spec = tie.close (tie.spec scan_requires put_told_requires same_length returns)

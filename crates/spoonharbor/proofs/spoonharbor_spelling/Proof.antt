@@ -6,56 +6,56 @@ use borrow.Author.Rules.{rules}
 use Rattle.spoonharbor.proofs.spoonharbor_spelling.Statement.{statement}
 use Rattle.spoonharbor.proofs.spoonharbor_spelling.Tie as tie
 
-table_of_requires : tie.Need-table-of-requires
+table_of_requires : tie.Need-table_of-requires
 table_of_requires c κs = search rules
 
-spelling_judge_requires : tie.Need-spelling-judge-requires
+spelling_judge_requires : tie.Need-spelling_judge-requires
 spelling_judge_requires c κs = search rules
 
-enum_told : tie.Need-enum-told
+enum_told : tie.Need-enum_told-1
 enum_told c = search rules
 
-mul_at : tie.Need-overflow-mul-at
+mul_at : tie.Need-overflow_mul-at
 mul_at c = search rules
 
-no_place_requires : tie.Need-no-place-requires
+no_place_requires : tie.Need-no_place-requires
 no_place_requires c κs = search rules
 
-add_put : tie.Need-overflow-add-put
+add_put : tie.Need-overflow_add-at
 add_put c = search rules
 
-mul_put : tie.Need-overflow-mul-put
+mul_put : tie.Need-offset_bounds-rows-at
 mul_put c = search rules
 
-shared_slice_read_put : tie.Need-shared-slice-read-put
-shared_slice_read_put c = let h = told c.before.before.before.before.before.before.before.before.before.args.text.now c.before.before.before.before.before.before.before.before.before.args.rows.now c.before.before.before.before.before.before.table_of.result c.before.before.before.before.before.before.before.before.before.args.row (sym c.before.before.before.before.before.spelling-judge.ensures ∙ c.before.before.before.enum_told.given.1) in omega (arith, h.lent)
+shared_slice_read_put : tie.Need-bounds-rows-at
+shared_slice_read_put c = let h = told c.before.before.before.before.before.before.before.before.args.text.now c.before.before.before.before.before.before.before.before.args.rows.now c.before.before.before.before.before.table_of.result c.before.before.before.before.before.before.before.before.args.row (sym c.before.before.before.before.spelling_judge.ensures ∙ c.before.before.before.in-Fine.is) in omega (arith, h.lent)
 
-add_put_2 : tie.Need-overflow-add-put-2
+add_put_2 : tie.Need-overflow_add-at-in-Fine
 add_put_2 c = search rules
 
-mul_put_2 : tie.Need-overflow-mul-put-2
+mul_put_2 : tie.Need-offset_bounds-rows-at-in-Fine
 mul_put_2 c = search rules
 
-shared_slice_read_put_2 : tie.Need-shared-slice-read-put-2
-shared_slice_read_put_2 c = let h = told c.before.before.before.before.before.before.before.before.before.before.args.text.now c.before.before.before.before.before.before.before.before.before.before.args.rows.now c.before.before.before.before.before.before.before.table_of.result c.before.before.before.before.before.before.before.before.before.before.args.row (sym c.before.before.before.before.before.before.spelling-judge.ensures ∙ c.before.before.before.before.enum_told.given.1) in omega (arith, h.lent)
+shared_slice_read_put_2 : tie.Need-bounds-rows-at-in-Fine
+shared_slice_read_put_2 c = let h = told c.before.before.before.before.before.before.before.before.before.args.text.now c.before.before.before.before.before.before.before.before.before.args.rows.now c.before.before.before.before.before.before.table_of.result c.before.before.before.before.before.before.before.before.before.args.row (sym c.before.before.before.before.before.spelling_judge.ensures ∙ c.before.before.before.before.in-Fine.is) in omega (arith, h.lent)
 
 put_requires : tie.Need-put-requires
 put_requires c κs = search rules
 
-enum_known_why : tie.Need-enum-known-why
+enum_known_why : tie.Need-enum_known-why
 enum_known_why c = search rules
 
-outer_number_requires : tie.Need-outer-number-requires
+outer_number_requires : tie.Need-outer_number-requires
 outer_number_requires c κs = search rules
 
-put_requires_2 : tie.Need-put-requires-2
+put_requires_2 : tie.Need-put-requires-in-Refused
 put_requires_2 c κs = search rules
 
-returns : tie.Need-returns
-returns c = rw (← c.before.before.before.before.before.before.before.before.table_of.ensures, sym c.before.before.before.before.before.before.before.spelling-judge.ensures ∙ c.before.before.before.before.before.enum_told.given.1) (c.put.ensures ∙ rw c.before.before.before.no_place.ensures)
+returns : tie.Need-returns-in-Fine
+returns c = rw (← c.before.before.before.before.before.before.before.table_of.ensures, sym c.before.before.before.before.before.before.spelling_judge.ensures ∙ c.before.before.before.before.before.in-Fine.is) (c.put.ensures ∙ rw c.before.before.before.no_place.ensures)
 
-returns_2 : tie.Need-returns-2
-returns_2 c = rw (← c.before.before.before.before.before.before.before.table_of.ensures, sym c.before.before.before.before.before.before.spelling-judge.ensures ∙ c.before.before.before.before.why.given.1) (c.put2.ensures ∙ rw c.before.outer-number.ensures)
+returns_2 : tie.Need-returns-in-Refused
+returns_2 c = rw (← c.before.before.before.before.before.table_of.ensures, sym c.before.before.before.before.spelling_judge.ensures ∙ c.before.before.before.in-Refused.is) (c.put-in-Refused.ensures ∙ rw c.before.outer_number.ensures)
 
 pub spoonharbor_spelling_spec : {M : Type 1} → statement M
 spoonharbor_spelling_spec =

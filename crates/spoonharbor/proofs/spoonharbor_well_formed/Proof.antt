@@ -3,17 +3,17 @@ use borrow.Author.Rules.{rules}
 use Rattle.spoonharbor.proofs.spoonharbor_well_formed.Statement.{statement}
 use Rattle.spoonharbor.proofs.spoonharbor_well_formed.Tie as tie
 
-table_of_requires : tie.Need-table-of-requires
+table_of_requires : tie.Need-table_of-requires
 table_of_requires c κs = search rules
 
-well_formed_requires : tie.Need-well-formed-requires
+well_formed_requires : tie.Need-well_formed-requires
 well_formed_requires c κs = search rules
 
-returns : tie.Need-returns
-returns c = rw (← c.before.before.table_of.ensures, ← c.before.well-formed-2.ensures, c.if1.true)
+returns : tie.Need-returns-then-well_formed
+returns c = rw (← c.before.before.table_of.ensures, ← c.before.well_formed-2.ensures, c.if-well_formed.true)
 
-returns_2 : tie.Need-returns-2
-returns_2 c = rw (← c.before.before.table_of.ensures, ← c.before.well-formed-2.ensures, c.if1.false)
+returns_2 : tie.Need-returns-else-well_formed
+returns_2 c = rw (← c.before.before.table_of.ensures, ← c.before.well_formed-2.ensures, c.if-well_formed.false)
 
 pub spoonharbor_well_formed_spec : {M : Type 1} → statement M
 spoonharbor_well_formed_spec =

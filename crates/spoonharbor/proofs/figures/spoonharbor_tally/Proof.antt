@@ -6,20 +6,20 @@ use Rattle.rules_tally.specs.Calls.{counting_number, tally_words}
 use Rattle.spoonharbor.proofs.figures.spoonharbor_tally.Statement.{statement}
 use Rattle.spoonharbor.proofs.figures.spoonharbor_tally.Tie as tie
 
-tally_requires : tie.Need-tally-requires
+tally_requires : tie.Need-tally-told-requires
 tally_requires c κs = search rules
 
-put_tally_requires : tie.Need-put-tally-requires
+put_tally_requires : tie.Need-put_tally-requires
 put_tally_requires c κs = search rules
 
-counting_number_requires : tie.Need-counting-number-requires
+counting_number_requires : tie.Need-counting_number-requires
 counting_number_requires c κs = search rules
 
 returns : tie.Need-returns
 returns c =
-    let e = c.before.before.before.before.tally.ensures in (
-      c.counting-number.ensures ∙ ap (λ (t : Tallied). counting_number t.how) e,
-      c.before.put-tally.ensures ∙ ap (λ (t : Tallied). tally_words t.tally) e,
+    let e = c.before.before.before.before.tally-told.ensures in (
+      c.counting_number.ensures ∙ ap (λ (t : Tallied). counting_number t.how) e,
+      c.before.put_tally.ensures ∙ ap (λ (t : Tallied). tally_words t.tally) e,
     )
 
 pub spoonharbor_tally_spec : {M : Type 1} → statement M
