@@ -7,7 +7,9 @@
 #   itself and now fills four of them; nothing but a load or a store of a pointer looks at them;
 # - a variable that is a pointer (`alloca ptr`) is loaded and stored as a pointer, and never as eight bytes;
 # - no pointer becomes a number and no number a pointer;
-# - there is no structure type, whose layout would be the compiler's, and nothing is called outside of the module;
+# - a structure has two members, which are whole numbers of at most 64 bits: both stand where they stood, as for both
+#   kinds of pointers a number stands at a multiple of its own size. None has a name, is packed, or has a pointer in it;
+# - nothing is called outside of the module;
 # - lengths and places are numbers of 64 bits, as they were; an address is below 2^32, and so is what is added to it.
 
 function fail(what) {
@@ -27,9 +29,17 @@ function fail(what) {
 /^@/ && !/ constant \[[0-9]+ x i8\] / { fail("is memory of another type than bytes") }
 /ptrtoint|inttoptr|addrspacecast|bitcast/ { fail("turns a pointer into something") }
 /x86|^module asm|call [^@]* asm / { fail("speaks of another processor") }
-/insertvalue|extractvalue|^%.* = type/ { fail("has a structure") }
 / getelementptr / && !/ getelementptr (inbounds )?(nuw )?i8, ptr [%@][^,]+, i64 / { fail("has a place that is not counted in bytes") }
 / = alloca / && !/ = alloca (i[0-9]+|ptr|\[[0-9]+ x i8\]), align [0-9]+$/ { fail("is a variable of another type") }
+/^%.* = type|<\{/ { fail("has a structure") }
+!/^[@!]|^attributes / {
+    rest = $0
+    while (at = index(rest, "{ ")) {
+        rest = substr(rest, at)
+        if (rest !~ /^\{ i(8|16|32|64), i(8|16|32|64) \}/) fail("has a structure")
+        rest = substr(rest, 2)
+    }
+}
 
 # A variable that is a pointer, and every line that names one.
 / = alloca ptr, / { pointers[$1]; print; next }

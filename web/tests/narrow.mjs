@@ -43,7 +43,8 @@ await test('the heading alone changes', () => {
 await test('what hangs on no size is taken', () => {
   for (const line of [
     '%r2 = load ptr, ptr %r0, align 8', 'store ptr %a0, ptr %r1, align 8', '%r2 = getelementptr i8, ptr %a0, i64 %a1',
-    '%r2 = getelementptr inbounds nuw i8, ptr %r1, i64 8', 'call void @llvm.memmove.p0.p0.i64(ptr %r1, ptr %a0, i64 16, i1 false)',
+    '%r2 = getelementptr inbounds nuw i8, ptr %r1, i64 8', '%r2 = load { i8, i64 }, ptr %r1, align 8',
+    '%r2 = call { i64, i64 } @"g"(i64 %a1)', '%r2 = extractvalue { i64, i32 } %r9, 0', 'call void @llvm.memmove.p0.p0.i64(ptr %r1, ptr %a0, i64 16, i1 false)',
   ]) assert.deepEqual([narrowed(within(line)).status, narrowed(within(line)).said], [0, ''], line);
 });
 
@@ -56,6 +57,11 @@ await test('what may hang on a size is not', () => {
     '%r2 = alloca { ptr, i64 }, align 8': 'is a variable of another type',
     '%r2 = alloca [2 x ptr], align 8': 'is a variable of another type',
     '%r2 = extractvalue { ptr, i64 } %r9, 0': 'has a structure',
+    '%r2 = load { i32, ptr }, ptr %r1, align 8': 'has a structure',
+    '%r2 = call { i64, i64, i64 } @"g"(i64 %a1)': 'has a structure',
+    '%r2 = extractvalue { i64, { i64, i64 } } %r9, 0': 'has a structure',
+    '%r2 = load <{ i8, i64 }>, ptr %r1, align 1': 'has a structure',
+    '%r2 = load { i128, i64 }, ptr %r1, align 16': 'has a structure',
     '%r2 = load i64, ptr %r0, align 8': "looks at a pointer's bytes",
     'store i64 %a1, ptr %r0, align 8': "looks at a pointer's bytes",
     'call void @llvm.memmove.p0.p0.i64(ptr %r1, ptr %r0, i64 8, i1 false)': "looks at a pointer's bytes",
