@@ -1,4 +1,6 @@
 // The lister: reads a text on standard input and writes what is listed of it on standard output.
+#![tactic(auto)]
+
 ghost use Rattle.std.specs.Prelude.{◌≤◌, length, IfOk};
 
 use lister_lines::MOST_LISTING;

@@ -1,4 +1,6 @@
 // Lists several texts, one after the other, each under a line that says what it is.
+#![tactic(auto)]
+
 use lister_lines::MOST_LISTING;
 use std::io;
 

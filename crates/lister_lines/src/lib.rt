@@ -1,4 +1,6 @@
 // The listing: a text's rows, then its nodes or its refusal, as bytes.
+#![tactic(auto)]
+
 ghost use Rattle.std.specs.Prelude.{◌≡◌, ◌++◌, ◌≤◌, length, drop};
 ghost use Rattle.lister_parts.specs.Adds.{Adds, IsPrefixLen, most_of_nodes, most_listing};
 ghost use Rattle.lister_lines.specs.Lines.{listed_tree, listed_text, listed};

@@ -1,6 +1,5 @@
 -- Laws of numbers in decimal: how long they are, and what `itoa` writes.
-use Rattle.std.proofs.Common.{◌≡◌, ℕ, zero, suc, ◌+◌, ◌-◌, ◌/◌, ◌%◌, ◌^◌, ◌<◌, ◌≤◌, Bool, true, false, ltb, [], ◌∷◌, length, sym, refl, ap, ◌∙◌, mod-lt, mod-eq_of_lt, pow-suc, arith, length-append, ltb-false, ltb-true, lt-ltb}
-use native.Mathlib.Nat.{one-le-pow}
+use Rattle.std.proofs.Common.{◌≡◌, ℕ, zero, suc, ◌+◌, ◌-◌, ◌/◌, ◌%◌, ◌^◌, ◌<◌, ◌≤◌, Bool, true, false, ltb, length, sym, refl, ap, ◌∙◌, pow-suc, arith, length-append, ltb-false, ltb-true}
 use Rattle.std.proofs.lemmas.Fmt.{decimal_by_steps}
 use Rattle.std.specs.Fmt.{decimal as std·decimal}
 use Rattle.rules_decimal.specs.Decimal.{digit, decimal}

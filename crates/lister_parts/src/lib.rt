@@ -1,4 +1,6 @@
 // The parts of a listing as bytes: rows and nodes, headed, and a refusal.
+#![tactic(auto)]
+
 ghost use Rattle.std.specs.Prelude.{◌≡◌, ◌*◌, ◌≤◌, length};
 ghost use Rattle.lister_parts.specs.Adds.{Adds, most_of_rows, most_of_nodes, most_of_refusal};
 ghost use Rattle.lister_parts.specs.Parts.{row_line, node_line, refusal_line, lines, most_lines, listed_rows, listed_nodes};

@@ -3,6 +3,8 @@
 // stand before a row is expected as a fresh scan of the new text counts them, which the sample does not do. Where a call writes
 // rows, its edit is made as a change too, of which the same is expected. `cargo run --release --offline --bin edits` in compare/ writes
 // `stdin`, which says at its head where each expectation comes from.
+#![tactic(auto)]
+
 use call::{calls_compared, words_compared};
 use change::{BYTES, WORDS};
 use replay_input::input::{LOST, letter};

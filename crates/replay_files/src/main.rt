@@ -1,6 +1,8 @@
 // Holds the calls over files against a stored sample of tables: reads the sample on standard input, stores each table and reads files
 // that came of it, sound and damaged, and writes how many agree with what is expected in answer, bytes, rows and memory.
 // `cargo run --release --offline --bin files` in compare/ writes `stdin`; compare/README.md says what stands in it.
+#![tactic(auto)]
+
 use load::loads_compared;
 use replay_input::file::{BYTES, ROW_WORDS, file_read};
 use replay_input::input::{LOST, letter};

@@ -1,6 +1,8 @@
 // Holds the calls with the text at hand against a stored sample of texts and files: reads the sample on standard input, reads each file
 // beside its text, moves it and mends it, and writes how many calls agree with what is expected in answer and lent memory.
 // `cargo run --release --offline --bin forms` in compare/ writes `stdin`; compare/README.md says what stands in it.
+#![tactic(auto)]
+
 use calls::call_compared;
 use replay_input::file::{BYTES, file_read, first_bytes};
 use replay_input::input::{LOST, count, letter};

@@ -1,5 +1,7 @@
 // What the programs that replay a stored sample share: its words and files, what calls tell as such words and leave in lent memory,
 // counters, and lines of numbers.
+#![tactic(auto)]
+
 use input::{LOST, Word};
 use std::io;
 use std::io::Read;

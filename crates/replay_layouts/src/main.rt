@@ -1,6 +1,8 @@
 // Holds layouts against a stored sample: reads the sample on standard input, scans, parses and lays out each of its texts, with what is
 // lent as it is and forged, and writes how many calls agree with what is expected in answer and lent room. `cargo run --release --offline
 // --bin layouts` in compare/ writes `stdin`; compare/README.md says what stands in it.
+#![tactic(auto)]
+
 use calls::call_compared;
 use layout_judge::SCRATCH;
 use replay_input::input::{LOST, count, letter};

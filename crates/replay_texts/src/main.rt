@@ -1,6 +1,8 @@
 // Holds the scanner and the parser against the stored answers of the Rust: reads the sample on standard input, scans and parses each
 // of its texts, and writes how many things were held against it and how many agree. `stdin` is what
 // `cargo run --release --offline --bin sample 4000 1` writes in compare/; compare/README.md says what stands in it.
+#![tactic(auto)]
+
 use replay_input::input::LOST;
 use replay_input::tally::Tally;
 use replay_input::told::table_of;
