@@ -64,8 +64,8 @@ shows : (c : tie.Joined-room-n) → let a = (entry_of c).args in take c.if-room-
 shows c =
     let a = (entry_of c).args in
     elim c.if-room-n.branch [
-      then-room-n w ↦ ap (λ (x : ℕ). take x a.file.now) w.there-is ∙ shown_all a.file.now a.n w.if-room-n.true
-    | else-room-n w ↦ ap (λ (x : ℕ). take x a.file.now) w.there-is
+      | then-room-n w ↦ ap (λ (x : ℕ). take x a.file.now) w.there-is ∙ shown_all a.file.now a.n w.if-room-n.true
+      | else-room-n w ↦ ap (λ (x : ℕ). take x a.file.now) w.there-is
     ]
 
 found : (c : tie.After-survey-seen) → let a = (start c).args in
