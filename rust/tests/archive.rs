@@ -62,7 +62,7 @@ const WORDS: [&str; 21] = [
 fn room(name: &str, list: &str, module: &str) -> Folder {
     let folder = Folder::new(name);
     fs::create_dir(folder.0.join("tools")).unwrap();
-    for tool in ["compile", "mark.awk"] {
+    for tool in ["compile", "mark.awk", "retarget"] {
         let path = format!("tools/{tool}");
         folder.executable(&path, fs::read(repository().join(&path)).unwrap());
     }
@@ -236,4 +236,26 @@ fn a_processor_of_another_kind_is_told() {
         "archive: the toolchain writes no archive for riscv64\n"
     );
     assert_eq!((ran.out.as_str(), ran.status), ("", 2));
+}
+
+/// A module for x86-64 that is at hand as text, compiled for another processor.
+#[test]
+fn a_module_that_speaks_of_another_processor_is_not_retargeted() {
+    let retargeted = |folder: &Folder, processor: &str| {
+        let mut command = folder.program("tools/retarget");
+        command.args(["./clang", processor, "text"]).args(WORDS);
+        run(&mut command, b"")
+    };
+    let more = module() + "declare <2 x i64> @llvm.x86.sse2.psad.bw(<16 x i8>, <16 x i8>)\n";
+    let folder = room("speaks", listed(), &more);
+    assert_eq!(compiled(&folder, "x86_64").status, 0);
+    let ran = retargeted(&folder, "aarch64");
+    assert!(ran
+        .complaints
+        .ends_with("retarget: the module speaks of x86-64\n"));
+    assert_eq!((ran.out.as_str(), ran.status), ("", 1));
+    let folder = room("unknown-retargeted", listed(), &module());
+    let ran = retargeted(&folder, "riscv64");
+    assert_eq!(ran.complaints, "retarget: no module is made for riscv64\n");
+    assert_eq!((ran.out.as_str(), ran.status), ("", 1));
 }
