@@ -1,5 +1,5 @@
 -- What the library's chains over bytes say, in the rules' word for it: how many bytes at the front of a list meet a test.
-use Rattle.std.proofs.Common.{◌≡◌, refl, ap, sym, ◌∙◌, Bool, true, false, List, [], ◌∷◌, ℕ, zero, suc, ◌+◌, ◌-◌, ◌≤◌, min, length, take, drop, Bor, Option, arith}
+use Rattle.std.proofs.Common.{◌≡◌, refl, ap, sym, ◌∙◌, Bool, true, false, List, [], ◌∷◌, ℕ, zero, suc, ◌+◌, ◌-◌, ◌≤◌, ◌<◌, min, ◌++◌, length, get_or, take, drop, Bor, Option, arith}
 use Rattle.std.specs.List.{prefix_len}
 use Rattle.std.specs.Fn.{CalledAt}
 use Rattle.std.specs.Iterator.{Drains}
@@ -12,7 +12,7 @@ use Rattle.std.proofs.lemmas.Iterator.Consumers.{count_from_yields_List}
 use Rattle.std.proofs.lemmas.Iterator.Search.{YieldsList-from_take_while}
 use Rattle.std.proofs.lemmas.List.{length-drop}
 use Rattle.std.proofs.lemmas.List.Folds.{length-prefix_len}
-use Rattle.std.proofs.Math.Seq.{take-length}
+use Rattle.std.proofs.Math.Seq.{take-length, take-append_seam, drop-append_seam, drop-drop}
 use denote.Param.Members.{Mut}
 use Rattle.rules.specs.Text.{front}
 use Rattle.laws.proofs.Fronts.{front_in, front_out}
@@ -48,3 +48,23 @@ pub counted : {S A F : Type 0} {steps : S → Option A → S → Type 0} {v : A 
     → r ≡ front p ys
 counted s p {ys} r ran runs callee done calls =
     count_from_yields_List s r ran (YieldsList-from_take_while _ p runs callee done calls) ∙ length-prefix_len p ys ∙ prefix_is_front p ys
+
+-- the bytes of a front meet the test
+pub front_holds : (p : ℕ → Bool) (s : List ℕ) (k : ℕ) → k < front p s → p (get_or s k 0) ≡ true
+unfolding front
+front_holds p [] k h = absurd (let y : ⊥ = omega arith in y)
+front_holds p (b ∷ s) zero h = by (p b) refl
+  where
+    by : (q : Bool) → p b ≡ q → p b ≡ true
+    by true e = e
+    by false e = absurd (let y : ⊥ = omega (arith, front_out p b s e) in y)
+front_holds p (b ∷ s) (suc k) h = by (p b) refl (front_holds p s k)
+  where
+    by : (q : Bool) → p b ≡ q → (k < front p s → p (get_or s k 0) ≡ true) → p (get_or s k 0) ≡ true
+    by true e r = r (omega (arith, front_in p b s e))
+    by false e r = absurd (let y : ⊥ = omega (arith, front_out p b s e) in y)
+
+-- a block at the front of what stands at an index, and what stands behind it
+pub block_is : (t : List ℕ) (i n : ℕ) (x r : List ℕ) → drop i t ≡ x ++ r → length x ≡ n → (x ≡ take n (drop i t)) × (r ≡ drop (i + n) t)
+block_is t i n x r e h =
+    (rw (e, ← h) (sym (take-append_seam x r)), sym (sym (drop-drop n i t) ∙ rw (e, ← h) (drop-append_seam x r)))
