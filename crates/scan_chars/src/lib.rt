@@ -1,4 +1,6 @@
 // Characters by RFC 3629's table: the one that stands at an index of a text, whole or cut by the text's end.
+#![tactic(auto)]
+
 ghost use Rattle.std.specs.Prelude.{◌≡◌, min, ◌≤◌, ◌<◌, length, get_or, drop, MatchOption};
 ghost use Rattle.rules.specs.Text.{front, is_tail, met, line_of, char_at, is_cut};
 ghost use Rattle.scan_chars.specs.Lines.{second};

@@ -1,4 +1,6 @@
 // Places in a text: how far its bytes are valid, the cursor behind some of them, and what a text is told before it is read.
+#![tactic(auto)]
+
 ghost use Rattle.std.specs.Prelude.{◌≡◌, ℕ, ◌≤◌, ◌<◌, length, get_or, take};
 ghost use Rattle.rules.specs.Text.{valid_bytes, over, text_judged, Roomy};
 ghost use Rattle.rules.specs.Edit.{window_bytes};

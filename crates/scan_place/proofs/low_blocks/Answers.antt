@@ -20,6 +20,6 @@ loop-block-preserved c =
       size = s.0 ∙ v.size;
       rest = b.1;
       passed
-      = passed_on t v.passed
-      (passed_block t l.i 32 x b.0 n v.passed.inside (λ k h. omega (arith, c.highest.ensures k h, c.if-highest-ge-FIRST_HIGH.false)));
+          = passed_on t v.passed
+          (passed_block t l.i 32 x b.0 n v.passed.inside (λ k h. omega (arith, c.highest.ensures k h, c.if-highest-ge-FIRST_HIGH.false)));
     }

@@ -25,7 +25,7 @@ returns c =
     let v = c.valid_bytes-valid.ensures in
     elim c.else-not-whole.branch [
       | else-not-whole-via-then-not-whole+else-is_cut u ↦
-        v ∙ sym (ap (λ (q : Bool). window_bytes q w) u.if-not-whole.true
-        ∙ window_broken w (at_valid w _ _ v u.is_cut.ensures ∙ u.if-is_cut.false))
+          v ∙ sym (ap (λ (q : Bool). window_bytes q w) u.if-not-whole.true
+          ∙ window_broken w (at_valid w _ _ v u.is_cut.ensures ∙ u.if-is_cut.false))
       | else-not-whole-via-else-not-whole u ↦ v ∙ sym (ap (λ (q : Bool). window_bytes q w) u.if-not-whole.false ∙ window_whole w)
     ]
