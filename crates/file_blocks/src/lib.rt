@@ -9,7 +9,6 @@ ghost use Rattle.rules_forms.specs.Shapes.{row_bytes_of};
 ghost use Rattle.file_blocks.specs.Standing.{row_from, rows_from, stand};
 
 use file_check::{check_of, is_filler, wide};
-use rows::shape;
 use rows::shape::Row;
 use rules::{kind, limit, row};
 use rules_files::form;
@@ -147,7 +146,7 @@ pub fn rows_stand(
     let mut i = 0;
     while i < n {
         let r = row_in(form, bytes, i);
-        if !shape::stands_on(least, span, last, r) {
+        if !r.stands_on(least, span, last) {
             return false;
         }
         last = r;

@@ -10,7 +10,7 @@ ghost use Rattle.parse_nodes.specs.Names.{Spans};
 ghost use Rattle.parse.specs.Program.{TopMet, ProgramMet, AsksTable, AsksEnded, AsksWhole, TopPassed, ProgramPassed, reading_of, Accepted, Final};
 
 use parse_nodes::{At, Got};
-use rows::shape;
+use rows::shape::Row;
 use rules::kind::{EOF, EVENT, MAP, UNIT};
 use rules::{Cursor, Ending, Judged, Outer, Parsed, Reason, Syntax, Table, fits, node, node_kind};
 
@@ -136,10 +136,10 @@ fn twice(text: &[u8], rows: &[u32], count: u32, nodes: &mut [u32]) -> Parsed
     match program_passed(text, rows, count, &mut nodes[..0]) {
         Passed::To(_) => written(text, rows, count, nodes),
         Passed::Refused(why, r) => {
-            let row = shape::row_at(rows, r);
+            let row = Row::at(rows, r);
             Parsed::Refused(
                 Reason::Syntax(why),
-                shape::row_place(row),
+                row.place(),
                 refusals::found_told(why, row.kind),
             )
         }

@@ -71,6 +71,10 @@ module _ (x y r : ℕ) (small : x < 2 ^ 33) (lesser : y < 2 ^ 33) (word : r < 2 
         go (yes p) = rw (le-leb y x p, over_is p)
         go (no p) = rw (lt-leb y x (omega arith), le-ltb r z (omega (arith, over_large (omega arith))))
 
+-- a difference around 2^64 and what was taken away make up what it was taken from
+pub wraps : (x y : ℕ) → x < 2 ^ 64 → y < 2 ^ 64 → ((x + (2 ^ 64 - y)) % 2 ^ 64 + y) % 2 ^ 64 ≡ x
+wraps x y h k = omega arith
+
 -- a difference from 1, not over z, tells that a word is 1 or more and at most z + 1
 pub from_one : (x r z : ℕ) → x < 2 ^ 32 → z < 2 ^ 32 → r < 2 ^ 64 → (r + 1) % 2 ^ 64 ≡ x → leb r z ≡ (leb 1 x && leb x (z + 1))
 from_one x r z small bound word wraps =
@@ -183,7 +187,7 @@ module _ (ws : List ℕ) (i : ℕ) where
 
   -- the eight words of row i
   pub row_words : record {
-    kind = get_or ws (i * 8) 0;
+    kind = get_or ws (i * 8 + 0) 0;
     start = get_or ws (i * 8 + 1) 0;
     end = get_or ws (i * 8 + 2) 0;
     line = get_or ws (i * 8 + 3) 0;
@@ -194,7 +198,7 @@ module _ (ws : List ℕ) (i : ℕ) where
   } ≡ row_in (drop (8 * i) ws)
   unfolding row_in
   row_words j = record {
-    kind = word 0 (i * 8) (omega arith) j;
+    kind = word 0 (i * 8 + 0) (omega arith) j;
     start = word 1 (i * 8 + 1) (omega arith) j;
     end = word 2 (i * 8 + 2) (omega arith) j;
     line = word 3 (i * 8 + 3) (omega arith) j;

@@ -12,22 +12,22 @@ enum_told : tie.Need-enum_told-1
 enum_told c = search rules
 
 -- the row that was read lies in the text
-placed : (c : tie.After-row_at-r) →
-    (c.row_at-r.result.start ≤ c.row_at-r.result.end) × (c.row_at-r.result.end ≤ length c.before.before.before.before.before.args.text.now)
+placed : (c : tie.After-at-r) →
+    (c.at-r.result.start ≤ c.at-r.result.end) × (c.at-r.result.end ≤ length c.before.before.before.before.before.args.text.now)
 placed c =
     let j = c.before.before in
     let a = j.before.before.before.args in
     let f = told a.text.now a.rows.now a.table a.row (sym j.spelling_judge-verdict.ensures ∙ c.before.in-Fine.is) in
-    let s = ap (λ (r : Row). r.start) c.row_at-r.ensures in
-    let e = ap (λ (r : Row). r.end) c.row_at-r.ensures in
+    let s = ap (λ (r : Row). r.start) c.at-r.ensures in
+    let e = ap (λ (r : Row). r.end) c.at-r.ensures in
     (omega (arith, f.ordered), omega (arith, f.within))
 
 -- the part of a text that a row says
 cut : (t : List ℕ) {q r : Row} → q ≡ r → take (q.end - q.start) (drop q.start t) ≡ take (r.end - r.start) (drop r.start t)
 cut t e = ap (λ (x : Row). take (x.end - x.start) (drop x.start t)) e
 
-row_at_requires : tie.Need-row_at-r-requires
-row_at_requires c κs =
+at_requires : tie.Need-at-r-requires
+at_requires c κs =
     let j = c.before in
     let a = j.before.before.before.args in
     (told a.text.now a.rows.now a.table a.row (sym j.spelling_judge-verdict.ensures ∙ c.in-Fine.is)).lent
@@ -64,7 +64,7 @@ returns c =
     let r = c.before.before.before in
     let j = r.before.before in
     let a = j.before.before.before.args in
-    cut a.text.now r.row_at-r.ensures ∙ sym (part_fine a.text.now a.rows.now a.table a.row (sym j.spelling_judge-verdict.ensures ∙ r.before.in-Fine.is))
+    cut a.text.now r.at-r.ensures ∙ sym (part_fine a.text.now a.rows.now a.table a.row (sym j.spelling_judge-verdict.ensures ∙ r.before.in-Fine.is))
 
 returns_2 : tie.Need-returns-in-Refused
 returns_2 c =
@@ -79,7 +79,7 @@ spelling_spec =
     (tie.spec
     spelling_judge_requires
     enum_told
-    row_at_requires
+    at_requires
     cast_start
     cast_end
     sub_result

@@ -47,7 +47,7 @@ told_requires c κs =
     let s = w.before.before in
     let t = s.before.before.before.before.before.before.args.text.now in
     let short = (fine_text t (text_well s.before.before)).0 in
-    (omega arith, rw (w.walk.ensures.0, s.start.ensures) (count_fits _ _ t short))
+    (omega arith, rw (w.walk.ensures.0, s.start.ensures) (count_fits _ _ t short), rw (w.walk.ensures.0, s.start.ensures, walk_told _ _ t) tt)
 
 same_length : tie.Need-shape_of-rows
 same_length c = search rules
