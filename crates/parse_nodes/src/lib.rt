@@ -5,7 +5,7 @@ ghost use Rattle.rules.specs.Kinds.{last_unmade};
 ghost use Rattle.rules.specs.Tree.{type_number};
 ghost use Rattle.rules.specs.Nodes.{NodeVariable, NodeNumber, node, fact_node, node_words, missing};
 ghost use Rattle.rules.specs.Fits.{only, wrong, retold};
-ghost use Rattle.parse_nodes.specs.Post.{kind_word, state_at, variable_at, counted_at, AsksOpen, most_rows};
+ghost use Rattle.parse_nodes.specs.Post.{kind_word, state_at, variable_at, counted_at, refusal, AsksOpen, most_rows};
 ghost use Rattle.parse_nodes.specs.Fitting.{retold_at, dotted_words, onward_words, Header};
 
 use rules::kind::{DOT, EOF, IDENTIFIER, LAST_UNMADE, LBRACE};
@@ -25,12 +25,37 @@ pub struct At {
     pub hanging: bool,
 }
 
-// What was read, or why not and the row where. That row is as wide as the last two fields of a state, so that both answers are passed on
-// by the same moves.
+// Why nothing was read, and the row where. That row is as wide as the last two fields of a state, so that a state and a refusal are passed
+// on by the same moves.
 #[derive(Clone, Copy)]
-pub enum Got {
-    Done(At),
-    Refused(Syntax, usize),
+pub struct Refusal {
+    pub why: Syntax,
+    pub row: usize,
+}
+
+impl Refusal {
+    // The refusal at a row.
+    pub fn new(why: Syntax, row: u32) -> Refusal
+        ensures { result ≡ refusal why row }
+    {
+        Refusal {
+            why,
+            row: row as usize,
+        }
+    }
+
+    // The same, with the set that is told where the first row itself is refused with 21.
+    pub fn instead(self, first: u32, set: u64) -> Refusal
+        ensures { result ≡ refusal (retold_at set first self.why self.row) self.row }
+    {
+        if self.row != first as usize {
+            return self;
+        }
+        Refusal {
+            why: retold(set, self.why),
+            ..self
+        }
+    }
 }
 
 // The words of a node.
@@ -298,16 +323,6 @@ fn retold(set: u64, why: Syntax) -> Syntax
     }
 }
 
-// A refusal at a row, with the set that is told where the first row itself is refused with 21.
-pub fn instead(why: Syntax, at: usize, first: u32, set: u64) -> Syntax
-    ensures { result ≡ retold_at set first why at }
-{
-    if at == first as usize {
-        return retold(set, why);
-    }
-    why
-}
-
 // The kind so many rows before one, or that of the first row where there are fewer.
 fn kind_before(rows: &[u32], count: u32, row: u32, back: u32) -> u32
     requires { count * 8 ≤ length rows.now }
@@ -356,20 +371,20 @@ pub fn unended(rows: &[u32], count: u32, s: At, ends: u64) -> Syntax
 }
 
 // The header of the declaration whose word is at the row, a name and `{`: the state at the first thing in its braces.
-pub fn opened(rows: &[u32], count: u32, row: u32, node: u32) -> Got
+pub fn opened(rows: &[u32], count: u32, row: u32, node: u32) -> Result<At, Refusal>
     requires { AsksOpen rows.now count row node 0 }
     ensures { Header rows.now count row node result }
 {
     let name = row + 1;
     if kind_at(rows, count, name) != IDENTIFIER {
-        return Got::Refused(wanted(IDENTIFIER), name as usize);
+        return Err(Refusal::new(wanted(IDENTIFIER), name));
     }
     let open = name + 1;
     if kind_at(rows, count, open) != LBRACE {
-        return Got::Refused(wanted(LBRACE), open as usize);
+        return Err(Refusal::new(wanted(LBRACE), open));
     }
     let first = open + 1;
-    Got::Done(At {
+    Ok(At {
         row: first,
         node,
         place: first,
