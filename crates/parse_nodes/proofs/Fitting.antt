@@ -11,7 +11,6 @@ use Rattle.rules.specs.Tree.{Tok, Tree, spelling_of, is_sum}
 use Rattle.rules.specs.Parse
 use Rattle.rules.specs.Parse.{no, P, then, tok_at}
 use Rattle.theory_grammar.proofs.Cases.{end_in_yes, end_in_no, want_yes, want_no, named_yes, named_no, braced_is}
-use Rattle.rules.specs.declared.Syntax.{Syntax}
 use Rattle.parse_nodes.specs.Post.{kind_word, state_at, Tells}
 use Rattle.parse_nodes.specs.declared.At.{At}
 use Rattle.parse_nodes.specs.declared.Refusal.{Refusal}

@@ -1,5 +1,5 @@
 -- Another set, exactly where the first row itself is refused with 21.
-use Rattle.std.proofs.Common.{◌≡◌, ap, refl, ◌∙◌}
+use Rattle.std.proofs.Common.{ap, refl}
 use borrow.Author.Tests.{eq-eqb, ne_eqb}
 use Rattle.rules.specs.declared.Syntax.{Syntax}
 use Rattle.parse_nodes.specs.Post.{refusal}
