@@ -218,9 +218,7 @@ fn post(rows: &[u32], count: u32, nodes: &mut [u32], s: At, left: usize) -> Resu
         nodes.new result }
 {
     let name = s.row + 1;
-    if parse_nodes::kind_at(rows, count, name) != IDENTIFIER {
-        return Err(Refusal::new(parse_nodes::wanted(IDENTIFIER), name));
-    }
+    parse_nodes::want(rows, count, name, IDENTIFIER)?;
     let open = name + 1;
     if parse_nodes::kind_at(rows, count, open) != LPAREN {
         return Ok(field_end(nodes, s));

@@ -300,7 +300,7 @@ args-returns-in_err-first t c = λ ts tl.
     let p = err_from_is_err_and c.from_residual.result c.from_residual.ensures.1 in
     let m = mapped_err _ c.add.result c.map_err.result c.in_err-first.field-0.0 (λ e. refusal (retold_at first_arguments (a.row + 1) e.why e.row) e.row)
     c.map_err.ensures.cases c.in_err-first.was (λ e y h. search rules) in
-    rw (p.1, p.2, m.2) (args_refused ts a.left a.row a.node a.nodes.now c.add.new.nodes c.if-left-eq0.false (c.add.ensures ts tl) m.1)
+    rw (p.1, p.2, m.2) (args_refused ts a.left a.row a.node a.nodes.now {x = m.0} c.add.new.nodes c.if-left-eq0.false (c.add.ensures ts tl) m.1)
 
 pub args-loop-nodes-init : goal.args-loop-nodes-init
 args-loop-nodes-init t c = λ ts tl.
@@ -349,16 +349,17 @@ args-returns t c = λ ts tl.
 
 -- ---- `post`: a field or a call behind what was read
 
-pub post-returns-then-kind_at-ne-IDENTIFIER : goal.post-returns-then-kind_at-ne-IDENTIFIER
-post-returns-then-kind_at-ne-IDENTIFIER t c = λ ts tl i n u m₀ st.
+pub post-returns-in_err-want : goal.post-returns-in_err-want
+post-returns-in_err-want t c = λ ts tl i n u m₀ st.
     let a = c.args in
-    rw (c.new.ensures, c.wanted.ensures) (met_no _ i n _ (a.s.row + 1) m₀ a.nodes.now
-    (post_nameless ts (Parse.inner ts a.left) u a.s.row
-    (λ e. c.if-kind_at-ne-IDENTIFIER.true (c.kind_at.ensures ∙ tells_kind ts _ _ tl (a.s.row + 1) ∙ e))))
+    let w = c.in_err-want.ensures.err in
+    let p = err_from_is_err_and c.from_residual.result c.from_residual.ensures.1 in
+    rw (p.1, p.2, w.1) (met_no _ i n _ (a.s.row + 1) m₀ a.nodes.now
+    (post_nameless ts (Parse.inner ts a.left) u a.s.row (λ e. w.0 (tells_kind ts _ _ tl (a.s.row + 1) ∙ e))))
 
 pub post-field_end-requires : goal.post-field_end-requires
 post-field_end-requires t c =
-    let h = word_here _ _ _ Identifier (sym c.kind_at.ensures ∙ c.if-kind_at-ne-IDENTIFIER.false) refl in
+    let h = word_here _ _ _ Identifier c.in_ok-want.ensures.ok refl in
     omega (arith, h, c.requires)
 
 pub post-returns-then-kind_at-ne-LPAREN : goal.post-returns-then-kind_at-ne-LPAREN
@@ -367,10 +368,10 @@ post-returns-then-kind_at-ne-LPAREN t c = λ ts tl i n u m₀ st.
     let s : At = a.s in
     let r = c.field_end in
     let w : List ℕ = spelling_of (tok_at ts (s.row + 1)) in
-    let name = sym (c.kind_at.ensures ∙ tells_kind ts _ _ tl (s.row + 1)) ∙ c.if-kind_at-ne-IDENTIFIER.false in
+    let name = sym (tells_kind ts _ _ tl (s.row + 1)) ∙ c.in_ok-want.ensures.ok in
     met_ok _ i n (field u w) m₀ r.new.nodes r.result
     (post_field ts (Parse.inner ts a.left) u s.row name
-    (λ e. c.if-kind_at-ne-LPAREN.true (c.kind_at-2.ensures ∙ tells_kind ts _ _ tl (s.row + 1 + 1) ∙ e))
+    (λ e. c.if-kind_at-ne-LPAREN.true (c.kind_at.ensures ∙ tells_kind ts _ _ tl (s.row + 1 + 1) ∙ e))
     ∙ ap (λ (x : ℕ). ok (field u w) x) (sym (ap (λ (x : At). x.row) r.ensures.state)))
     (stands_field i n m₀ a.nodes.now s u r.result r.new.nodes w st r.ensures)
 
@@ -378,59 +379,59 @@ pub post-returns-then-kind_at-eq-RPAREN : goal.post-returns-then-kind_at-eq-RPAR
 post-returns-then-kind_at-eq-RPAREN t c = λ ts tl i n u m₀ st.
     let a = c.args in
     let s : At = a.s in
-    let name = sym (c.kind_at.ensures ∙ tells_kind ts _ _ tl (s.row + 1)) ∙ c.if-kind_at-ne-IDENTIFIER.false in
-    let paren = sym (c.kind_at-2.ensures ∙ tells_kind ts _ _ tl (s.row + 1 + 1)) ∙ c.if-kind_at-ne-LPAREN.false in
+    let name = sym (tells_kind ts _ _ tl (s.row + 1)) ∙ c.in_ok-want.ensures.ok in
+    let paren = sym (c.kind_at.ensures ∙ tells_kind ts _ _ tl (s.row + 1 + 1)) ∙ c.if-kind_at-ne-LPAREN.false in
     let r = c.call_end in
     let w : List ℕ = spelling_of (tok_at ts (s.row + 1)) in
     let next : ℕ = s.row + 1 + 1 + 1 + 1 in
     rw (post_bare ts (Parse.inner ts a.left) u s.row name paren
-    (sym (c.kind_at-3.ensures ∙ tells_kind ts _ _ tl (s.row + 1 + 1 + 1)) ∙ c.if-kind_at-eq-RPAREN.true))
+    (sym (c.kind_at-2.ensures ∙ tells_kind ts _ _ tl (s.row + 1 + 1 + 1)) ∙ c.if-kind_at-eq-RPAREN.true))
     (met_called ts i n u w none m₀ a.nodes.now a.nodes.now r.new.nodes s s.node 0 next r.result st
     (λ q. stands_bare i n m₀ a.nodes.now s u (state_at next (s.node + 1) s.place) r.new.nodes w st refl q) r.ensures)
 
 pub post-args-requires : goal.post-args-requires
 post-args-requires t c =
-    let h = word_here _ _ _ LParen (sym c.kind_at-2.ensures ∙ c.if-kind_at-ne-LPAREN.false) refl in
+    let h = word_here _ _ _ LParen (sym c.kind_at.ensures ∙ c.if-kind_at-ne-LPAREN.false) refl in
     omega (arith, h, c.requires, c.decreases)
 
 pub post-returns-in_err-a : goal.post-returns-in_err-a
 post-returns-in_err-a t c = λ ts tl i n u m₀ st.
     let a = c.args in
     let s : At = a.s in
-    let name = sym (c.kind_at.ensures ∙ tells_kind ts _ _ tl (s.row + 1)) ∙ c.if-kind_at-ne-IDENTIFIER.false in
-    let paren = sym (c.kind_at-2.ensures ∙ tells_kind ts _ _ tl (s.row + 1 + 1)) ∙ c.if-kind_at-ne-LPAREN.false in
+    let name = sym (tells_kind ts _ _ tl (s.row + 1)) ∙ c.in_ok-want.ensures.ok in
+    let paren = sym (c.kind_at.ensures ∙ tells_kind ts _ _ tl (s.row + 1 + 1)) ∙ c.if-kind_at-ne-LPAREN.false in
     let e = c.in_err-a.field-0.0 in
-    let p = err_from_is_err_and c.from_residual.result c.from_residual.ensures.1 in
+    let p = err_from_is_err_and c.from_residual-in_err-a.result c.from_residual-in_err-a.ensures.1 in
     rw (p.1, p.2) (met_no _ i n e.why e.row m₀ c.args-2.new.nodes
     (post_args ts (Parse.inner ts a.left) u s.row name paren
-    (λ e. c.if-kind_at-eq-RPAREN.false (c.kind_at-3.ensures ∙ tells_kind ts _ _ tl (s.row + 1 + 1 + 1) ∙ e)) ∙ then_no _ _ e.why e.row
+    (λ e. c.if-kind_at-eq-RPAREN.false (c.kind_at-2.ensures ∙ tells_kind ts _ _ tl (s.row + 1 + 1 + 1) ∙ e)) ∙ then_no _ _ e.why e.row
     (was_refused (s.row + 1 + 1 + 1) s.node a.nodes.now c.args-2.new.nodes (c.args-2.ensures ts tl) c.in_err-a.was)))
 
 pub post-returns-then-kind_at-ne-RPAREN : goal.post-returns-then-kind_at-ne-RPAREN
 post-returns-then-kind_at-ne-RPAREN t c = λ ts tl i n u m₀ st.
     let a = c.args in
     let s : At = a.s in
-    let name = sym (c.kind_at.ensures ∙ tells_kind ts _ _ tl (s.row + 1)) ∙ c.if-kind_at-ne-IDENTIFIER.false in
-    let paren = sym (c.kind_at-2.ensures ∙ tells_kind ts _ _ tl (s.row + 1 + 1)) ∙ c.if-kind_at-ne-LPAREN.false in
+    let name = sym (tells_kind ts _ _ tl (s.row + 1)) ∙ c.in_ok-want.ensures.ok in
+    let paren = sym (c.kind_at.ensures ∙ tells_kind ts _ _ tl (s.row + 1 + 1)) ∙ c.if-kind_at-ne-LPAREN.false in
     let o : ℕ = s.row + 1 + 1 in
     let x : At = c.in_ok-a.a in
     let v = args_came a.left o (here ts o LParen paren refl) (c.args-2.ensures ts tl) c.in_ok-a.was in
-    rw (c.new-then-kind_at-ne-RPAREN.ensures, c.unended.ensures) (met_no _ i n _ x.row m₀ c.args-2.new.nodes
+    rw (c.new.ensures, c.unended.ensures) (met_no _ i n _ x.row m₀ c.args-2.new.nodes
     (post_args ts (Parse.inner ts a.left) u s.row name paren
-    (λ e. c.if-kind_at-eq-RPAREN.false (c.kind_at-3.ensures ∙ tells_kind ts _ _ tl (s.row + 1 + 1 + 1) ∙ e)) ∙ then_ok _ _ v.tree x.row v.is
+    (λ e. c.if-kind_at-eq-RPAREN.false (c.kind_at-2.ensures ∙ tells_kind ts _ _ tl (s.row + 1 + 1 + 1) ∙ e)) ∙ then_ok _ _ v.tree x.row v.is
     ∙ end_unmet ts a.rows.now a.count tl _ RParen v.tree _ x.row x.summed v.stands.summed
-    (λ e. c.if-kind_at-ne-RPAREN.true (c.kind_at-4.ensures ∙ e))))
+    (λ e. c.if-kind_at-ne-RPAREN.true (c.kind_at-3.ensures ∙ e))))
 
 pub post-overflow_add-a : goal.post-overflow_add-a
 post-overflow_add-a t c =
-    let h = word_here _ _ _ LParen (sym c.kind_at-2.ensures ∙ c.if-kind_at-ne-LPAREN.false) refl in
+    let h = word_here _ _ _ LParen (sym c.kind_at.ensures ∙ c.if-kind_at-ne-LPAREN.false) refl in
     let l = tells_some c.args.rows.now c.args.count in
     let w = came_fit (args_came c.args.left (c.args.s.row + 1 + 1) (omega (arith, h, l.long)) (c.args-2.ensures _ l) c.in_ok-a.was) in
     omega (arith, w.inside, l.long, c.requires)
 
 pub post-call_end-requires-2 : goal.post-call_end-requires-2
 post-call_end-requires-2 t c =
-    let h = word_here _ _ _ LParen (sym c.kind_at-2.ensures ∙ c.if-kind_at-ne-LPAREN.false) refl in
+    let h = word_here _ _ _ LParen (sym c.kind_at.ensures ∙ c.if-kind_at-ne-LPAREN.false) refl in
     let l = tells_some c.args.rows.now c.args.count in
     let w = came_fit (args_came c.args.left (c.args.s.row + 1 + 1) (omega (arith, h, l.long)) (c.args-2.ensures _ l) c.in_ok-a.was) in
     omega (arith, h, w.few, w.counts, w.inside, l.long, c.requires)
@@ -439,8 +440,8 @@ pub post-returns : goal.post-returns
 post-returns t c = λ ts tl i n u m₀ st.
     let a = c.args in
     let s : At = a.s in
-    let name = sym (c.kind_at.ensures ∙ tells_kind ts _ _ tl (s.row + 1)) ∙ c.if-kind_at-ne-IDENTIFIER.false in
-    let paren = sym (c.kind_at-2.ensures ∙ tells_kind ts _ _ tl (s.row + 1 + 1)) ∙ c.if-kind_at-ne-LPAREN.false in
+    let name = sym (tells_kind ts _ _ tl (s.row + 1)) ∙ c.in_ok-want.ensures.ok in
+    let paren = sym (c.kind_at.ensures ∙ tells_kind ts _ _ tl (s.row + 1 + 1)) ∙ c.if-kind_at-ne-LPAREN.false in
     let o : ℕ = s.row + 1 + 1 in
     let x : At = c.in_ok-a.a in
     let v = args_came a.left o (here ts o LParen paren refl) (c.args-2.ensures ts tl) c.in_ok-a.was in
@@ -448,7 +449,7 @@ post-returns t c = λ ts tl i n u m₀ st.
     let w : List ℕ = spelling_of (tok_at ts (s.row + 1)) in
     let m₂ : List ℕ = c.args-2.new.nodes in
     rw (post_args ts (Parse.inner ts a.left) u s.row name paren
-    (λ e. c.if-kind_at-eq-RPAREN.false (c.kind_at-3.ensures ∙ tells_kind ts _ _ tl (s.row + 1 + 1 + 1) ∙ e)) ∙ then_ok _ _ v.tree x.row v.is
-    ∙ end_met ts a.rows.now a.count tl _ RParen v.tree _ x.row (sym c.kind_at-4.ensures ∙ c.if-kind_at-ne-RPAREN.false))
+    (λ e. c.if-kind_at-eq-RPAREN.false (c.kind_at-2.ensures ∙ tells_kind ts _ _ tl (s.row + 1 + 1 + 1) ∙ e)) ∙ then_ok _ _ v.tree x.row v.is
+    ∙ end_met ts a.rows.now a.count tl _ RParen v.tree _ x.row (sym c.kind_at-3.ensures ∙ c.if-kind_at-ne-RPAREN.false))
     (met_called ts i n u w v.tree m₀ a.nodes.now m₂ r.new.nodes s x.node x.things (x.row + 1) r.result st
     (λ q. stands_call i n m₀ a.nodes.now s u x m₂ v.tree (state_at (x.row + 1) (x.node + 1) s.place) r.new.nodes w st v.stands refl q) r.ensures)
