@@ -1,7 +1,7 @@
 // Where the parser stands, what it answers, and the nodes it writes. Nothing here reads the grammar.
 #![tactic(auto)]
 
-ghost use Rattle.std.specs.Prelude.{◌≡◌, true, ◌+◌, ◌-◌, ◌*◌, ◌^◌, ◌≤◌, ◌<◌, length, set};
+ghost use Rattle.std.specs.Prelude.{◌≡◌, ◌≢◌, OnOk, IfErr, true, ◌+◌, ◌-◌, ◌*◌, ◌^◌, ◌≤◌, ◌<◌, length, set};
 ghost use Rattle.std.proofs.lemmas.List.Edits.{sets};
 ghost use Rattle.rules.specs.Kinds.{last_unmade};
 ghost use Rattle.rules.specs.Tree.{type_number};
@@ -289,6 +289,19 @@ pub fn wanted(kind: u32) -> Syntax
     wrong(1 << kind)
 }
 
+// That a row is of a kind, or else its refusal, with that kind alone.
+pub fn want(rows: &[u32], count: u32, row: u32, kind: u32) -> Result<(), Refusal>
+    requires { (count * 8 ≤ length rows.now) × (kind ≤ 52) }
+    ensures ok { OnOk result (kind_word rows.now count row ≡ kind) }
+    ensures err { IfErr result (λ e. (kind_word rows.now count row ≢ kind)
+        × (e ≡ refusal (wrong (only kind)) row)) }
+{
+    if kind_at(rows, count, row) != kind {
+        return Err(Refusal::new(wanted(kind), row));
+    }
+    Ok(())
+}
+
 // A refusal, 21 with another set.
 fn retold(set: u64, why: Syntax) -> Syntax
     ensures { result ≡ retold set why }
@@ -352,13 +365,9 @@ pub fn opened(rows: &[u32], count: u32, row: u32, node: u32) -> Result<At, Refus
     ensures { Header rows.now count row node result }
 {
     let name = row + 1;
-    if kind_at(rows, count, name) != IDENTIFIER {
-        return Err(Refusal::new(wanted(IDENTIFIER), name));
-    }
+    want(rows, count, name, IDENTIFIER)?;
     let open = name + 1;
-    if kind_at(rows, count, open) != LBRACE {
-        return Err(Refusal::new(wanted(LBRACE), open));
-    }
+    want(rows, count, open, LBRACE)?;
     let first = open + 1;
     Ok(At::new(first, node, first))
 }
