@@ -4,13 +4,12 @@ use Rattle.rules.specs.Text.{start_place}
 use Rattle.answers.specs.Layout.{words, nowhere}
 use Rattle.rules_layout.specs.declared.Unlaid.{Unlaid}
 use Rattle.rules_layout.specs.declared.Unlaid.TheVariants.{NotItsTree, NoRoom}
-use Rattle.rules_layout.specs.declared.LaidOut.{LaidOut}
-use Rattle.rules_layout.specs.declared.LaidOut.TheVariants as out
+use Rattle.std.specs.Prelude.{Result, Ok, Err}
 
 abbrev pub unlaid_number : Unlaid → ℕ
 unlaid_number NotItsTree = 3
 unlaid_number NoRoom = 4
 
-abbrev pub laid_words : LaidOut → List ℕ
-laid_words (out.Bytes n) = words 0 nowhere 0 0 0 n
-laid_words (out.Refused why) = words (unlaid_number why) start_place 0 0 0 0
+abbrev pub laid_words : Result ℕ Unlaid → List ℕ
+laid_words (Ok n) = words 0 nowhere 0 0 0 n
+laid_words (Err why) = words (unlaid_number why) start_place 0 0 0 0
