@@ -1,9 +1,9 @@
 -- Laws of heads: kinds of rows of both, and the rows that meet a test, one row at a time.
-use mathlib.Core.Path.{◌≡◌, refl, sym, ap, ◌∙◌}
+use mathlib.Core.Path.{◌≡◌, sym, ap}
 use mathlib.Core.Bool.{Bool, true, false, cond}
-use mathlib.Core.List.{List, [], ◌++◌}
+use mathlib.Core.List.{List, []}
 use mathlib.Core.Logic.{◌⊎◌, inl, inr}
-use Prim.Native.Nat.{ℕ, zero, suc, ◌+◌, ◌-◌, ◌*◌, ◌≤◌, ◌<◌}
+use Prim.Native.Nat.{ℕ, suc, ◌+◌, ◌-◌, ◌*◌, ◌≤◌, ◌<◌}
 use native.Mathlib.Omega.{arith}
 use lib.ListN.{length, get_or, length-map}
 use borrow.Author.Tests.{lt-ltb, le-ltb, eq-eqb, ne_eqb}
@@ -34,11 +34,6 @@ module _ (pws : List ℕ) (count : ℕ) (ws : List ℕ) (row : ℕ) where
 
 -- ---- rows that meet a test
 
-kept_parts : (t : Bool) (k : ℕ) (xs ys : List ℕ) → kept_if t k (xs ++ ys) ≡ kept_if t k xs ++ ys
-unfolding kept_if
-kept_parts true k xs ys = refl
-kept_parts false k xs ys = refl
-
 module _ (p : ℕ → Bool) where
   -- no row, and one row more
   pub where_none : (i n : ℕ) → n ≤ i → rows_where p i (n - i) ≡ []
@@ -49,22 +44,6 @@ module _ (p : ℕ → Bool) where
   unfolding rows_where
   where_one i n l = let e : n - i ≡ suc (n - (i + 1)) = omega arith in rw e
 
-  -- all of the rows, as the rows from the first on
-  pub where_all : (n : ℕ) → rows_where p 0 (n - 0) ≡ rows_where p 0 n
-  where_all n = let e : n - 0 ≡ n = omega arith in rw e
-
-  -- rows in two parts
-  pub where_parts : (i a b : ℕ) → rows_where p i (a + b) ≡ rows_where p i a ++ rows_where p (i + a) b
-  unfolding rows_where
-  where_parts i zero b =
-      let e : 0 + b ≡ b = omega arith in
-      let f : i + 0 ≡ i = omega arith in
-      rw (e, f)
-  where_parts i (suc a) b =
-      let e : suc a + b ≡ suc (a + b) = omega arith in
-      let f : i + suc a ≡ i + 1 + a = omega arith in
-      rw (e, f) (ap (kept_if (p i) i) (where_parts (i + 1) a b) ∙ kept_parts (p i) i (rows_where p (i + 1) a) (rows_where p (i + 1 + a) b))
-
 pub kept_length : (t : Bool) (i : ℕ) (rows : List ℕ) → length (kept_if t i rows) ≡ cond t 1 0 + length rows
 unfolding kept_if
 kept_length true i rows = let e : 1 + length rows ≡ suc (length rows) = omega arith in sym e
@@ -72,9 +51,6 @@ kept_length false i rows = let e : 0 + length rows ≡ length rows = omega arith
 
 -- a count of rows that goes on
 module _ (p : ℕ → Bool) (n i names total : ℕ) where
-  pub count_none : 0 + length (rows_where p 0 (n - 0)) ≡ length (rows_where p 0 n)
-  count_none = omega (arith, ap length (where_all p n))
-
   pub count_here : i < n → p i ≡ true → names + length (rows_where p i (n - i)) ≡ total →
       names + 1 + length (rows_where p (i + 1) (n - (i + 1))) ≡ total
   count_here l h e =

@@ -5,7 +5,7 @@ ghost use Rattle.std.specs.Prelude.{◌≡◌, List, ℕ, ◌+◌, ◌*◌, ◌<
 ghost use Rattle.rules.specs.Kinds.{same_bytes};
 ghost use Rattle.rules.specs.Rows.{row_no, spelling};
 ghost use Rattle.rules_program.specs.Names.{comes_before};
-ghost use Rattle.parse.specs.Program.{AsksTable, AsksEnded};
+ghost use Rattle.parse.specs.Program.{AsksEnded};
 ghost use Rattle.program_names.specs.Heads.{first_of, unit_heads, kind_of_both, head_names};
 ghost use Rattle.program_names.specs.Asks.{AsksKind};
 

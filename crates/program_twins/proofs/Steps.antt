@@ -1,15 +1,15 @@
 -- The steps of names given out: a head's name stands in a row, the first, one that comes after, and one with the name of the last.
-use mathlib.Core.Path.{◌≡◌, refl, sym, ap, ◌∙◌}
+use mathlib.Core.Path.{◌≡◌, refl, sym, ◌∙◌}
 use mathlib.Core.Bool.{Bool, true, false, true≢false}
 use mathlib.Core.List.{List, [], ◌∷◌}
 use Prim.Native.Nat.{ℕ, ◌+◌, ◌≤◌, ◌<◌}
-use native.Mathlib.Decide.{ℕ_discrete, dec_lt}
+use native.Mathlib.Decide.{dec_lt}
 use native.Mathlib.Omega.{arith}
 use Rattle.std.specs.Prelude.{Option, None, Some, IfSome, min}
 use Rattle.rules.specs.Kinds.{same_bytes}
 use Rattle.rules_program.specs.Names.{comes_before}
 use Rattle.laws.proofs.Spelled.{same_eq, same_self}
-use Rattle.program_twins.specs.Given.{Says, Before, Twin, TwinRow, AtMost, First, HeadAt, higher, again, Rising, one, more, Listed, lesser}
+use Rattle.program_twins.specs.Given.{Says, Twin, TwinRow, AtMost, First, HeadAt, higher, again, Rising, one, more, Listed, lesser}
 
 -- ---- what an answer says
 
@@ -19,52 +19,11 @@ spelled_before r a b w v d e f g = cc
 pub spelled_same : (r : Bool) (a b w v : List ℕ) → a ≡ w → b ≡ v → r ≡ same_bytes a b → r ≡ true → w ≡ v
 spelled_same r a b w v d e f g = sym d ∙ (same_eq a b (sym f ∙ g) ∙ e)
 
-pub says_true : (r : Bool) {A : Type 0} → r ≡ true → Says r A → A
-says_true true e a = a
-says_true false e a = absurd (true≢false (sym e))
-
-pub says_false : (r : Bool) {A : Type 0} → r ≡ false → Says r A → A → ⊥
-says_false true e a = absurd (true≢false e)
-says_false false e a = a
-
 pub says_named : (r : Bool) (own w name : List ℕ) {H : Type 0} → H → own ≡ w → r ≡ same_bytes own name → Says r (H × (w ≡ name))
 says_named true own w name h e f = (h, sym e ∙ same_eq own name (sym f))
 says_named false own w name h e f = λ p. true≢false (sym (rw (e ∙ p.1) (same_self name)) ∙ sym f)
 
 module _ (head : ℕ → Bool) (spelled : ℕ → List ℕ) where
-  pub says_twin : (r : Bool) (j : ℕ) (name : List ℕ) → head j ≡ true → name ≡ spelled (j + 1) → Says r (Before head spelled j name) →
-      Says r (Twin head spelled j)
-  says_twin true j name h e b = record { is = h; before = rw e at b }
-  says_twin false j name h e b = λ t. b (rw e t.before)
-
-  -- no head before a row has a name: none of the rows passed, and one row more
-  pub none_before : (w : List ℕ) → Before head spelled 0 w → ⊥
-  none_before w b = let l = b.earlier in omega arith
-
-  pub one_before : (k : ℕ) (w : List ℕ) → (Before head spelled k w → ⊥) → ((head k ≡ true) × (spelled (k + 1) ≡ w) → ⊥) →
-      Before head spelled (k + 1) w → ⊥
-  one_before k w f g b = go (ℕ_discrete b.row k)
-    where
-      go : Dec (b.row ≡ k) → ⊥
-      go (yes e) = g (ap head (sym e) ∙ b.is, ap (λ (x : ℕ). spelled (x + 1)) (sym e) ∙ b.spells)
-      go (no h) =
-          let l = b.earlier in
-          f (record { row = b.row; earlier = omega arith; is = b.is; spells = b.spells })
-
-  pub all_before : (k row : ℕ) (w : List ℕ) → row ≤ k → (Before head spelled k w → ⊥) → Before head spelled row w → ⊥
-  all_before k row w l f b =
-      let m = b.earlier in
-      f (record { row = b.row; earlier = omega arith; is = b.is; spells = b.spells })
-
-  -- no row passed is a twin
-  pub one_passed : (row : ℕ) → ((j : ℕ) → j < row → Twin head spelled j → ⊥) → (Twin head spelled row → ⊥) →
-      (j : ℕ) → j < row + 1 → Twin head spelled j → ⊥
-  one_passed row f g j l t = go (ℕ_discrete j row)
-    where
-      go : Dec (j ≡ row) → ⊥
-      go (yes e) = g (rw e at t)
-      go (no h) = f j (omega arith) t
-
   pub first_here : (n row : ℕ) → row < n → ((j : ℕ) → j < row → Twin head spelled j → ⊥) → Twin head spelled row →
       First head spelled n (Some (row + 1))
   first_here n row l f t = record {
@@ -92,9 +51,6 @@ module _ (head : ℕ → Bool) (spelled : ℕ → List ℕ) (n : ℕ) where
   last_of : {least : Option ℕ} {k : ℕ} {g : List ℕ} → Rising head spelled n least k g → HeadAt head n k
   last_of (one h) = h
   last_of (more h a r) = h
-
-  pub given_none : Listed head spelled n None 0 None
-  given_none = record { given = []; long = refl; order = refl; is = tt }
 
   module _ (last : Option ℕ) (count : ℕ) (least : Option ℕ) (s : Listed head spelled n last count least) where
     pub given_first : (k : ℕ) → HeadAt head n k → last ≡ None → Listed head spelled n (Some k) 1 least
