@@ -1,4 +1,6 @@
 // Blanks that are passed over: newlines in a row, the indentation of a line four spaces at a time, and all others one by one.
+#![tactic(auto)]
+
 ghost use Rattle.std.specs.Prelude.{◌≡◌, ◌+◌, ◌≤◌, length, drop};
 ghost use Rattle.rules.specs.Text.{is_blank};
 ghost use Rattle.scan_reader.specs.Read.{onward, Ahead};
