@@ -1,19 +1,24 @@
--- What the library's chains over bytes say, in the rules' word for it: how many bytes at the front of a list meet a test.
-use Rattle.std.proofs.Common.{◌≡◌, refl, ap, sym, ◌∙◌, Bool, true, false, List, [], ◌∷◌, ℕ, zero, suc, ◌+◌, ◌-◌, ◌≤◌, ◌<◌, min, ◌++◌, length, get_or, take, drop, Bor, Option, arith}
+-- What the library's chains over bytes and its tests of slices say, in the rules' words: how many bytes at the front of a list meet a test,
+-- and spellings compared.
+use Rattle.std.proofs.Common.{◌≡◌, refl, sym, ◌∙◌, Bool, true, false, List, [], ◌∷◌, ℕ, zero, suc, ◌+◌, ◌-◌, ◌<◌, min, ◌++◌, length, get_or, take, drop, Bor, Option, arith}
 use Rattle.std.specs.List.{prefix_len}
 use Rattle.std.specs.Fn.{CalledAt}
 use Rattle.std.specs.Iterator.{Drains}
 use Rattle.std.specs.Iterator.Adapters.{take_while_source, take_while_done, take_while_callee, take_while_steps}
-use Rattle.std.specs.Slice.Iter.{iter_rest}
 use Rattle.std.specs.declared.iter.TakeWhile.{TakeWhile}
-use Rattle.std.proofs.iter.Yields.{fronts}
-use Rattle.std.proofs.lemmas.Iterator.{YieldsList, YieldsList-from_slice}
+use Rattle.std.proofs.lemmas.Iterator.{YieldsList}
 use Rattle.std.proofs.lemmas.Iterator.Consumers.{count_from_yields_List}
 use Rattle.std.proofs.lemmas.Iterator.Search.{YieldsList-from_take_while}
 use Rattle.std.proofs.lemmas.List.{length-drop}
 use Rattle.std.proofs.lemmas.List.Folds.{length-prefix_len}
 use Rattle.std.proofs.Math.Seq.{take-length, take-append_seam, drop-append_seam, drop-drop}
 use denote.Param.Members.{Mut}
+use lib.Dec.{eqb}
+use Rattle.std.specs.Cmp.Lexicographic.{pointwise}
+use Rattle.std.proofs.lemmas.Bool.Decides.{Decides-eqb}
+use Rattle.std.proofs.lemmas.Slice.Eq.{slice_eq-Decides}
+use Rattle.rules.specs.Kinds.{same_bytes}
+use Rattle.laws.proofs.Spelled.{same_says}
 use Rattle.rules.specs.Text.{front}
 use Rattle.laws.proofs.Fronts.{front_in, front_out}
 
@@ -68,3 +73,12 @@ front_holds p (b ∷ s) (suc k) h = by (p b) refl (front_holds p s k)
 pub block_is : (t : List ℕ) (i n : ℕ) (x r : List ℕ) → drop i t ≡ x ++ r → length x ≡ n → (x ≡ take n (drop i t)) × (r ≡ drop (i + n) t)
 block_is t i n x r e h =
     (rw (e, ← h) (sym (take-append_seam x r)), sym (sym (drop-drop n i t) ∙ rw (e, ← h) (drop-append_seam x r)))
+
+-- `==` of slices, and `starts_with`
+pub equal_says : (a b : List ℕ) (r : Bool) → r ≡ pointwise eqb a b → r ≡ same_bytes b a
+equal_says a b r e = same_says r a b (slice_eq-Decides Decides-eqb a b r e)
+
+pub starts_says : (a b : List ℕ) (r : Bool) → r ≡ pointwise eqb b (take (length b) a) → r ≡ same_bytes b (take (length b) a)
+starts_says a b r e =
+    let d = slice_eq-Decides Decides-eqb b (take (length b) a) r e in
+    same_says r (take (length b) a) b (λ t. sym (d.0 t), λ h. d.1 (sym h))

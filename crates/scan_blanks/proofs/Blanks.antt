@@ -3,8 +3,12 @@ use mathlib.Core.Path.{◌≡◌, refl, sym, ap, ◌∙◌}
 use mathlib.Core.Bool.{Bool, true, false, ◌&&◌}
 use mathlib.Core.List.{List}
 use Prim.Native.Nat.{ℕ, ◌+◌, ◌/◌, ◌%◌, ◌≤◌, ◌<◌}
+use native.Mathlib.Nat.{add-zero}
 use native.Mathlib.Omega.{arith}
-use lib.ListN.{length, get_or, drop}
+use mathlib.Core.List.{◌++◌}
+use lib.ListN.{length, get_or, take, drop, length-drop}
+use Rattle.std.proofs.lemmas.List.{length-take, get_or-take, get_or-drop}
+use Rattle.laws.proofs.Chains.{block_is}
 use lib.Seq.{drop-drop}
 use Rattle.rules.specs.declared.Cursor.{Cursor}
 use Rattle.rules.specs.Text.{is_blank, moved, along, front, not_newline}
@@ -94,3 +98,21 @@ module _ {t : List ℕ} {from here : Spot} (g : Blanked t from here) where
         rw m
         (blanked_more 4 _ h (over_line t here 4 (four_meet_lem not_newline o))
         (front_drop is_blank 4 (drop i t) (four_meet_lem is_blank b) ∙ rw drop-drop))
+
+-- ---- four bytes x at an index, with r behind them
+
+module _ (t : List ℕ) (i : ℕ) (x r : List ℕ) (e : drop i t ≡ x ++ r) (l : length x ≡ 4) where
+  pub four_inside : i + 4 ≤ length t
+  four_inside = omega (arith, ap length (block_is t i 4 x r e l).0, length-take 4 (drop i t), length-drop i t)
+
+  byte : (k : ℕ) → k < 4 → get_or x k 0 ≡ get_or t (i + k) 0
+  byte k h = ap (λ (s : List ℕ). get_or s k 0) (block_is t i 4 x r e l).0 ∙ get_or-take 4 (drop i t) k 0 h ∙ get_or-drop i t k 0
+
+  pub four_at : {n : ℕ} → Four x 0 n → Four t i n
+  four_at f =
+      let z : get_or x 0 0 ≡ get_or t i 0 = byte 0 (omega arith) ∙ ap (λ (k : ℕ). get_or t k 0) (add-zero i) in
+      let a = byte 1 (omega arith) in
+      let b = byte 2 (omega arith) in
+      let d = byte 3 (omega arith) in
+      let q = f.bytes in
+      record { sum = omega (arith, f.sum); bytes = (omega arith, omega arith, omega arith, omega arith) }

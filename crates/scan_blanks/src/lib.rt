@@ -1,4 +1,6 @@
 // Blanks that are passed over: newlines in a row, the indentation of a line four spaces at a time, and all others one by one.
+#![tactic(auto)]
+
 ghost use Rattle.std.specs.Prelude.{◌≡◌, ◌+◌, ◌≤◌, length, drop};
 ghost use Rattle.rules.specs.Text.{is_blank};
 ghost use Rattle.scan_reader.specs.Read.{onward, Ahead};
@@ -7,10 +9,11 @@ ghost use Rattle.scan_blanks.specs.Blanks.{blanks, Blanked, Four};
 use scan_reader::Spot;
 
 // Whether a byte is one of the six blanks: 9 to 13, and 32.
+#[tactic(auto, unfolding(rules::specs::Text::is_blank))]
 pub fn is_blank(b: u8) -> bool
     ensures { result ≡ is_blank b }
 {
-    (b'\t' <= b) & (b <= b'\r') | (b == b' ')
+    matches!(b, b'\t'..=b'\r' | b' ')
 }
 
 // A byte as a wider number.
@@ -23,13 +26,12 @@ fn wide(b: u8) -> u32
 // Four spaces as one number.
 const FOUR_SPACES: u32 = 0x20202020;
 
-// The four bytes from an index on as one number.
-fn four(text: &[u8], at: usize) -> u32
-    requires { at + 4 ≤ length text.now }
-    ensures { Four text.now at result }
+// Four bytes as one number.
+fn four(bytes: &[u8]) -> u32
+    requires { length bytes.now ≡ 4 }
+    ensures { Four bytes.now 0 result }
 {
-    (wide(text[at]) + wide(text[at + 1]) * 256)
-        + (wide(text[at + 2]) * 65536 + wide(text[at + 3]) * 16777216)
+    (wide(bytes[0]) + wide(bytes[1]) * 256) + (wide(bytes[2]) * 65536 + wide(bytes[3]) * 16777216)
 }
 
 // The spot behind newlines at a spot.
@@ -38,15 +40,16 @@ fn past_newlines(text: &[u8], from: Spot) -> Spot
     ensures { Blanked text.now from result }
 {
     let mut cursor = from.cursor;
-    let mut i = from.at;
-    while i < text.len() {
+    for i in from.at..text.len() {
         if text[i] != b'\n' {
             return Spot { at: i, cursor };
         }
         cursor = cursor.advance(b'\n');
-        i += 1;
     }
-    Spot { at: i, cursor }
+    Spot {
+        at: text.len(),
+        cursor,
+    }
 }
 
 // The spot behind spaces at a spot, four at a time.
@@ -54,16 +57,18 @@ fn past_indent(text: &[u8], from: Spot) -> Spot
     requires { Ahead text.now from }
     ensures { Blanked text.now from result }
 {
-    let mut cursor = from.cursor;
-    let mut i = from.at;
-    while 4 <= text.len() - i {
-        if four(text, i) != FOUR_SPACES {
-            return Spot { at: i, cursor };
+    let mut here = from;
+    for bytes in text[from.at..].chunks_exact(4) {
+        if four(bytes) != FOUR_SPACES {
+            return here;
         }
-        cursor = cursor.onward(4);
-        i += 4;
+        let cursor = here.cursor.onward(4);
+        here = Spot {
+            at: here.at + 4,
+            cursor,
+        };
     }
-    Spot { at: i, cursor }
+    here
 }
 
 // The spot behind newlines at a spot, and behind the indentation of the line there.
@@ -79,20 +84,19 @@ pub fn past_blanks(text: &[u8], from: Spot) -> Spot
     requires { Ahead text.now from }
     ensures { result ≡ onward text.now from (blanks (drop from.at text.now)) }
 {
-    let mut cursor = from.cursor;
-    let mut i = from.at;
-    while i < text.len() {
-        let b = text[i];
+    let mut here = from;
+    // Stays a while loop: behind a newline a turn steps by what `past_margin` has passed, and a for has no such step.
+    while here.at < text.len() {
+        let b = text[here.at];
         if !is_blank(b) {
-            return Spot { at: i, cursor };
+            return here;
         }
-        cursor = cursor.advance(b);
-        i += 1;
-        if b == b'\n' {
-            let here = past_margin(text, Spot { at: i, cursor });
-            cursor = here.cursor;
-            i = here.at;
-        }
+        let cursor = here.cursor.advance(b);
+        let next = Spot {
+            at: here.at + 1,
+            cursor,
+        };
+        here = if b == b'\n' { past_margin(text, next) } else { next };
     }
-    Spot { at: i, cursor }
+    here
 }

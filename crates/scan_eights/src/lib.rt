@@ -1,4 +1,6 @@
 // Where a word ends, eight bytes at a time: the bytes as one number, and a bit for each of them that no word has.
+#![tactic(auto)]
+
 ghost use Rattle.std.specs.Prelude.{◌≡◌, List, map, ℕ, ◌+◌, ◌≤◌, ◌<◌, length, get_or, take, drop};
 ghost use Rattle.rules.specs.Text.{front};
 ghost use Rattle.rules.specs.Lex.{is_word};

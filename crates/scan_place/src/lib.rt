@@ -56,6 +56,7 @@ pub fn valid_bytes(text: &[u8]) -> usize
         return text.len();
     }
     let mut i = 0;
+    // Stays a while loop: each turn steps by what `low_end` or `char_at` has read, and a for has no such step.
     while i < text.len() {
         if text[i] < FIRST_HIGH {
             i = low_end(text, i + 1);

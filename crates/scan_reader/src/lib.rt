@@ -1,4 +1,6 @@
 // The token reader: what stands at an index of a text that ends, or of a window that may stop short of the text's end.
+#![tactic(auto)]
+
 use rules::Cursor;
 
 pub mod codes;

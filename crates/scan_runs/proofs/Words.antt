@@ -13,7 +13,7 @@ use Rattle.laws.proofs.Fronts.{front_on, front_off, front_end}
 use Rattle.scan_words.specs.Class.{Digit, Classes}
 use Rattle.scan_words.specs.Words.{packed_of, packable}
 use Rattle.scan_words.proofs.Marks.{mark_word, mark_other}
-use Rattle.scan_runs.specs.Leaf.{word_front, packed_front, word_of}
+use Rattle.scan_runs.specs.Leaf.{packed_front, word_of}
 use Rattle.scan_runs.specs.declared.Word.{Word}
 
 -- ---- packed from an index on

@@ -1,4 +1,6 @@
 // Leaves over the lent bytes and an index into them: where runs end, what digits are worth, and how a string closes.
+#![tactic(auto)]
+
 ghost use Rattle.std.specs.Prelude.{◌≡◌, ◌||◌, ◌+◌, ◌*◌, ◌≤◌, ◌<◌, length, get_or, drop, ltb, false, MatchOption};
 ghost use Rattle.rules.specs.Text.{front, not_newline};
 ghost use Rattle.rules.specs.Lex.{is_escape, before_close};

@@ -1,6 +1,5 @@
 -- A digit, and a byte that is none.
-use Rattle.std.proofs.Common.{◌≡◌, sym, ◌∙◌, ◌≤◌, length, arith}
-use Rattle.scan_runs.specs.Leaf.{base_of}
+use Rattle.std.proofs.Common.{◌≡◌, length, arith}
 use Rattle.scan_runs.proofs.Runs.{counted_on, counted_stop, counted_end, base_most}
 use Rattle.scan_runs.proofs.digits_in.Goals as goal
 
