@@ -1,4 +1,6 @@
 // What an edit keeps of the old table: the rows in front of it, and the place behind them.
+#![tactic(auto)]
+
 ghost use Rattle.std.specs.Prelude.{◌≡◌, ◌++◌, ℕ, suc, ◌*◌, ◌≤◌, length, drop};
 ghost use Rattle.rules.specs.Text.{start_place};
 ghost use Rattle.rules.specs.Rows.{rows_in, words_of};
