@@ -21,7 +21,7 @@ pub fn kept_rows(old: &[u32], count: usize, a: u32) -> usize
     // Stays a while loop: must-fail/halving_skips_a_row.edit is a wrong step of this halving, which `partition_point` has inside.
     while low < high {
         let middle = low + (high - low) / 2;
-        if a <= old[middle * row::WORDS + row::END] {
+        if a <= Row::at(old, middle).end {
             high = middle;
         } else {
             low = middle + 1;
