@@ -19,7 +19,7 @@ use Rattle.laws.proofs.Tests.{both_true}
 use Rattle.scan_reader.specs.Read.{onward}
 use Rattle.scan_stop.specs.declared.Stop.{Stop}
 use Rattle.scan_stop.specs.Stop.{is_lacking}
-use Rattle.scan_stop.specs.declared.Stop.TheVariants.{Met, Over, Short}
+use Rattle.scan_stop.specs.declared.Stop.TheVariants.{Met, Over}
 use Rattle.edit_carry.proofs.Carried.{recounted_length}
 use Rattle.edit.specs.declared.Job.{Job}
 use Rattle.scan_meet.specs.Meeting.{meets_at}

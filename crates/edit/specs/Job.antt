@@ -1,10 +1,10 @@
 -- What the parts of the edit call ask and give: an edit whose numbers are sensible, what is seen of its window, and what is written
 -- behind the kept rows.
-use Rattle.std.specs.Prelude.{◌≡◌, Bool, true, false, cond, not, ◌&&◌, Option, Some, None, List, map, ℕ, ◌+◌, ◌*◌, ◌^◌, ◌≤◌, ◌<◌, length, take, drop, eqb, leb}
+use Rattle.std.specs.Prelude.{◌≡◌, Bool, true, false, cond, not, Option, Some, None, List, map, ℕ, ◌+◌, ◌*◌, ◌≤◌, ◌<◌, length, take, drop, leb}
 use Rattle.rules.specs.declared.Cursor.{Cursor}
 use Rattle.rules.specs.declared.Ending.{Ending}
 use Rattle.rules.specs.declared.Table.{Table}
-use Rattle.rules.specs.declared.Outer.TheVariants.{BadByte, NoRowRoom, WindowShort}
+use Rattle.rules.specs.declared.Outer.TheVariants.{BadByte, WindowShort}
 use Rattle.rules.specs.declared.Told.{Told}
 use Rattle.rules.specs.declared.Told.TheVariants as tells
 use Rattle.rules.specs.Text.{most_bytes, start_place, over}

@@ -1,4 +1,6 @@
 // The edit call: from the old rows, the numbers of an edit and a window of the new text, the new rows; and where a window starts.
+#![tactic(auto)]
+
 ghost use Rattle.std.specs.Prelude.{◌≡◌, true, ◌++◌, ◌+◌, ◌*◌, ◌≤◌, length};
 ghost use Rattle.rules.specs.Rows.{well_formed};
 ghost use Rattle.rules.specs.Scan.{room_of, laid, told};
@@ -88,13 +90,7 @@ fn follow(
 }
 
 // The rows behind the kept ones: those of the window, and from a meeting on the old rows, moved. None where there is no room for all.
-fn fill_tail(
-    old: &[u32],
-    job: Job,
-    window: &[u8],
-    whole: bool,
-    tail: &mut [u32],
-) -> Option<Rest>
+fn fill_tail(old: &[u32], job: Job, window: &[u8], whole: bool, tail: &mut [u32]) -> Option<Rest>
     requires { Showing old.now job window.now whole }
     ensures { (result
         ≡ tail_told (room_of tail.old) (job_rows old.now job window.now whole)

@@ -1,4 +1,6 @@
 // What an edit moves of the old table: places, the ending, and rows.
+#![tactic(auto)]
+
 ghost use Rattle.std.specs.Prelude.{◌≡◌, ◌++◌, map, ℕ, ◌+◌, ◌-◌, ◌*◌, ◌≤◌, ◌<◌, length, drop};
 ghost use Rattle.rules.specs.Rows.{rows_in, words_of};
 ghost use Rattle.rules.specs.Edit.{carry, carry_row, carry_ending, with_comments, recounted};

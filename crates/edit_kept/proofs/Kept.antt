@@ -16,7 +16,6 @@ use Rattle.rules.specs.Rows.{Row, row_in, rows_in}
 use Rattle.rules.specs.Edit.{kept, end_place, last_end}
 use Rattle.rows.specs.Shape.{row_no}
 use Rattle.laws.proofs.Rows.{rows_length, rows_at, take_rows}
-use Rattle.edit_kept.specs.Kept.{EndsRise}
 
 -- ---- the first ones
 
@@ -88,22 +87,6 @@ module _ (a : ℕ) (ws : List ℕ) (count : ℕ) where
     pub inside : high ≤ count
     pub below : (i : ℕ) → i < low → (row_no ws i).end < a
     pub stop : high < count → a ≤ (row_no ws high).end
-
-  pub between_all : Between 0 count
-  between_all = record { order = omega arith; inside = le_refl count; below = λ i h. absurd (not-suc-le-zero h); stop = λ h. omega arith }
-
-  module _ (low high middle : ℕ) (b : Between low high) (l : low ≤ middle) (h : middle < high) where
-    pub between_low : a ≤ (row_no ws middle).end → Between low middle
-    between_low e = record { order = l; inside = omega (arith, b.inside); below = b.below; stop = λ _. e }
-
-    pub between_high : EndsRise ws count → (row_no ws middle).end < a → Between (middle + 1) high
-    between_high r e =
-        record {
-          order = omega arith;
-          inside = b.inside;
-          below = λ i o. omega (arith, e, r.rises i middle (omega arith) (omega (arith, b.inside)));
-          stop = b.stop;
-        }
 
   -- low and high have met
   pub between_none : (low high : ℕ) → Between low high → high ≤ low → low ≡ kept_count

@@ -1,4 +1,6 @@
 // What an edit keeps of the old table: the rows in front of it, and the place behind them.
+#![tactic(auto)]
+
 ghost use Rattle.std.specs.Prelude.{◌≡◌, ◌++◌, ℕ, suc, ◌*◌, ◌≤◌, length, drop};
 ghost use Rattle.rules.specs.Text.{start_place};
 ghost use Rattle.rules.specs.Rows.{rows_in, words_of};
@@ -19,7 +21,7 @@ pub fn kept_rows(old: &[u32], count: usize, a: u32) -> usize
     // Stays a while loop: must-fail/halving_skips_a_row.edit is a wrong step of this halving, which `partition_point` has inside.
     while low < high {
         let middle = low + (high - low) / 2;
-        if a <= old[middle * row::WORDS + row::END] {
+        if a <= Row::at(old, middle).end {
             high = middle;
         } else {
             low = middle + 1;

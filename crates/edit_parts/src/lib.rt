@@ -1,4 +1,6 @@
 // Parts of the edit call that look at no row: whether an edit is sensible, how long the new text is, and what is told.
+#![tactic(auto)]
+
 ghost use Rattle.std.specs.Prelude.{◌≡◌, ◌+◌, ◌^◌, ◌<◌, ◌≤◌};
 ghost use Rattle.rules.specs.Text.{start_place};
 ghost use Rattle.rules.specs.declared.Told.TheVariants as tells;

@@ -1,4 +1,6 @@
 // The scan: the rows of a text, written into lent words as far as they go.
+#![tactic(auto)]
+
 ghost use Rattle.std.specs.Prelude.{◌≡◌, List, ◌<◌, ◌^◌, length};
 ghost use Rattle.rules.specs.declared.Ending.{Ending as Endings};
 ghost use Rattle.rules.specs.Rows.{Row};

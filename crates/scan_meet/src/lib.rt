@@ -1,10 +1,12 @@
 // Where an old row meets: a pointer into the old rows that only moves forward.
+#![tactic(auto)]
+
 ghost use Rattle.std.specs.Prelude.{◌≡◌, ◌&&◌, ◌*◌, ◌≤◌, ◌<◌, length, drop, eqb, ltb};
 ghost use Rattle.rules.specs.Edit.{opens};
 ghost use Rattle.rows.specs.Shape.{row_no};
 ghost use Rattle.scan_meet.specs.Meeting.{Rising, Passed, Sought, Finds};
 
-use rules::row;
+use rows::shape::Row;
 use scan_blanks::is_blank;
 use scan_reader::Spot;
 
@@ -38,7 +40,7 @@ fn seek(old: &[u32], count: usize, row: usize, target: u64) -> usize
     ensures { Sought old.now count row target result }
 {
     for i in row..count {
-        if target <= u64::from(old[i * row::WORDS + row::START]) {
+        if target <= u64::from(Row::at(old, i).start) {
             return i;
         }
     }
@@ -50,17 +52,11 @@ fn starts(old: &[u32], count: usize, i: usize, target: u64) -> bool
     requires { count * 8 ≤ length old.now }
     ensures { result ≡ (ltb i count && eqb (row_no old.now i).start target) }
 {
-    i < count && u64::from(old[i * row::WORDS + row::START]) == target
+    i < count && u64::from(Row::at(old, i).start) == target
 }
 
 // The old rows up to a spot, of which `row` are passed: the row that meets there, or as an error how many are passed now.
-pub fn find(
-    old: &[u32],
-    olds: Olds,
-    row: usize,
-    text: &[u8],
-    here: Spot,
-) -> Result<usize, usize>
+pub fn find(old: &[u32], olds: Olds, row: usize, text: &[u8], here: Spot) -> Result<usize, usize>
     requires { ((olds.count * 8 ≤ length old.now) × (row ≤ olds.count))
         × (Rising old.now olds.count × Passed old.now olds.least olds.b row here.cursor.offset.0) }
     ensures { Finds old.now olds.count olds.least olds.b row here.cursor.offset.0

@@ -1,4 +1,6 @@
 // The rows of a text, so many at a time: a scan that stops behind so many rows and goes on later, so that its rows take room for one part.
+#![tactic(auto)]
+
 ghost use Rattle.std.specs.Prelude.{◌≡◌, ◌++◌, ◌*◌, ◌≤◌, length, drop};
 ghost use Rattle.rules.specs.Rows.{words_of, words_per_row};
 ghost use Rattle.scan_part.specs.Part.{Begun, PartOf, part_rows};

@@ -1,24 +1,27 @@
 // Rows into lent words.
-ghost use Rattle.std.specs.Prelude.{◌≡◌, ◌++◌, ◌+◌, ◌≤◌, ◌<◌, ◌^◌, length, drop};
-ghost use Rattle.rules.specs.Rows.{row_words};
+ghost use Rattle.std.specs.Prelude.{◌≡◌, ◌+◌, ◌<◌, ◌^◌};
+ghost use Rattle.rows.specs.Shape.{as_row};
 ghost use Rattle.scan_puts.specs.Put.{row_of, placed};
 
+use rows::shape::Row;
 use rules::{Cursor, limit, row};
 use scan_reader::Brief;
 
-// The row that was told at a place, behind so many comments, into the first eight words.
-fn put(rows: &mut [u32], at: Cursor, comments: u32, told: Brief)
-    requires { (8 ≤ length rows.old) × (at.offset.0 + told.size < 2 ^ 32) }
-    ensures { rows.new ≡ row_words (row_of at comments told) ++ drop 8 rows.old }
+// The row that was told at a place, behind so many comments.
+fn told_row(at: Cursor, comments: u32, told: Brief) -> Row
+    requires { at.offset.0 + told.size < 2 ^ 32 }
+    ensures { as_row result ≡ row_of at comments told }
 {
-    rows[row::KIND] = told.kind;
-    rows[row::START] = at.offset.0;
-    rows[row::END] = at.offset.0 + told.size as u32;
-    rows[row::LINE] = at.line.0;
-    rows[row::COLUMN] = at.column.0;
-    rows[row::LOW] = (told.bits % limit::ABOVE_WORD) as u32;
-    rows[row::HIGH] = (told.bits / limit::ABOVE_WORD) as u32;
-    rows[row::COMMENTS] = comments;
+    Row {
+        kind: told.kind,
+        start: at.offset.0,
+        end: at.offset.0 + told.size as u32,
+        line: at.line.0,
+        column: at.column.0,
+        low: (told.bits % limit::ABOVE_WORD) as u32,
+        high: (told.bits / limit::ABOVE_WORD) as u32,
+        comments,
+    }
 }
 
 // The row that was told at a place, behind so many comments and n other rows, if there is room for it.
@@ -28,6 +31,6 @@ pub fn put_behind(rows: &mut [u32], n: usize, at: Cursor, comments: u32, told: B
 {
     if n < rows.len() / row::WORDS {
         let base = n * row::WORDS;
-        put(&mut rows[base..], at, comments, told);
+        told_row(at, comments, told).put(&mut rows[base..]);
     }
 }

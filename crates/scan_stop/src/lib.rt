@@ -1,4 +1,6 @@
 // How a walk stops, and what it then writes and tells.
+#![tactic(auto)]
+
 ghost use Rattle.std.specs.Prelude.{◌≡◌};
 ghost use Rattle.scan_stop.specs.declared.Stop.TheVariants.{Over};
 ghost use Rattle.scan_stop.specs.Stop.{Last, Finished, IsOver, is_lacking};

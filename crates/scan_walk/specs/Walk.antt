@@ -1,16 +1,13 @@
 -- A walk over bytes that begin at a place: the rows that it passes, and how it stops. It is what the rules' `look` sees.
-use Rattle.std.specs.Prelude.{◌≡◌, Bool, cond, List, [], ◌∷◌, ◌++◌, ℕ, ◌+◌, ◌-◌, ◌*◌, ◌^◌, ◌≤◌, ◌<◌, length, take, drop, get_or, ltb}
+use Rattle.std.specs.Prelude.{Bool, List, [], ◌∷◌, ℕ, ◌+◌, ◌-◌, ◌*◌, ◌≤◌, ◌<◌, length, take, drop}
 use Rattle.rules.specs.declared.Cursor.{Cursor}
-use Rattle.rules.specs.declared.Ending.TheVariants as ending
-use Rattle.rules.specs.declared.Lexical.{Lexical}
-use Rattle.rules.specs.Text.{over, along, front, not_newline, is_blank, Roomy}
-use Rattle.rules.specs.Rows.{Row, row_at, eof_row, row_words, rows_in, words_per_row}
-use Rattle.rules.specs.Scan.{room_of}
+use Rattle.rules.specs.Text.{over, front, not_newline, Roomy}
+use Rattle.rules.specs.Rows.{Row, rows_in}
 use Rattle.rules.specs.Edit.{Seen, sees, over', met, short, look, from}
 use Rattle.scan_reader.specs.declared.Spot.{Spot}
 use Rattle.scan_reader.specs.Read.{onward, Ahead}
 use Rattle.scan_reader.specs.declared.Brief.{Brief}
-use Rattle.scan_reader.specs.Brief.{Blank, Line, End, Unknown, refusal_code}
+use Rattle.scan_reader.specs.Brief.{Blank, Line}
 use Rattle.scan_meet.specs.declared.Olds.{Olds}
 use Rattle.scan_meet.specs.Meeting.{Rising, Passed, meets_at}
 use Rattle.scan_stop.specs.declared.Stop.{Stop}

@@ -1,5 +1,7 @@
 // The walk over bytes that begin at a place of a text: their rows are written as far as there is room, up to the text's end, a refusal,
 // a spot where an old row meets, or where more bytes must be shown. A scan meets no old rows; an edit looks at its window by a walk with no room.
+#![tactic(auto)]
+
 pub mod spots;
 
 ghost use Rattle.std.specs.Prelude.{◌≡◌, ◌+◌, ◌≤◌, ◌<◌, ◌^◌, length, drop};

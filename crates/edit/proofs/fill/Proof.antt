@@ -7,7 +7,6 @@ use lib.ListN.{length, drop}
 use borrow.Author.Rules.{rules}
 use Rattle.rules.specs.Scan.{room_of}
 use Rattle.rules.specs.Edit.{kept}
-use Rattle.edit_parts.specs.Parts.{TellsFit}
 use Rattle.edit.specs.Job.{old_rows, job_rows, job_ending}
 use Rattle.edit.proofs.Tails.{kept_all, kept_fits, kept_full}
 use Rattle.edit.proofs.Jobs.{few_kept, lent_old, copied, copied_part, few_all}

@@ -1,11 +1,10 @@
 -- The rows of the window, by how the walk stopped, and old rows behind them.
-use Rattle.std.proofs.Common.{◌≡◌, ℕ, ◌+◌, ◌≤◌, ◌<◌, ◌^◌, List, Some, None, length, sym, ap, ◌∙◌, arith}
+use Rattle.std.proofs.Common.{◌≡◌, ℕ, ◌≤◌, List, Some, None, length, sym, ap, ◌∙◌, arith}
 use mathlib.Core.Bool.{true≢false}
 use Rattle.rules.specs.Rows.{Row}
 use Rattle.rules.specs.Scan.{room_of, laid}
 use Rattle.laws.proofs.Rows.{laid_length}
 use Rattle.scan_stop.specs.Stop.{is_lacking}
-use Rattle.edit_parts.specs.declared.Rest.{Rest}
 use Rattle.edit_parts.specs.Parts.{behind_of}
 use Rattle.edit.specs.Job.{rows_behind, ending_behind}
 use Rattle.edit.proofs.Tails.{tail_all, count_behind, few_behind, met_all}

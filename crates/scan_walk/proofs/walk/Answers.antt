@@ -1,12 +1,12 @@
 -- Each way through a turn is one of the laws of `Walking`.
-use Rattle.std.proofs.Common.{◌≡◌, ◌+◌, ◌-◌, ◌^◌, ◌<◌, ◌≤◌, ℕ, Ok, Err, length, refl, sym, subst, ◌∙◌, arith}
+use Rattle.std.proofs.Common.{◌+◌, ◌-◌, ◌^◌, ◌<◌, Ok, Err, length, refl, sym, subst, ◌∙◌, arith}
 use Rattle.rules.specs.Text.{is_blank}
 use Rattle.rules.specs.Kinds.{signs, kind_in, same_bytes}
 use Rattle.rules.specs.Lex.{is_letter, is_digit, maybe_two}
 use Rattle.laws.proofs.Places.{roomy_less}
 use Rattle.scan_words.specs.Class.{class_of, mark_of}
 use Rattle.scan_words.proofs.Tables.{right, all_right}
-use Rattle.scan_reader.specs.Brief.{Blank, End}
+use Rattle.scan_reader.specs.Brief.{End}
 use Rattle.scan_meet.specs.Meeting.{Passed}
 use Rattle.scan_walk.proofs.Walks.{walking_start, at_offset, ahead, blanks_more, blanks_none, walking_blanks}
 use Rattle.scan_walk.proofs.Walks.{tells, walking_found, walking_met, last, walking_last, passable}
@@ -110,10 +110,10 @@ loop-met-preserved c =
     let lt : b.kind < End = omega (arith, c.if-told-ge-END.false) in
     let next = c.behind-here.result in
     elim c.if-told-lt-BLANK.branch [
-      then-told-lt-BLANK w ↦
+      | then-told-lt-BLANK w ↦
           rw (w.rows-is ∙ w.put_behind.ensures, w.count-is, w.comments-is)
           (walking_row g off none b c.brief-told.ensures next c.behind-here.ensures w.if-told-lt-BLANK.true)
-    | else-told-lt-BLANK w ↦
+      | else-told-lt-BLANK w ↦
           rw (w.rows-is, w.count-is, w.comments-is)
           (walking_comment g off none b c.brief-told.ensures next c.behind-here.ensures w.if-told-lt-BLANK.false lt)
     ]

@@ -1,5 +1,5 @@
 -- At the loop's head the rows so far are written, and what is seen of the rest follows; each turn passes a byte.
-use Rattle.std.proofs.Common.{◌+◌, ◌-◌, length}
+use Rattle.std.proofs.Common.{◌-◌, length}
 use Rattle.scan_walk.proofs.Walks.{Walking}
 use Rattle.scan_walk.proofs.walk.Given as goal
 

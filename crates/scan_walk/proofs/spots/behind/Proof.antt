@@ -1,8 +1,8 @@
 -- `spots::behind` meets its contract: in a line the cursor is moved at once, at a line's end its last byte is looked at, and else every byte.
-use mathlib.Core.Path.{◌≡◌, sym, ap, ◌∙◌}
-use Prim.Native.Nat.{ℕ, ◌-◌}
+use mathlib.Core.Path.{sym, ap}
+use Prim.Native.Nat.{◌-◌}
 use native.Mathlib.Omega.{arith}
-use lib.ListN.{length, drop, take, length-drop}
+use lib.ListN.{length, length-drop}
 use borrow.Author.Rules.{rules}
 use Rattle.laws.proofs.Lists.{lent_tail}
 use Rattle.laws.proofs.Places.{roomy_less}
