@@ -310,7 +310,7 @@ stands_unit o i n m m₁ m₂ u s w v r e q =
     let things : u.at.things ≡ count v.list = ap (λ (x : Contents). x.at.things) v.same in
     let kind : u.kind ≡ kind_from (sections_of v.list) = ap (λ (x : Contents). x.kind) v.same in
     let licence : unwrap_or u.licence missing ≡ licence_row (i + 1 + 1 + 1) v.list =
-        ap (λ (x : Contents). unwrap_or x.licence missing) v.same ∙ or_row (licence_row (i + 1 + 1 + 1) v.list) in
+    ap (λ (x : Contents). unwrap_or x.licence missing) v.same ∙ or_row (licence_row (i + 1 + 1 + 1) v.list) in
     stands_at i n (unit w v.list) m m₂ s e (omega (arith, r)) (omega (arith, nodes)) refl refl refl refl refl
     (rw (
       words_unit i w v.list,
