@@ -23,35 +23,37 @@ use Rattle.theory_grammar.proofs.Complete.{top_complete}
 use Rattle.parse_nodes.specs.Fitting.{retold_at}
 use Rattle.parse_nodes.proofs.Steps.{Flat, flat_none, flat_seq}
 use Rattle.parse_pass_expr.specs.Seen.{Read}
-use Rattle.parse.specs.declared.Passed.{Passed}
-use Rattle.parse.specs.declared.Passed.TheVariants.{To, Refused}
+use Rattle.std.specs.Prelude.{Result, Ok, Err}
+use Rattle.parse_nodes.specs.Post.{refusal, refused_at}
+use Rattle.parse_nodes.specs.declared.Refusal.{Refusal}
 use Rattle.parse.specs.Program.{PassedAs}
 use Rattle.parse.proofs.Whole.{TopEnds, top_ends}
 
 -- ---- an answer, from what the parser says, and back
 
-pub passed_ok : (o : Out) (t : Tree) (j : ℕ) → o ≡ ok t j → PassedAs o (To j)
-passed_ok o t j e = subst (λ (x : Out). PassedAs x (To j)) (sym e) refl
+pub passed_ok : (o : Out) (t : Tree) (j : ℕ) → o ≡ ok t j → PassedAs o (Ok j)
+passed_ok o t j e = subst (λ (x : Out). PassedAs x (Ok j)) (sym e) refl
 
--- where the refusal is what a function gave
-pub passed_no : (o : Out) (why x : Syntax) (p : ℕ) → o ≡ no why p → x ≡ why → PassedAs o (Refused x p)
-passed_no o why x p e q = subst (λ (y : Out). PassedAs y (Refused x p)) (sym e) (ap (λ (y : Syntax). Refused y p) q)
+-- a refusal that a function made, for a reason that it told
+pub passed_err : (o : Out) (why x : Syntax) (p : ℕ) (e : Refusal) → o ≡ no why p → x ≡ why → e ≡ refusal x p → PassedAs o (Err e)
+passed_err o why x p e q s r =
+    subst (λ (y : Out). PassedAs y (Err e)) (sym q) (ap Err r ∙ ap (λ (y : Syntax). refused_at y p) s)
 
 -- the tree that was passed
 pub record Reached (o : Out) (j : ℕ) : Type 0 where
   pub tree : Tree
   pub is : o ≡ ok tree j
 
-pub reached : (o : Out) (r : Passed) (j : ℕ) → PassedAs o r → r ≡ To j → Reached o j
+pub reached : (o : Out) (r : Result ℕ Refusal) (j : ℕ) → PassedAs o r → r ≡ Ok j → Reached o j
 reached (ok t k) r j h e = record { tree = t; is = cc (h, e) }
 reached (no why p) r j h e = let z : ◌≡◌ {A = ℕ} 0 1 = cc (h, e) in absurd (omega arith)
 
-pub stopped : (o : Out) (r : Passed) (why : Syntax) (p : ℕ) → PassedAs o r → r ≡ Refused why p → o ≡ no why p
-stopped (ok t j) r why p h e = let z : ◌≡◌ {A = ℕ} 0 1 = cc (h, e) in absurd (omega arith)
-stopped (no why' p') r why p h e = cc (h, e)
+pub stopped : (o : Out) (r : Result ℕ Refusal) (x : Refusal) → PassedAs o r → r ≡ Err x → o ≡ no x.why x.row
+stopped (ok t j) r x h e = let z : ◌≡◌ {A = ℕ} 0 1 = cc (h, e) in absurd (omega arith)
+stopped (no why p) r x h e = let z : refusal why p ≡ x = cc (h, e) in ap (λ (y : Refusal). no y.why y.row) z
 
 -- a declaration whose rows are read is what the parser gives
-pub passed_read : (ts : List Tok) (i j : ℕ) → Read ts Decl 64 i j → Proper ts → PassedAs (Parse.top ts i) (To j)
+pub passed_read : (ts : List Tok) (i j : ℕ) → Read ts Decl 64 i j → Proper ts → PassedAs (Parse.top ts i) (Ok j)
 passed_read ts i j r p =
     passed_ok (Parse.top ts i) r.tree j (top_complete ts i r.tree _ (r.same p) r.is ∙ ap (ok r.tree) (sym r.next))
 
@@ -71,7 +73,7 @@ module _ (ts : List Tok) where
 
   module _ (j : ℕ) (c : Passing ts j) where
     -- at Eof the list is the program's
-    pub passing_ends : kind_at ts j ≡ Eof → PassedAs (Parse.parse ts) (To (j + 1))
+    pub passing_ends : kind_at ts j ≡ Eof → PassedAs (Parse.parse ts) (Ok (j + 1))
     passing_ends e =
         passed_ok (Parse.parse ts) (program c.tree) (j + 1)
         (parse_is ts ∙ then_ok _ _ c.tree j (c.rest _ (ends (rw (eq-eqb (kind_at ts j) Eof e)))))
@@ -93,11 +95,11 @@ module _ (ts : List Tok) where
           }
 
       -- a declaration is refused
-      pub passing_refused : (why x : Syntax) (p : ℕ) → Parse.top ts j ≡ no why p → x ≡ retold_at tops j why p
-          → PassedAs (Parse.parse ts) (Refused x p)
+      pub passing_refused : (why : Syntax) (p : ℕ) (x : Refusal) → Parse.top ts j ≡ no why p → x ≡ refusal (retold_at tops j why p) p
+          → PassedAs (Parse.parse ts) (Err x)
       unfolding Parse.list_step Parse.else_behind Parse.or then retold_at
-      passing_refused why x p f q =
+      passing_refused why p x f q =
           let s : tops + cond (hangs c.tree) (only KeywordElse) 0 ≡ tops =
           ap (λ (b : Bool). tops + cond b (only KeywordElse) 0) c.flat ∙ omega arith in
-          passed_no (Parse.parse ts) (retold_at tops j why p) x p
-          (parse_is ts ∙ then_no _ _ _ p (c.rest _ (refuses goes_on (rw (f, s))))) q
+          passed_err (Parse.parse ts) (retold_at tops j why p) (retold_at tops j why p) p x
+          (parse_is ts ∙ then_no _ _ _ p (c.rest _ (refuses goes_on (rw (f, s))))) refl q

@@ -38,8 +38,8 @@ use Rattle.theory_grammar.proofs.Ends.{Ends, ends_top, wide_top, ends_parse}
 use Rattle.theory_grammar.proofs.Refused.{refused_inside}
 use Rattle.parse_nodes.specs.Post.{kind_word, state_at, behind, Met, Stands}
 use Rattle.parse_nodes.specs.declared.At.{At}
-use Rattle.parse_nodes.specs.declared.Got.{Got}
-use Rattle.parse_nodes.specs.declared.Got.TheVariants.{Done}
+use Rattle.parse_nodes.specs.declared.Refusal.{Refusal}
+use Rattle.std.specs.Prelude.{Result, Ok}
 use Rattle.parse_nodes.proofs.Rows.{word_test}
 use Rattle.parse_nodes.proofs.Turn.{Came, came}
 use Rattle.parse_nodes.proofs.Steps.{Flat, stands_at, mem_over}
@@ -74,7 +74,7 @@ top_on ts i t j e =
     omega (arith, w, all_ok (Ends ts i) (Parse.top ts i) t j (ends_top ts i) e)
 
 module _ (ts : List Tok) (i n : ℕ) (m : List ℕ) (s : At) (m' : List ℕ) where
-  pub top_came : (r : Got) → Met (Parse.top ts i) i n m m' r → r ≡ Done s → Came (TopEnds ts i) ts (Parse.top ts i) i n m s m'
+  pub top_came : (r : Result At Refusal) → Met (Parse.top ts i) i n m m' r → r ≡ Ok s → Came (TopEnds ts i) ts (Parse.top ts i) i n m s m'
   top_came r h e = came (TopEnds ts i) ts (Parse.top ts i) i n m m' r s (top_ends ts i) (λ t j f. f.0) h e
 
   pub top_up : Came (TopEnds ts i) ts (Parse.top ts i) i n m s m' → i < s.row
@@ -101,7 +101,7 @@ pub record Wrote (o : Out) (s : At) : Type 0 where
   pub is : o ≡ ok tree s.row
   pub node : s.node ≡ size tree
 
-pub wrote : (o : Out) (m m' : List ℕ) (r : Got) (s : At) → Met o 0 0 m m' r → r ≡ Done s → Wrote o s
+pub wrote : (o : Out) (m m' : List ℕ) (r : Result At Refusal) (s : At) → Met o 0 0 m m' r → r ≡ Ok s → Wrote o s
 wrote (ok t j) m m' r s h e =
     let q : s ≡ behind 0 0 t j = cc (h.0, e) in
     record {
@@ -118,7 +118,7 @@ written m t h =
     sets-eq (tree_words 0 t) m 0 (omega arith) ∙ ap (λ (k : ℕ). tree_words 0 t ++ drop k m) (zero-add (length (tree_words 0 t)) ∙ n)
 
 module _ (ws : List ℕ) (o : Out) (m m' : List ℕ) where
-  pub final_ok : (t : Tree) (j x : ℕ) (r : Got) → o ≡ ok t j → x ≡ size t → 8 * size t ≤ length m → Met o 0 0 m m' r
+  pub final_ok : (t : Tree) (j x : ℕ) (r : Result At Refusal) → o ≡ ok t j → x ≡ size t → 8 * size t ≤ length m → Met o 0 0 m m' r
       → Final ws o m m' (parsed.Nodes x)
   unfolding out_told out_leaves
   final_ok t j x r e q h met =

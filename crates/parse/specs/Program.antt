@@ -1,5 +1,5 @@
 -- What the functions over a program ask and promise.
-use Rattle.std.specs.Prelude.{◌≡◌, List, ℕ, suc, ◌*◌, ◌≤◌, ◌<◌, length, get_or}
+use Rattle.std.specs.Prelude.{◌≡◌, List, ℕ, suc, ◌*◌, ◌≤◌, ◌<◌, length, get_or, Result, Ok}
 use Rattle.rules.specs.declared.Parsed.{Parsed}
 use Rattle.rules.specs.Kinds.{Eof}
 use Rattle.rules.specs.Rows.{rows_in, words_per_row}
@@ -7,19 +7,18 @@ use Rattle.rules.specs.Tree.{Tok, Tree}
 use Rattle.rules.specs.Parse
 use Rattle.rules.specs.Parse.{Out, ok, no}
 use Rattle.rules.specs.Calls.{tokens, node_room, out_told, out_leaves}
-use Rattle.parse_nodes.specs.Post.{Met}
+use Rattle.parse_nodes.specs.Post.{Met, refused_at}
 use Rattle.parse_nodes.specs.Names.{Names, Spans}
-use Rattle.parse_nodes.specs.declared.Got.{Got}
+use Rattle.parse_nodes.specs.declared.At.{At}
+use Rattle.parse_nodes.specs.declared.Refusal.{Refusal}
 use Rattle.theory_grammar.specs.Tokens.{Proper}
-use Rattle.parse.specs.declared.Passed.{Passed}
-use Rattle.parse.specs.declared.Passed.TheVariants.{To, Refused}
 
 -- the map, the unit or the event at row i
-abbrev pub TopMet : List ℕ → List ℕ → ℕ → ℕ → ℕ → List ℕ → List ℕ → Got → Type 0
+abbrev pub TopMet : List ℕ → List ℕ → ℕ → ℕ → ℕ → List ℕ → List ℕ → Result At Refusal → Type 0
 TopMet t ws n i nd m m' r = (ts : List Tok) → Names ts t ws n → Met (Parse.top ts i) i nd m m' r
 
 -- all of the rows
-abbrev pub ProgramMet : List ℕ → List ℕ → ℕ → List ℕ → List ℕ → Got → Type 0
+abbrev pub ProgramMet : List ℕ → List ℕ → ℕ → List ℕ → List ℕ → Result At Refusal → Type 0
 ProgramMet t ws n m m' r = (ts : List Tok) → Names ts t ws n → Met (Parse.parse ts) 0 0 m m' r
 
 -- what is asked of a table of n rows: its rows are lent and not too many, and their spellings lie inside the text
@@ -40,16 +39,16 @@ pub record AsksWhole (t ws : List ℕ) (n : ℕ) (m : List ℕ) : Type 0 where
   pub room : n ≤ node_room m
 
 -- what a first pass answers where the parser answers o
-abbrev pub PassedAs : Out → Passed → Type 0
-PassedAs (ok t j) r = r ≡ To j
-PassedAs (no why p) r = r ≡ Refused why p
+abbrev pub PassedAs : Out → Result ℕ Refusal → Type 0
+PassedAs (ok t j) r = r ≡ Ok j
+PassedAs (no why p) r = r ≡ refused_at why p
 
 -- over the map, the unit or the event at row i
-abbrev pub TopPassed : List ℕ → List ℕ → ℕ → ℕ → Passed → Type 0
+abbrev pub TopPassed : List ℕ → List ℕ → ℕ → ℕ → Result ℕ Refusal → Type 0
 TopPassed t ws n i r = (ts : List Tok) → Names ts t ws n → Proper ts → PassedAs (Parse.top ts i) r
 
 -- over all of the rows
-abbrev pub ProgramPassed : List ℕ → List ℕ → ℕ → Passed → Type 0
+abbrev pub ProgramPassed : List ℕ → List ℕ → ℕ → Result ℕ Refusal → Type 0
 ProgramPassed t ws n r = (ts : List Tok) → Names ts t ws n → Proper ts → PassedAs (Parse.parse ts) r
 
 -- what the reading of n rows that stand in ws tells and leaves

@@ -1,5 +1,7 @@
 // The parse call: a text, its table and lent room for nodes. The rows are passed twice, first without a node written, so that a refused
 // parse leaves node memory as it was.
+#![tactic(auto)]
+
 ghost use Rattle.std.specs.Prelude.{◌≡◌, ◌+◌, ◌*◌, ◌≤◌, ◌<◌, length};
 ghost use Rattle.rules.specs.Text.{start_place};
 ghost use Rattle.rules.specs.Calls.{parse_told, parse_leaves, node_room};
@@ -9,103 +11,90 @@ ghost use Rattle.parse_nodes.specs.Post.{AsksOpen};
 ghost use Rattle.parse_nodes.specs.Names.{Spans};
 ghost use Rattle.parse.specs.Program.{TopMet, ProgramMet, AsksTable, AsksEnded, AsksWhole, TopPassed, ProgramPassed, reading_of, Accepted, Final};
 
-use parse_nodes::{At, Got};
+use parse_nodes::{At, Refusal};
 use rows::shape::Row;
 use rules::kind::{EOF, EVENT, MAP, UNIT};
 use rules::{Cursor, Ending, Judged, Outer, Parsed, Reason, Syntax, Table, fits, node, node_kind};
 
 // A map, an event or a unit at the row.
-fn top(text: &[u8], rows: &[u32], count: u32, nodes: &mut [u32], row: u32, node: u32) -> Got
+fn top(
+    text: &[u8],
+    rows: &[u32],
+    count: u32,
+    nodes: &mut [u32],
+    row: u32,
+    node: u32,
+) -> Result<At, Refusal>
     requires { AsksOpen rows.now count row node 64 × Spans text.now rows.now count }
     ensures { TopMet text.now rows.now count row node nodes.old nodes.new result }
 {
-    let k = parse_nodes::kind_at(rows, count, row);
-    if k == MAP {
-        return parse_maps::map(text, rows, count, nodes, row, node);
+    match parse_nodes::kind_at(rows, count, row) {
+        MAP => parse_maps::map(text, rows, count, nodes, row, node),
+        UNIT => parse_units::unit(text, rows, count, nodes, row, node),
+        EVENT => parse_events::event(rows, count, nodes, row, node),
+        _ => Err(Refusal::new(Syntax::NotTopLevel, row)),
     }
-    if k == UNIT {
-        return parse_units::unit(text, rows, count, nodes, row, node);
-    }
-    if k == EVENT {
-        return parse_events::event(rows, count, nodes, row, node);
-    }
-    Got::Refused(Syntax::NotTopLevel, row as usize)
 }
 
 // The program of the rows.
-fn program(text: &[u8], rows: &[u32], count: u32, nodes: &mut [u32]) -> Got
+fn program(text: &[u8], rows: &[u32], count: u32, nodes: &mut [u32]) -> Result<At, Refusal>
     requires { AsksTable text.now rows.now count }
     ensures { ProgramMet text.now rows.now count nodes.old nodes.new result }
 {
-    let mut s = At {
-        row: 0,
-        node: 0,
-        place: 0,
-        things: 0,
-        variable: false,
-        summed: false,
-        hanging: false,
-    };
-    loop {
+    let mut s = At::new(0, 0, 0);
+    // Stays: a while loop, which goes on behind what was read; a for has no such step.
+    while parse_nodes::kind_at(rows, count, s.row) != EOF {
         let at = s.row;
-        if parse_nodes::kind_at(rows, count, at) == EOF {
-            return Got::Done(parse_nodes::ended(nodes, s, node_kind::PROGRAM, at, s.things));
-        }
-        match top(text, rows, count, nodes, at, s.node) {
-            Got::Done(t) => {
-                s = parse_nodes::counted(t, s.place, s.things + 1);
-            }
-            Got::Refused(why, r) => {
-                return Got::Refused(parse_nodes::instead(why, r, at, fits::TOPS), r);
-            }
-        }
+        let t = top(text, rows, count, nodes, at, s.node).map_err(|e: Refusal| e.instead(
+            at,
+            fits::TOPS,
+        ))?;
+        s = t.counted(s.place, s.things + 1);
     }
+    Ok(s.ended(nodes, node_kind::PROGRAM, s.row, s.things))
 }
 
-// How far the first pass comes: behind what it reads, or why not and the row where.
-#[derive(Clone, Copy)]
-pub enum Passed {
-    To(u32),
-    Refused(Syntax, usize),
-}
-
-// The first pass over a map, an event or a unit at the row, into no memory. A unit is passed by its kinds alone where they tell that it
-// is one.
-fn top_passed(text: &[u8], rows: &[u32], count: u32, none: &mut [u32], row: u32) -> Passed
+// The first pass over a map, an event or a unit at the row, into no memory: the row behind it. A unit is passed by its kinds alone where
+// they tell that it is one.
+fn top_passed(
+    text: &[u8],
+    rows: &[u32],
+    count: u32,
+    none: &mut [u32],
+    row: u32,
+) -> Result<u32, Refusal>
     requires { AsksEnded text.now rows.now count × ((row < count) × (length none.old ≡ 0)) }
     ensures { TopPassed text.now rows.now count row result }
 {
     if parse_nodes::kind_at(rows, count, row) == UNIT {
-        let end = parse_pass_units::unit(rows, count, row);
-        if end != 0 {
-            return Passed::To(end);
+        if let Some(end) = parse_pass_units::unit(rows, count, row) {
+            return Ok(end);
         }
     }
-    match top(text, rows, count, none, row, 0) {
-        Got::Done(t) => Passed::To(t.row),
-        Got::Refused(why, r) => Passed::Refused(why, r),
-    }
+    let t = top(text, rows, count, none, row, 0)?;
+    Ok(t.row)
 }
 
-// The first pass over the program of the rows, into no memory.
-pub fn program_passed(text: &[u8], rows: &[u32], count: u32, none: &mut [u32]) -> Passed
+// The first pass over the program of the rows, into no memory: the row behind its last.
+pub fn program_passed(
+    text: &[u8],
+    rows: &[u32],
+    count: u32,
+    none: &mut [u32],
+) -> Result<u32, Refusal>
     requires { AsksEnded text.now rows.now count × (length none.old ≡ 0) }
     ensures { ProgramPassed text.now rows.now count result }
 {
     let mut at = 0;
-    loop {
-        if parse_nodes::kind_at(rows, count, at) == EOF {
-            return Passed::To(at + 1);
-        }
-        match top_passed(text, rows, count, none, at) {
-            Passed::To(end) => {
-                at = end;
-            }
-            Passed::Refused(why, r) => {
-                return Passed::Refused(parse_nodes::instead(why, r, at, fits::TOPS), r);
-            }
-        }
+    // Stays: a while loop, which goes on behind what was read; a for has no such step.
+    while parse_nodes::kind_at(rows, count, at) != EOF {
+        let from = at;
+        at = top_passed(text, rows, count, none, from).map_err(|e: Refusal| e.instead(
+            from,
+            fits::TOPS,
+        ))?;
     }
+    Ok(at + 1)
 }
 
 // A refusal of the call itself.
@@ -122,8 +111,8 @@ pub fn written(text: &[u8], rows: &[u32], count: u32, nodes: &mut [u32]) -> Pars
         nodes.new result }
 {
     match program(text, rows, count, nodes) {
-        Got::Done(t) => Parsed::Nodes(t.node),
-        Got::Refused(_, _) => Parsed::Nodes(0),
+        Ok(t) => Parsed::Nodes(t.node),
+        Err(_) => Parsed::Nodes(0),
     }
 }
 
@@ -134,13 +123,13 @@ fn twice(text: &[u8], rows: &[u32], count: u32, nodes: &mut [u32]) -> Parsed
         nodes.new result }
 {
     match program_passed(text, rows, count, &mut nodes[..0]) {
-        Passed::To(_) => written(text, rows, count, nodes),
-        Passed::Refused(why, r) => {
-            let row = Row::at(rows, r);
+        Ok(_) => written(text, rows, count, nodes),
+        Err(e) => {
+            let row = Row::at(rows, e.row);
             Parsed::Refused(
-                Reason::Syntax(why),
+                Reason::Syntax(e.why),
                 row.place(),
-                refusals::found_told(why, row.kind),
+                refusals::found_told(e.why, row.kind),
             )
         }
     }

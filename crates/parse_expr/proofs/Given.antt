@@ -1,5 +1,5 @@
 -- What a call of the circle gave: the tree behind its state, or its refusal; and that what was read fits.
-use mathlib.Core.Path.{◌≡◌, refl, sym, ◌∙◌}
+use mathlib.Core.Path.{◌≡◌}
 use mathlib.Core.Bool.{Bool}
 use mathlib.Core.List.{List}
 use Prim.Native.Nat.{ℕ, ◌+◌, ◌≤◌, ◌<◌}
@@ -14,7 +14,7 @@ use Rattle.theory_grammar.proofs.Ends.{Ends, ends_args}
 use Rattle.parse_nodes.specs.Post.{Met}
 use Rattle.parse_nodes.specs.declared.At.{At}
 use Rattle.parse_nodes.specs.declared.Refusal.{Refusal}
-use Rattle.std.specs.Prelude.{Result, Ok, Err, MatchResult, IsErrAnd}
+use Rattle.std.specs.Prelude.{Result, Ok, Err}
 use Rattle.parse_nodes.proofs.Turn.{same_len, Came, came_ends, came_reads, refused, Turn}
 
 module _ {ts : List Tok} {d i n : ℕ} {m : List ℕ} {s : At} {m' : List ℕ} {r : Result At Refusal} where
@@ -43,20 +43,6 @@ args_came {ts} {n} {m} {s} {m'} {r} d o l h e = came_ends ts _ (o + 1) n m m' r 
 -- the call refused
 pub was_refused : {o : Out} {r : Result At Refusal} {x : Refusal} (i n : ℕ) (m m' : List ℕ) → Met o i n m m' r → r ≡ Err x → o ≡ no x.why x.row
 was_refused {o} {r} {x} i n m m' h e = refused o i n m m' r x h e
-
--- ---- a call's answer, whose refusal is told otherwise
-
-module _ (P : Refusal → Refusal → Type 0) where
-  pub mapped_ok : (r r' : Result At Refusal) (s : At) → MatchResult r (λ y. r' ≡ Ok y) (λ e. IsErrAnd r' (P e)) → r' ≡ Ok s → r ≡ Ok s
-  mapped_ok (Ok a) r' s h q = sym h ∙ q
-  mapped_ok (Err e) (Ok b) s h q = absurd h
-  mapped_ok (Err e) (Err y) s h q = let z : ◌≡◌ {A = ℕ} 0 1 = cc q in absurd (omega arith)
-
-  pub mapped_err : (r r' : Result At Refusal) (x : Refusal) (told : Refusal → Refusal) → MatchResult r (λ y. r' ≡ Ok y) (λ e. IsErrAnd r' (P e)) → r' ≡ Err x
-      → ((e y : Refusal) → P e y → y ≡ told e) → (e : Refusal) × (r ≡ Err e) × (x ≡ told e)
-  mapped_err (Ok a) r' x told h q k = let z : ◌≡◌ {A = ℕ} 0 1 = cc (h, q) in absurd (omega arith)
-  mapped_err (Err e) (Ok b) x told h q k = absurd h
-  mapped_err (Err e) (Err y) x told h q k = let z : y ≡ x = cc q in (e, refl, sym z ∙ k e y h)
 
 -- ---- room
 

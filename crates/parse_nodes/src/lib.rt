@@ -112,7 +112,7 @@ impl Refusal {
 }
 
 // The words of a node.
-#[derive(Clone, Copy)]
+#[derive(Clone, Copy, Default)]
 pub struct Words {
     pub kind: u32,
     pub place: u32,
@@ -125,6 +125,7 @@ pub struct Words {
 }
 
 // The kind of row i of a table of so many rows, and Eof past the last.
+#[tactic(auto, unfolding(crate::specs::Post::kind_word))]
 pub fn kind_at(rows: &[u32], count: u32, i: u32) -> u32
     requires { count * 8 ≤ length rows.now }
     ensures { result ≡ kind_word rows.now count i }
@@ -192,6 +193,7 @@ fn store_whole(nodes: &mut [u32], at: usize, w: Words)
 }
 
 // Node n, as far as there is room.
+#[tactic(auto, using(theory_grammar::proofs::Laws::sets_out))]
 pub fn store(nodes: &mut [u32], n: u32, w: Words)
     requires { n ≤ most_rows }
     ensures { nodes.new
@@ -224,10 +226,7 @@ pub fn close(nodes: &mut [u32], n: u32, kind: u32, place: u32, name: u32, childr
             place,
             name,
             children,
-            fact0: 0,
-            fact1: 0,
-            fact2: 0,
-            fact3: 0,
+            ..Words::default()
         },
     );
 }
@@ -259,11 +258,9 @@ pub fn number(nodes: &mut [u32], row: u32, n: u32, low: u32, high: u32) -> At
             kind: node_kind::NUMBER,
             place: row,
             name: MISSING,
-            children: 0,
             fact0: low,
             fact1: high,
-            fact2: 0,
-            fact3: 0,
+            ..Words::default()
         },
     );
     At::new(row + 1, n + 1, row)
@@ -317,13 +314,11 @@ fn kind_before(rows: &[u32], count: u32, row: u32, back: u32) -> u32
     requires { count * 8 ≤ length rows.now }
     ensures { result ≡ kind_word rows.now count (row - back) }
 {
-    if row < back {
-        return kind_at(rows, count, 0);
-    }
-    kind_at(rows, count, row - back)
+    kind_at(rows, count, row.saturating_sub(back))
 }
 
 // Whether the row in front of one is a name behind a dot.
+#[tactic(auto, unfolding(crate::specs::Fitting::dotted_words))]
 fn is_dotted(rows: &[u32], count: u32, row: u32) -> bool
     requires { count * 8 ≤ length rows.now }
     ensures { result ≡ dotted_words rows.now count row }
@@ -334,24 +329,22 @@ fn is_dotted(rows: &[u32], count: u32, row: u32) -> bool
 }
 
 // What goes on with the expression or arguments that s stands behind.
+#[tactic(auto, unfolding(crate::specs::Fitting::onward_words))]
 fn onward(rows: &[u32], count: u32, s: At) -> u64
     requires { count * 8 ≤ length rows.now }
     ensures { result ≡ onward_words rows.now count s.summed s.row }
 {
-    let dotted = is_dotted(rows, count, s.row);
-    if s.summed {
-        if dotted {
-            return fits::ONS + fits::LPAREN;
-        }
-        return fits::ONS;
-    }
-    if dotted {
-        return fits::ONS + fits::SHIFTS + fits::LPAREN;
-    }
-    fits::ONS + fits::SHIFTS
+    let shifts = if s.summed { 0 } else { fits::SHIFTS };
+    let call = if is_dotted(rows, count, s.row) {
+        fits::LPAREN
+    } else {
+        0
+    };
+    fits::ONS + shifts + call
 }
 
 // 21 behind an expression or arguments, which any of a set would have ended.
+#[tactic(auto, using(crate::proofs::Fitting::onward_low))]
 pub fn unended(rows: &[u32], count: u32, s: At, ends: u64) -> Syntax
     requires { (count * 8 ≤ length rows.now) × (ends < 2 ^ 53) }
     ensures { result ≡ wrong (onward_words rows.now count s.summed s.row + ends) }

@@ -1,2 +1,3 @@
 -- What the proofs of the statements' functions share.
 pub mod Trees
+pub mod Lists

@@ -20,12 +20,12 @@ use Rattle.theory_grammar.proofs.Laws.{words_plain, words_assign, words_guard, w
 use Rattle.theory_grammar.proofs.Cases.{then_ok, then_no}
 use Rattle.theory_grammar.proofs.Runs.{All}
 use Rattle.theory_grammar.proofs.Sound.{Reads, expr_sound}
-use Rattle.parse_nodes.specs.Post.{kind_word, Tells, state_at, hanging_at, Met, Stands}
+use Rattle.parse_nodes.specs.Post.{kind_word, Tells, state_at, hanging_at, refused_at, Met, Stands}
 use Rattle.parse_nodes.specs.Fitting.{onward_words}
 use Rattle.parse_nodes.specs.declared.At.{At}
-use Rattle.parse_nodes.specs.declared.Got.{Got}
-use Rattle.parse_nodes.specs.declared.Got.TheVariants.{Done, Refused}
-use Rattle.parse_nodes.proofs.Turn.{Came, came_reads, refused}
+use Rattle.parse_nodes.specs.declared.Refusal.{Refusal}
+use Rattle.std.specs.Prelude.{Result, Ok, Err}
+use Rattle.parse_nodes.proofs.Turn.{Came, came_reads, refused, told}
 use Rattle.parse_nodes.proofs.Steps.{stands_at, mem_over, mem_both}
 use Rattle.parse_nodes.proofs.Fitting.{end_met, end_unmet}
 use Rattle.parse_stmt.specs.Bodies.{BodyMet, Guarded}
@@ -33,16 +33,16 @@ use Rattle.parse_stmt.specs.Bodies.{BodyMet, Guarded}
 -- ---- expressions
 
 -- the call for an expression at row i, its first node at n, with d constructs left
-module _ {ts : List Tok} {d i n : ℕ} {m m' : List ℕ} {r : Got} (h : Met (Parse.add ts (Parse.inner ts d) i) i n m m' r) where
-  pub expr_came : {s : At} → r ≡ Done s → Came (Reads ts Add d i) ts (Parse.expr ts d i) i n m s m'
+module _ {ts : List Tok} {d i n : ℕ} {m m' : List ℕ} {r : Result At Refusal} (h : Met (Parse.add ts (Parse.inner ts d) i) i n m m' r) where
+  pub expr_came : {s : At} → r ≡ Ok s → Came (Reads ts Add d i) ts (Parse.expr ts d i) i n m s m'
   unfolding Parse.expr
   expr_came {s} e = came_reads ts Add d (Parse.expr ts d i) i n m m' r s (expr_sound ts d i) h e
 
 -- it refused
-pub expr_refused : (ts : List Tok) (d i n : ℕ) (m m' : List ℕ) (r : Got) (why : Syntax) (p : ℕ)
-    → Met (Parse.add ts (Parse.inner ts d) i) i n m m' r → r ≡ Refused why p → (f : Tree → P) → then (Parse.expr ts d i) f ≡ no why p
+pub expr_refused : (ts : List Tok) (d i n : ℕ) (m m' : List ℕ) (r : Result At Refusal) (x : Refusal)
+    → Met (Parse.add ts (Parse.inner ts d) i) i n m m' r → r ≡ Err x → (f : Tree → P) → then (Parse.expr ts d i) f ≡ no x.why x.row
 unfolding Parse.expr
-expr_refused ts d i n m m' r why p h e f = then_no _ f why p (refused (Parse.expr ts d i) i n m m' r why p h e)
+expr_refused ts d i n m m' r x h e f = then_no _ f x.why x.row (refused (Parse.expr ts d i) i n m m' r x h e)
 
 -- it gave s: the row behind it is `;`, or is not
 module _ {ts : List Tok} {ws : List ℕ} {k : ℕ} (tells : Tells ts ws k) {C : Tree → ℕ → Type 0} (d : ℕ) {i n : ℕ} {m m' : List ℕ} {s : At}
@@ -65,10 +65,6 @@ pub assign_is : (ts : List Tok) (d : ℕ) (p : P) (e : Tree) (j : ℕ)
     → Parse.assign_by ts d p true e j ≡ then (Parse.expr ts d (j + 1)) (λ r k. Parse.end ts Semicolon r (ok (assign (kind_at ts j) e r)) k)
 unfolding Parse.assign_by
 assign_is ts d p e j = refl
-
--- a refusal, as a function gave it
-pub refusal : {o : Out} {why x : Syntax} {p : ℕ} → o ≡ no why p → x ≡ why → o ≡ no x p
-refusal {p = p} e q = e ∙ ap (λ (y : Syntax). no y p) (sym q)
 
 -- ---- the state and the memory behind a statement with no body
 
@@ -117,9 +113,9 @@ pub record Bodied (ts : List Tok) (o : Out) (kind i n : ℕ) (m : List ℕ) (s :
   pub inside : s.row ≤ length ts
   pub few : size list ≤ width list
 
-pub bodied : (ts : List Tok) (o : Out) (kind i n : ℕ) (m m' : List ℕ) (r : Got) (s : At)
+pub bodied : (ts : List Tok) (o : Out) (kind i n : ℕ) (m m' : List ℕ) (r : Result At Refusal) (s : At)
     → All (λ l j. (j ≡ i + (1 + width l + 1)) × (j ≤ length ts) × (count l ≤ width l)) o
-    → BodyMet o kind i n m m' r → r ≡ Done s → Bodied ts o kind i n m s m'
+    → BodyMet o kind i n m m' r → r ≡ Ok s → Bodied ts o kind i n m s m'
 bodied ts (ok l j) kind i n m m' r s a h e =
     let q : s ≡ state_at j (n + size l + 1) i = cc (h.0, e) in
     let row : s.row ≡ j = ap (λ (x : At). x.row) q in
@@ -134,20 +130,18 @@ bodied ts (ok l j) kind i n m m' r s a h e =
     }
 bodied ts (no why p) kind i n m m' r s a h e = let z : ◌≡◌ {A = ℕ} 0 1 = cc (h, e) in absurd (omega arith)
 
-pub body_refused : (o : Out) (kind i n : ℕ) (m m' : List ℕ) (r : Got) (why : Syntax) (p : ℕ)
-    → BodyMet o kind i n m m' r → r ≡ Refused why p → o ≡ no why p
-body_refused (ok l j) kind i n m m' r why p h e = let z : ◌≡◌ {A = ℕ} 0 1 = cc (h.0, e) in absurd (omega arith)
-body_refused (no why' p') kind i n m m' r why p h e = cc (h, e)
+pub body_refused : (o : Out) (kind i n : ℕ) (m m' : List ℕ) (r : Result At Refusal) (x : Refusal)
+    → BodyMet o kind i n m m' r → r ≡ Err x → o ≡ no x.why x.row
+body_refused (ok l j) kind i n m m' r x h e = let z : ◌≡◌ {A = ℕ} 0 1 = cc (h.0, e) in absurd (omega arith)
+body_refused (no why p) kind i n m m' r x h e = told why p x (sym h ∙ e)
 
 -- an answer, from what the parser says
 pub body_ok : (o : Out) (kind i n : ℕ) (l : Tree) (j : ℕ) (m m' : List ℕ) (s : At) → o ≡ ok l j → s ≡ state_at j (n + size l + 1) i
-    → m' ≡ sets m (8 * n) (tree_words (i + 1) l ++ node_words (node kind i missing (count l))) → BodyMet o kind i n m m' (Done s)
-body_ok o kind i n l j m m' s e q h = subst (λ (x : Out). BodyMet x kind i n m m' (Done s)) (sym e) (ap Done q, h)
+    → m' ≡ sets m (8 * n) (tree_words (i + 1) l ++ node_words (node kind i missing (count l))) → BodyMet o kind i n m m' (Ok s)
+body_ok o kind i n l j m m' s e q h = subst (λ (x : Out). BodyMet x kind i n m m' (Ok s)) (sym e) (ap Ok q, h)
 
-pub body_no : (o : Out) (kind i n : ℕ) (why x : Syntax) (p : ℕ) (m m' : List ℕ) → o ≡ no why p → x ≡ why
-    → BodyMet o kind i n m m' (Refused x p)
-body_no o kind i n why x p m m' e q =
-    subst (λ (y : Out). BodyMet y kind i n m m' (Refused x p)) (sym e) (ap (λ (y : Syntax). Refused y p) q)
+pub body_no : (o : Out) (kind i n : ℕ) (why : Syntax) (p : ℕ) (m m' : List ℕ) → o ≡ no why p → BodyMet o kind i n m m' (refused_at why p)
+body_no o kind i n why p m m' e = subst (λ (y : Out). BodyMet y kind i n m m' (refused_at why p)) (sym e) refl
 
 -- ---- a guard
 

@@ -1,5 +1,5 @@
 -- What the functions over statements, guards and bodies ask and promise.
-use Rattle.std.specs.Prelude.{◌≡◌, true, cond, List, ◌++◌, ℕ, ◌+◌, ◌-◌, ◌*◌, ◌≤◌, ◌<◌, eqb, length}
+use Rattle.std.specs.Prelude.{◌≡◌, true, cond, List, ◌++◌, ℕ, ◌+◌, ◌-◌, ◌*◌, ◌≤◌, ◌<◌, eqb, length, Result, Ok, Err}
 use Rattle.std.proofs.lemmas.List.Edits.{sets}
 use Rattle.rules.specs.Kinds.{KeywordElse, RParen}
 use Rattle.rules.specs.Tree.{Tok, spelling_of, Tree, then_body, count}
@@ -7,11 +7,8 @@ use Rattle.rules.specs.Nodes.{width, size, tree_words, node, node_words, missing
 use Rattle.rules.specs.Parse
 use Rattle.rules.specs.Parse.{Out, ok, no, P, then, StmtLead, branching, tok_at, kind_at}
 use Rattle.parse_nodes.specs.declared.At.{At}
-use Rattle.parse_nodes.specs.declared.Got.{Got}
-use Rattle.parse_nodes.specs.declared.Got.TheVariants.{Done, Refused}
-use Rattle.parse_nodes.specs.Post.{kind_word, Tells, state_at, hanging_at, Met}
-use Rattle.parse_stmt.specs.declared.Opened.{Opened}
-use Rattle.parse_stmt.specs.declared.Opened.TheVariants as opened
+use Rattle.parse_nodes.specs.declared.Refusal.{Refusal}
+use Rattle.parse_nodes.specs.Post.{kind_word, Tells, state_at, hanging_at, refused_at, Met}
 
 -- ---- statements, with d constructs left
 
@@ -35,11 +32,11 @@ abbrev pub else_at : List Tok → ℕ → P → List ℕ → Tree → P
 else_at ts d p w l k = Parse.else_by ts d p (eqb (kind_at ts k) KeywordElse) w (then_body l) k
 
 -- The `if` is at row i: the rows up to its brace, behind which the bodies are read, or why not.
-abbrev pub HeadSays : List ℕ → ℕ → ℕ → Opened → Type 0
-HeadSays ws n i (opened.Brace o) =
+abbrev pub HeadSays : List ℕ → ℕ → ℕ → Result ℕ Refusal → Type 0
+HeadSays ws n i (Ok o) =
     (o ≡ i + 5) × (o < n) × (kind_word ws n (i + 4) ≡ RParen) × ((ts : List Tok) → Tells ts ws n → (d : ℕ) (p : P)
     → Parse.stmt_by ts d p branching i ≡ then (p o) (λ l k. else_at ts d p (spelling_of (tok_at ts (i + 3))) l k))
-HeadSays ws n i (opened.Refused why q) = (ts : List Tok) → Tells ts ws n → (d : ℕ) (p : P) → Parse.stmt_by ts d p branching i ≡ no why q
+HeadSays ws n i (Err e) = (ts : List Tok) → Tells ts ws n → (d : ℕ) (p : P) → Parse.stmt_by ts d p branching i ≡ no e.why e.row
 
 -- ---- bodies
 
@@ -48,14 +45,14 @@ unfoldable pub body_node : ℕ → ℕ
 body_node k = cond (eqb k KeywordElse) NodeElse NodeThen
 
 -- a body's statements l, read behind the brace at row i, and its node of a kind behind theirs
-abbrev pub BodyMet : Out → ℕ → ℕ → ℕ → List ℕ → List ℕ → Got → Type 0
+abbrev pub BodyMet : Out → ℕ → ℕ → ℕ → List ℕ → List ℕ → Result At Refusal → Type 0
 BodyMet (ok l j) kind i n m m' r =
-    (r ≡ Done (state_at j (n + size l + 1) i))
+    (r ≡ Ok (state_at j (n + size l + 1) i))
     × (m' ≡ sets m (8 * n) (tree_words (i + 1) l ++ node_words (node kind i missing (count l))))
-BodyMet (no why p) kind i n m m' r = r ≡ Refused why p
+BodyMet (no why p) kind i n m m' r = r ≡ refused_at why p
 
 -- the answer at its brace, with d constructs left
-abbrev pub BodyAnswers : ℕ → List ℕ → ℕ → ℕ → ℕ → List ℕ → List ℕ → Got → Type 0
+abbrev pub BodyAnswers : ℕ → List ℕ → ℕ → ℕ → ℕ → List ℕ → List ℕ → Result At Refusal → Type 0
 BodyAnswers d ws n i nd m m' r =
     (ts : List Tok) → Tells ts ws n → BodyMet (Parse.body ts d i) (body_node (kind_word ws n (i - 1))) i nd m m' r
 
@@ -77,7 +74,7 @@ pub record Guarded (i n : ℕ) (l : Tree) (m : List ℕ) (s : At) (m' : List ℕ
   pub mem : m' ≡ sets m (8 * n) (node_words (node NodeVariable (i + 3) (i + 3) 0) ++ tree_words (i + 5) (then_body l))
 
 -- the answer there, with d constructs left, whatever name and statements were read
-abbrev pub Elsewise : ℕ → List ℕ → ℕ → At → ℕ → List ℕ → List ℕ → Got → Type 0
+abbrev pub Elsewise : ℕ → List ℕ → ℕ → At → ℕ → List ℕ → List ℕ → Result At Refusal → Type 0
 Elsewise d ws n s g m m' r =
     (ts : List Tok) → Tells ts ws n → (i nd : ℕ) (w : List ℕ) (l : Tree) (m₀ : List ℕ) → g ≡ i + 1 → Guarded i nd l m₀ s m
     → Met (else_at ts d (Parse.body ts d) w l s.row) i nd m₀ m' r

@@ -22,22 +22,23 @@ use Rattle.theory_grammar.proofs.Laws.{nodes_within_rows, place_width, sets_tree
 use Rattle.theory_grammar.proofs.Cases.{quoted_yes}
 use Rattle.theory_grammar.proofs.Runs.{all_ok}
 use Rattle.theory_grammar.proofs.Ends.{Ends, ends_item, wide_item, ends_items}
-use Rattle.parse_nodes.specs.Post.{kind_word, Tells, state_at, behind, Stands, AsksOpen}
+use Rattle.std.specs.Prelude.{Option, Some, None, Result, Ok, Err}
+use Rattle.std.specs.Option.{unwrap_or}
+use Rattle.parse_nodes.specs.Post.{kind_word, Tells, state_at, behind, refusal, refused_at, Stands, AsksOpen}
 use Rattle.parse_nodes.specs.Names.{Spans}
 use Rattle.parse_nodes.specs.Fitting.{retold_at}
 use Rattle.parse_nodes.specs.declared.At.{At}
+use Rattle.parse_nodes.specs.declared.Refusal.{Refusal}
 use Rattle.parse_nodes.proofs.Turn.{Came, refused}
 use Rattle.parse_nodes.proofs.Steps.{stands_at, Listing, list_start, list_ends, list_fails, list_again}
 use Rattle.parse_nodes.proofs.Seen.{seen, want_unmet}
 use Rattle.parse_nodes.proofs.Rows.{word_here}
 use Rattle.parse_nodes.proofs.Fitting.{Opens}
-use Rattle.parse_sections.specs.Sections.{unset, kind_from, first_of, last_row, spelt}
+use Rattle.parse_sections.specs.Sections.{kind_from, first_of, row_told, last_row, spelt}
 use Rattle.parse_units.specs.Contents.{over_at, over, text_at, Adds, Texted, AsksItems}
 use Rattle.parse_units.specs.Contents.{things_from, contents_of, Holds}
 use Rattle.parse_units.specs.declared.Contents.{Contents}
-use Rattle.parse_units.specs.declared.Went.{Went}
-use Rattle.parse_units.specs.declared.Went.TheVariants.{Done, Refused}
-use Rattle.parse_sections.proofs.Sections.{kind_append, kind_known, first_unset, last_here}
+use Rattle.parse_sections.proofs.Sections.{kind_append, kind_known, first_none, first_some, row_here, or_row, last_told}
 
 -- ---- what the code sees in a string's row
 
@@ -53,17 +54,15 @@ module _ (ts : List Tok) (ws : List ℕ) (n : ℕ) (tells : Tells ts ws n) (i x 
 
 module _ (u : Contents) (o : Out) (m m' : List ℕ) where
   pub adds_ok : (t : Tree) (j : ℕ) (v : Contents) → o ≡ ok t j → v ≡ over u t j
-      → m' ≡ sets m (8 * u.at.node) (tree_words u.at.row t) → Adds u o m m' (Done v)
-  adds_ok t j v e s q = subst (λ (x : Out). Adds u x m m' (Done v)) (sym e) (ap Done s, q)
+      → m' ≡ sets m (8 * u.at.node) (tree_words u.at.row t) → Adds u o m m' (Ok v)
+  adds_ok t j v e s q = subst (λ (x : Out). Adds u x m m' (Ok v)) (sym e) (ap Ok s, q)
 
-  pub adds_no : (why : Syntax) (p : ℕ) → o ≡ no why p → Adds u o m m' (Refused why p)
-  adds_no why p e = subst (λ (x : Out). Adds u x m m' (Refused why p)) (sym e) refl
+  -- a refusal that a function made, for a reason that a function gave
+  pub adds_err : (why x : Syntax) (p : ℕ) (e : Refusal) → o ≡ no why p → x ≡ why → e ≡ refusal x p → Adds u o m m' (Err e)
+  adds_err why x p e q t r =
+      subst (λ (y : Out). Adds u y m m' (Err e)) (sym q) (ap Err r ∙ ap (λ (y : Syntax). refused_at y p) t)
 
-  -- the same where the refusal is what a function gave
-  pub adds_told : (why x : Syntax) (p : ℕ) → o ≡ no why p → x ≡ why → Adds u o m m' (Refused x p)
-  adds_told why x p e q = subst (λ (y : Syntax). Adds u o m m' (Refused y p)) (sym q) (adds_no why p e)
-
-  pub adds_as : (o' : Out) (r : Went) → o ≡ o' → Adds u o' m m' r → Adds u o m m' r
+  pub adds_as : (o' : Out) (r : Result Contents Refusal) → o ≡ o' → Adds u o' m m' r → Adds u o m m' r
   adds_as o' r e h = subst (λ (x : Out). Adds u x m m' r) (sym e) h
 
 -- what an answer says of the parser
@@ -73,17 +72,17 @@ pub record Added (u : Contents) (o : Out) (m m' : List ℕ) (v : Contents) : Typ
   pub same : v ≡ over u tree v.at.row
   pub mem : m' ≡ sets m (8 * u.at.node) (tree_words u.at.row tree)
 
-pub added : (u : Contents) (o : Out) (m m' : List ℕ) (r : Went) (v : Contents) → Adds u o m m' r → r ≡ Done v → Added u o m m' v
+pub added : (u : Contents) (o : Out) (m m' : List ℕ) (r : Result Contents Refusal) (v : Contents) → Adds u o m m' r → r ≡ Ok v → Added u o m m' v
 added u (ok t j) m m' r v h e =
     let q : v ≡ over u t j = cc (h.0, e) in
     let k : v.at.row ≡ j = ap (λ (x : Contents). x.at.row) q in
     record { tree = t; is = ap (λ (x : ℕ). ok t x) (sym k); same = q ∙ ap (λ (x : ℕ). over u t x) (sym k); mem = h.1 }
 added u (no why p) m m' r v h e = let z : ◌≡◌ {A = ℕ} 0 1 = cc (h, e) in absurd (omega arith)
 
-pub add_refused : (u : Contents) (o : Out) (m m' : List ℕ) (r : Went) (why : Syntax) (p : ℕ)
-    → Adds u o m m' r → r ≡ Refused why p → o ≡ no why p
-add_refused u (ok t j) m m' r why p h e = let z : ◌≡◌ {A = ℕ} 0 1 = cc (h.0, e) in absurd (omega arith)
-add_refused u (no why' p') m m' r why p h e = cc (h, e)
+pub add_refused : (u : Contents) (o : Out) (m m' : List ℕ) (r : Result Contents Refusal) (x : Refusal)
+    → Adds u o m m' r → r ≡ Err x → o ≡ no x.why x.row
+add_refused u (ok t j) m m' r x h e = let z : ◌≡◌ {A = ℕ} 0 1 = cc (h.0, e) in absurd (omega arith)
+add_refused u (no why p) m m' r x h e = let z : refusal why p ≡ x = cc (h, e) in ap (λ (y : Refusal). no y.why y.row) z
 
 -- a statement is no section and no licence
 stmt_sections : {d : ℕ} {t : Tree} → Is true Stmt d t → sections_of t ≡ []
@@ -110,34 +109,34 @@ pub with_stmt : (u : Contents) (t : Tree) (s : At) (j : ℕ) {d : ℕ} → Is tr
 unfolding kind_from
 with_stmt u t s j h e =
     rw (stmt_sections h, stmt_licence u.at.row h)
-    (λ k. record { at = e k; kind = sym (first_unset u.kind) k; licence = u.licence })
+    (λ k. record { at = e k; kind = sym (first_none u.kind) k; licence = u.licence })
 
 -- a licence more, and a section more
 module _ (t ws : List ℕ) (u : Contents) (k : ℕ) (m m' : List ℕ) where
   pub with_licence : k ≡ KeywordLicense → u.at.row ≤ 65534
       → m' ≡ sets m (8 * u.at.node) (node_words (node 24 (u.at.row + 1) (u.at.row + 1) 0))
-      → Texted t ws u k m m' (record { at = text_at u; kind = u.kind; licence = u.at.row + 1 })
+      → Texted t ws u k m m' (record { at = text_at u; kind = u.kind; licence = Some (u.at.row + 1) })
   unfolding kind_from sections_of licence_row size is_sum hangs text_node
   with_licence e h q =
       rw e (
-        ap Done (λ x. record {
+        ap Ok (λ x. record {
           at = text_at u;
-          kind = sym (first_unset u.kind) x;
-          licence = sym (last_here u.licence u.at.row (omega arith)) x;
+          kind = sym (first_none u.kind) x;
+          licence = last_row u.licence (sym (row_here u.at.row (omega arith)) x);
         }),
         q ∙ ap (sets m (8 * u.at.node)) (sym (words_text u.at.row KeywordLicense (spelt t ws (u.at.row + 1)))),
       )
 
   pub with_section : is_text k ≡ true → (k ≡ KeywordLicense → ⊥) → (x : ℕ)
-      → x ≡ first_of u.kind (from_section (section_text (spelt t ws (u.at.row + 1))))
+      → x ≡ unwrap_or u.kind (from_section (section_text (spelt t ws (u.at.row + 1))))
       → m' ≡ sets m (8 * u.at.node) (node_words (node 23 (u.at.row + 1) (u.at.row + 1) 0))
-      → Texted t ws u k m m' (record { at = text_at u; kind = x; licence = u.licence })
+      → Texted t ws u k m m' (record { at = text_at u; kind = Some x; licence = u.licence })
   unfolding kind_from sections_of licence_row size is_sum hangs text_node
   with_section b n x e q =
       rw (is_section b n) (
-        ap Done (λ y. record {
+        ap Ok (λ y. record {
           at = text_at u;
-          kind = e y;
+          kind = (ap Some e ∙ sym (first_some u.kind (from_section (section_text (spelt t ws (u.at.row + 1)))))) y;
           licence = u.licence;
         }),
         q ∙ ap (sets m (8 * u.at.node)) (sym (words_text u.at.row KeywordSection (spelt t ws (u.at.row + 1)))),
@@ -155,13 +154,13 @@ module _ (t ws : List ℕ) (u : Contents) (k : ℕ) (m m' : List ℕ) where
 -- the kind and the licence are those of the list l, which begins at row i
 pub record Carries (i : ℕ) (u : Contents) (l : Tree) : Type 0 where
   pub kind : u.kind ≡ kind_from (sections_of l)
-  pub licence : u.licence ≡ licence_row i l
+  pub licence : u.licence ≡ row_told (licence_row i l)
 
 abbrev pub Gathering : List Tok → ℕ → ℕ → List ℕ → Contents → List ℕ → Type 0
 Gathering ts i n m u m' = Listing (Carries i u) ts RBrace unit_things (Parse.item ts) (things_from ts i) i n m u.at m'
 
 pub items_start : (ts : List Tok) (s : At) (m : List ℕ) → s ≡ state_at s.row s.node s.row → s.row ≤ length ts
-    → Gathering ts s.row s.node m (record { at = s; kind = unset; licence = missing }) m
+    → Gathering ts s.row s.node m (record { at = s; kind = None; licence = None }) m
 unfolding kind_from sections_of licence_row
 items_start ts s m e h =
     list_start (Carries s.row _) ts RBrace unit_things (Parse.item ts) (things_from ts s.row) s.row s.node m s refl h e
@@ -213,12 +212,13 @@ module _ (ts : List Tok) (u : Contents) (m m' : List ℕ) (v : Contents) (g : Ad
     carried = record {
       kind =
           ap (λ (x : Contents). x.kind) g.same
-          ∙ ap (λ (x : ℕ). first_of x (kind_from (sections_of g.tree))) c.known.known.kind
+          ∙ ap (λ (x : Option ℕ). first_of x (kind_from (sections_of g.tree))) c.known.known.kind
           ∙ sym (kind_append (sections_of c.tree) (sections_of g.tree));
       licence =
           ap (λ (x : Contents). x.licence) g.same
-          ∙ ap (λ (x : ℕ). last_row x (licence_row u.at.row g.tree)) c.known.known.licence
-          ∙ ap (λ (x : ℕ). last_row (licence_row i c.tree) (licence_row x g.tree)) c.stands.rows;
+          ∙ ap (λ (x : Option ℕ). last_row x (row_told (licence_row u.at.row g.tree))) c.known.known.licence
+          ∙ ap (λ (x : ℕ). last_row (row_told (licence_row i c.tree)) (row_told (licence_row x g.tree))) c.stands.rows
+          ∙ last_told (licence_row i c.tree) (licence_row (i + width c.tree) g.tree);
     }
 
     pub items_again : (kind_at ts u.at.row ≡ RBrace → ⊥) → Gathering ts i n m₀ v m'
@@ -229,11 +229,11 @@ module _ (ts : List Tok) (u : Contents) (m m' : List ℕ) (v : Contents) (g : Ad
         (ap (λ (x : Contents). x.at) g.same) carried
 
 module _ (ts : List Tok) (i n : ℕ) (m : List ℕ) (u : Contents) (m' : List ℕ) (c : Gathering ts i n m u m') where
-  pub items_end : kind_at ts u.at.row ≡ RBrace → Holds (things_from ts i) i n m m' (Done u)
+  pub items_end : kind_at ts u.at.row ≡ RBrace → Holds (things_from ts i) i n m m' (Ok u)
   items_end e =
       let f = list_ends (Carries i u) ts RBrace unit_things (Parse.item ts) _ i n m u.at m' c e in
-      subst (λ (x : Out). Holds x i n m m' (Done u)) (sym f) (
-        ap Done (λ j. record {
+      subst (λ (x : Out). Holds x i n m m' (Ok u)) (sym f) (
+        ap Ok (λ j. record {
           at = record {
             row = u.at.row;
             node = c.stands.nodes j;
@@ -252,11 +252,11 @@ module _ (ts : List Tok) (i n : ℕ) (m : List ℕ) (u : Contents) (m' : List �
   -- the thing at the contents' row is refused
   pub items_fail : (kind_at ts u.at.row ≡ RBrace → ⊥) → (why : Syntax) (p : ℕ) (m'' : List ℕ) → Parse.item ts u.at.row ≡ no why p
       → (x : Syntax) → x ≡ retold_at (unit_things + cond u.at.hanging (only KeywordElse) 0) u.at.row why p
-      → Holds (things_from ts i) i n m m'' (Refused x p)
+      → Holds (things_from ts i) i n m m'' (refused_at x p)
   items_fail e why p m'' f x q =
       let l = list_fails (Carries i u) ts RBrace unit_things (Parse.item ts) _ i n m u.at m' c e why p m'' f in
-      let r : things_from ts i ≡ no x p = refused (things_from ts i) i n m m'' _ _ p l refl ∙ ap (λ (y : Syntax). no y p) (sym q) in
-      subst (λ (y : Out). Holds y i n m m'' (Refused x p)) (sym r) refl
+      let r : things_from ts i ≡ no x p = refused (things_from ts i) i n m m'' _ _ l refl ∙ ap (λ (y : Syntax). no y p) (sym q) in
+      subst (λ (y : Out). Holds y i n m m'' (refused_at x p)) (sym r) refl
 
 -- ---- a unit
 
@@ -279,17 +279,17 @@ pub record Held (o : Out) (i n : ℕ) (m m' : List ℕ) (u : Contents) : Type 0 
   pub same : u ≡ contents_of i n list u.at.row
   pub mem : m' ≡ sets m (8 * n) (tree_words i list)
 
-pub held : (o : Out) (i n : ℕ) (m m' : List ℕ) (r : Went) (u : Contents) → Holds o i n m m' r → r ≡ Done u → Held o i n m m' u
+pub held : (o : Out) (i n : ℕ) (m m' : List ℕ) (r : Result Contents Refusal) (u : Contents) → Holds o i n m m' r → r ≡ Ok u → Held o i n m m' u
 held (ok l j) i n m m' r u h e =
     let q : u ≡ contents_of i n l j = cc (h.0, e) in
     let k : u.at.row ≡ j = ap (λ (x : Contents). x.at.row) q in
     record { list = l; is = ap (λ (x : ℕ). ok l x) (sym k); same = q ∙ ap (λ (x : ℕ). contents_of i n l x) (sym k); mem = h.1 }
 held (no why p) i n m m' r u h e = let z : ◌≡◌ {A = ℕ} 0 1 = cc (h, e) in absurd (omega arith)
 
-pub held_refused : (o : Out) (i n : ℕ) (m m' : List ℕ) (r : Went) (why : Syntax) (p : ℕ)
-    → Holds o i n m m' r → r ≡ Refused why p → o ≡ no why p
-held_refused (ok l j) i n m m' r why p h e = let z : ◌≡◌ {A = ℕ} 0 1 = cc (h.0, e) in absurd (omega arith)
-held_refused (no why' p') i n m m' r why p h e = cc (h, e)
+pub held_refused : (o : Out) (i n : ℕ) (m m' : List ℕ) (r : Result Contents Refusal) (x : Refusal)
+    → Holds o i n m m' r → r ≡ Err x → o ≡ no x.why x.row
+held_refused (ok l j) i n m m' r x h e = let z : ◌≡◌ {A = ℕ} 0 1 = cc (h.0, e) in absurd (omega arith)
+held_refused (no why p) i n m m' r x h e = let z : refusal why p ≡ x = cc (h, e) in ap (λ (y : Refusal). no y.why y.row) z
 
 -- where the contents end
 pub held_ends : (ts : List Tok) (i n : ℕ) (m m' : List ℕ) (u : Contents) (v : Held (things_from ts i) i n m m' u) → i ≤ length ts
@@ -301,7 +301,7 @@ pub stands_unit : (o : Out) (i n : ℕ) (m m₁ m₂ : List ℕ) (u : Contents) 
     → u.at.row ≡ i + 1 + 1 + 1 + width v.list
     → s ≡ state_at (u.at.row + 1) (u.at.node + 1) i
     → m₂ ≡ sets m₁ (8 * u.at.node)
-    (node_words (fact_node 25 i (i + 1) u.at.things (cond (eqb u.kind unset) 10 u.kind) u.licence 0 0))
+    (node_words (fact_node 25 i (i + 1) u.at.things (unwrap_or u.kind 10) (unwrap_or u.licence missing) 0 0))
     → Stands i n (unit w v.list) m s m₂
 unfolding width size place_of is_variable is_sum hangs count unit_kind
 stands_unit o i n m m₁ m₂ u s w v r e q =
@@ -309,7 +309,8 @@ stands_unit o i n m m₁ m₂ u s w v r e q =
     let nodes : u.at.node ≡ n + size v.list = ap (λ (x : Contents). x.at.node) v.same in
     let things : u.at.things ≡ count v.list = ap (λ (x : Contents). x.at.things) v.same in
     let kind : u.kind ≡ kind_from (sections_of v.list) = ap (λ (x : Contents). x.kind) v.same in
-    let licence : u.licence ≡ licence_row (i + 1 + 1 + 1) v.list = ap (λ (x : Contents). x.licence) v.same in
+    let licence : unwrap_or u.licence missing ≡ licence_row (i + 1 + 1 + 1) v.list =
+    ap (λ (x : Contents). unwrap_or x.licence missing) v.same ∙ or_row (licence_row (i + 1 + 1 + 1) v.list) in
     stands_at i n (unit w v.list) m m₂ s e (omega (arith, r)) (omega (arith, nodes)) refl refl refl refl refl
     (rw (
       words_unit i w v.list,

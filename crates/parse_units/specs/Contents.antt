@@ -1,5 +1,5 @@
 -- What a unit's contents give: the kind and the licence so far, and the answers of the functions that read them.
-use Rattle.std.specs.Prelude.{◌≡◌, true, false, cond, List, [], ◌∷◌, ℕ, ◌+◌, ◌-◌, ◌*◌, ◌≤◌, eqb, length, get_or, take, drop}
+use Rattle.std.specs.Prelude.{◌≡◌, true, false, Option, Some, Result, Ok, List, [], ◌∷◌, ℕ, ◌+◌, ◌-◌, ◌*◌, ◌≤◌, length, get_or, take, drop}
 use Rattle.std.proofs.lemmas.List.Edits.{sets}
 use Rattle.rules.specs.Rows.{at_end, at_start, words_per_row}
 use Rattle.rules.specs.Kinds.{RBrace}
@@ -9,14 +9,12 @@ use Rattle.rules.specs.Tree.{Tok, Tree, text, is_sum, hangs, sections_of, sectio
 use Rattle.rules.specs.Nodes.{missing, size, licence_row, tree_words}
 use Rattle.rules.specs.Parse
 use Rattle.rules.specs.Parse.{Out, ok, no, is_text}
-use Rattle.parse_nodes.specs.Post.{kind_word, state_at, behind, Asks, Met}
+use Rattle.parse_nodes.specs.Post.{kind_word, state_at, behind, refused_at, Asks, Met}
 use Rattle.parse_nodes.specs.declared.At.{At}
 use Rattle.parse_nodes.specs.Names.{Names, Spans}
-use Rattle.parse_nodes.specs.declared.Got.{Got}
-use Rattle.parse_sections.specs.Sections.{unset, kind_from, first_of, last_row, spelt, AsksString}
+use Rattle.parse_nodes.specs.declared.Refusal.{Refusal}
+use Rattle.parse_sections.specs.Sections.{kind_from, first_of, row_told, last_row, spelt, AsksString}
 use Rattle.parse_units.specs.declared.Contents.{Contents}
-use Rattle.parse_units.specs.declared.Went.{Went}
-use Rattle.parse_units.specs.declared.Went.TheVariants.{Done, Refused}
 
 -- ---- one thing more
 
@@ -37,7 +35,7 @@ abbrev pub over : Contents → Tree → ℕ → Contents
 over u t j = record {
   at = over_at u t j;
   kind = first_of u.kind (kind_from (sections_of t));
-  licence = last_row u.licence (licence_row u.at.row t);
+  licence = last_row u.licence (row_told (licence_row u.at.row t));
 }
 
 -- the state behind them and a section or a licence
@@ -52,12 +50,12 @@ text_at u = record {
   hanging = false;
 }
 
-abbrev pub Adds : Contents → Out → List ℕ → List ℕ → Went → Type 0
-Adds u (ok t j) m m' r = (r ≡ Done (over u t j)) × (m' ≡ sets m (8 * u.at.node) (tree_words u.at.row t))
-Adds u (no why p) m m' r = r ≡ Refused why p
+abbrev pub Adds : Contents → Out → List ℕ → List ℕ → Result Contents Refusal → Type 0
+Adds u (ok t j) m m' r = (r ≡ Ok (over u t j)) × (m' ≡ sets m (8 * u.at.node) (tree_words u.at.row t))
+Adds u (no why p) m m' r = r ≡ refused_at why p
 
 -- the thing at the contents' row
-abbrev pub ItemMet : List ℕ → List ℕ → ℕ → Contents → List ℕ → List ℕ → Went → Type 0
+abbrev pub ItemMet : List ℕ → List ℕ → ℕ → Contents → List ℕ → List ℕ → Result Contents Refusal → Type 0
 ItemMet t ws n u m m' r = (ts : List Tok) → Names ts t ws n → Adds u (Parse.item ts u.at.row) m m' r
 
 -- what is asked there
@@ -88,7 +86,7 @@ pub record AsksQuoted (t ws : List ℕ) (u : Contents) (k : ℕ) : Type 0 where
 
 -- a section or a licence more
 abbrev pub Texted : List ℕ → List ℕ → Contents → ℕ → List ℕ → List ℕ → Contents → Type 0
-Texted t ws u k m m' v = Adds u (ok (text k (spelt t ws (u.at.row + 1))) (u.at.row + 1 + 1 + 1)) m m' (Done v)
+Texted t ws u k m m' v = Adds u (ok (text k (spelt t ws (u.at.row + 1))) (u.at.row + 1 + 1 + 1)) m m' (Ok v)
 
 -- ---- all of them
 
@@ -101,17 +99,17 @@ abbrev pub contents_of : ℕ → ℕ → Tree → ℕ → Contents
 contents_of i n l j = record {
   at = behind i n l j;
   kind = kind_from (sections_of l);
-  licence = licence_row i l;
+  licence = row_told (licence_row i l);
 }
 
-abbrev pub Holds : Out → ℕ → ℕ → List ℕ → List ℕ → Went → Type 0
-Holds (ok l j) i n m m' r = (r ≡ Done (contents_of i n l j)) × (m' ≡ sets m (8 * n) (tree_words i l))
-Holds (no why p) i n m m' r = r ≡ Refused why p
+abbrev pub Holds : Out → ℕ → ℕ → List ℕ → List ℕ → Result Contents Refusal → Type 0
+Holds (ok l j) i n m m' r = (r ≡ Ok (contents_of i n l j)) × (m' ≡ sets m (8 * n) (tree_words i l))
+Holds (no why p) i n m m' r = r ≡ refused_at why p
 
 -- the same from the state s on
-abbrev pub ItemsMet : List ℕ → List ℕ → ℕ → At → List ℕ → List ℕ → Went → Type 0
+abbrev pub ItemsMet : List ℕ → List ℕ → ℕ → At → List ℕ → List ℕ → Result Contents Refusal → Type 0
 ItemsMet t ws n s m m' r = (ts : List Tok) → Names ts t ws n → Holds (things_from ts s.row) s.row s.node m m' r
 
 -- the unit whose word is at row i
-abbrev pub UnitMet : List ℕ → List ℕ → ℕ → ℕ → ℕ → List ℕ → List ℕ → Got → Type 0
+abbrev pub UnitMet : List ℕ → List ℕ → ℕ → ℕ → ℕ → List ℕ → List ℕ → Result At Refusal → Type 0
 UnitMet t ws n i nd m m' r = (ts : List Tok) → Names ts t ws n → Met (Parse.unit_at ts i) i nd m m' r

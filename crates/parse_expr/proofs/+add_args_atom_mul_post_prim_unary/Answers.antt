@@ -16,10 +16,10 @@ use Rattle.parse_nodes.specs.Post.{refusal, state_at}
 use Rattle.parse_nodes.specs.Fitting.{retold_at}
 use Rattle.parse_nodes.specs.declared.At.{At}
 use Rattle.parse_nodes.proofs.Rows.{tells_some, tells_kind, word_here}
-use Rattle.parse_nodes.proofs.Turn.{met_ok, met_no, met_as}
+use Rattle.parse_nodes.proofs.Turn.{met_ok, met_no, met_as, mapped_ok, mapped_err}
 use Rattle.parse_nodes.proofs.Fitting.{end_met, end_unmet}
 use Rattle.parse_expr.proofs.Trees.{group_at, stands_star, stands_group, stands_field, stands_bare, stands_call, met_called}
-use Rattle.parse_expr.proofs.Given.{came_fit, add_came, mul_came, unary_came, atom_came, args_came, was_refused, mapped_ok, mapped_err}
+use Rattle.parse_expr.proofs.Given.{came_fit, add_came, mul_came, unary_came, atom_came, args_came, was_refused}
 use Rattle.parse_expr.proofs.Lone.{met_lone, met_leaf, no_leaf}
 use Rattle.parse_expr.proofs.Ladder.{next_room, further, joined_row, joins, joins_here, mul_here}
 use Rattle.parse_expr.proofs.Ladder.{level_fit, level_done, factors_fail, factors_read, sums_fit, sums_done, terms_fail, terms_read}
