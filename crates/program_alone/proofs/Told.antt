@@ -33,8 +33,9 @@ use Rattle.theory_grammar.proofs.Tables.{table_whole, tokens_length}
 use Rattle.theory_grammar.proofs.Sound.{parse_whole}
 use Rattle.parse.specs.Program.{AsksEnded, AsksWhole, Accepted, reading_of}
 use Rattle.parse.proofs.Tables.{asks_ended}
-use Rattle.program_alone.specs.declared.Alone.TheVariants as alone
-use Rattle.program_alone.specs.Told.{alone_of, alone_told, IsProgram}
+use Rattle.std.specs.Prelude.{Result, Ok, Err}
+use Rattle.program_alone.specs.declared.Refused.{Refused}
+use Rattle.program_alone.specs.Told.{refused, alone_of, alone_told, IsProgram}
 
 -- ---- what is read of a table
 
@@ -44,13 +45,13 @@ unfolding node_room
 roomy {t} {ws} {n} a = record { ended = a; room = omega (arith, length-replicate {A = ℕ} (n * 8) 0) }
 
 module _ (ws : List ℕ) where
-  pub read_ok : (o : Out) (p : Tree) (j : ℕ) → o ≡ ok p j → alone.Program ≡ alone_of (out_told ws o)
+  pub read_ok : (o : Out) (p : Tree) (j : ℕ) → o ≡ ok p j → Ok tt ≡ alone_of (out_told ws o)
   unfolding out_told alone_of
   read_ok o p j e = rw e
 
   pub read_no : (o : Out) (why : Syntax) (r : ℕ) (x : Cursor) (k : ℕ) → o ≡ no why r → x ≡ place_of_row ws r
       → k ≡ found_told why (row_no ws r).kind
-      → alone.Refused (reason.Syntax why) x k ≡ alone_of (out_told ws o)
+      → Err (refused (reason.Syntax why) x k) ≡ alone_of (out_told ws o)
   unfolding out_told alone_of
   read_no o why r x k e q f = rw (e, q, f)
 
@@ -58,13 +59,13 @@ module _ (ws : List ℕ) where
 
 module _ (t ws : List ℕ) (tbl : Table) where
   pub told_refused : (why : Outer) (p : Cursor) → judged t ws tbl ≡ verdict.Refused why p
-      → alone.Refused (reason.Outer why) p 0 ≡ alone_told t ws tbl
+      → Err (refused (reason.Outer why) p 0) ≡ alone_told t ws tbl
   unfolding alone_told parse_told alone_of
   told_refused why p e = rw (alone_told, parse_told, e)
 
   module _ (well : judged t ws tbl ≡ verdict.Fine) where
     pub told_ending : (why : Lexical) (p : Cursor) → tbl.ending ≡ ending.Refused why p
-        → alone.Refused (reason.Lexical why) p 0 ≡ alone_told t ws tbl
+        → Err (refused (reason.Lexical why) p 0) ≡ alone_told t ws tbl
     unfolding alone_told parse_told ending_told alone_of
     told_ending why p e = rw (alone_told, parse_told, well) (rw (ending_told, e))
 
@@ -97,17 +98,17 @@ module _ (t ws : List ℕ) (tbl : Table) where
 
 -- ---- what its callers learn
 
-no_program : (why : Reason) (p : Cursor) (k : ℕ) → alone.Refused why p k ≡ alone.Program → ⊥
+no_program : (why : Reason) (p : Cursor) (k : ℕ) → ◌≡◌ {A = Result (Unit {0}) Refused} (Err (refused why p k)) (Ok tt) → ⊥
 no_program why p k e = let z : ◌≡◌ {A = ℕ} 0 1 = cc in omega arith
 
-out_program : (ws : List ℕ) (o : Out) → alone_of (out_told ws o) ≡ alone.Program → Accepted o
+out_program : (ws : List ℕ) (o : Out) → alone_of (out_told ws o) ≡ Ok tt → Accepted o
 unfolding out_told alone_of
 out_program ws (ok p j) e = record { tree = p; behind = j; is = refl }
 out_program ws (no why r) e = absurd (no_program (reason.Syntax why) (place_of_row ws r) (found_told why (row_no ws r).kind) e)
 
 module _ (t ws : List ℕ) (tbl : Table) where
   -- A text that is told to be a program is one.
-  pub told_program : alone_told t ws tbl ≡ alone.Program → IsProgram t ws tbl.count
+  pub told_program : alone_told t ws tbl ≡ Ok tt → IsProgram t ws tbl.count
   told_program e = go (judged t ws tbl) refl
     where
       clean : (v : Ending) → judged t ws tbl ≡ verdict.Fine → tbl.ending ≡ v → IsProgram t ws tbl.count
@@ -121,24 +122,25 @@ module _ (t ws : List ℕ) (tbl : Table) where
       go (verdict.Refused why p) w = absurd (no_program (reason.Outer why) p 0 (told_refused t ws tbl why p w ∙ e))
 
   -- What is refused alone is what a parse in enough room is refused with.
-  pub alone_refused : {why : Reason} {p : Cursor} {k : ℕ} → alone_told t ws tbl ≡ alone.Refused why p k
+  pub alone_refused : {why : Reason} {p : Cursor} {k : ℕ} → alone_told t ws tbl ≡ Err (refused why p k)
       → parse_told t ws tbl tbl.count ≡ parsed.Refused why p k
   unfolding alone_told alone_of
   alone_refused {why} {p} {k} e = go (parse_told t ws tbl tbl.count) e
     where
-      go : (r : Parsed) → alone_of r ≡ alone.Refused why p k → r ≡ parsed.Refused why p k
+      go : (r : Parsed) → alone_of r ≡ Err (refused why p k) → r ≡ parsed.Refused why p k
       go (parsed.Nodes n) e = let z : ◌≡◌ {A = ℕ} 0 1 = cc in absurd (omega arith)
-      go (parsed.Refused why' p' k') e = cc
+      go (parsed.Refused why' p' k') e =
+          let z : refused why' p' k' ≡ refused why p k = cc in ap (λ (x : Refused). parsed.Refused x.why x.at x.found) z
 
   -- A program has nodes.
   pub record SomeNodes : Type 0 where
     pub many : ℕ
     pub told : parse_told t ws tbl tbl.count ≡ parsed.Nodes many
 
-  pub alone_program : alone_told t ws tbl ≡ alone.Program → SomeNodes
+  pub alone_program : alone_told t ws tbl ≡ Ok tt → SomeNodes
   unfolding alone_told alone_of
   alone_program e = go (parse_told t ws tbl tbl.count) refl e
     where
-      go : (r : Parsed) → parse_told t ws tbl tbl.count ≡ r → alone_of r ≡ alone.Program → SomeNodes
+      go : (r : Parsed) → parse_told t ws tbl tbl.count ≡ r → alone_of r ≡ Ok tt → SomeNodes
       go (parsed.Nodes n) q e = record { many = n; told = q }
       go (parsed.Refused why p k) q e = absurd (no_program why p k e)
