@@ -6,10 +6,10 @@ ghost use Rattle.file_answers.specs.Layout.{fault_words, stored_words, loaded_wo
 
 use answers::{no_place, put, put_told};
 use refusals::outer_number;
-use rules::{Cursor, Told};
-use rules_files::{Fault, Loaded, Stored, form};
-use rules_forms::{Apart, Beside, Moved};
-use rules_mend::Mended;
+use rules::{Cursor, Table, Told};
+use rules_files::{Fault, form};
+use rules_forms::Apart;
+use rules_mend::{Mended, NotMended};
 
 // The bytes of a block, in a word.
 const BLOCK: u32 = form::BLOCK as u32;
@@ -34,11 +34,11 @@ pub fn block_told(why: Fault) -> u32
 {
     match why {
         Fault::BadBlock(k) => k,
-        Fault::Outer(_) => 0,
-        Fault::TooManyRows => 0,
-        Fault::WrongLength => 0,
-        Fault::NoTable => 0,
-        Fault::OtherForm => 0,
+        Fault::Outer(_)
+        | Fault::TooManyRows
+        | Fault::WrongLength
+        | Fault::NoTable
+        | Fault::OtherForm => 0,
     }
 }
 
@@ -58,30 +58,22 @@ fn put_fault(answer: &mut [u32; 8], why: Fault)
 }
 
 // What a writing tells.
-pub fn put_stored(answer: &mut [u32; 8], told: Stored)
+pub fn put_stored(answer: &mut [u32; 8], told: Result<u32, Fault>)
     ensures { answer.new ≡ stored_words told }
 {
     match told {
-        Stored::Bytes(n) => {
-            put(answer, 0, no_place(), 0, 0, n / BLOCK, n);
-        }
-        Stored::Refused(why) => {
-            put_fault(answer, why);
-        }
+        Ok(n) => put(answer, 0, no_place(), 0, 0, n / BLOCK, n),
+        Err(why) => put_fault(answer, why),
     }
 }
 
 // What a reading tells.
-pub fn put_loaded(answer: &mut [u32; 8], told: Loaded)
+pub fn put_loaded(answer: &mut [u32; 8], told: Result<Table, Fault>)
     ensures { answer.new ≡ loaded_words told }
 {
     match told {
-        Loaded::Rows(table) => {
-            put_told(answer, Told::Rows(table));
-        }
-        Loaded::Refused(why) => {
-            put_fault(answer, why);
-        }
+        Ok(table) => put_told(answer, Told::Rows(table)),
+        Err(why) => put_fault(answer, why),
     }
 }
 
@@ -123,43 +115,31 @@ fn put_apart(answer: &mut [u32; 8], why: Apart)
 }
 
 // What a reading beside the text tells.
-pub fn put_beside(answer: &mut [u32; 8], told: Beside)
+pub fn put_beside(answer: &mut [u32; 8], told: Result<Table, Apart>)
     ensures { answer.new ≡ beside_words told }
 {
     match told {
-        Beside::Rows(table) => {
-            put_told(answer, Told::Rows(table));
-        }
-        Beside::Refused(why) => {
-            put_apart(answer, why);
-        }
+        Ok(table) => put_told(answer, Told::Rows(table)),
+        Err(why) => put_apart(answer, why),
     }
 }
 
 // What a move tells.
-pub fn put_moved(answer: &mut [u32; 8], told: Moved)
+pub fn put_moved(answer: &mut [u32; 8], told: Result<u32, Apart>)
     ensures { answer.new ≡ moved_words told }
 {
     match told {
-        Moved::Bytes(n) => {
-            put(answer, 0, no_place(), 0, 0, n / BLOCK, n);
-        }
-        Moved::Refused(why) => {
-            put_apart(answer, why);
-        }
+        Ok(n) => put(answer, 0, no_place(), 0, 0, n / BLOCK, n),
+        Err(why) => put_apart(answer, why),
     }
 }
 
 // What a mending tells.
-pub fn put_mended(answer: &mut [u32; 8], told: Mended)
+pub fn put_mended(answer: &mut [u32; 8], told: Result<Mended, NotMended>)
     ensures { answer.new ≡ mended_words told }
 {
     match told {
-        Mended::Blocks(n, count) => {
-            put(answer, 0, no_place(), 0, 0, count, n);
-        }
-        Mended::Refused(why, at) => {
-            put(answer, fault_number(why), at, 0, 0, 0, 0);
-        }
+        Ok(done) => put(answer, 0, no_place(), 0, 0, done.listed, done.bytes),
+        Err(refused) => put(answer, fault_number(refused.why), refused.at, 0, 0, 0, 0),
     }
 }

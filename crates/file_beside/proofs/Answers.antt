@@ -18,18 +18,16 @@ use Rattle.rules.specs.Rows.{words_per_row}
 use Rattle.rules.specs.Scan.{room_of}
 use Rattle.rules_files.specs.declared.Fault.{Fault}
 use Rattle.rules_files.specs.declared.Fault.TheVariants.{Outer}
-use Rattle.rules_files.specs.declared.Loaded.{Loaded}
-use Rattle.rules_files.specs.declared.Loaded.TheVariants as loaded
 use Rattle.rules_files.specs.Files.{count_said, row_words_in}
 use Rattle.rules_forms.specs.declared.Apart.TheVariants.{File, OtherText}
-use Rattle.rules_forms.specs.declared.Beside.{Beside}
-use Rattle.rules_forms.specs.declared.Beside.TheVariants as beside
 use Rattle.rules_forms.specs.declared.Form.TheVariants.{Full, Short}
 use Rattle.rules_forms.specs.Forms.{judged, rows_beside, table_beside, agrees_beside, beside_judged, beside_told, beside_leaves}
 use Rattle.rules_forms.specs.Shapes.{form_of}
 use Rattle.file_beside.proofs.Known.{is_short_lem, is_full}
 use Rattle.file_beside.proofs.Rows.{beside_length}
 use Rattle.file_beside.specs.Counting.{table_leaves}
+use Rattle.rules_forms.specs.declared.Apart.{Apart}
+use Rattle.std.specs.Prelude.{Result, Ok, Err}
 
 module _ (text file : List ℕ) (t : Table) where
   -- form 1 has its lines and columns
@@ -57,33 +55,33 @@ module _ (text file : List ℕ) (t : Table) where
   all_rows n = take_all (words_per_row * t.count) (rows_beside text file) (omega (arith, beside_length text file))
 
   module _ (room : ℕ) where
-    pub told_full : room < t.count → beside_judged text file room (loaded.Rows t) ≡ beside.Refused (File (Outer NoRowRoom))
+    pub told_full : room < t.count → beside_judged text file room (Ok t) ≡ Err (File (Outer NoRowRoom))
     unfolding beside_judged
     told_full h = rw (lt-ltb room t.count h)
 
     pub told_other : t.count ≤ room → agrees_beside text file t ≡ false
-        → beside_judged text file room (loaded.Rows t) ≡ beside.Refused OtherText
+        → beside_judged text file room (Ok t) ≡ Err OtherText
     unfolding beside_judged
     told_other h e = rw (le-ltb room t.count h, e)
 
     pub told_rows : t.count ≤ room → agrees_beside text file t ≡ true
-        → beside_judged text file room (loaded.Rows t) ≡ beside.Rows (table_beside text file t)
+        → beside_judged text file room (Ok t) ≡ Ok (table_beside text file t)
     unfolding beside_judged
     told_rows h e = rw (le-ltb room t.count h, e)
 
 -- the answer follows what is judged
-pub told_by : (text file : List ℕ) (room : ℕ) (l : Loaded) → l ≡ judged file → beside_told text file room ≡ beside_judged text file room l
+pub told_by : (text file : List ℕ) (room : ℕ) (l : Result Table Fault) → l ≡ judged file → beside_told text file room ≡ beside_judged text file room l
 unfolding beside_told
 told_by text file room l e = ap (beside_judged text file room) (sym e)
 
 pub told_refused : (text file : List ℕ) (room : ℕ) (why : Fault)
-    → beside_judged text file room (loaded.Refused why) ≡ beside.Refused (File why)
+    → beside_judged text file room (Err why) ≡ Err (File why)
 unfolding beside_judged
 told_refused text file room why = refl
 
 -- what stands in lent words follows the answer
-pub leaves_by : (text file ws : List ℕ) (b : Beside) → beside_told text file (room_of ws) ≡ b
+pub leaves_by : (text file ws : List ℕ) (b : Result Table Apart) → beside_told text file (room_of ws) ≡ b
     → beside_leaves text file ws ≡ table_leaves text file b ws
 unfolding beside_leaves
-leaves_by text file ws (beside.Rows t) e = rw (beside_leaves, e)
-leaves_by text file ws (beside.Refused why) e = rw (beside_leaves, e)
+leaves_by text file ws (Ok t) e = rw (beside_leaves, e)
+leaves_by text file ws (Err why) e = rw (beside_leaves, e)

@@ -20,7 +20,6 @@ use Rattle.rules.specs.Rows.{Row, words_per_row, row_in, row_no, row_place, foll
 use Rattle.rows.specs.Shape.{row_before}
 use Rattle.rows.proofs.Inside.{Fine, fine, behind_ends, row_sound, within, few_rows, broken_of}
 use Rattle.rows.proofs.Tables.{before_first, before_on}
-use Rattle.rules_files.specs.declared.Loaded.TheVariants as loaded
 use Rattle.rules_files.specs.Files.{count_said, row_words_in}
 use Rattle.rules_forms.specs.declared.Form.{Form}
 use Rattle.rules_forms.specs.declared.Form.TheVariants.{Full, Short}
@@ -31,6 +30,7 @@ use Rattle.theory_files.proofs.Numbers.{words_length}
 use Rattle.theory_forms.proofs.Short.{placed_length}
 use Rattle.file_beside.proofs.Known.{known}
 use Rattle.file_beside.specs.Counting.{Counts, CountsTo, last_place, placed_at}
+use Rattle.std.specs.Prelude.{Ok}
 
 -- a row with the line and column of a place
 abbrev pub seated : Row → Cursor → Row
@@ -110,7 +110,7 @@ last_next text file i h = rw (before_on (rows_beside text file) i, start_beside 
 
 -- ---- how far is counted, of a file that holds a table of a text's length
 
-module _ (text file : List ℕ) (t : Table) (held : judged file ≡ loaded.Rows t) (long : length text ≡ t.length) where
+module _ (text file : List ℕ) (t : Table) (held : judged file ≡ Ok t) (long : length text ≡ t.length) where
   are_fine : Fine (row_words_of (form_of file) file) t
   are_fine = fine (row_words_of (form_of file) file) t (known file t held).well
 

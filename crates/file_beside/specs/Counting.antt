@@ -1,5 +1,5 @@
 -- What is known of a file that holds a table, beside a text, and how far lines and columns are counted.
-use Rattle.std.specs.Prelude.{◌≡◌, Bool, true, List, ◌++◌, ℕ, ◌*◌, ◌≤◌, length, drop}
+use Rattle.std.specs.Prelude.{◌≡◌, Bool, true, List, ◌++◌, ℕ, ◌*◌, ◌≤◌, length, drop, Result, Ok, Err}
 use Rattle.rules.specs.declared.Cursor.{Cursor}
 use Rattle.rules.specs.declared.Ending.{Ending}
 use Rattle.rules.specs.declared.Ending.TheVariants as ending
@@ -7,14 +7,12 @@ use Rattle.rules.specs.declared.Table.{Table}
 use Rattle.rules.specs.Text.{most_bytes, place_at}
 use Rattle.rules.specs.Rows.{Row, row_place, rows_in, words_per_row, every}
 use Rattle.rows.specs.Shape.{row_before}
-use Rattle.rules_files.specs.declared.Loaded.TheVariants as loaded
 use Rattle.rules_files.specs.Files.{row_words_in}
-use Rattle.rules_forms.specs.declared.Beside.{Beside}
-use Rattle.rules_forms.specs.declared.Beside.TheVariants as beside
 use Rattle.rules_forms.specs.declared.Form.{Form}
 use Rattle.rules_forms.specs.declared.Form.TheVariants.{Full, Short}
 use Rattle.rules_forms.specs.Forms.{judged, rows_beside, is_place_in, agrees_beside}
 use Rattle.rules_forms.specs.Shapes.{form_of}
+use Rattle.rules_forms.specs.declared.Apart.{Apart}
 
 -- an offset's place can be counted from a place of the text that is not behind it
 pub record Counts (text : List ℕ) (here : Cursor) (offset : ℕ) : Type 0 where
@@ -30,13 +28,13 @@ CountsTo text here (ending.Refused why p) = Counts text here p.offset.0
 
 -- a file of a form holds a table of a text's length
 pub record Holds (form : Form) (text file : List ℕ) (t : Table) : Type 0 where
-  pub holds : judged file ≡ loaded.Rows t
+  pub holds : judged file ≡ Ok t
   pub form_is : form_of file ≡ form
   pub long : length text ≡ t.length
 
 -- a file holds a table, and agrees with a text
 pub record Agrees (text file : List ℕ) (t : Table) : Type 0 where
-  pub holds : judged file ≡ loaded.Rows t
+  pub holds : judged file ≡ Ok t
   pub agrees : agrees_beside text file t ≡ true
 
 -- the place of the last of the first n rows, and before the first row the text's start
@@ -53,6 +51,6 @@ placed_at Full text r = row_place r
 placed_at Short text r = place_at text r.start
 
 -- what stands in lent words behind a reading
-abbrev pub table_leaves : List ℕ → List ℕ → Beside → List ℕ → List ℕ
-table_leaves text file (beside.Rows t) ws = rows_beside text file ++ drop (words_per_row * t.count) ws
-table_leaves text file (beside.Refused why) ws = ws
+abbrev pub table_leaves : List ℕ → List ℕ → Result Table Apart → List ℕ → List ℕ
+table_leaves text file (Ok t) ws = rows_beside text file ++ drop (words_per_row * t.count) ws
+table_leaves text file (Err why) ws = ws

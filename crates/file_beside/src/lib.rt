@@ -1,28 +1,21 @@
 // A file of either form beside its text: whether it agrees with the text, its rows with lines and columns counted in one pass over it,
 // and the reading.
-ghost use Rattle.std.specs.Prelude.{◌≡◌, true, ◌&&◌, ◌++◌, ◌+◌, ◌*◌, ◌≤◌, length, take, drop, eqb};
+ghost use Rattle.std.specs.Prelude.{◌≡◌, true, false, ◌&&◌, ◌++◌, ◌+◌, ◌*◌, ◌≤◌, length, take, drop, eqb, Ok, MatchOption};
 ghost use Rattle.rules.specs.Text.{place_at};
-ghost use Rattle.rules.specs.Rows.{row_place, row_words};
+ghost use Rattle.rules.specs.Rows.{row_words};
 ghost use Rattle.rules.specs.Scan.{room_of};
 ghost use Rattle.rows.specs.Shape.{as_row};
-ghost use Rattle.rules_files.specs.declared.Loaded.TheVariants.{Rows};
 ghost use Rattle.rules_forms.specs.declared.Form.TheVariants.{Full};
 ghost use Rattle.rules_forms.specs.Forms.{judged, rows_beside, table_beside, ending_agrees, agrees_beside, beside_judged, beside_told, beside_leaves};
 ghost use Rattle.file_beside.specs.Counting.{Counts, CountsTo, Holds, Agrees, last_place, rows_agree, placed_at, table_leaves};
 
 use file_load::{form_of, judge, row_of, take_rows};
+use rows::shape;
 use rows::shape::Row;
-use rules::{Column, Cursor, Ending, Line, Offset, Outer, Table, row};
-use rules_files::{Fault, Loaded};
-use rules_forms::{Apart, Beside, Form};
+use rules::{Cursor, Ending, Outer, Table, row};
+use rules_files::Fault;
+use rules_forms::{Apart, Form};
 use scan_place::pass;
-
-// Whether the rows looked at agree with the text, and the place of the last of them.
-#[derive(Clone, Copy)]
-pub struct Counted {
-    pub here: Cursor,
-    pub agree: bool,
-}
 
 // The place of an offset, counted from a place that is not behind it.
 fn place_from(text: &[u8], here: Cursor, offset: u32) -> Cursor
@@ -31,17 +24,6 @@ fn place_from(text: &[u8], here: Cursor, offset: u32) -> Cursor
 {
     let from = here.offset.0 as usize;
     pass(&text[from..], here, offset as usize - from)
-}
-
-// The place that a row tells.
-fn row_place(r: Row) -> Cursor
-    ensures { result ≡ row_place (as_row r) }
-{
-    Cursor {
-        offset: Offset(r.start),
-        line: Line(r.line),
-        column: Column(r.column),
-    }
 }
 
 // Whether two places have the same line and column.
@@ -53,24 +35,21 @@ fn same_line(p: Cursor, q: Cursor) -> bool
 
 // ---- 45
 
-// Whether each row of a file of form 1 has the line and column that its start has in the text.
-fn rows_agree(text: &[u8], file: &[u8], table: Table) -> Counted
+// The place of the last row of a file of form 1, where each row has the line and column that its start has in the text.
+fn rows_agree(text: &[u8], file: &[u8], table: Table) -> Option<Cursor>
     requires { Holds Full text.now file.now table }
-    ensures { (result.agree ≡ rows_agree text.now file.now table)
-        × (result.agree ≡ true → result.here ≡ last_place text.now file.now table.count) }
+    ensures { MatchOption result (rows_agree text.now file.now table ≡ false)
+        (λ here. (rows_agree text.now file.now table ≡ true) × (here ≡ last_place text.now file.now table.count)) }
 {
-    let count = table.count;
     let mut here = Cursor::start();
-    let mut i = 0;
-    while i < count as usize {
-        let r = row_of(Form::Full, file, count, i);
+    for i in 0..table.count as usize {
+        let r = row_of(Form::Full, file, table.count, i);
         here = place_from(text, here, r.start);
-        if !same_line(row_place(r), here) {
-            return Counted { here, agree: false };
+        if !same_line(shape::row_place(r), here) {
+            return None;
         }
-        i += 1;
     }
-    Counted { here, agree: true }
+    Some(here)
 }
 
 // Whether an ending has the line and column that its offset has in the text, counted from a place that is not behind it.
@@ -89,18 +68,15 @@ fn full_agrees(text: &[u8], file: &[u8], table: Table) -> bool
     requires { Holds Full text.now file.now table }
     ensures { result ≡ agrees_beside text.now file.now table }
 {
-    let counted = rows_agree(text, file, table);
-    if !counted.agree {
+    let Some(here) = rows_agree(text, file, table) else {
         return false;
-    }
-    let here = counted.here;
-    let ending = table.ending;
-    ending_agrees(text, here, ending)
+    };
+    ending_agrees(text, here, table.ending)
 }
 
 // Whether a file that holds a table agrees with a text: in length, and in lines and columns where it has them.
 pub fn agrees(text: &[u8], file: &[u8], table: Table) -> bool
-    requires { judged file.now ≡ Rows table }
+    requires { judged file.now ≡ Ok table }
     ensures { result ≡ agrees_beside text.now file.now table }
 {
     if text.len() != table.length as usize {
@@ -120,7 +96,7 @@ fn place_of(form: Form, text: &[u8], here: Cursor, r: Row) -> Cursor
     ensures { result ≡ placed_at form text.now (as_row r) }
 {
     match form {
-        Form::Full => row_place(r),
+        Form::Full => shape::row_place(r),
         Form::Short => place_from(text, here, r.start),
     }
 }
@@ -172,13 +148,11 @@ pub fn put_rows(
     let form = form_of(file);
     let count = table.count;
     let mut here = begin;
-    let mut i = 0;
-    while i < n {
+    for i in 0..n {
         let r = row_of(form, file, count, from + i);
         here = place_of(form, text, here, r);
         let at = i * row::WORDS;
         put_row(&mut words[at..], r, here);
-        i += 1;
     }
     here
 }
@@ -227,27 +201,25 @@ fn take_beside(text: &[u8], file: &[u8], table: Table, rows: &mut [u32]) -> Tabl
 }
 
 // What is told of a file that holds a table: 4, 45 last of all, or the table, with its rows written.
-fn load_table(text: &[u8], file: &[u8], table: Table, rows: &mut [u32]) -> Beside
-    requires { judged file.now ≡ Rows table }
-    ensures { (result ≡ beside_judged text.now file.now (room_of rows.old) (Rows table))
+fn load_table(text: &[u8], file: &[u8], table: Table, rows: &mut [u32]) -> Result<Table, Apart>
+    requires { judged file.now ≡ Ok table }
+    ensures { (result ≡ beside_judged text.now file.now (room_of rows.old) (Ok table))
         × (rows.new ≡ table_leaves text.now file.now result rows.old) }
 {
     if rows.len() / row::WORDS < table.count as usize {
-        return Beside::Refused(Apart::File(Fault::Outer(Outer::NoRowRoom)));
+        return Err(Apart::File(Fault::Outer(Outer::NoRowRoom)));
     }
     if !agrees(text, file, table) {
-        return Beside::Refused(Apart::OtherText);
+        return Err(Apart::OtherText);
     }
-    Beside::Rows(take_beside(text, file, table, rows))
+    Ok(take_beside(text, file, table, rows))
 }
 
 // Read a file of either form beside its text: the rows of its table are written into the lent words, or nothing is and why.
-pub fn load_beside(text: &[u8], file: &[u8], rows: &mut [u32]) -> Beside
+pub fn load_beside(text: &[u8], file: &[u8], rows: &mut [u32]) -> Result<Table, Apart>
     ensures told { result ≡ beside_told text.now file.now (room_of rows.old) }
     ensures left { rows.new ≡ beside_leaves text.now file.now rows.old }
 {
-    match judge(file) {
-        Loaded::Refused(why) => Beside::Refused(Apart::File(why)),
-        Loaded::Rows(table) => load_table(text, file, table, rows),
-    }
+    let table = judge(file)?;
+    load_table(text, file, table, rows)
 }

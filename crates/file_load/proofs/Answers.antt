@@ -10,9 +10,8 @@ use borrow.Author.Tests.{ltb-false, lt-ltb, le-ltb, eq-eqb, ne_eqb}
 use Rattle.rules.specs.declared.Ending.{Ending}
 use Rattle.rules.specs.declared.Table.{Table}
 use Rattle.rules.specs.Scan.{room_of}
+use Rattle.rules_files.specs.declared.Fault.{Fault}
 use Rattle.rules_files.specs.declared.Fault.TheVariants.{BadBlock, WrongLength, NoTable}
-use Rattle.rules_files.specs.declared.Loaded.TheVariants as loaded
-use Rattle.rules_files.specs.declared.EndingRead.TheVariants.{Ends, Nothing}
 use Rattle.rules_files.specs.Blocks.{sound, blocks_for, file_length}
 use Rattle.rules_files.specs.Files.{form_said, count_said, length_said, sound_in, rows_told, read_told, blocks_told, load_told}
 use Rattle.rules_forms.specs.declared.Form.{Form}
@@ -21,8 +20,8 @@ use Rattle.rules_forms.specs.Short.{short_number, short_bytes, short_said_bytes,
 use Rattle.rules_forms.specs.Forms.{judged}
 use Rattle.rules_forms.specs.Shapes.{row_bytes_of, form_of, row_words_of, ending_of, sound_of, blocks_in}
 use Rattle.theory_files.proofs.Said.{reads_of, told_short, told_nothing, told_rows}
-use Rattle.file_load.specs.declared.Blocks.TheVariants.{Bad, Sound}
 use Rattle.file_load.specs.Judged.{Framed, plain_by, stand_upto, standing, blocks_judged}
+use Rattle.std.specs.Prelude.{Ok, Err, Some, None}
 
 pub some_file : (form : Form) (count : ℕ) (file : List ℕ) → Framed form count file → 512 ≤ length file
 unfolding file_length
@@ -39,13 +38,13 @@ module _ (form : Form) (n : ℕ) (file : List ℕ) (room : ℕ) where
   abbrev needed : ℕ
   needed = blocks_for (row_bytes_of form) (count_said file)
 
-  pub judged_bad : (k : ℕ) → blocks_judged form n file ≡ Bad k → blocks_in form file room ≡ loaded.Refused (BadBlock k)
+  pub judged_bad : (why : Fault) → blocks_judged form n file ≡ Err why → blocks_in form file room ≡ Err why
   unfolding blocks_judged blocks_in
-  judged_bad k e = go (ltb (sound_of form file) needed) refl e
+  judged_bad why e = go (ltb (sound_of form file) needed) refl e
     where
-      go : (t : Bool) → ltb (sound_of form file) needed ≡ t → cond t (Bad (1 + sound_of form file)) (Sound (stand_upto form n file)) ≡ Bad k
-          → blocks_in form file room ≡ loaded.Refused (BadBlock k)
-      go true f e = let g : 1 + sound_of form file ≡ k = cc in rw (f, g)
+      go : (t : Bool) → ltb (sound_of form file) needed ≡ t → cond t (Err (BadBlock (1 + sound_of form file))) (Ok (stand_upto form n file)) ≡ Err why
+          → blocks_in form file room ≡ Err why
+      go true f e = let g : BadBlock (1 + sound_of form file) ≡ why = cc in rw (f, g)
       go false f e = absurd (let z : ◌≡◌ {A = ℕ} 0 1 = cc in omega arith)
 
   -- all are sound
@@ -53,11 +52,11 @@ module _ (form : Form) (n : ℕ) (file : List ℕ) (room : ℕ) where
     pub enough : needed ≤ sound_of form file
     pub stands : b ≡ stand_upto form n file
 
-  pub judged_sound : (b : Bool) → blocks_judged form n file ≡ Sound b → AllSound b
+  pub judged_sound : (b : Bool) → blocks_judged form n file ≡ Ok b → AllSound b
   unfolding blocks_judged
   judged_sound b e = go (ltb (sound_of form file) needed) refl e
     where
-      go : (t : Bool) → ltb (sound_of form file) needed ≡ t → cond t (Bad (1 + sound_of form file)) (Sound (stand_upto form n file)) ≡ Sound b
+      go : (t : Bool) → ltb (sound_of form file) needed ≡ t → cond t (Err (BadBlock (1 + sound_of form file))) (Ok (stand_upto form n file)) ≡ Ok b
           → AllSound b
       go true f e = absurd (let z : ◌≡◌ {A = ℕ} 0 1 = cc in omega arith)
       go false f e =
@@ -69,11 +68,11 @@ module _ (form : Form) (n : ℕ) (file : List ℕ) (room : ℕ) where
   unfolding blocks_in
   sound_read b a = rw (le-ltb (sound_of form file) needed a.enough)
 
-  pub sound_nothing : (b : Bool) → AllSound b → ending_of form file ≡ Nothing → blocks_in form file room ≡ loaded.Refused NoTable
+  pub sound_nothing : (b : Bool) → AllSound b → ending_of form file ≡ None → blocks_in form file room ≡ Err NoTable
   sound_nothing b a e =
       sound_read b a ∙ told_nothing (row_words_of form file) room (count_said file) (length_said file) (ending_of form file) e
 
-  pub sound_rows : (b : Bool) → AllSound b → (how : Ending) → ending_of form file ≡ Ends how → (count : ℕ) → count ≡ count_said file
+  pub sound_rows : (b : Bool) → AllSound b → (how : Ending) → ending_of form file ≡ Some how → (count : ℕ) → count ≡ count_said file
       → blocks_in form file room ≡ rows_told (row_words_of form file) room (record { count = count; length = length_said file; ending = how })
   sound_rows b a how e count c =
       sound_read b a ∙ told_rows (row_words_of form file) room (count_said file) (length_said file) (ending_of form file) how e ∙ rw (← c)
@@ -87,7 +86,7 @@ full_blocks file room = refl
 
 module _ (file : List ℕ) where
   module _ (long : 512 ≤ length file) where
-    pub short_bad : sound 0 0 short_said_bytes (take 512 file) ≡ false → short_judged file ≡ loaded.Refused (BadBlock 0)
+    pub short_bad : sound 0 0 short_said_bytes (take 512 file) ≡ false → short_judged file ≡ Err (BadBlock 0)
     unfolding short_judged
     short_bad e = rw (le-ltb (length file) 512 long, e)
 
@@ -95,7 +94,7 @@ module _ (file : List ℕ) where
     unfolding short_judged
     short_said e = rw (le-ltb (length file) 512 long, e)
 
-  pub short_cut : (length file ≡ file_length short_bytes (count_said file) → ⊥) → short_blocks file ≡ loaded.Refused WrongLength
+  pub short_cut : (length file ≡ file_length short_bytes (count_said file) → ⊥) → short_blocks file ≡ Err WrongLength
   unfolding short_blocks
   short_cut h = rw (ne_eqb (length file) (file_length short_bytes (count_said file)) h)
 
@@ -113,11 +112,11 @@ module _ (file : List ℕ) where
   unfolding judged
   judged_as_full e = rw (ne_eqb (form_said file) short_number e)
 
-  pub judged_under : length file < 512 → judged file ≡ loaded.Refused WrongLength
+  pub judged_under : length file < 512 → judged file ≡ Err WrongLength
   unfolding judged short_judged
   judged_under h = go (eqb (form_said file) short_number)
     where
-      go : (t : Bool) → cond t (short_judged file) (load_told file (count_said file)) ≡ loaded.Refused WrongLength
+      go : (t : Bool) → cond t (short_judged file) (load_told file (count_said file)) ≡ Err WrongLength
       go true = rw (lt-ltb (length file) 512 h)
       go false = told_short file (count_said file) h
 
@@ -129,7 +128,7 @@ module _ (file : List ℕ) where
 
 -- ---- a file that is read
 
-module _ (file ws : List ℕ) (t : Table) (e : load_told file (room_of ws) ≡ loaded.Rows t) where
+module _ (file ws : List ℕ) (t : Table) (e : load_told file (room_of ws) ≡ Ok t) where
   pub read_framed : Framed Full t.count file
   read_framed = let r = reads_of file (room_of ws) t e in record { count_is = r.count; whole = rw r.count r.frame.whole }
 

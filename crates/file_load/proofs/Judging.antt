@@ -2,7 +2,7 @@
 use mathlib.Core.Path.{◌≡◌, refl, sym, ap, ◌∙◌}
 use mathlib.Core.Bool.{Bool, true, false, ◌&&◌, and-true, and_assoc}
 use mathlib.Core.List.{List, []}
-use Prim.Native.Nat.{ℕ, suc, ◌+◌, ◌-◌, ◌*◌, ◌^◌, ◌≤◌, ◌<◌, min}
+use Prim.Native.Nat.{ℕ, zero, suc, ◌+◌, ◌-◌, ◌*◌, ◌/◌, ◌^◌, ◌≤◌, ◌<◌, min}
 use native.Mathlib.Numerals.{add-one}
 use native.Mathlib.Omega.{arith}
 use lib.ListN.{length, take, drop, length-take, length-drop}
@@ -15,9 +15,10 @@ use Rattle.rules_forms.specs.declared.Form.{Form}
 use Rattle.rules_forms.specs.declared.Form.TheVariants.{Full, Short}
 use Rattle.rules_forms.specs.Shapes.{row_bytes_of, sound_of}
 use Rattle.file_blocks.specs.Standing.{rows_from, stand}
-use Rattle.theory_files.proofs.Many.{blocks_none, blocks_more, first_sound, first_not}
+use Rattle.theory_files.proofs.Many.{blocks_none, blocks_zero, blocks_more, first_sound, first_not}
 use Rattle.file_sizes.proofs.Sizes.{some_bytes, few_bytes}
-use Rattle.file_load.specs.declared.Blocks.TheVariants.{Bad, Sound}
+use Rattle.rules_files.specs.declared.Fault.TheVariants.{BadBlock}
+use Rattle.std.specs.Prelude.{Ok, Err}
 use Rattle.file_load.specs.Judged.{Framed, last_of, stand_upto, blocks_judged}
 use Rattle.file_load.proofs.Rows.{most, rows_words, words_file, rows_here_more, stand_append}
 
@@ -70,7 +71,21 @@ module _ (form : Form) (file : List ℕ) (count plain : ℕ) (frame : Framed for
     pub few_blocks : count < 2 ^ 32 → k < 2 ^ 32 - 1
     few_blocks h = omega (arith, g.blocks, blocks_few form count h)
 
-    pub judging_end : left ≡ 0 → blocks_judged form plain file ≡ Sound stands
+    -- as long as there are blocks, there are rows
+    pub rows_left : k < length file / 512 → 0 < left
+    rows_left h = go left refl
+      where
+        go : (l : ℕ) → left ≡ l → 0 < left
+        go zero e =
+            let b : blocks_for size 0 ≡ 0 = blocks_none size (some_bytes form) (few_bytes form) in
+            let c : k + 0 ≡ 1 + blocks_for size count = rw (e, b) at g.blocks in
+            absurd (let z : ⊥ = omega (arith, whole_is) in z)
+        go (suc l) e = omega arith
+
+    pub no_rows_left : length file / 512 ≤ k → left ≡ 0
+    no_rows_left h = blocks_zero size (some_bytes form) (few_bytes form) left (omega (arith, g.blocks, whole_is))
+
+    pub judging_end : left ≡ 0 → blocks_judged form plain file ≡ Ok stands
     unfolding blocks_judged left_sound left_body sound_from stand rows_from
     judging_end z =
         let b : blocks_for size 0 ≡ 0 = blocks_none size (some_bytes form) (few_bytes form) in
@@ -79,7 +94,7 @@ module _ (form : Form) (file : List ℕ) (count plain : ℕ) (frame : Framed for
         let c : k + 0 ≡ 1 + blocks_for size count = rw (z, b) at g.blocks in
         let r : (stands && true) ≡ stand_upto form plain file = rw m at g.rows in
         rw (le-ltb (sound_of form file) (blocks_for size (count_said file)) (rw (← frame.count_is) (omega arith)))
-        (ap Sound (sym r ∙ and-true stands))
+        (ap Ok (sym r ∙ and-true stands))
 
     module _ (some : 0 < left) where
       next : blocks_for size left ≡ suc (blocks_for size (left - full))
@@ -90,16 +105,16 @@ module _ (form : Form) (file : List ℕ) (count plain : ℕ) (frame : Framed for
 
       -- the block
       abbrev pub here : List ℕ
-      here = take ((at + 512) - at) (drop at file)
+      here = take (512 * (k + 1) - 512 * k) (drop (512 * k) file)
 
       here_is : here ≡ take 512 (drop at file)
-      here_is = let e : (at + 512) - at ≡ 512 = omega arith in rw e
+      here_is = let e : 512 * (k + 1) - 512 * k ≡ 512 = omega arith in rw (e, g.place)
 
       pub here_length : length here ≡ 512
       here_length = ap length here_is ∙ length-take 512 (drop at file) ∙ omega (arith, room_left, length-drop at file)
 
       module _ (n : ℕ) (some_rows : n ≡ min full left) (bytes : ℕ) (row_size : bytes ≡ size) where
-        pub judging_bad : sound k n (bytes * n) here ≡ false → blocks_judged form plain file ≡ Bad k
+        pub judging_bad : sound k n (bytes * n) here ≡ false → blocks_judged form plain file ≡ Err (BadBlock k)
         unfolding blocks_judged left_sound
         judging_bad e =
             let f =

@@ -2,7 +2,7 @@
 -- blocks that are left.
 use mathlib.Core.Path.{◌≡◌, refl, sym, ap, ◌∙◌}
 use mathlib.Core.List.{List, ◌++◌, append_assoc}
-use Prim.Native.Nat.{ℕ, suc, ◌+◌, ◌-◌, ◌*◌, ◌≤◌, ◌<◌, min}
+use Prim.Native.Nat.{ℕ, zero, suc, ◌+◌, ◌-◌, ◌*◌, ◌/◌, ◌≤◌, ◌<◌, min}
 use native.Mathlib.Omega.{arith}
 use lib.ListN.{length, take, drop, length-append, length-take, length-drop}
 use lib.Seq.{take_at, drop_at, drop-drop}
@@ -12,7 +12,7 @@ use Rattle.rules_files.specs.Bytes.{words_in}
 use Rattle.rules_files.specs.Blocks.{blocks_for, file_length, body_from}
 use Rattle.rules_files.specs.Files.{row_words_in}
 use Rattle.theory_files.proofs.Numbers.{words_length}
-use Rattle.theory_files.proofs.Many.{blocks_more}
+use Rattle.theory_files.proofs.Many.{blocks_none, blocks_zero, blocks_more}
 use Rattle.rules_forms.specs.declared.Form.TheVariants.{Full}
 use Rattle.file_load.specs.Judged.{Framed}
 use Rattle.file_load.proofs.Rows.{words_split, words_here, body_behind}
@@ -36,7 +36,26 @@ module _ (file : List ℕ) (count : ℕ) (rows₀ : List ℕ) (frame : Framed Fu
       let e : count - 0 ≡ count = omega arith in
       record { within = omega arith; place = rw e (omega (arith, frame.whole)); same_length = refl; rest = rw e; taken = refl }
 
-  module _ (rows : List ℕ) (done at : ℕ) (g : Taking file count rows₀ rows done at) where
+  module _ (rows : List ℕ) (done k : ℕ) (g : Taking file count rows₀ rows done (512 * k)) where
+    abbrev at : ℕ
+    at = 512 * k
+
+    -- as long as there are blocks, there are rows
+    pub rows_left : k < length file / 512 → done < count
+    rows_left h = go (count - done) refl
+      where
+        go : (l : ℕ) → count - done ≡ l → done < count
+        go zero e =
+            let b : blocks_for 32 0 ≡ 0 = blocks_none 32 (omega arith) (omega arith) in
+            let c : at + 512 * 0 ≡ length file = rw (e, b) at g.place in
+            absurd (let z : ⊥ = omega arith in z)
+        go (suc l) e = omega arith
+
+    pub no_rows_left : length file / 512 ≤ k → count ≤ done
+    no_rows_left h =
+        let z = blocks_zero 32 (omega arith) (omega arith) (count - done) (omega (arith, g.place)) in
+        omega arith
+
     pub taking_end : count ≤ done → rows ≡ row_words_in file ++ drop (8 * count) rows₀
     unfolding row_words_in
     taking_end h =
@@ -54,10 +73,10 @@ module _ (file : List ℕ) (count : ℕ) (rows₀ : List ℕ) (frame : Framed Fu
       left_length = length-drop at file ∙ omega (arith, g.place, next)
 
       abbrev pub here : List ℕ
-      here = take ((at + 512) - at) (drop at file)
+      here = take (512 * (k + 1) - 512 * k) (drop at file)
 
       here_is : here ≡ take 512 (drop at file)
-      here_is = let e : (at + 512) - at ≡ 512 = omega arith in rw e
+      here_is = let e : 512 * (k + 1) - 512 * k ≡ 512 = omega arith in rw e
 
       pub here_length : length here ≡ 512
       here_length = ap length here_is ∙ length-take 512 (drop at file) ∙ omega (arith, room_left, length-drop at file)
@@ -113,10 +132,11 @@ module _ (file : List ℕ) (count : ℕ) (rows₀ : List ℕ) (frame : Framed Fu
               (sym (append_assoc p (words_in (n * 8) (drop 4 here)) (drop (8 * (done + n)) rows₀)))
 
           pub taking_next : (ys : List ℕ) → ys ≡ words_in (n * 8) (drop 4 here) ++ drop (n * 8) tail
-              → Taking file count rows₀ (put_mid (done * 8) (length rows - done * 8) rows ys) (done + n) (at + 512)
+              → Taking file count rows₀ (put_mid (done * 8) (length rows - done * 8) rows ys) (done + n) (512 * (k + 1))
           taking_next ys e =
               let b : count - (done + n) ≡ count - done - 15 = omega arith in
-              record {
+              let d : 512 * (k + 1) ≡ 512 * k + 512 = omega arith in
+              rw d record {
                 within = omega arith;
                 place = rw b (omega (arith, g.place, next));
                 same_length = ap length (rows_then ys e)

@@ -17,7 +17,6 @@ use Rattle.rules.specs.Rows.{row_no, well_formed}
 use Rattle.laws.specs.Tests.{all_below}
 use Rattle.rows.specs.Shape.{stands, closes, breaks}
 use Rattle.rows.proofs.Tables.{well_empty, well_none, well_refused}
-use Rattle.rules_files.specs.declared.EndingRead.TheVariants.{Ends, Nothing}
 use Rattle.rules_files.specs.Blocks.{blocks_for, file_length, body_from}
 use Rattle.rules_files.specs.Files.{read_refused, read_ending, said_at}
 use Rattle.rules_forms.specs.declared.Form.{Form}
@@ -27,6 +26,7 @@ use Rattle.rules_forms.specs.Shapes.{row_bytes_of, row_words_of}
 use Rattle.file_blocks.specs.Standing.{row_from}
 use Rattle.file_load.specs.Judged.{Framed, plain_by, stand_upto, standing}
 use Rattle.file_load.proofs.Rows.{most, by_length, words_file, row_word, body_row, stand_below}
+use Rattle.std.specs.Prelude as option
 
 -- ---- the ending
 
@@ -36,19 +36,19 @@ module _ (n : ℕ) (p : Cursor) where
   ending_refused e = rw (ne_eqb n 0 e)
 
   module _ (z : n ≡ 0) where
-    pub ending_offset : (p.offset.0 ≡ 0 → ⊥) → read_ending n p ≡ Nothing
+    pub ending_offset : (p.offset.0 ≡ 0 → ⊥) → read_ending n p ≡ option.None
     unfolding read_ending
     ending_offset e = rw (eq-eqb n 0 z, ne_eqb p.offset.0 0 e)
 
-    pub ending_line : p.offset.0 ≡ 0 → (p.line.0 ≡ 0 → ⊥) → read_ending n p ≡ Nothing
+    pub ending_line : p.offset.0 ≡ 0 → (p.line.0 ≡ 0 → ⊥) → read_ending n p ≡ option.None
     unfolding read_ending
     ending_line x e = rw (eq-eqb n 0 z, eq-eqb p.offset.0 0 x, ne_eqb p.line.0 0 e)
 
-    pub ending_column : p.offset.0 ≡ 0 → p.line.0 ≡ 0 → (p.column.0 ≡ 0 → ⊥) → read_ending n p ≡ Nothing
+    pub ending_column : p.offset.0 ≡ 0 → p.line.0 ≡ 0 → (p.column.0 ≡ 0 → ⊥) → read_ending n p ≡ option.None
     unfolding read_ending
     ending_column x y e = rw (eq-eqb n 0 z, eq-eqb p.offset.0 0 x, eq-eqb p.line.0 0 y, ne_eqb p.column.0 0 e)
 
-    pub ending_none : p.offset.0 ≡ 0 → p.line.0 ≡ 0 → p.column.0 ≡ 0 → read_ending n p ≡ Ends None
+    pub ending_none : p.offset.0 ≡ 0 → p.line.0 ≡ 0 → p.column.0 ≡ 0 → read_ending n p ≡ option.Some None
     unfolding read_ending
     ending_none x y e = rw (eq-eqb n 0 z, eq-eqb p.offset.0 0 x, eq-eqb p.line.0 0 y, eq-eqb p.column.0 0 e)
 
@@ -59,11 +59,11 @@ module _ (file : List ℕ) (n k : ℕ) (word : n ≡ said_at 3 file) (offset : k
   unfolding short_ending on_one_line
   short_refused e column c = rw (← word, ← offset, ne_eqb n 0 e, c)
 
-  pub short_offset : n ≡ 0 → (k ≡ 0 → ⊥) → short_ending on_one_line file ≡ Nothing
+  pub short_offset : n ≡ 0 → (k ≡ 0 → ⊥) → short_ending on_one_line file ≡ option.None
   unfolding short_ending
   short_offset z e = rw (← word, ← offset, eq-eqb n 0 z) (ending_offset 0 (place k 0 0) refl e)
 
-  pub short_none : n ≡ 0 → k ≡ 0 → short_ending on_one_line file ≡ Ends None
+  pub short_none : n ≡ 0 → k ≡ 0 → short_ending on_one_line file ≡ option.Some None
   unfolding short_ending
   short_none z e = rw (← word, ← offset, eq-eqb n 0 z) (ending_none 0 (place k 0 0) refl e refl refl)
 

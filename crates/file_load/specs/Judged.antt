@@ -1,17 +1,15 @@
 -- What is known of a file whose blocks are judged, and what the judging of them tells.
-use Rattle.std.specs.Prelude.{◌≡◌, Bool, true, cond, List, [], ◌∷◌, ℕ, ◌+◌, ◌-◌, length, ltb}
+use Rattle.std.specs.Prelude.{◌≡◌, Bool, true, cond, List, [], ◌∷◌, ℕ, ◌+◌, ◌-◌, length, ltb, Result, Ok, Err, Option, Some, None}
 use Rattle.rules.specs.declared.Ending.{Ending}
 use Rattle.rules.specs.declared.Ending.TheVariants as ending
 use Rattle.rules.specs.Rows.{Row, row_in, rows_in}
-use Rattle.rules_files.specs.declared.EndingRead.{EndingRead}
-use Rattle.rules_files.specs.declared.EndingRead.TheVariants.{Ends, Nothing}
+use Rattle.rules_files.specs.declared.Fault.{Fault}
+use Rattle.rules_files.specs.declared.Fault.TheVariants.{BadBlock}
 use Rattle.rules_files.specs.Blocks.{blocks_for, file_length}
 use Rattle.rules_files.specs.Files.{count_said}
 use Rattle.rules_forms.specs.declared.Form.{Form}
 use Rattle.rules_forms.specs.Shapes.{row_bytes_of, row_words_of, sound_of}
 use Rattle.file_blocks.specs.Standing.{stand}
-use Rattle.file_load.specs.declared.Blocks.{Blocks}
-use Rattle.file_load.specs.declared.Blocks.TheVariants.{Bad, Sound}
 
 -- the file is as long as block 0 says, in a form, and says so many rows
 pub record Framed (form : Form) (count : ℕ) (file : List ℕ) : Type 0 where
@@ -28,9 +26,9 @@ abbrev pub plain_by : Ending → ℕ → ℕ
 plain_by ending.None count = count - 1
 plain_by (ending.Refused why p) count = count
 
-abbrev pub plain_rows : EndingRead → ℕ → ℕ
-plain_rows Nothing count = 0
-plain_rows (Ends e) count = plain_by e count
+abbrev pub plain_rows : Option Ending → ℕ → ℕ
+plain_rows None count = 0
+plain_rows (Some e) count = plain_by e count
 
 -- the first n rows of a file stand
 unfoldable pub stand_upto : Form → ℕ → List ℕ → Bool
@@ -40,7 +38,7 @@ unfoldable pub standing : Form → Ending → List ℕ → Bool
 standing form e file = stand_upto form (plain_by e (count_said file)) file
 
 -- the first block that is not sound, or whether n rows stand
-unfoldable pub blocks_judged : Form → ℕ → List ℕ → Blocks
+unfoldable pub blocks_judged : Form → ℕ → List ℕ → Result Bool Fault
 blocks_judged form n file =
-    cond (ltb (sound_of form file) (blocks_for (row_bytes_of form) (count_said file))) (Bad (1 + sound_of form file))
-    (Sound (stand_upto form n file))
+    cond (ltb (sound_of form file) (blocks_for (row_bytes_of form) (count_said file))) (Err (BadBlock (1 + sound_of form file)))
+    (Ok (stand_upto form n file))

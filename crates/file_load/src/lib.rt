@@ -18,7 +18,7 @@ use refusals::{is_lexical, lexical_of};
 use rows::shape;
 use rows::shape::Row;
 use rules::{Column, Cursor, Ending, Line, Offset, Outer, Table, kind, limit, row};
-use rules_files::{EndingRead, Fault, Loaded, form};
+use rules_files::{Fault, form};
 use rules_forms::{Form, short};
 
 // Where block 0 says each of its words.
@@ -36,46 +36,39 @@ const LINE_AT: usize = OFFSET_AT + form::WORD;
 
 const COLUMN_AT: usize = LINE_AT + form::WORD;
 
-// What the blocks behind block 0 tell: the number of the first that is not sound, or whether so many rows stand.
-#[derive(Clone, Copy)]
-pub enum Blocks {
-    Bad(u32),
-    Sound(bool),
-}
-
 // ---- block 0
 
 // The ending of a lexical refusal's number, at a place.
-fn read_refused(number: u32, p: Cursor) -> EndingRead
+fn read_refused(number: u32, p: Cursor) -> Option<Ending>
     ensures { result ≡ read_refused number p }
 {
     if is_lexical(number) {
-        return EndingRead::Ends(Ending::Refused(lexical_of(number), p));
+        return Some(Ending::Refused(lexical_of(number), p));
     }
-    EndingRead::Nothing
+    None
 }
 
 // The ending of a number and a place: none has number 0, and then the place is zero.
-fn read_ending(number: u32, p: Cursor) -> EndingRead
+fn read_ending(number: u32, p: Cursor) -> Option<Ending>
     ensures { result ≡ read_ending number p }
 {
     if number != 0 {
         return read_refused(number, p);
     }
     if p.offset.0 != 0 {
-        return EndingRead::Nothing;
+        return None;
     }
     if p.line.0 != 0 {
-        return EndingRead::Nothing;
+        return None;
     }
     if p.column.0 != 0 {
-        return EndingRead::Nothing;
+        return None;
     }
-    EndingRead::Ends(Ending::None)
+    Some(Ending::None)
 }
 
 // The ending that block 0 of form 1 tells.
-fn full_ending(file: &[u8]) -> EndingRead
+fn full_ending(file: &[u8]) -> Option<Ending>
     requires { block_bytes ≤ length file.now }
     ensures { result ≡ ending_in file.now }
 {
@@ -94,7 +87,7 @@ fn full_ending(file: &[u8]) -> EndingRead
 }
 
 // The ending that block 0 of form 2 tells: a refusal's place is that of a text of one line.
-fn short_ending(file: &[u8]) -> EndingRead
+fn short_ending(file: &[u8]) -> Option<Ending>
     requires { block_bytes ≤ length file.now }
     ensures { result ≡ short_ending on_one_line file.now }
 {
@@ -111,13 +104,13 @@ fn short_ending(file: &[u8]) -> EndingRead
         );
     }
     if offset != 0 {
-        return EndingRead::Nothing;
+        return None;
     }
-    EndingRead::Ends(Ending::None)
+    Some(Ending::None)
 }
 
 // The ending that block 0 of a form tells.
-fn ending_in(form: Form, file: &[u8]) -> EndingRead
+fn ending_in(form: Form, file: &[u8]) -> Option<Ending>
     requires { block_bytes ≤ length file.now }
     ensures { result ≡ ending_of form file.now }
 {
@@ -130,20 +123,13 @@ fn ending_in(form: Form, file: &[u8]) -> EndingRead
 // ---- the blocks behind it
 
 // How many rows must stand one behind the other: all, but the last where the ending is none.
-fn plain_rows(read: EndingRead, count: u32) -> u32
+fn plain_rows(read: Option<Ending>, count: u32) -> u32
     ensures { (result ≡ plain_rows read count) × (result ≤ count) }
 {
     match read {
-        EndingRead::Nothing => 0,
-        EndingRead::Ends(ending) => match ending {
-            Ending::None => {
-                if count == 0 {
-                    return 0;
-                }
-                count - 1
-            }
-            Ending::Refused(_, _) => count,
-        },
+        None => 0,
+        Some(Ending::None) => count.saturating_sub(1),
+        Some(Ending::Refused(_, _)) => count,
     }
 }
 
@@ -158,8 +144,8 @@ fn last_of(form: Form, bytes: &[u8], n: usize, before: Row) -> Row
     row_in(form, bytes, n - 1)
 }
 
-// Whether the blocks behind block 0 are sound, and whether so many of their rows stand.
-fn judge_blocks(form: Form, file: &[u8], count: u32, plain: u32) -> Blocks
+// Whether so many rows of the blocks behind block 0 stand, or the first of them that is not sound.
+fn judge_blocks(form: Form, file: &[u8], count: u32, plain: u32) -> Result<bool, Fault>
     requires { Framed form count file.now × (plain ≤ count) }
     ensures { result ≡ blocks_judged form plain file.now }
 {
@@ -169,24 +155,20 @@ fn judge_blocks(form: Form, file: &[u8], count: u32, plain: u32) -> Blocks
     let mut stand = true;
     let mut left = count as usize;
     let mut more = plain as usize;
-    let mut k: u32 = 1;
-    let mut at = form::BLOCK;
-    while 0 < left {
-        let end = at + form::BLOCK;
-        let block = &file[at..end];
+    for k in 1..file.len() / form::BLOCK {
+        let block = &file[form::BLOCK * k..form::BLOCK * (k + 1)];
+        let number = k as u32;
         let n = rows_here(form, left);
-        if !is_sound(block, k, n as u32, row_bytes(form) * n) {
-            return Blocks::Bad(k);
+        if !is_sound(block, number, n as u32, row_bytes(form) * n) {
+            return Err(Fault::BadBlock(number));
         }
         let m = rows_here(form, more);
         stand = stand & rows_stand(&least, &span, form, block, m, last);
         last = last_of(form, block, m, last);
         left -= n;
         more -= m;
-        k += 1;
-        at = end;
     }
-    Blocks::Sound(stand)
+    Ok(stand)
 }
 
 // ---- the table
@@ -275,93 +257,88 @@ fn table_fits(form: Form, file: &[u8], table: Table, stand: bool) -> bool
 }
 
 // What is told of sound blocks: 43, then 4, or the table.
-fn told_rows(form: Form, file: &[u8], table: Table, stand: bool, room: usize) -> Loaded
+fn told_rows(form: Form, file: &[u8], table: Table, stand: bool, room: usize) -> Result<Table, Fault>
     requires { Framed form table.count file.now × (stand ≡ standing form table.ending file.now) }
     ensures { result ≡ rows_told (row_words_of form file.now) room table }
 {
     let count = table.count;
     if form::MOST_ROWS < count {
-        return Loaded::Refused(Fault::NoTable);
+        return Err(Fault::NoTable);
     }
     if !table_fits(form, file, table, stand) {
-        return Loaded::Refused(Fault::NoTable);
+        return Err(Fault::NoTable);
     }
     if room < count as usize {
-        return Loaded::Refused(Fault::Outer(Outer::NoRowRoom));
+        return Err(Fault::Outer(Outer::NoRowRoom));
     }
-    Loaded::Rows(table)
+    Ok(table)
 }
 
 // What is told of the blocks behind block 0: 41, then 43 and 4.
-fn told_blocks(form: Form, file: &[u8], count: u32, room: usize) -> Loaded
+fn told_blocks(form: Form, file: &[u8], count: u32, room: usize) -> Result<Table, Fault>
     requires { Framed form count file.now }
     ensures { result ≡ blocks_in form file.now room }
 {
     let read = ending_in(form, file);
-    let plain = plain_rows(read, count);
-    match judge_blocks(form, file, count, plain) {
-        Blocks::Bad(k) => Loaded::Refused(Fault::BadBlock(k)),
-        Blocks::Sound(stand) => match read {
-            EndingRead::Nothing => Loaded::Refused(Fault::NoTable),
-            EndingRead::Ends(ending) => {
-                let length = word_at(file, LENGTH_AT);
-                told_rows(
-                    form,
-                    file,
-                    Table {
-                        count,
-                        length,
-                        ending,
-                    },
-                    stand,
-                    room,
-                )
-            }
+    let stand = judge_blocks(form, file, count, plain_rows(read, count))?;
+    let Some(ending) = read else {
+        return Err(Fault::NoTable);
+    };
+    let length = word_at(file, LENGTH_AT);
+    told_rows(
+        form,
+        file,
+        Table {
+            count,
+            length,
+            ending,
         },
-    }
+        stand,
+        room,
+    )
 }
 
 // What is told of a file: 42 for one that is short, 41 for block 0, 44, 42, and then the blocks behind it.
-fn told(file: &[u8], room: usize) -> Loaded
+fn told(file: &[u8], room: usize) -> Result<Table, Fault>
     ensures { result ≡ load_told file.now room }
 {
     if file.len() < form::BLOCK {
-        return Loaded::Refused(Fault::WrongLength);
+        return Err(Fault::WrongLength);
     }
     if !is_sound(&file[0..form::BLOCK], 0, 0, form::SAID) {
-        return Loaded::Refused(Fault::BadBlock(0));
+        return Err(Fault::BadBlock(0));
     }
     if word_at(file, FORM_AT) != form::NUMBER {
-        return Loaded::Refused(Fault::OtherForm);
+        return Err(Fault::OtherForm);
     }
     let count = word_at(file, COUNT_AT);
     if file.len() != length_for(Form::Full, count) {
-        return Loaded::Refused(Fault::WrongLength);
+        return Err(Fault::WrongLength);
     }
     told_blocks(Form::Full, file, count, room)
 }
 
 // What is told of a file that says 2: 41 for block 0, 42, and then the blocks behind it.
-fn short_told(file: &[u8]) -> Loaded
+fn short_told(file: &[u8]) -> Result<Table, Fault>
     requires { block_bytes ≤ length file.now }
     ensures { result ≡ short_judged file.now }
 {
     if !is_sound(&file[0..form::BLOCK], 0, 0, short::SAID) {
-        return Loaded::Refused(Fault::BadBlock(0));
+        return Err(Fault::BadBlock(0));
     }
     let count = word_at(file, COUNT_AT);
     if file.len() != length_for(Form::Short, count) {
-        return Loaded::Refused(Fault::WrongLength);
+        return Err(Fault::WrongLength);
     }
     told_blocks(Form::Short, file, count, count as usize)
 }
 
 // What is told of a file of either form, in room for all of its rows.
-pub fn judge(file: &[u8]) -> Loaded
+pub fn judge(file: &[u8]) -> Result<Table, Fault>
     ensures { result ≡ judged file.now }
 {
     if file.len() < form::BLOCK {
-        return Loaded::Refused(Fault::WrongLength);
+        return Err(Fault::WrongLength);
     }
     if word_at(file, FORM_AT) == short::NUMBER {
         return short_told(file);
@@ -387,28 +364,24 @@ pub fn take_rows(file: &[u8], count: u32, rows: &mut [u32])
 {
     let all = count as usize;
     let mut done = 0;
-    let mut at = form::BLOCK;
-    while done < all {
-        let end = at + form::BLOCK;
+    for k in 1..file.len() / form::BLOCK {
         let n = rows_here(Form::Full, all - done);
         let from = done * row::WORDS;
-        take_words(&file[at..end], n * row::WORDS, &mut rows[from..]);
+        take_words(
+            &file[form::BLOCK * k..form::BLOCK * (k + 1)],
+            n * row::WORDS,
+            &mut rows[from..],
+        );
         done += n;
-        at = end;
     }
 }
 
 // Read a file: the rows of its table are written into the lent words, or nothing is and why.
-pub fn load(file: &[u8], rows: &mut [u32]) -> Loaded
+pub fn load(file: &[u8], rows: &mut [u32]) -> Result<Table, Fault>
     ensures told { result ≡ load_told file.now (room_of rows.old) }
     ensures left { rows.new ≡ load_leaves file.now rows.old }
 {
-    let answer = told(file, rows.len() / row::WORDS);
-    match answer {
-        Loaded::Refused(why) => Loaded::Refused(why),
-        Loaded::Rows(table) => {
-            take_rows(file, table.count, rows);
-            Loaded::Rows(table)
-        }
-    }
+    let table = told(file, rows.len() / row::WORDS)?;
+    take_rows(file, table.count, rows);
+    Ok(table)
 }

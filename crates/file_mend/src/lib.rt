@@ -12,11 +12,17 @@ use file_survey::survey;
 use rules::{Cursor, Judged, Outer};
 use rules_files::{Fault, form};
 use rules_forms::{Form, short};
-use rules_mend::Mended;
+use rules_mend::{Mended, NotMended};
 use scan_place::judge_text;
 
 // A file of n bytes in lent memory, where the text is fine: 40, then 4, or it is mended.
-fn mend_text(form: Form, text: &[u8], file: &mut [u8], n: usize, list: &mut [u32]) -> Mended
+fn mend_text(
+    form: Form,
+    text: &[u8],
+    file: &mut [u8],
+    n: usize,
+    list: &mut [u32],
+) -> Result<Mended, NotMended>
     requires { text_judged text.now ≡ Fine }
     ensures { (result ≡ mend_told text.now (number_of form) file.old n list.old)
         × ((file.new
@@ -30,21 +36,39 @@ fn mend_text(form: Form, text: &[u8], file: &mut [u8], n: usize, list: &mut [u32
     let seen = survey(form, text, &file[..there]);
     let table = seen.table;
     if form::MOST_ROWS < table.count {
-        return Mended::Refused(Fault::TooManyRows, Cursor::start());
+        return Err(NotMended {
+            why: Fault::TooManyRows,
+            at: Cursor::start(),
+        });
     }
     let length = length_for(form, table.count);
     if (room < length) | (room < n) | (slots < seen.listed) {
-        return Mended::Refused(Fault::Outer(Outer::NoRowRoom), Cursor::start());
+        return Err(NotMended {
+            why: Fault::Outer(Outer::NoRowRoom),
+            at: Cursor::start(),
+        });
     }
     if seen.listed == 0 {
-        return Mended::Blocks(length as u32, 0);
+        return Ok(Mended {
+            bytes: length as u32,
+            listed: 0,
+        });
     }
     mend_blocks(form, text, table, file, n, list);
-    Mended::Blocks(length as u32, seen.listed as u32)
+    Ok(Mended {
+        bytes: length as u32,
+        listed: seen.listed as u32,
+    })
 }
 
 // A file of one of both forms: 1 and 2 of the text in front of that.
-fn mend_in(form: Form, text: &[u8], file: &mut [u8], n: usize, list: &mut [u32]) -> Mended
+fn mend_in(
+    form: Form,
+    text: &[u8],
+    file: &mut [u8],
+    n: usize,
+    list: &mut [u32],
+) -> Result<Mended, NotMended>
     ensures { (result ≡ mend_told text.now (number_of form) file.old n list.old)
         × ((file.new
         ≡ mend_leaves text.now (number_of form) file.old n list.old)
@@ -52,14 +76,23 @@ fn mend_in(form: Form, text: &[u8], file: &mut [u8], n: usize, list: &mut [u32])
         ≡ list_leaves text.now (number_of form) file.old n list.old)) }
 {
     match judge_text(text) {
-        Judged::Refused(why, at) => Mended::Refused(Fault::Outer(why), at),
+        Judged::Refused(why, at) => Err(NotMended {
+            why: Fault::Outer(why),
+            at,
+        }),
         Judged::Fine => mend_text(form, text, file, n, list),
     }
 }
 
 // Mend a file of n bytes, which stands in lent memory, in the form of a number: the file is what a fresh scan stores,
 // and the blocks that differed are listed, or nothing is done and why.
-pub fn mend(text: &[u8], number: u32, file: &mut [u8], n: usize, list: &mut [u32]) -> Mended
+pub fn mend(
+    text: &[u8],
+    number: u32,
+    file: &mut [u8],
+    n: usize,
+    list: &mut [u32],
+) -> Result<Mended, NotMended>
     ensures told { result ≡ mend_told text.now number file.old n list.old }
     ensures left { file.new ≡ mend_leaves text.now number file.old n list.old }
     ensures listed { list.new ≡ list_leaves text.now number file.old n list.old }
@@ -70,5 +103,8 @@ pub fn mend(text: &[u8], number: u32, file: &mut [u8], n: usize, list: &mut [u32
     if number == short::NUMBER {
         return mend_in(Form::Short, text, file, n, list);
     }
-    Mended::Refused(Fault::OtherForm, Cursor::start())
+    Err(NotMended {
+        why: Fault::OtherForm,
+        at: Cursor::start(),
+    })
 }

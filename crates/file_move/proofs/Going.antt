@@ -1,7 +1,7 @@
 -- Laws of the loop that writes a form's blocks: what is written so far, and the blocks of the rows that are left.
 use mathlib.Core.Path.{◌≡◌, refl, sym, ap, ◌∙◌}
 use mathlib.Core.List.{List, [], ◌++◌, append_assoc, append-nil}
-use Prim.Native.Nat.{ℕ, suc, ◌+◌, ◌-◌, ◌*◌, ◌≤◌, ◌<◌, min}
+use Prim.Native.Nat.{ℕ, zero, suc, ◌+◌, ◌-◌, ◌*◌, ◌/◌, ◌≤◌, ◌<◌, min}
 use native.Mathlib.Numerals.{add-one}
 use native.Mathlib.Omega.{arith}
 use lib.ListN.{length, take, drop, length-append, length-drop, take-append-drop}
@@ -17,7 +17,8 @@ use Rattle.rules_forms.specs.Short.{short_bytes}
 use Rattle.rules_forms.specs.Forms.{rows_beside, encode_in}
 use Rattle.rules_forms.specs.Shapes.{number_of, row_bytes_of, said_in, body_of}
 use Rattle.theory_files.proofs.One.{block_length}
-use Rattle.file_sizes.proofs.Sizes.{few_rows, few_blocks, some_length}
+use Rattle.theory_files.proofs.Many.{blocks_zero as no_blocks}
+use Rattle.file_sizes.proofs.Sizes.{few_rows, few_blocks, some_length, some_bytes, few_bytes}
 use Rattle.file_parts.proofs.Parts.{mid, mid_length, mid_take, mid_drop}
 use Rattle.file_move.proofs.Bodies.{blocks_of, blocks_less, blocks_further, blocks_end, blocks_zero, body_few, body_front, encoded}
 use Rattle.file_beside.specs.Counting.{Agrees, last_place}
@@ -52,6 +53,23 @@ going_start form ws count moved₀ =
 
 module _ {form : Form} {ws : List ℕ} {count : ℕ} {moved₀ moved : List ℕ} {done k at : ℕ}
     (g : Going form ws count moved₀ moved done k at) where
+  -- as long as there are blocks, there are rows
+  pub rows_to_go : k < size form count / block_bytes → done < count
+  unfolding file_length
+  rows_to_go h = go (count - done) refl
+    where
+      go : (l : ℕ) → count - done ≡ l → done < count
+      go zero e =
+          let b : k + 0 ≡ 1 + blocks_for (row_bytes_of form) count = rw (e, blocks_zero form) at g.blocks in
+          absurd (let z : ⊥ = omega arith in z)
+      go (suc l) e = omega arith
+
+  pub no_rows_to_go : size form count / block_bytes ≤ k → count ≤ done
+  unfolding file_length
+  no_rows_to_go h =
+      let z = no_blocks (row_bytes_of form) (some_bytes form) (few_bytes form) (count - done) (omega (arith, g.blocks)) in
+      omega arith
+
   none_left : count ≤ done → left_blocks form ws count done k ≡ []
   none_left h =
       let z : count - done ≡ 0 = omega arith in

@@ -1,9 +1,8 @@
 -- What stands in lent memory behind a move.
-use Rattle.std.specs.Prelude.{List, ◌++◌, ℕ, drop}
-use Rattle.rules_forms.specs.declared.Moved.{Moved}
-use Rattle.rules_forms.specs.declared.Moved.TheVariants as moved
+use Rattle.std.specs.Prelude.{List, ◌++◌, ℕ, drop, Result, Ok, Err}
+use Rattle.rules_forms.specs.declared.Apart.{Apart}
 
 -- a file in front of what was there, or what was there
-abbrev pub left_by : Moved → List ℕ → List ℕ → List ℕ
-left_by (moved.Bytes n) file lent = file ++ drop n lent
-left_by (moved.Refused why) file lent = lent
+abbrev pub left_by : Result ℕ Apart → List ℕ → List ℕ → List ℕ
+left_by (Ok n) file lent = file ++ drop n lent
+left_by (Err why) file lent = lent

@@ -1,6 +1,5 @@
 // A file moved to a form beside its text: 44, what the file itself is refused for, 4, then 45, or the table's one file of that form.
-ghost use Rattle.std.specs.Prelude.{◌≡◌, ◌++◌, ◌≤◌, length, take, drop};
-ghost use Rattle.rules_files.specs.declared.Loaded.TheVariants.{Rows};
+ghost use Rattle.std.specs.Prelude.{◌≡◌, ◌++◌, ◌≤◌, length, take, drop, Ok};
 ghost use Rattle.rules_files.specs.Bytes.{bytes_of};
 ghost use Rattle.rules_files.specs.Blocks.{blocks_for, blocks_from, file_length, block_bytes};
 ghost use Rattle.rules_forms.specs.Forms.{judged, rows_beside, table_beside, encode_in, move_judged, move_told, move_leaves};
@@ -13,23 +12,11 @@ use file_load::{form_of, judge};
 use file_parts::{put_part, put_said};
 use file_sizes::{length_for, number, rows_here};
 use rules::{Cursor, Outer, Table, row};
-use rules_files::{Fault, Loaded, form};
-use rules_forms::{Apart, Form, Moved, short};
+use rules_files::{Fault, form};
+use rules_forms::{Apart, Form, short};
 
 // The most words that the rows of one block have.
 const PART_WORDS: usize = short::ROWS * row::WORDS;
-
-// The bytes of a file, into the first lent ones.
-fn copy(from: &[u8], to: &mut [u8])
-    requires { length from.now ≤ length to.old }
-    ensures { to.new ≡ from.now ++ drop (length from.now) to.old }
-{
-    let mut i = 0;
-    while i < from.len() {
-        to[i] = from[i];
-        i += 1;
-    }
-}
 
 // The blocks of a file's rows in a form, behind block 0; the place of the last row is told.
 fn put_blocks(form: Form, text: &[u8], file: &[u8], table: Table, moved: &mut [u8]) -> Cursor
@@ -45,16 +32,12 @@ fn put_blocks(form: Form, text: &[u8], file: &[u8], table: Table, moved: &mut [u
     let mut words = [0u32; PART_WORDS];
     let mut here = Cursor::start();
     let mut done = 0;
-    let mut k: u32 = 1;
-    let mut at = form::BLOCK;
-    while done < count {
-        let end = at + form::BLOCK;
+    for k in 1..length_for(form, table.count) / form::BLOCK {
         let n = rows_here(form, count - done);
         here = put_rows(text, file, table, done, n, here, &mut words);
-        put_part(form, &mut moved[at..end], k, n, &words);
+        let block = &mut moved[form::BLOCK * k..form::BLOCK * (k + 1)];
+        put_part(form, block, k as u32, n, &words);
         done += n;
-        k += 1;
-        at = end;
     }
     here
 }
@@ -68,7 +51,7 @@ fn put_moved(form: Form, text: &[u8], file: &[u8], table: Table, moved: &mut [u8
         (file_length (row_bytes_of form) table.count) moved.old }
 {
     if number(form) == number(form_of(file)) {
-        copy(file, moved);
+        moved[..file.len()].copy_from_slice(file);
         return;
     }
     let last = put_blocks(form, text, file, table, moved);
@@ -77,11 +60,11 @@ fn put_moved(form: Form, text: &[u8], file: &[u8], table: Table, moved: &mut [u8
 }
 
 // What is told of a file that holds a table: 4, 45 last of all, or the bytes that were written.
-fn move_table(form: Form, text: &[u8], file: &[u8], table: Table, moved: &mut [u8]) -> Moved
-    requires { judged file.now ≡ Rows table }
+fn move_table(form: Form, text: &[u8], file: &[u8], table: Table, moved: &mut [u8]) -> Result<u32, Apart>
+    requires { judged file.now ≡ Ok table }
     ensures { (result
         ≡ move_judged text.now file.now (number_of form) (length moved.old)
-        (Rows table))
+        (Ok table))
         × (moved.new
         ≡ left_by result
         (encode_in (number_of form) (rows_beside text.now file.now)
@@ -89,30 +72,27 @@ fn move_table(form: Form, text: &[u8], file: &[u8], table: Table, moved: &mut [u
 {
     let length = length_for(form, table.count);
     if moved.len() < length {
-        return Moved::Refused(Apart::File(Fault::Outer(Outer::NoRowRoom)));
+        return Err(Apart::File(Fault::Outer(Outer::NoRowRoom)));
     }
     if !agrees(text, file, table) {
-        return Moved::Refused(Apart::OtherText);
+        return Err(Apart::OtherText);
     }
     put_moved(form, text, file, table, moved);
-    let bytes = length as u32;
-    Moved::Bytes(bytes)
+    Ok(length as u32)
 }
 
 // A file moved to one of both forms.
-fn move_to(form: Form, text: &[u8], file: &[u8], moved: &mut [u8]) -> Moved
+fn move_to(form: Form, text: &[u8], file: &[u8], moved: &mut [u8]) -> Result<u32, Apart>
     ensures { (result ≡ move_told text.now file.now (number_of form) (length moved.old))
         × (moved.new
         ≡ move_leaves text.now file.now (number_of form) moved.old) }
 {
-    match judge(file) {
-        Loaded::Refused(why) => Moved::Refused(Apart::File(why)),
-        Loaded::Rows(table) => move_table(form, text, file, table, moved),
-    }
+    let table = judge(file)?;
+    move_table(form, text, file, table, moved)
 }
 
 // Move a file to the form of a number, into lent memory: so many bytes of it are written, or none and why.
-pub fn move_file(text: &[u8], file: &[u8], number: u32, moved: &mut [u8]) -> Moved
+pub fn move_file(text: &[u8], file: &[u8], number: u32, moved: &mut [u8]) -> Result<u32, Apart>
     ensures told { result ≡ move_told text.now file.now number (length moved.old) }
     ensures left { moved.new ≡ move_leaves text.now file.now number moved.old }
 {
@@ -122,5 +102,5 @@ pub fn move_file(text: &[u8], file: &[u8], number: u32, moved: &mut [u8]) -> Mov
     if number == short::NUMBER {
         return move_to(Form::Short, text, file, moved);
     }
-    Moved::Refused(Apart::File(Fault::OtherForm))
+    Err(Apart::File(Fault::OtherForm))
 }

@@ -92,11 +92,9 @@ fn put_short_rows(bytes: &mut [u8], n: usize, rows: &[u32])
         ≡ (take 4 bytes.old ++ bytes_of (shortened n rows.now)) ++ drop (4 + 24 * n)
         bytes.old }
 {
-    let mut i = 0;
-    while i < n {
+    for i in 0..n {
         let from = i * row::WORDS;
         put_short_row(bytes, form::CONTENT + short::ROW * i, &rows[from..]);
-        i += 1;
     }
 }
 

@@ -2,7 +2,7 @@
 use mathlib.Core.Path.{◌≡◌, refl, sym, ap, ◌∙◌}
 use mathlib.Core.Bool.{true, false}
 use mathlib.Core.List.{List, [], ◌∷◌, ◌++◌, append_assoc, append-nil}
-use Prim.Native.Nat.{ℕ, zero, suc, ◌+◌, ◌-◌, ◌*◌, ◌≤◌, ◌<◌, min}
+use Prim.Native.Nat.{ℕ, zero, suc, ◌+◌, ◌-◌, ◌*◌, ◌/◌, ◌≤◌, ◌<◌, min}
 use native.Mathlib.Numerals.{add-one}
 use native.Mathlib.Omega.{arith}
 use lib.ListN.{length, take, drop, length-take, take-append-drop}
@@ -16,13 +16,13 @@ use Rattle.rules.specs.declared.Ending.TheVariants.{Refused}
 use Rattle.rules.specs.declared.Outer.TheVariants.{NotWellFormed, NoRowRoom}
 use Rattle.rules.specs.Rows.{well_formed}
 use Rattle.rules_files.specs.declared.Fault.TheVariants.{Outer, TooManyRows}
-use Rattle.rules_files.specs.declared.Stored.TheVariants as stored
 use Rattle.rules_files.specs.Files.{most_rows, said, encode, store_told}
 use Rattle.theory_files.proofs.Numbers.{bytes_length, bytes_take, bytes_drop}
 use Rattle.theory_files.proofs.One.{block_length}
-use Rattle.theory_files.proofs.Many.{blocks_none, blocks_more}
+use Rattle.theory_files.proofs.Many.{blocks_none, blocks_zero, blocks_more}
 use Rattle.theory_files.proofs.Files.{ending_four}
 use Rattle.file_parts.proofs.Parts.{mid, mid_length, mid_take, mid_drop}
+use Rattle.std.specs.Prelude.{Ok, Err}
 
 -- ---- the loop
 
@@ -56,6 +56,23 @@ module _ {rows : List ℕ} {count : ℕ} {file₀ file : List ℕ} {done k at : 
       let m = blocks_more 32 (omega arith) (omega arith) (count - done) (omega arith) in
       omega (arith, g.place, g.blocks, g.same_length)
 
+  -- as long as there are blocks, there are rows
+  pub rows_to_go : k < file_length 32 count / 512 → done < count
+  unfolding file_length
+  rows_to_go h = go (count - done) refl
+    where
+      go : (l : ℕ) → count - done ≡ l → done < count
+      go zero e =
+          let b : k + 0 ≡ 1 + blocks_for 32 count = rw (e, blocks_none 32 (omega arith) (omega arith)) at g.blocks in
+          absurd (let z : ⊥ = omega arith in z)
+      go (suc l) e = omega arith
+
+  pub no_rows_to_go : file_length 32 count / 512 ≤ k → count ≤ done
+  unfolding file_length
+  no_rows_to_go h =
+      let z = blocks_zero 32 (omega arith) (omega arith) (count - done) (omega (arith, g.blocks)) in
+      omega arith
+
   pub few_blocks : count ≤ 65535 → k ≤ 65536
   unfolding blocks_for
   few_blocks h = omega (arith, g.blocks)
@@ -81,11 +98,11 @@ module _ {rows : List ℕ} {count : ℕ} {file₀ file : List ℕ} {done k at : 
   module _ (h : file_length 32 count ≤ length file₀) (l : done < count) (n : ℕ) (here : n ≡ min 15 (count - done)) where
     -- the rows of this block
     abbrev pub part : List ℕ
-    part = take ((done * 8 + n * 8) - done * 8) (drop (done * 8) rows)
+    part = take ((done + n) * 8 - done * 8) (drop (done * 8) rows)
 
     part_is : part ≡ take (8 * n) (drop (8 * done) rows)
     part_is =
-        let e : (done * 8 + n * 8) - done * 8 ≡ 8 * n = omega arith in
+        let e : (done + n) * 8 - done * 8 ≡ 8 * n = omega arith in
         let f : done * 8 ≡ 8 * done = omega arith in
         rw (e, f)
 
@@ -157,20 +174,20 @@ file_put rows file front t h e =
 -- ---- what is told
 
 module _ (ws : List ℕ) (t : Table) (room : ℕ) where
-  pub store_unformed : well_formed ws t ≡ false → store_told ws t room ≡ stored.Refused (Outer NotWellFormed)
+  pub store_unformed : well_formed ws t ≡ false → store_told ws t room ≡ Err (Outer NotWellFormed)
   unfolding store_told
   store_unformed e = rw e
 
   module _ (well : well_formed ws t ≡ true) where
-    pub store_many : most_rows < t.count → store_told ws t room ≡ stored.Refused TooManyRows
+    pub store_many : most_rows < t.count → store_told ws t room ≡ Err TooManyRows
     unfolding store_told
     store_many h = rw (well, lt-ltb most_rows t.count h)
 
     module _ (few : t.count ≤ most_rows) where
-      pub store_full : room < file_length 32 t.count → store_told ws t room ≡ stored.Refused (Outer NoRowRoom)
+      pub store_full : room < file_length 32 t.count → store_told ws t room ≡ Err (Outer NoRowRoom)
       unfolding store_told
       store_full h = rw (well, le-ltb most_rows t.count few, lt-ltb room (file_length 32 t.count) h)
 
-      pub store_fits : file_length 32 t.count ≤ room → store_told ws t room ≡ stored.Bytes (file_length 32 t.count)
+      pub store_fits : file_length 32 t.count ≤ room → store_told ws t room ≡ Ok (file_length 32 t.count)
       unfolding store_told
       store_fits h = rw (well, le-ltb most_rows t.count few, le-ltb room (file_length 32 t.count) h)

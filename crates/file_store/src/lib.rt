@@ -9,28 +9,23 @@ use file_parts::put_said;
 use file_sizes::{length_for, rows_here};
 use rows::well_formed;
 use rules::{Outer, Table, row};
-use rules_files::{Fault, Stored, form};
+use rules_files::{Fault, form};
 use rules_forms::Form;
 
 // The blocks of so many rows, behind block 0.
-fn put_rows(rows: &[u32], count: usize, file: &mut [u8])
+fn put_rows(rows: &[u32], count: u32, file: &mut [u8])
     requires { ((8 * count ≤ length rows.now) × (count ≤ most_rows)) × (file_length row_bytes count ≤ length file.old) }
     ensures { file.new
         ≡ (take block_bytes file.old ++ blocks_from row_bytes (blocks_for row_bytes count) 1 count
         (bytes_of rows.now)) ++ drop (file_length row_bytes count) file.old }
 {
     let mut done = 0;
-    let mut k: u32 = 1;
-    let mut at = form::BLOCK;
-    while done < count {
-        let end = at + form::BLOCK;
-        let n = rows_here(Form::Full, count - done);
-        let from = done * row::WORDS;
-        let to = from + n * row::WORDS;
-        put_block(&mut file[at..end], k, n as u32, &rows[from..to]);
+    for k in 1..length_for(Form::Full, count) / form::BLOCK {
+        let n = rows_here(Form::Full, count as usize - done);
+        let block = &mut file[form::BLOCK * k..form::BLOCK * (k + 1)];
+        let part = &rows[done * row::WORDS..(done + n) * row::WORDS];
+        put_block(block, k as u32, n as u32, part);
         done += n;
-        k += 1;
-        at = end;
     }
 }
 
@@ -42,25 +37,25 @@ fn put_file(rows: &[u32], table: Table, file: &mut [u8])
         ≡ encode rows.now table ++ drop (file_length row_bytes table.count) file.old }
 {
     put_said(Form::Full, &mut file[0..form::BLOCK], table);
-    put_rows(rows, table.count as usize, file);
+    put_rows(rows, table.count, file);
 }
 
 // Store a table: so many bytes of the lent file are written, or none and why.
-pub fn store(rows: &[u32], table: Table, file: &mut [u8]) -> Stored
+pub fn store(rows: &[u32], table: Table, file: &mut [u8]) -> Result<u32, Fault>
     ensures told { result ≡ store_told rows.now table (length file.old) }
     ensures left { file.new ≡ store_leaves rows.now table file.old }
 {
     if !well_formed(rows, table) {
-        return Stored::Refused(Fault::Outer(Outer::NotWellFormed));
+        return Err(Fault::Outer(Outer::NotWellFormed));
     }
     let count = table.count;
     if form::MOST_ROWS < count {
-        return Stored::Refused(Fault::TooManyRows);
+        return Err(Fault::TooManyRows);
     }
     let length = length_for(Form::Full, count);
     if file.len() < length {
-        return Stored::Refused(Fault::Outer(Outer::NoRowRoom));
+        return Err(Fault::Outer(Outer::NoRowRoom));
     }
     put_file(rows, table, file);
-    Stored::Bytes(length as u32)
+    Ok(length as u32)
 }

@@ -1,6 +1,6 @@
 -- Worked cases: the files of two small tables byte by byte, and what is read of the second where some of its bytes are changed. Each table is under one theorem
 -- that the checker computes.
-use Rattle.std.specs.Prelude.{◌≡◌, refl, Bool, true, false, cond, List, [], ◌∷◌, ◌++◌, map, ℕ, ◌+◌, ◌*◌, length, take, drop, set, replicate}
+use Rattle.std.specs.Prelude.{◌≡◌, refl, Bool, true, false, cond, List, [], ◌∷◌, ◌++◌, map, ℕ, ◌+◌, ◌*◌, length, take, drop, set, replicate, Result, Ok, Err}
 use Rattle.rules.specs.declared.Ending.{Ending}
 use Rattle.rules.specs.declared.Ending.TheVariants as ending
 use Rattle.rules.specs.declared.Lexical.TheVariants.{NoRowBegins}
@@ -12,16 +12,13 @@ use Rattle.rules.specs.Rows
 use Rattle.rules.specs.Scan
 use Rattle.refusals.specs.Back
 use Rattle.rules_files.specs.declared.Fault.TheVariants.{Outer, TooManyRows, BadBlock, WrongLength, NoTable, OtherForm}
-use Rattle.rules_files.specs.declared.Stored.{Stored}
-use Rattle.rules_files.specs.declared.Stored.TheVariants as stored
-use Rattle.rules_files.specs.declared.Loaded.{Loaded}
-use Rattle.rules_files.specs.declared.Loaded.TheVariants as loaded
 use Rattle.rules_files.specs.Bytes
 use Rattle.rules_files.specs.Bytes.{little}
 use Rattle.rules_files.specs.Blocks
 use Rattle.rules_files.specs.Blocks.{check, per_block, blocks_for, file_length}
 use Rattle.rules_files.specs.Files
 use Rattle.rules_files.specs.Files.{row_bytes, encode, store_told, store_leaves, rows_told, load_told, load_leaves}
+use Rattle.rules_files.specs.declared.Fault.{Fault}
 
 -- ---- files byte by byte
 
@@ -74,7 +71,7 @@ sizes = refl
 
 -- what a writer tells: into just enough room and into one byte less, of rows that are not lent, and of a table without rows
 pub stores : (store_told letter_words letter 1024 ∷ store_told letter_words letter 1023 ∷ store_told (take 15 letter_words) letter 1024 ∷ store_told [] bare 512 ∷ [])
-    ≡ (stored.Bytes 1024 ∷ stored.Refused (Outer NoRowRoom) ∷ stored.Refused (Outer NotWellFormed) ∷ stored.Bytes 512 ∷ [])
+    ≡ (Ok 1024 ∷ Err (Outer NoRowRoom) ∷ Err (Outer NotWellFormed) ∷ Ok 512 ∷ [])
 unfolding Blocks.blocks_for Blocks.file_length Files.store_told Rows.row_in Rows.rows_in Rows.value_bits Rows.row_place Rows.every Rows.chained Rows.length_fits Rows.spans_fit Rows.value_fits Rows.place_fits Rows.lines_fit Rows.row_fits Rows.follows Rows.gap_fits Rows.gaps_fit Rows.last_row Rows.ends_behind Rows.is_eof Rows.eof_last Rows.ending_fits Rows.rows_fit Rows.well_formed Kinds.is_made Kinds.length_in
 stores = refl
 
@@ -86,7 +83,7 @@ pub record Case : Type 0 where
   pub anew : Bool
   pub cut : ℕ
   pub room : ℕ
-  pub told : Loaded
+  pub told : Result Table Fault
 
 -- one block with its check made anew
 unfoldable pub sealed : List ℕ → List ℕ
@@ -102,40 +99,40 @@ file_of c =
 abbrev pub cases : List Case
 cases =
     -- as it was written, with room for both rows and for one
-    record { bytes = []; anew = false; cut = 1024; room = 2; told = loaded.Rows letter }
-    ∷ record { bytes = []; anew = false; cut = 1024; room = 1; told = loaded.Refused (Outer NoRowRoom) }
+    record { bytes = []; anew = false; cut = 1024; room = 2; told = Ok letter }
+    ∷ record { bytes = []; anew = false; cut = 1024; room = 1; told = Err (Outer NoRowRoom) }
     -- under 512 bytes; not as long as block 0 says
-    ∷ record { bytes = []; anew = false; cut = 511; room = 2; told = loaded.Refused WrongLength }
-    ∷ record { bytes = []; anew = false; cut = 512; room = 2; told = loaded.Refused WrongLength }
-    ∷ record { bytes = []; anew = false; cut = 1023; room = 2; told = loaded.Refused WrongLength }
+    ∷ record { bytes = []; anew = false; cut = 511; room = 2; told = Err WrongLength }
+    ∷ record { bytes = []; anew = false; cut = 512; room = 2; told = Err WrongLength }
+    ∷ record { bytes = []; anew = false; cut = 1023; room = 2; told = Err WrongLength }
     -- block 0's number, row count, filler and check
-    ∷ record { bytes = record { at = 0; to = 1 } ∷ []; anew = true; cut = 1024; room = 2; told = loaded.Refused (BadBlock 0) }
-    ∷ record { bytes = record { at = 2; to = 2 } ∷ []; anew = true; cut = 1024; room = 2; told = loaded.Refused (BadBlock 0) }
-    ∷ record { bytes = record { at = 507; to = 1 } ∷ []; anew = true; cut = 1024; room = 2; told = loaded.Refused (BadBlock 0) }
-    ∷ record { bytes = record { at = 4; to = 2 } ∷ []; anew = false; cut = 1024; room = 2; told = loaded.Refused (BadBlock 0) }
+    ∷ record { bytes = record { at = 0; to = 1 } ∷ []; anew = true; cut = 1024; room = 2; told = Err (BadBlock 0) }
+    ∷ record { bytes = record { at = 2; to = 2 } ∷ []; anew = true; cut = 1024; room = 2; told = Err (BadBlock 0) }
+    ∷ record { bytes = record { at = 507; to = 1 } ∷ []; anew = true; cut = 1024; room = 2; told = Err (BadBlock 0) }
+    ∷ record { bytes = record { at = 4; to = 2 } ∷ []; anew = false; cut = 1024; room = 2; told = Err (BadBlock 0) }
     -- another form, whatever stands behind it; but block 0 is judged first, and its filler begins at 32 whatever the form
-    ∷ record { bytes = record { at = 4; to = 2 } ∷ []; anew = true; cut = 512; room = 2; told = loaded.Refused OtherForm }
-    ∷ record { bytes = record { at = 4; to = 2 } ∷ record { at = 28; to = 9 } ∷ []; anew = true; cut = 1024; room = 0; told = loaded.Refused OtherForm }
-    ∷ record { bytes = record { at = 4; to = 2 } ∷ record { at = 32; to = 1 } ∷ []; anew = true; cut = 1024; room = 2; told = loaded.Refused (BadBlock 0) }
+    ∷ record { bytes = record { at = 4; to = 2 } ∷ []; anew = true; cut = 512; room = 2; told = Err OtherForm }
+    ∷ record { bytes = record { at = 4; to = 2 } ∷ record { at = 28; to = 9 } ∷ []; anew = true; cut = 1024; room = 0; told = Err OtherForm }
+    ∷ record { bytes = record { at = 4; to = 2 } ∷ record { at = 32; to = 1 } ∷ []; anew = true; cut = 1024; room = 2; told = Err (BadBlock 0) }
     -- another form before whatever is wrong with block 1
-    ∷ record { bytes = record { at = 4; to = 2 } ∷ record { at = 512; to = 2 } ∷ []; anew = true; cut = 1024; room = 2; told = loaded.Refused OtherForm }
+    ∷ record { bytes = record { at = 4; to = 2 } ∷ record { at = 512; to = 2 } ∷ []; anew = true; cut = 1024; room = 2; told = Err OtherForm }
     -- block 0 tells 65,536 rows, which are not there: 42 goes before 43, in one block and in two
-    ∷ record { bytes = record { at = 12; to = 0 } ∷ record { at = 14; to = 1 } ∷ []; anew = true; cut = 512; room = 2; told = loaded.Refused WrongLength }
-    ∷ record { bytes = record { at = 12; to = 0 } ∷ record { at = 14; to = 1 } ∷ []; anew = true; cut = 1024; room = 2; told = loaded.Refused WrongLength }
+    ∷ record { bytes = record { at = 12; to = 0 } ∷ record { at = 14; to = 1 } ∷ []; anew = true; cut = 512; room = 2; told = Err WrongLength }
+    ∷ record { bytes = record { at = 12; to = 0 } ∷ record { at = 14; to = 1 } ∷ []; anew = true; cut = 1024; room = 2; told = Err WrongLength }
     -- block 1's number, row count, filler and check, before whatever is wrong with its rows
-    ∷ record { bytes = record { at = 512; to = 2 } ∷ []; anew = true; cut = 1024; room = 2; told = loaded.Refused (BadBlock 1) }
-    ∷ record { bytes = record { at = 514; to = 1 } ∷ []; anew = true; cut = 1024; room = 2; told = loaded.Refused (BadBlock 1) }
-    ∷ record { bytes = record { at = 580; to = 1 } ∷ []; anew = true; cut = 1024; room = 2; told = loaded.Refused (BadBlock 1) }
-    ∷ record { bytes = record { at = 516; to = 53 } ∷ []; anew = false; cut = 1024; room = 0; told = loaded.Refused (BadBlock 1) }
+    ∷ record { bytes = record { at = 512; to = 2 } ∷ []; anew = true; cut = 1024; room = 2; told = Err (BadBlock 1) }
+    ∷ record { bytes = record { at = 514; to = 1 } ∷ []; anew = true; cut = 1024; room = 2; told = Err (BadBlock 1) }
+    ∷ record { bytes = record { at = 580; to = 1 } ∷ []; anew = true; cut = 1024; room = 2; told = Err (BadBlock 1) }
+    ∷ record { bytes = record { at = 516; to = 53 } ∷ []; anew = false; cut = 1024; room = 0; told = Err (BadBlock 1) }
     -- an ending that there is not, beside a block 1 that is not sound: 41 goes before 43
-    ∷ record { bytes = record { at = 16; to = 10 } ∷ record { at = 512; to = 2 } ∷ []; anew = true; cut = 1024; room = 2; told = loaded.Refused (BadBlock 1) }
+    ∷ record { bytes = record { at = 16; to = 10 } ∷ record { at = 512; to = 2 } ∷ []; anew = true; cut = 1024; room = 2; told = Err (BadBlock 1) }
     -- a kind that there is not, without room, so 43 goes before 4; a text too long; an ending with a place, and one that there is not
-    ∷ record { bytes = record { at = 516; to = 53 } ∷ []; anew = true; cut = 1024; room = 0; told = loaded.Refused NoTable }
-    ∷ record { bytes = record { at = 10; to = 2 } ∷ []; anew = true; cut = 1024; room = 2; told = loaded.Refused NoTable }
-    ∷ record { bytes = record { at = 20; to = 1 } ∷ []; anew = true; cut = 1024; room = 2; told = loaded.Refused NoTable }
-    ∷ record { bytes = record { at = 16; to = 10 } ∷ []; anew = true; cut = 1024; room = 2; told = loaded.Refused NoTable }
+    ∷ record { bytes = record { at = 516; to = 53 } ∷ []; anew = true; cut = 1024; room = 0; told = Err NoTable }
+    ∷ record { bytes = record { at = 10; to = 2 } ∷ []; anew = true; cut = 1024; room = 2; told = Err NoTable }
+    ∷ record { bytes = record { at = 20; to = 1 } ∷ []; anew = true; cut = 1024; room = 2; told = Err NoTable }
+    ∷ record { bytes = record { at = 16; to = 10 } ∷ []; anew = true; cut = 1024; room = 2; told = Err NoTable }
     -- a byte of filler whose change the check does not show
-    ∷ record { bytes = record { at = 583; to = 1 } ∷ record { at = 1020; to = 231 } ∷ []; anew = false; cut = 1024; room = 2; told = loaded.Refused (BadBlock 1) }
+    ∷ record { bytes = record { at = 583; to = 1 } ∷ record { at = 1020; to = 231 } ∷ []; anew = false; cut = 1024; room = 2; told = Err (BadBlock 1) }
     ∷ []
 
 pub right : map (λ c. load_told (file_of c) c.room) cases ≡ map (λ c. c.told) cases
@@ -144,6 +141,6 @@ right = refl
 
 -- Where no file is small enough to be computed: over 65,535 rows, all of them there, are 43, and 43 before 4.
 pub many : (ws : List ℕ) (room size : ℕ) (e : Ending)
-    → rows_told ws room (record { count = 65536; length = size; ending = e }) ≡ loaded.Refused NoTable
+    → rows_told ws room (record { count = 65536; length = size; ending = e }) ≡ Err NoTable
 unfolding Files.rows_told
 many ws room size e = refl

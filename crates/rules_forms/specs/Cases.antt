@@ -1,7 +1,7 @@
 -- Worked cases: a small table in both forms byte by byte, how long files of form 2 are, and what a reading beside the text and a move
 -- tell and leave where
 -- an easy misreading would tell another thing. Each table is under one theorem that the checker computes.
-use Rattle.std.specs.Prelude.{◌≡◌, refl, Bool, true, false, cond, List, [], ◌∷◌, ◌++◌, map, ℕ, ◌+◌, length, take, drop, set, replicate}
+use Rattle.std.specs.Prelude.{◌≡◌, refl, Bool, true, false, cond, List, [], ◌∷◌, ◌++◌, map, ℕ, ◌+◌, length, take, drop, set, replicate, Result, Ok, Err}
 use Rattle.rules.specs.declared.Ending.TheVariants as ending
 use Rattle.rules.specs.declared.Lexical.TheVariants.{NoRowBegins}
 use Rattle.rules.specs.declared.Outer.TheVariants.{NoRowRoom}
@@ -18,18 +18,14 @@ use Rattle.rules_files.specs.Blocks
 use Rattle.rules_files.specs.Blocks.{per_block, blocks_for, file_length}
 use Rattle.rules_files.specs.Files
 use Rattle.rules_files.specs.Files.{encode, load_told}
-use Rattle.rules_files.specs.declared.Loaded.TheVariants as loaded
 use Rattle.rules_files.specs.Cases
 use Rattle.rules_files.specs.Cases.{Byte, changed, sealed}
 use Rattle.rules_forms.specs.declared.Apart.TheVariants.{File, OtherText}
-use Rattle.rules_forms.specs.declared.Beside.{Beside}
-use Rattle.rules_forms.specs.declared.Beside.TheVariants as beside
-use Rattle.rules_forms.specs.declared.Moved.{Moved}
-use Rattle.rules_forms.specs.declared.Moved.TheVariants as moved
 use Rattle.rules_forms.specs.Short
 use Rattle.rules_forms.specs.Short.{short_bytes, short_encode}
 use Rattle.rules_forms.specs.Forms
 use Rattle.rules_forms.specs.Forms.{beside_told, move_told, moved_file}
+use Rattle.rules_forms.specs.declared.Apart.{Apart}
 
 -- ---- sizes
 
@@ -116,15 +112,15 @@ pub record Move : Type 0 where
   pub of : Case
   pub form : ℕ
   pub room : ℕ
-  pub told : Moved
+  pub told : Result ℕ Apart
 
 abbrev pub refused : Case → ℕ → ℕ → Fault → Move
-refused c form room why = record { of = c; form = form; room = room; told = moved.Refused (File why) }
+refused c form room why = record { of = c; form = form; room = room; told = Err (File why) }
 
 abbrev pub cases : List Move
 cases =
     -- into just enough room, and into one byte less
-    record { of = plain long_file text; form = 2; room = 1024; told = moved.Bytes 1024 }
+    record { of = plain long_file text; form = 2; room = 1024; told = Ok 1024 }
     ∷ refused (plain long_file text) 2 1023 (Outer NoRowRoom)
     -- a form asked for that there is not, before all else: of no file, without room
     ∷ refused (record { file = []; bytes = []; anew = false; cut = 0; beside = [] }) 0 0 OtherForm
@@ -150,15 +146,15 @@ cases =
     -- 45 is last of all: no room, and the text one byte longer
     ∷ refused (plain long_file (text ++ text)) 2 0 (Outer NoRowRoom)
     ∷ refused (plain short_file (text ++ text)) 1 0 (Outer NoRowRoom)
-    ∷ record { of = plain long_file (text ++ text); form = 2; room = 1024; told = moved.Refused OtherText }
-    ∷ record { of = plain short_file (text ++ text); form = 1; room = 1024; told = moved.Refused OtherText }
+    ∷ record { of = plain long_file (text ++ text); form = 2; room = 1024; told = Err OtherText }
+    ∷ record { of = plain short_file (text ++ text); form = 1; room = 1024; told = Err OtherText }
     -- a text as long, whose lines are others: form 1 has them, form 2 has none; to the form it has as well
-    ∷ record { of = plain long_file other_text; form = 2; room = 1024; told = moved.Refused OtherText }
-    ∷ record { of = plain long_file other_text; form = 1; room = 1024; told = moved.Refused OtherText }
-    ∷ record { of = plain short_file other_text; form = 1; room = 1024; told = moved.Bytes 1024 }
-    ∷ record { of = plain short_file other_text; form = 2; room = 1024; told = moved.Bytes 1024 }
+    ∷ record { of = plain long_file other_text; form = 2; room = 1024; told = Err OtherText }
+    ∷ record { of = plain long_file other_text; form = 1; room = 1024; told = Err OtherText }
+    ∷ record { of = plain short_file other_text; form = 1; room = 1024; told = Ok 1024 }
+    ∷ record { of = plain short_file other_text; form = 2; room = 1024; told = Ok 1024 }
     -- the ending's line in the file is not the text's
-    ∷ record { of = but long_file 24 3; form = 2; room = 1024; told = moved.Refused OtherText }
+    ∷ record { of = but long_file 24 3; form = 2; room = 1024; told = Err OtherText }
     ∷ []
 
 pub right : map (λ c. move_told c.of.beside (file_of c.of) c.form c.room) cases ≡ map (λ c. c.told) cases
@@ -170,14 +166,14 @@ right = refl
 -- both forms alike, with room for the row and without; lines counted from 1, over the text that is lent
 pub readings : (beside_told text long_file 1 ∷ beside_told text short_file 1 ∷ beside_told text short_file 0 ∷ beside_told other_text short_file 1
     ∷ beside_told other_text long_file 1 ∷ beside_told (text ++ text) short_file 1 ∷ beside_told (text ++ text) short_file 0 ∷ [])
-    ≡ (beside.Rows table ∷ beside.Rows table ∷ beside.Refused (File (Outer NoRowRoom))
-    ∷ beside.Rows (record { count = 1; length = 3; ending = ending.Refused NoRowBegins (place 2 2 1) })
-    ∷ beside.Refused OtherText ∷ beside.Refused OtherText ∷ beside.Refused (File (Outer NoRowRoom)) ∷ [])
+    ≡ (Ok table ∷ Ok table ∷ Err (File (Outer NoRowRoom))
+    ∷ Ok (record { count = 1; length = 3; ending = ending.Refused NoRowBegins (place 2 2 1) })
+    ∷ Err OtherText ∷ Err OtherText ∷ Err (File (Outer NoRowRoom)) ∷ [])
 unfolding Cases.sealed Bytes.little Bytes.number Bytes.number_at Bytes.bytes_of Bytes.words_in Blocks.sum_from Blocks.check Blocks.checked Blocks.block Blocks.content_of Blocks.zeros Blocks.sound Blocks.blocks_for Blocks.blocks_from Blocks.file_of Blocks.file_length Blocks.sound_from Blocks.body_from Files.encode Back.lexical_of Files.read_refused Files.read_ending Files.ending_in Files.row_words_in Files.sound_in Files.rows_told Files.read_told Files.blocks_told Files.said_told Files.load_told Text.front Text.newlines Text.line_at Text.column_at Text.place_at Rows.row_in Rows.rows_in Rows.value_bits Rows.row_place Rows.every Rows.chained Rows.length_fits Rows.spans_fit Rows.value_fits Rows.place_fits Rows.lines_fit Rows.row_fits Rows.follows Rows.gap_fits Rows.gaps_fit Rows.last_row Rows.ends_behind Rows.is_eof Rows.eof_last Rows.ending_fits Rows.rows_fit Rows.well_formed Kinds.is_made Kinds.length_in Short.short_row Short.shortened Short.placed_row Short.placed Short.on_one_line Short.short_encode Short.short_ending Short.short_words_in Short.short_sound_in Short.short_table Short.short_blocks Short.short_judged Forms.judged Forms.rows_beside Forms.table_beside Forms.is_place_in Forms.ending_agrees Forms.agrees Forms.beside_judged Forms.beside_told Forms.encode_in Forms.move_judged Forms.move_told Forms.moved_from
 readings = refl
 
 -- A reading without the text refuses form 2 by name, even where its block 0 is bad by form 2's filler.
 pub older : (load_told short_file 1 ∷ load_told (file_of (but short_file 24 1)) 1 ∷ load_told (file_of (but short_file 32 1)) 1 ∷ [])
-    ≡ (loaded.Refused OtherForm ∷ loaded.Refused OtherForm ∷ loaded.Refused (BadBlock 0) ∷ [])
+    ≡ (Err OtherForm ∷ Err OtherForm ∷ Err (BadBlock 0) ∷ [])
 unfolding file_of Cases.sealed Bytes.little Bytes.number Bytes.number_at Bytes.bytes_of Bytes.words_in Blocks.sum_from Blocks.check Blocks.checked Blocks.block Blocks.content_of Blocks.zeros Blocks.sound Blocks.blocks_for Blocks.blocks_from Blocks.file_of Blocks.file_length Blocks.sound_from Blocks.body_from Files.encode Back.lexical_of Files.read_refused Files.read_ending Files.ending_in Files.row_words_in Files.sound_in Files.rows_told Files.read_told Files.blocks_told Files.said_told Files.load_told Text.front Text.newlines Text.line_at Text.column_at Text.place_at Rows.row_in Rows.rows_in Rows.value_bits Rows.row_place Rows.every Rows.chained Rows.length_fits Rows.spans_fit Rows.value_fits Rows.place_fits Rows.lines_fit Rows.row_fits Rows.follows Rows.gap_fits Rows.gaps_fit Rows.last_row Rows.ends_behind Rows.is_eof Rows.eof_last Rows.ending_fits Rows.rows_fit Rows.well_formed Kinds.is_made Kinds.length_in Short.short_row Short.shortened Short.placed_row Short.placed Short.on_one_line Short.short_encode Short.short_ending Short.short_words_in Short.short_sound_in Short.short_table Short.short_blocks Short.short_judged Forms.judged Forms.rows_beside Forms.table_beside Forms.is_place_in Forms.ending_agrees Forms.agrees Forms.beside_judged Forms.beside_told Forms.encode_in Forms.move_judged Forms.move_told Forms.moved_from
 older = refl

@@ -1,17 +1,16 @@
 -- What each form has for itself: its number, the bytes of a row and of what block 0 says, and the eight words of a row in it.
-use Rattle.std.specs.Prelude.{cond, List, [], ℕ, ◌+◌, ◌*◌, take, drop, ltb}
+use Rattle.std.specs.Prelude.{cond, List, [], ℕ, ◌+◌, ◌*◌, take, drop, ltb, Result, Err, Option}
 use Rattle.rules.specs.declared.Table.{Table}
 use Rattle.rules.specs.Rows.{words_per_row}
-use Rattle.rules_files.specs.declared.EndingRead.{EndingRead}
 use Rattle.rules_files.specs.declared.Fault.TheVariants.{BadBlock}
-use Rattle.rules_files.specs.declared.Loaded.{Loaded}
-use Rattle.rules_files.specs.declared.Loaded.TheVariants as loaded
 use Rattle.rules_files.specs.Blocks.{block_bytes, blocks_for, sound_from}
 use Rattle.rules_files.specs.Files.{row_bytes, said_bytes, form_number, said, count_said, length_said, row_words_in, ending_in, read_told}
 use Rattle.rules_forms.specs.declared.Form.{Form}
 use Rattle.rules_forms.specs.declared.Form.TheVariants.{Full, Short}
 use Rattle.rules_forms.specs.Short.{short_number, short_bytes, short_said_bytes, short_said, shortened, short_words_in, placed, on_one_line, short_ending}
 use Rattle.rules_forms.specs.Forms.{is_short}
+use Rattle.rules_files.specs.declared.Fault.{Fault}
+use Rattle.rules.specs.declared.Ending.{Ending}
 
 abbrev pub number_of : Form → ℕ
 number_of Full = form_number
@@ -47,7 +46,7 @@ abbrev pub row_words_of : Form → List ℕ → List ℕ
 row_words_of Full file = row_words_in file
 row_words_of Short file = placed on_one_line (count_said file) (short_words_in file)
 
-abbrev pub ending_of : Form → List ℕ → EndingRead
+abbrev pub ending_of : Form → List ℕ → Option Ending
 ending_of Full file = ending_in file
 ending_of Short file = short_ending on_one_line file
 
@@ -56,7 +55,7 @@ unfoldable pub sound_of : Form → List ℕ → ℕ
 sound_of form file = sound_from (row_bytes_of form) (blocks_for (row_bytes_of form) (count_said file)) 1 (count_said file) (drop block_bytes file)
 
 -- "41 for the first other bad block, 43, then 4"
-unfoldable pub blocks_in : Form → List ℕ → ℕ → Loaded
+unfoldable pub blocks_in : Form → List ℕ → ℕ → Result Table Fault
 blocks_in form file room =
-    cond (ltb (sound_of form file) (blocks_for (row_bytes_of form) (count_said file))) (loaded.Refused (BadBlock (1 + sound_of form file)))
+    cond (ltb (sound_of form file) (blocks_for (row_bytes_of form) (count_said file))) (Err (BadBlock (1 + sound_of form file)))
     (read_told (row_words_of form file) room (count_said file) (length_said file) (ending_of form file))

@@ -1,5 +1,5 @@
 -- Files of form 2: what block 0 says, rows without line and column, a table into such a file, and the order in which such a file is judged.
-use Rattle.std.specs.Prelude.{Bool, cond, not, List, [], ◌∷◌, ◌++◌, ℕ, zero, suc, ◌+◌, ◌*◌, ◌/◌, min, length, take, drop, get_or, eqb, ltb}
+use Rattle.std.specs.Prelude.{Bool, cond, not, List, [], ◌∷◌, ◌++◌, ℕ, zero, suc, ◌+◌, ◌*◌, ◌/◌, min, length, take, drop, get_or, eqb, ltb, Result, Err, Option}
 use Rattle.rules.specs.declared.Cursor.{Cursor}
 use Rattle.rules.specs.declared.Ending.{Ending}
 use Rattle.rules.specs.declared.Ending.TheVariants as ending
@@ -8,12 +8,10 @@ use Rattle.rules.specs.Text.{most_bytes, place}
 use Rattle.rules.specs.Rows.{Row, words_per_row, row_in}
 use Rattle.rules.specs.Refusals.{lexical_number}
 use Rattle.rules_files.specs.declared.Fault.TheVariants.{BadBlock, WrongLength}
-use Rattle.rules_files.specs.declared.EndingRead.{EndingRead}
-use Rattle.rules_files.specs.declared.Loaded.{Loaded}
-use Rattle.rules_files.specs.declared.Loaded.TheVariants as loaded
 use Rattle.rules_files.specs.Bytes.{bytes_of, words_in, word_bytes}
 use Rattle.rules_files.specs.Blocks.{block_bytes, per_block, blocks_for, file_length, file_of, sound, sound_from, body_from}
 use Rattle.rules_files.specs.Files.{said_at, count_said, length_said, read_refused, read_ending, read_told}
+use Rattle.rules_files.specs.declared.Fault.{Fault}
 
 -- ---- numbers
 
@@ -81,7 +79,7 @@ short_encode ws t = file_of short_bytes (bytes_of (short_said t)) t.count (bytes
 -- ---- a file into a table
 
 -- the ending that block 0 tells, at the place that its offset has; none has number 0 and offset 0
-unfoldable pub short_ending : (ℕ → Cursor) → List ℕ → EndingRead
+unfoldable pub short_ending : (ℕ → Cursor) → List ℕ → Option Ending
 short_ending at file =
     cond (eqb (said_at 3 file) 0) (read_ending 0 (place (said_at 4 file) 0 0)) (read_refused (said_at 3 file) (at (said_at 4 file)))
 
@@ -95,20 +93,20 @@ unfoldable pub short_sound_in : List ℕ → ℕ
 short_sound_in file = sound_from short_bytes (blocks_for short_bytes (count_said file)) 1 (count_said file) (drop block_bytes file)
 
 -- 43, of a table whose lines and columns are not there: they are those of a text of one line. There is room for all rows.
-unfoldable pub short_table : List ℕ → Loaded
+unfoldable pub short_table : List ℕ → Result Table Fault
 short_table file =
     read_told (placed on_one_line (count_said file) (short_words_in file)) (count_said file) (count_said file) (length_said file)
     (short_ending on_one_line file)
 
 -- "42, 41 for the first other bad block" in front of it
-unfoldable pub short_blocks : List ℕ → Loaded
+unfoldable pub short_blocks : List ℕ → Result Table Fault
 short_blocks file =
-    cond (not (eqb (length file) (file_length short_bytes (count_said file)))) (loaded.Refused WrongLength)
-    (cond (ltb (short_sound_in file) (blocks_for short_bytes (count_said file))) (loaded.Refused (BadBlock (1 + short_sound_in file)))
+    cond (not (eqb (length file) (file_length short_bytes (count_said file)))) (Err WrongLength)
+    (cond (ltb (short_sound_in file) (blocks_for short_bytes (count_said file))) (Err (BadBlock (1 + short_sound_in file)))
     (short_table file))
 
 -- "42 for under 512, 41 for block 0" in front of that; what block 0 does not say is filler, which begins at byte 24
-unfoldable pub short_judged : List ℕ → Loaded
+unfoldable pub short_judged : List ℕ → Result Table Fault
 short_judged file =
-    cond (ltb (length file) block_bytes) (loaded.Refused WrongLength)
-    (cond (not (sound 0 0 short_said_bytes (take block_bytes file))) (loaded.Refused (BadBlock 0)) (short_blocks file))
+    cond (ltb (length file) block_bytes) (Err WrongLength)
+    (cond (not (sound 0 0 short_said_bytes (take block_bytes file))) (Err (BadBlock 0)) (short_blocks file))

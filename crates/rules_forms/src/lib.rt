@@ -1,7 +1,9 @@
 // The plain data that the definitions and the code of both stored forms share: what a call with the text at hand tells, and the names of numbers.
+ghost use Rattle.std.specs.Prelude.{◌≡◌};
+ghost use Rattle.rules_forms.specs.declared.Apart.TheVariants.{File};
+
 pub mod short;
 
-use rules::Table;
 use rules_files::Fault;
 
 // The two forms: rows of eight words, or of six without line and column.
@@ -18,16 +20,11 @@ pub enum Apart {
     OtherText,
 }
 
-// What a reading beside the text tells: the rows are written and this stands beside them, or why nothing is.
-#[derive(Clone, Copy)]
-pub enum Beside {
-    Rows(Table),
-    Refused(Apart),
-}
+// What is wrong with a file itself is told as it is.
+impl From<Fault> for Apart {
+    ghost from_gives = { λ why r. r ≡ File why };
 
-// What a move tells: so many bytes are written, or why none is.
-#[derive(Clone, Copy)]
-pub enum Moved {
-    Bytes(u32),
-    Refused(Apart),
+    fn from(why: Fault) -> Apart {
+        Apart::File(why)
+    }
 }

@@ -1,6 +1,6 @@
 -- Worked cases: the files of a small text in both forms byte by byte, and what a mending tells and leaves where an easy misreading
 -- would do another thing. Each table is under one theorem that the checker computes.
-use Rattle.std.specs.Prelude.{◌≡◌, refl, true, List, [], ◌∷◌, ◌++◌, map, ℕ, length, set, replicate, ltb}
+use Rattle.std.specs.Prelude.{◌≡◌, refl, true, List, [], ◌∷◌, ◌++◌, map, ℕ, length, set, replicate, ltb, Result, Ok, Err}
 use Rattle.rules.specs.declared.Cursor.{Cursor}
 use Rattle.rules.specs.declared.Outer.TheVariants.{TextTooLong, BadByte, NoRowRoom}
 use Rattle.rules.specs.Text
@@ -17,10 +17,10 @@ use Rattle.rules_files.specs.Files
 use Rattle.rules_files.specs.Cases.{changed, bare_file}
 use Rattle.rules_forms.specs.Short
 use Rattle.rules_forms.specs.Forms
-use Rattle.rules_mend.specs.declared.Mended.{Mended}
-use Rattle.rules_mend.specs.declared.Mended.TheVariants as mended
 use Rattle.rules_mend.specs.Mend
 use Rattle.rules_mend.specs.Mend.{fresh_file, fresh_told, mend_told, mend_leaves, list_leaves}
+use Rattle.rules_mend.specs.declared.Mended.{Mended}
+use Rattle.rules_mend.specs.declared.NotMended.{NotMended}
 
 -- ---- the files that a fresh scan stores
 
@@ -64,7 +64,7 @@ files = refl
 
 -- what a mending tells, and how it leaves lent memory and the lent list
 pub record Does : Type 0 where
-  pub told : Mended
+  pub told : Result Mended NotMended
   pub memory : List ℕ
   pub list : List ℕ
 
@@ -88,7 +88,7 @@ refused t form memory n list why p = record {
   memory = memory;
   n = n;
   list = list;
-  done = record { told = mended.Refused why p; memory = memory; list = list };
+  done = record { told = Err (record { why = why; at = p }); memory = memory; list = list };
 }
 
 -- a text's file of a form, in memory whose bytes behind it are tail, with blocks listed in front of the rest of a list
@@ -99,7 +99,7 @@ mends t form memory n list file tail found rest = record {
   memory = memory;
   n = n;
   list = list;
-  done = record { told = mended.Blocks (length file) (length found); memory = file ++ tail; list = found ++ rest };
+  done = record { told = Ok (record { bytes = length file; listed = length found }); memory = file ++ tail; list = found ++ rest };
 }
 
 abbrev pub nines : List ℕ
@@ -153,17 +153,17 @@ right = refl
 -- ---- the order, where no text is small enough to be computed
 
 -- a form that there is not is told before 1, of every text
-pub form_first : (t memory : List ℕ) (n : ℕ) (list : List ℕ) → mend_told t 0 memory n list ≡ mended.Refused OtherForm start_place
+pub form_first : (t memory : List ℕ) (n : ℕ) (list : List ℕ) → mend_told t 0 memory n list ≡ Err (record { why = OtherForm; at = start_place })
 unfolding Mend.mend_told
 form_first t memory n list = refl
 
 -- 1 before 4
 pub long_first : (t memory : List ℕ) (n : ℕ) (list : List ℕ) → ltb most_bytes (length t) ≡ true
-    → mend_told t 1 memory n list ≡ mended.Refused (Outer TextTooLong) start_place
+    → mend_told t 1 memory n list ≡ Err (record { why = Outer TextTooLong; at = start_place })
 unfolding Mend.mend_told Text.text_judged
 long_first t memory n list e = rw e
 
 -- 40 before 4: one row too many, and neither memory nor list
-pub many_first : fresh_told (replicate 512 0) 65536 [] 1 [] ≡ mended.Refused TooManyRows start_place
+pub many_first : fresh_told (replicate 512 0) 65536 [] 1 [] ≡ Err (record { why = TooManyRows; at = start_place })
 unfolding Kinds.same_bytes Mend.differing Mend.surplus Mend.listed Mend.too_small Mend.fresh_told
 many_first = refl

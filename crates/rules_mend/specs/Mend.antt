@@ -1,5 +1,5 @@
 -- Mending: what a fresh scan stores, which blocks differ from it, what the call tells, and what it leaves in lent memory and the lent list.
-use Rattle.std.specs.Prelude.{Bool, cond, not, ◌||◌, List, [], ◌∷◌, ◌++◌, ℕ, zero, suc, ◌/◌, length, take, drop, ltb}
+use Rattle.std.specs.Prelude.{Bool, cond, not, ◌||◌, List, [], ◌∷◌, ◌++◌, ℕ, zero, suc, ◌/◌, length, take, drop, ltb, Result, Ok, Err}
 use Rattle.rules.specs.declared.Judged.TheVariants as verdict
 use Rattle.rules.specs.declared.Outer.TheVariants.{NoRowRoom}
 use Rattle.rules.specs.declared.Table.{Table}
@@ -12,7 +12,7 @@ use Rattle.rules_files.specs.Blocks.{block_bytes}
 use Rattle.rules_files.specs.Files.{most_rows}
 use Rattle.rules_forms.specs.Forms.{is_form, encode_in}
 use Rattle.rules_mend.specs.declared.Mended.{Mended}
-use Rattle.rules_mend.specs.declared.Mended.TheVariants as mended
+use Rattle.rules_mend.specs.declared.NotMended.{NotMended}
 
 -- ---- "what a fresh scan stores"
 
@@ -52,19 +52,19 @@ too_small fresh memory n list =
     ltb (length memory) (length fresh) || (ltb (length memory) n || ltb (length list) (length (listed fresh (take n memory))))
 
 -- "40, then 4"
-unfoldable pub fresh_told : List ℕ → ℕ → List ℕ → ℕ → List ℕ → Mended
+unfoldable pub fresh_told : List ℕ → ℕ → List ℕ → ℕ → List ℕ → Result Mended NotMended
 fresh_told fresh count memory n list =
-    cond (ltb most_rows count) (mended.Refused TooManyRows start_place)
-    (cond (too_small fresh memory n list) (mended.Refused (Outer NoRowRoom) start_place)
-    (mended.Blocks (length fresh) (length (listed fresh (take n memory)))))
+    cond (ltb most_rows count) (Err (record { why = TooManyRows; at = start_place }))
+    (cond (too_small fresh memory n list) (Err (record { why = Outer NoRowRoom; at = start_place }))
+    (Ok (record { bytes = length fresh; listed = length (listed fresh (take n memory)) })))
 
 -- "44 if another form is asked for, 1, 2" in front of it
-unfoldable pub mend_told : List ℕ → ℕ → List ℕ → ℕ → List ℕ → Mended
+unfoldable pub mend_told : List ℕ → ℕ → List ℕ → ℕ → List ℕ → Result Mended NotMended
 mend_told text form memory n list =
-    cond (not (is_form form)) (mended.Refused OtherForm start_place)
+    cond (not (is_form form)) (Err (record { why = OtherForm; at = start_place }))
     (elim (text_judged text) [
       | verdict.Fine ↦ fresh_told (fresh_file form text) (fresh_table text).count memory n list
-      | verdict.Refused why p ↦ mended.Refused (Outer why) p
+      | verdict.Refused why p ↦ Err (record { why = Outer why; at = p })
     ])
 
 -- ---- what it leaves
@@ -73,14 +73,14 @@ mend_told text form memory n list =
 unfoldable pub mend_leaves : List ℕ → ℕ → List ℕ → ℕ → List ℕ → List ℕ
 mend_leaves text form memory n list =
     elim (mend_told text form memory n list) [
-      | mended.Blocks size count ↦ fresh_file form text ++ drop size memory
-      | mended.Refused why p ↦ memory
+      | Ok done ↦ fresh_file form text ++ drop done.bytes memory
+      | Err why ↦ memory
     ]
 
 -- the blocks that differed, and then what was there
 unfoldable pub list_leaves : List ℕ → ℕ → List ℕ → ℕ → List ℕ → List ℕ
 list_leaves text form memory n list =
     elim (mend_told text form memory n list) [
-      | mended.Blocks size count ↦ listed (fresh_file form text) (take n memory) ++ drop count list
-      | mended.Refused why p ↦ list
+      | Ok done ↦ listed (fresh_file form text) (take n memory) ++ drop done.listed list
+      | Err why ↦ list
     ]

@@ -2,9 +2,16 @@
 use rules::Cursor;
 use rules_files::Fault;
 
-// So many bytes are the file now and so many blocks are listed, or why nothing is done, and where.
+// So many bytes are the file now, and so many blocks are listed.
 #[derive(Clone, Copy)]
-pub enum Mended {
-    Blocks(u32, u32),
-    Refused(Fault, Cursor),
+pub struct Mended {
+    pub bytes: u32,
+    pub listed: u32,
+}
+
+// Why nothing is mended, and where.
+#[derive(Clone, Copy)]
+pub struct NotMended {
+    pub why: Fault,
+    pub at: Cursor,
 }

@@ -14,10 +14,6 @@ use Rattle.rules.specs.declared.Told.TheVariants.{Rows}
 use Rattle.rules.specs.Scan.{room_of}
 use Rattle.rules_files.specs.declared.Fault.{Fault}
 use Rattle.rules_files.specs.declared.Fault.TheVariants as fault
-use Rattle.rules_files.specs.declared.Stored.{Stored}
-use Rattle.rules_files.specs.declared.Stored.TheVariants as stored
-use Rattle.rules_files.specs.declared.Loaded.{Loaded}
-use Rattle.rules_files.specs.declared.Loaded.TheVariants as loaded
 use Rattle.rules_files.specs.Files.{fault_number, store_told, load_told, load_leaves}
 use Rattle.file_answers.specs.Layout.{stored_words, loaded_words}
 use Rattle.laws.specs.Bounds.{Bytes, Words}
@@ -29,6 +25,7 @@ use Rattle.spoonharbor.proofs.spoonharbor_store.Kinds as of_store
 use Rattle.spoonharbor.proofs.spoonharbor_store.Reads.{Post as StorePost}
 use Rattle.spoonharbor.proofs.spoonharbor_load.Kinds as of_load
 use Rattle.spoonharbor.proofs.spoonharbor_load.Reads.{Post as LoadPost}
+use Rattle.std.specs.Prelude.{Result, Ok, Err}
 
 -- ---- what the answer's number tells
 
@@ -48,43 +45,43 @@ fault_some fault.NoTable e = omega arith
 fault_some fault.OtherForm e = omega arith
 
 -- an answer of number 0 tells a file, of the length that stands in it
-bytes_told : (x : Stored) → get_or (stored_words x) 0 0 ≡ 0 → x ≡ stored.Bytes (get_or (stored_words x) 7 0)
-bytes_told (stored.Bytes n) e = refl
-bytes_told (stored.Refused why) e = absurd (fault_some why e)
+bytes_told : (x : Result ℕ Fault) → get_or (stored_words x) 0 0 ≡ 0 → x ≡ Ok (get_or (stored_words x) 7 0)
+bytes_told (Ok n) e = refl
+bytes_told (Err why) e = absurd (fault_some why e)
 
 -- an answer whose number is an ending's tells the table that is read from its words
-rows_told : (x : Loaded) → is_ending (get_or (loaded_words x) 0 0) ≡ true → x ≡ loaded.Rows (table_of (loaded_words x))
+rows_told : (x : Result Table Fault) → is_ending (get_or (loaded_words x) 0 0) ≡ true → x ≡ Ok (table_of (loaded_words x))
 unfolding is_ending
-rows_told (loaded.Rows t) e = ap (λ (u : Table). loaded.Rows u) (sym (told_table t))
-rows_told (loaded.Refused (fault.Outer outer.TextTooLong)) e = absurd (true≢false (sym e))
-rows_told (loaded.Refused (fault.Outer outer.BadByte)) e = absurd (true≢false (sym e))
-rows_told (loaded.Refused (fault.Outer outer.NotWellFormed)) e = absurd (true≢false (sym e))
-rows_told (loaded.Refused (fault.Outer outer.NoRowRoom)) e = absurd (true≢false (sym e))
-rows_told (loaded.Refused (fault.Outer outer.NoNodeRoom)) e = absurd (true≢false (sym e))
-rows_told (loaded.Refused (fault.Outer outer.EditNotSensible)) e = absurd (true≢false (sym e))
-rows_told (loaded.Refused (fault.Outer outer.WindowShort)) e = absurd (true≢false (sym e))
-rows_told (loaded.Refused fault.TooManyRows) e = absurd (true≢false (sym e))
-rows_told (loaded.Refused (fault.BadBlock k)) e = absurd (true≢false (sym e))
-rows_told (loaded.Refused fault.WrongLength) e = absurd (true≢false (sym e))
-rows_told (loaded.Refused fault.NoTable) e = absurd (true≢false (sym e))
-rows_told (loaded.Refused fault.OtherForm) e = absurd (true≢false (sym e))
+rows_told (Ok t) e = ap (λ (u : Table). Ok u) (sym (told_table t))
+rows_told (Err (fault.Outer outer.TextTooLong)) e = absurd (true≢false (sym e))
+rows_told (Err (fault.Outer outer.BadByte)) e = absurd (true≢false (sym e))
+rows_told (Err (fault.Outer outer.NotWellFormed)) e = absurd (true≢false (sym e))
+rows_told (Err (fault.Outer outer.NoRowRoom)) e = absurd (true≢false (sym e))
+rows_told (Err (fault.Outer outer.NoNodeRoom)) e = absurd (true≢false (sym e))
+rows_told (Err (fault.Outer outer.EditNotSensible)) e = absurd (true≢false (sym e))
+rows_told (Err (fault.Outer outer.WindowShort)) e = absurd (true≢false (sym e))
+rows_told (Err fault.TooManyRows) e = absurd (true≢false (sym e))
+rows_told (Err (fault.BadBlock k)) e = absurd (true≢false (sym e))
+rows_told (Err fault.WrongLength) e = absurd (true≢false (sym e))
+rows_told (Err fault.NoTable) e = absurd (true≢false (sym e))
+rows_told (Err fault.OtherForm) e = absurd (true≢false (sym e))
 
 -- ---- the theorems
 
 -- What was stored is loaded: lent the file that `spoonharbor_store` wrote and room for its rows, `spoonharbor_load` gives back the table
 -- and the words of its rows. The rows are u32 words, so that each is below 2^32.
 module _ (ws table lent answer m : List ℕ) (g : OuterStored ws table lent answer m) (words : Words ws) where
-  pub is_file : store_told ws (table_of table) (length lent) ≡ stored.Bytes (get_or answer 7 0)
+  pub is_file : store_told ws (table_of table) (length lent) ≡ Ok (get_or answer 7 0)
   is_file =
       let z = ap (λ (l : List ℕ). get_or l 0 0) (sym g.told) ∙ g.stored in
       rw g.told (bytes_told (store_told ws (table_of table) (length lent)) z)
 
   module _ (new : List ℕ) (room : (table_of table).count ≤ room_of new) where
-    is_read : load_told (file_of answer m) (room_of new) ≡ loaded.Rows (table_of table)
+    is_read : load_told (file_of answer m) (room_of new) ≡ Ok (table_of table)
     is_read = rw g.left (stored_loaded ws (table_of table) lent (get_or answer 7 0) is_file words (room_of new) room)
 
     says : loaded_words (load_told (file_of answer m) (room_of new)) ≡ told_words (Rows (table_of table))
-    says = ap (λ (x : Loaded). loaded_words x) is_read
+    says = ap (λ (x : Result Table Fault). loaded_words x) is_read
 
     pub outer_stored_loaded :
         OuterBack ws table new (loaded_words (load_told (file_of answer m) (room_of new))) (load_leaves (file_of answer m) new)

@@ -10,13 +10,7 @@ use denote.Triple.Clauses.{AtExit}
 use Rattle.rules.specs.Scan.{room_of, scan_told}
 use Rattle.rules_files.specs.Files.{form_said}
 use Rattle.rules_forms.specs.declared.Apart.TheVariants.{File, OtherText}
-use Rattle.rules_forms.specs.declared.Beside.{Beside}
-use Rattle.rules_forms.specs.declared.Beside.TheVariants as beside
-use Rattle.rules_forms.specs.declared.Moved.{Moved}
-use Rattle.rules_forms.specs.declared.Moved.TheVariants as moved
 use Rattle.rules_forms.specs.Forms.{beside_told, beside_leaves, move_told, move_leaves}
-use Rattle.rules_mend.specs.declared.Mended.{Mended}
-use Rattle.rules_mend.specs.declared.Mended.TheVariants as mended
 use Rattle.rules_mend.specs.Mend.{fresh_table, mend_told}
 use Rattle.answers.specs.Layout.{told_words}
 use Rattle.file_answers.specs.Layout.{beside_words, moved_words, mended_words}
@@ -34,17 +28,21 @@ use Rattle.spoonharbor.proofs.spoonharbor_move.Kinds as of_move
 use Rattle.spoonharbor.proofs.spoonharbor_move.Reads.{Post as MovePost}
 use Rattle.spoonharbor.proofs.spoonharbor_mend.Kinds as of_mend
 use Rattle.spoonharbor.proofs.spoonharbor_mend.Reads.{Post as MendPost}
+use Rattle.rules_forms.specs.declared.Apart.{Apart}
+use Rattle.std.specs.Prelude.{Result, Ok, Err}
+use Rattle.rules_mend.specs.declared.Mended.{Mended}
+use Rattle.rules_mend.specs.declared.NotMended.{NotMended}
 
 -- ---- what the answer's number tells
 
-moved_told : (x : Moved) → get_or (moved_words x) 0 0 ≡ 0 → x ≡ moved.Bytes (get_or (moved_words x) 7 0)
-moved_told (moved.Bytes n) e = refl
-moved_told (moved.Refused (File why)) e = absurd (fault_some why e)
-moved_told (moved.Refused OtherText) e = absurd (omega arith)
+moved_told : (x : Result ℕ Apart) → get_or (moved_words x) 0 0 ≡ 0 → x ≡ Ok (get_or (moved_words x) 7 0)
+moved_told (Ok n) e = refl
+moved_told (Err (File why)) e = absurd (fault_some why e)
+moved_told (Err OtherText) e = absurd (omega arith)
 
-mended_told : (x : Mended) → get_or (mended_words x) 0 0 ≡ 0 → x ≡ mended.Blocks (get_or (mended_words x) 7 0) (get_or (mended_words x) 6 0)
-mended_told (mended.Blocks n count) e = refl
-mended_told (mended.Refused why p) e = absurd (fault_some why e)
+mended_told : (x : Result Mended NotMended) → get_or (mended_words x) 0 0 ≡ 0 → x ≡ Ok (record { bytes = get_or (mended_words x) 7 0; listed = get_or (mended_words x) 6 0 })
+mended_told (Ok done) e = refl
+mended_told (Err refused) e = absurd (fault_some refused.why e)
 
 -- ---- moved files. The file is bytes.
 

@@ -8,8 +8,6 @@ use contract.Lifetimes.{Lfts}
 use borrow.Fn.Kinds.{Dens, ended_of}
 use denote.Triple.Clauses.{AtExit}
 use Rattle.rules_files.specs.Blocks.{block_bytes}
-use Rattle.rules_mend.specs.declared.Mended.{Mended}
-use Rattle.rules_mend.specs.declared.Mended.TheVariants as mended
 use Rattle.rules_mend.specs.Mend.{mend_told}
 use Rattle.file_answers.specs.Layout.{mended_words}
 use Rattle.theory_mend.specs.Mended.{IsMended}
@@ -17,12 +15,15 @@ use Rattle.theory_mend.proofs.Mended.{mended_few, room_enough}
 use Rattle.spoonharbor.specs.OuterMend.{OuterListed, OuterRoom}
 use Rattle.spoonharbor.proofs.spoonharbor_mend.Kinds as of_mend
 use Rattle.spoonharbor.proofs.spoonharbor_mend.Reads.{Post as MendPost}
+use Rattle.rules_mend.specs.declared.Mended.{Mended}
+use Rattle.rules_mend.specs.declared.NotMended.{NotMended}
+use Rattle.std.specs.Prelude.{Result, Ok, Err}
 
 -- a refused call lists none
-listed_few : (text : List ℕ) (form : ℕ) (memory : List ℕ) (n : ℕ) (list : List ℕ) (x : Mended) → mend_told text form memory n list ≡ x
+listed_few : (text : List ℕ) (form : ℕ) (memory : List ℕ) (n : ℕ) (list : List ℕ) (x : Result Mended NotMended) → mend_told text form memory n list ≡ x
     → get_or (mended_words x) 6 0 ≤ get_or (mended_words x) 7 0 / block_bytes + 1
-listed_few text form memory n list (mended.Blocks size count) e = mended_few text form memory n list size count (record { told = e })
-listed_few text form memory n list (mended.Refused why p) e = omega arith
+listed_few text form memory n list (Ok done) e = mended_few text form memory n list done.bytes done.listed (record { told = e })
+listed_few text form memory n list (Err refused) e = omega arith
 
 module _ (κs : Lfts 4) (a : Dens κs of_mend.ps) (r : Unit {0}) (e : AtExit (ended_of 4 of_mend.ps of_mend.r) κs) where
   -- Any call lists at most a block for each 512 bytes of the file that it tells, and one more.
@@ -38,4 +39,4 @@ module _ (κs : Lfts 4) (a : Dens κs of_mend.ps) (r : Unit {0}) (e : AtExit (en
   outer_mend_room p g =
       let m = room_enough a.0.now a.1.0 a.1.1.0.now a.1.1.1.0 a.1.1.1.1.0.now
       g.known g.fine g.few g.room in
-      ap (λ (l : List ℕ). get_or l 0 0) p.0 ∙ ap (λ (x : Mended). get_or (mended_words x) 0 0) m.told
+      ap (λ (l : List ℕ). get_or l 0 0) p.0 ∙ ap (λ (x : Result Mended NotMended). get_or (mended_words x) 0 0) m.told

@@ -1,10 +1,9 @@
 -- Stored tables in words: what the outer face's load gives back of what its store wrote, and what a load lends on.
-use Rattle.std.specs.Prelude.{ℕ, ◌*◌, ◌/◌, true, List, ◌++◌, ◌≡◌, length, take, drop, get_or}
+use Rattle.std.specs.Prelude.{ℕ, ◌*◌, ◌/◌, true, List, ◌++◌, ◌≡◌, length, take, drop, get_or, Ok}
 use Rattle.rules.specs.declared.Table.{Table}
 use Rattle.rules.specs.declared.Told.TheVariants.{Rows}
 use Rattle.rules.specs.Rows.{well_formed}
 use Rattle.rules.specs.Scan.{room_of}
-use Rattle.rules_files.specs.declared.Loaded.TheVariants as loaded
 use Rattle.rules_files.specs.Blocks.{block_bytes}
 use Rattle.rules_files.specs.Files.{store_told, store_leaves, load_told}
 use Rattle.file_answers.specs.Layout.{stored_words}
@@ -36,5 +35,5 @@ pub record OuterBack (ws table new answer rows : List ℕ) : Type 0 where
 -- `spoonharbor_load` of a file, lent the words `new`, told `answer` and left `rows`: lent on as the table, the answer's words are the
 -- table that was read, and with the rows that were left it is well formed.
 pub record OuterLends (file new answer rows : List ℕ) : Type 0 where
-  pub told : load_told file (room_of new) ≡ loaded.Rows (table_of answer)
+  pub told : load_told file (room_of new) ≡ Ok (table_of answer)
   pub well : well_formed rows (table_of answer) ≡ true

@@ -24,11 +24,7 @@ use Rattle.refusals.proofs.Back.{number_some, number_most}
 use Rattle.rules_files.specs.declared.Fault.{Fault}
 use Rattle.rules_files.specs.declared.Fault.TheVariants.{Outer, TooManyRows, BadBlock}
 use Rattle.rules.specs.declared.Outer.TheVariants.{NotWellFormed, NoRowRoom}
-use Rattle.rules_files.specs.declared.Stored.{Stored}
-use Rattle.rules_files.specs.declared.Stored.TheVariants as stored
-use Rattle.rules_files.specs.declared.Loaded.TheVariants as loaded
 use Rattle.rules_files.specs.Blocks.{file_length, block_bytes}
-use Rattle.rules_files.specs.declared.EndingRead.TheVariants.{Ends}
 use Rattle.rules_files.specs.Files.{most_rows, row_bytes, form_number, said_at, said, ending_said, read_ending, ending_in, count_said}
 use Rattle.rules_files.specs.Files.{length_said, form_said, row_words_in, rows_told, load_told, load_leaves, store_told, store_leaves, encode}
 use Rattle.rules_files.specs.Bytes.{bytes_of}
@@ -40,6 +36,8 @@ use Rattle.theory_files.proofs.Told.{told_rows, told_table, told_full, changed_b
 use Rattle.theory_files.proofs.Said.{long_fits, Framed, framed_whole, whole_framed, framed_told, load_tests, Reads, reads_of}
 use Rattle.theory_files.proofs.Said.{said_words, said_front, refused_back, ending_said_lem}
 use Rattle.theory_files.proofs.Numbers.{bytes_length}
+use Rattle.std.specs.Prelude as option
+use Rattle.std.specs.Prelude.{Result, Ok, Err}
 
 -- ---- the rows of a table are its first words
 
@@ -174,9 +172,9 @@ module _ (ws : List ℕ) (t : Table) (well : well_formed ws t ≡ true) (few : t
 
   -- ---- what was written is read
 
-  module _ (e : Ending) (back : read_ending (get_or (said t) 3 0) (place (get_or (said t) 4 0) (get_or (said t) 5 0) (get_or (said t) 6 0)) ≡ Ends e)
+  module _ (e : Ending) (back : read_ending (get_or (said t) 3 0) (place (get_or (said t) 4 0) (get_or (said t) 5 0) (get_or (said t) 6 0)) ≡ option.Some e)
       (room : ℕ) where
-    ending_is : ending_in (encode ws t) ≡ Ends e
+    ending_is : ending_in (encode ws t) ≡ option.Some e
     unfolding ending_in
     ending_is = rw (said_is 3 (omega arith), said_is 4 (omega arith), said_is 5 (omega arith), said_is 6 (omega arith)) back
 
@@ -190,19 +188,19 @@ module _ (ws : List ℕ) (t : Table) (well : well_formed ws t ≡ true) (few : t
 
 -- the words that say an ending are read as that ending, since each reason has a number of its own
 pub ending_back : (e : Ending)
-    → read_ending (get_or (ending_said e) 0 0) (place (get_or (ending_said e) 1 0) (get_or (ending_said e) 2 0) (get_or (ending_said e) 3 0)) ≡ Ends e
+    → read_ending (get_or (ending_said e) 0 0) (place (get_or (ending_said e) 1 0) (get_or (ending_said e) 2 0) (get_or (ending_said e) 3 0)) ≡ option.Some e
 unfolding read_ending
 ending_back None = refl
 ending_back (Refused why p) = rw (number_some why) (refused_back why p)
 
 -- Reading what was written gives back exactly the table, in room for its rows, and every row's words.
 module _ (ws : List ℕ) (t : Table) (well : well_formed ws t ≡ true) (few : t.count ≤ most_rows) (words : Words ws) where
-  pub stored_read : (room : ℕ) → t.count ≤ room → load_told (encode ws t) room ≡ loaded.Rows t
+  pub stored_read : (room : ℕ) → t.count ≤ room → load_told (encode ws t) room ≡ Ok t
   stored_read room h =
       written_told ws t well few words t.ending (ending_back t.ending) room
       ∙ told_table (take (words_per_row * t.count) ws) room t few (well_take ws t well) h
 
-  pub stored_full : (room : ℕ) → room < t.count → load_told (encode ws t) room ≡ loaded.Refused (Outer NoRowRoom)
+  pub stored_full : (room : ℕ) → room < t.count → load_told (encode ws t) room ≡ Err (Outer NoRowRoom)
   stored_full room h =
       written_told ws t well few words t.ending (ending_back t.ending) room
       ∙ told_full (take (words_per_row * t.count) ws) room t few (well_take ws t well) h
@@ -214,7 +212,7 @@ module _ (ws : List ℕ) (t : Table) (well : well_formed ws t ≡ true) (few : t
 
 -- ---- what is read is what its table writes
 
-module _ (file : List ℕ) (bytes : Bytes file) (room : ℕ) (t : Table) (told : load_told file room ≡ loaded.Rows t) where
+module _ (file : List ℕ) (bytes : Bytes file) (room : ℕ) (t : Table) (told : load_told file room ≡ Ok t) where
   is_read : Reads file room t
   is_read = reads_of file room t told
 
@@ -252,7 +250,7 @@ module _ (file : List ℕ) (bytes : Bytes file) (f : Framed file) (i v : ℕ) (h
   said_same g j k = said_front (set file i v) file (take-set-le block_bytes file i v g) j k
 
   -- any one changed byte is 41, with its block
-  pub changed_told : load_told (set file i v) room ≡ loaded.Refused (BadBlock (i / block_bytes))
+  pub changed_told : load_told (set file i v) room ≡ Err (BadBlock (i / block_bytes))
   changed_told =
       let g : List ℕ = set file i v in
       load_tests g room
@@ -262,29 +260,29 @@ module _ (file : List ℕ) (bytes : Bytes file) (f : Framed file) (i v : ℕ) (h
 -- of a file that was written, whatever its ending
 pub stored_changed : (ws : List ℕ) (t : Table) → well_formed ws t ≡ true → t.count ≤ most_rows → Words ws
     → (i v : ℕ) → i < length (encode ws t) → v < 256 → (get_or (encode ws t) i 0 ≡ v → ⊥) → (room : ℕ)
-    → load_told (set (encode ws t) i v) room ≡ loaded.Refused (BadBlock (i / block_bytes))
+    → load_told (set (encode ws t) i v) room ≡ Err (BadBlock (i / block_bytes))
 stored_changed ws t well few words i v h l ne room =
     changed_told (encode ws t) (encode_bytes ws t well few words) (encode_framed ws t well few words) i v h l ne room
 
 -- ---- lent memory
 
 -- what is written is the file, and a refused call writes nothing
-pub store_written : (ws : List ℕ) (t : Table) (file : List ℕ) (n : ℕ) → store_told ws t (length file) ≡ stored.Bytes n
+pub store_written : (ws : List ℕ) (t : Table) (file : List ℕ) (n : ℕ) → store_told ws t (length file) ≡ Ok n
     → store_leaves ws t file ≡ encode ws t ++ drop n file
 unfolding store_leaves
 store_written ws t file n e = rw (store_leaves, e)
 
-pub store_untouched : (ws : List ℕ) (t : Table) (file : List ℕ) (why : Fault) → store_told ws t (length file) ≡ stored.Refused why
+pub store_untouched : (ws : List ℕ) (t : Table) (file : List ℕ) (why : Fault) → store_told ws t (length file) ≡ Err why
     → store_leaves ws t file ≡ file
 unfolding store_leaves
 store_untouched ws t file why e = rw (store_leaves, e)
 
-pub load_written : (file ws : List ℕ) (t : Table) → load_told file (room_of ws) ≡ loaded.Rows t
+pub load_written : (file ws : List ℕ) (t : Table) → load_told file (room_of ws) ≡ Ok t
     → load_leaves file ws ≡ row_words_in file ++ drop (words_per_row * t.count) ws
 unfolding load_leaves
 load_written file ws t e = rw (load_leaves, e)
 
-pub load_untouched : (file ws : List ℕ) (why : Fault) → load_told file (room_of ws) ≡ loaded.Refused why → load_leaves file ws ≡ ws
+pub load_untouched : (file ws : List ℕ) (why : Fault) → load_told file (room_of ws) ≡ Err why → load_leaves file ws ≡ ws
 unfolding load_leaves
 load_untouched file ws why e = rw (load_leaves, e)
 
@@ -296,27 +294,27 @@ pub record IsStored (ws : List ℕ) (t : Table) (n : ℕ) : Type 0 where
   pub few : t.count ≤ most_rows
   pub size : file_length row_bytes t.count ≡ n
 
-stored_past : (b : Bool) (why : Fault) (y : Stored) (n : ℕ) → cond b (stored.Refused why) y ≡ stored.Bytes n
-    → (b ≡ false) × (y ≡ stored.Bytes n)
+stored_past : (b : Bool) (why : Fault) (y : Result ℕ Fault) (n : ℕ) → cond b (Err why) y ≡ Ok n
+    → (b ≡ false) × (y ≡ Ok n)
 stored_past true why y n e = absurd (let z : ◌≡◌ {A = ℕ} 0 1 = cc in omega arith)
 stored_past false why y n e = (refl, e)
 
-pub stored_of : (ws : List ℕ) (t : Table) (room n : ℕ) → store_told ws t room ≡ stored.Bytes n → IsStored ws t n
+pub stored_of : (ws : List ℕ) (t : Table) (room n : ℕ) → store_told ws t room ≡ Ok n → IsStored ws t n
 unfolding store_told
 stored_of ws t room n e =
     let size = file_length row_bytes t.count in
-    let last = cond (ltb room size) (stored.Refused (Outer NoRowRoom)) (stored.Bytes size) in
+    let last = cond (ltb room size) (Err (Outer NoRowRoom)) (Ok size) in
     let a =
-    stored_past (not (well_formed ws t)) (Outer NotWellFormed) (cond (ltb most_rows t.count) (stored.Refused TooManyRows) last) n e in
+    stored_past (not (well_formed ws t)) (Outer NotWellFormed) (cond (ltb most_rows t.count) (Err TooManyRows) last) n e in
     let b = stored_past (ltb most_rows t.count) TooManyRows last n a.1 in
-    let c = stored_past (ltb room size) (Outer NoRowRoom) (stored.Bytes size) n b.1 in
+    let c = stored_past (ltb room size) (Outer NoRowRoom) (Ok size) n b.1 in
     record { well = not-false (well_formed ws t) a.0; few = ltb-false most_rows t.count b.0; size = bytes_same c.1 }
   where
-    bytes_same : stored.Bytes (file_length row_bytes t.count) ≡ stored.Bytes n → file_length row_bytes t.count ≡ n
+    bytes_same : ◌≡◌ {A = Result ℕ Fault} (Ok (file_length row_bytes t.count)) (Ok n) → file_length row_bytes t.count ≡ n
     bytes_same q = cc
 
 -- What a writer leaves, as many bytes as it tells, is the table's file, and reads as the table that was written and its rows.
-module _ (ws : List ℕ) (t : Table) (file : List ℕ) (n : ℕ) (e : store_told ws t (length file) ≡ stored.Bytes n) (words : Words ws) where
+module _ (ws : List ℕ) (t : Table) (file : List ℕ) (n : ℕ) (e : store_told ws t (length file) ≡ Ok n) (words : Words ws) where
   is_stored : IsStored ws t n
   is_stored = stored_of ws t (length file) n e
 
@@ -325,7 +323,7 @@ module _ (ws : List ℕ) (t : Table) (file : List ℕ) (n : ℕ) (e : store_told
       let l : length (encode ws t) ≡ n = encode_length ws t ∙ is_stored.size in
       rw (store_written ws t file n e, take_at (encode ws t) (drop n file) n l)
 
-  pub stored_loaded : (room : ℕ) → t.count ≤ room → load_told (take n (store_leaves ws t file)) room ≡ loaded.Rows t
+  pub stored_loaded : (room : ℕ) → t.count ≤ room → load_told (take n (store_leaves ws t file)) room ≡ Ok t
   stored_loaded room h = rw stored_file (stored_read ws t is_stored.well is_stored.few words room h)
 
   pub stored_left : (new : List ℕ) → t.count ≤ room_of new

@@ -18,17 +18,17 @@ use Rattle.rules.specs.Refusals.{lexical_number}
 use Rattle.refusals.specs.Back.{is_lexical, lexical_of}
 use Rattle.refusals.proofs.Back.{number_back, number_lexical, reason_again}
 use Rattle.rules_files.specs.declared.Fault.TheVariants.{BadBlock, WrongLength, OtherForm}
-use Rattle.rules_files.specs.declared.Loaded.{Loaded}
-use Rattle.rules_files.specs.declared.Loaded.TheVariants as loaded
 use Rattle.rules_files.specs.Bytes.{words_in}
 use Rattle.rules_files.specs.Blocks.{content_of, sound, blocks_for, file_length, block_bytes}
-use Rattle.rules_files.specs.declared.EndingRead.TheVariants.{Ends, Nothing}
 use Rattle.rules_files.specs.Files.{most_rows, row_bytes, form_number, said_at, ending_said, read_refused, read_ending, ending_in}
 use Rattle.rules_files.specs.Files.{count_said, length_said, form_said, row_words_in, sound_in, read_told, blocks_told, said_told, load_told}
 use Rattle.rules_files.specs.Files.{said_bytes}
 use Rattle.theory_files.specs.Whole.{Fits, Whole, sound_of, whole_told}
 use Rattle.theory_files.proofs.Whole.{content_said, said_kept}
 use Rattle.theory_files.proofs.Told.{told_whole, whole_told_lem, read_of}
+use Rattle.rules_files.specs.declared.Fault.{Fault}
+use Rattle.std.specs.Prelude as option
+use Rattle.std.specs.Prelude.{Result, Ok, Err}
 pub use Rattle.theory_files.proofs.Whole.{words_at}
 pub use Rattle.theory_files.proofs.Told.{passed, Last, last_of}
 pub use Rattle.theory_files.proofs.Told.{told_nothing, told_rows, told_many, told_unformed, told_full, told_table}
@@ -55,16 +55,16 @@ said_front = said_kept long_fits
 -- ---- the ending that is told
 
 -- a refusal's number is read as that refusal
-pub refused_back : (why : Lexical) (p : Cursor) → read_refused (lexical_number why) p ≡ Ends (Refused why p)
+pub refused_back : (why : Lexical) (p : Cursor) → read_refused (lexical_number why) p ≡ option.Some (Refused why p)
 unfolding read_refused
 refused_back why p = rw (number_lexical why, number_back why)
 
-pub refused_said : (n : ℕ) (p : Cursor) (e : Ending) → read_refused n p ≡ Ends e
+pub refused_said : (n : ℕ) (p : Cursor) (e : Ending) → read_refused n p ≡ option.Some e
     → ending_said e ≡ n ∷ p.offset.0 ∷ p.line.0 ∷ p.column.0 ∷ []
 unfolding read_refused
 refused_said n p e q = go (is_lexical n) refl q
   where
-    go : (b : Bool) → is_lexical n ≡ b → cond b (Ends (Refused (lexical_of n) p)) Nothing ≡ Ends e
+    go : (b : Bool) → is_lexical n ≡ b → cond b (option.Some (Refused (lexical_of n) p)) option.None ≡ option.Some e
         → ending_said e ≡ n ∷ p.offset.0 ∷ p.line.0 ∷ p.column.0 ∷ []
     go true f q =
         let g : Refused (lexical_of n) p ≡ e = cc in
@@ -72,7 +72,7 @@ refused_said n p e q = go (is_lexical n) refl q
     go false f q = absurd (let z : ◌≡◌ {A = ℕ} 0 1 = cc in omega arith)
 
 -- an ending that is read says the words that it was read from
-pub ending_said_lem : (n : ℕ) (p : Cursor) (e : Ending) → read_ending n p ≡ Ends e
+pub ending_said_lem : (n : ℕ) (p : Cursor) (e : Ending) → read_ending n p ≡ option.Some e
     → ending_said e ≡ n ∷ p.offset.0 ∷ p.line.0 ∷ p.column.0 ∷ []
 unfolding read_ending
 ending_said_lem n p e q = go (eqb n 0) refl q
@@ -80,7 +80,7 @@ ending_said_lem n p e q = go (eqb n 0) refl q
     zero_place : Bool
     zero_place = eqb p.offset.0 0 && (eqb p.line.0 0 && eqb p.column.0 0)
 
-    bare : n ≡ 0 → (b : Bool) → zero_place ≡ b → cond b (Ends None) Nothing ≡ Ends e
+    bare : n ≡ 0 → (b : Bool) → zero_place ≡ b → cond b (option.Some None) option.None ≡ option.Some e
         → ending_said e ≡ n ∷ p.offset.0 ∷ p.line.0 ∷ p.column.0 ∷ []
     bare z true f q =
         let x = both_true (eqb p.offset.0 0) (eqb p.line.0 0 && eqb p.column.0 0) f in
@@ -89,7 +89,7 @@ ending_said_lem n p e q = go (eqb n 0) refl q
         rw (← g, z, eqb-true p.offset.0 0 x.0, eqb-true p.line.0 0 y.0, eqb-true p.column.0 0 y.1)
     bare z false f q = absurd (let z : ◌≡◌ {A = ℕ} 0 1 = cc in omega arith)
 
-    go : (b : Bool) → eqb n 0 ≡ b → cond b (cond zero_place (Ends None) Nothing) (read_refused n p) ≡ Ends e
+    go : (b : Bool) → eqb n 0 ≡ b → cond b (cond zero_place (option.Some None) option.None) (read_refused n p) ≡ option.Some e
         → ending_said e ≡ n ∷ p.offset.0 ∷ p.line.0 ∷ p.column.0 ∷ []
     go true f q = bare (eqb-true n 0 f) zero_place refl q
     go false f q = refused_said n p e q
@@ -108,13 +108,13 @@ pub record Reads (file : List ℕ) (room : ℕ) (t : Table) : Type 0 where
   pub frame : Framed file
   pub count : t.count ≡ count_said file
   pub size : t.length ≡ length_said file
-  pub ending : ending_in file ≡ Ends t.ending
+  pub ending : ending_in file ≡ option.Some t.ending
   pub few : t.count ≤ most_rows
   pub well : well_formed (row_words_in file) t ≡ true
   pub room_is : t.count ≤ room
 
 -- what is told of the rows, and the tests in front of it, which are those of the form's sizes
-abbrev rows_read : List ℕ → ℕ → Loaded
+abbrev rows_read : List ℕ → ℕ → Result Table Fault
 rows_read file room = read_told (row_words_in file) room (count_said file) (length_said file) (ending_in file)
 
 pub load_tests : (file : List ℕ) (room : ℕ) → load_told file room
@@ -133,7 +133,7 @@ unfolding sound_in sound_of
 whole_framed w e = record { long = w.long; first = w.first; form = e; whole = w.whole; others = w.others }
 
 -- what is known of a file that is read
-pub reads_of : (file : List ℕ) (room : ℕ) (t : Table) → load_told file room ≡ loaded.Rows t → Reads file room t
+pub reads_of : (file : List ℕ) (room : ℕ) (t : Table) → load_told file room ≡ Ok t → Reads file room t
 reads_of file room t q =
     let one = eqb (form_said file) form_number in
     let i = told_whole words_per_row said_words (count_said file) file (not one) (rows_read file room) t (sym (load_tests file room) ∙ q) in
@@ -157,12 +157,12 @@ framed_told file room f =
 -- ---- the way through the tests
 
 module _ (file : List ℕ) (room : ℕ) where
-  pub told_short : length file < block_bytes → load_told file room ≡ loaded.Refused WrongLength
+  pub told_short : length file < block_bytes → load_told file room ≡ Err WrongLength
   unfolding load_told
   told_short h = rw (lt-ltb (length file) block_bytes h)
 
   module _ (long : block_bytes ≤ length file) where
-    pub told_bad : sound 0 0 said_bytes (take block_bytes file) ≡ false → load_told file room ≡ loaded.Refused (BadBlock 0)
+    pub told_bad : sound 0 0 said_bytes (take block_bytes file) ≡ false → load_told file room ≡ Err (BadBlock 0)
     unfolding load_told
     told_bad e = rw (le-ltb (length file) block_bytes long, e)
 
@@ -170,12 +170,12 @@ module _ (file : List ℕ) (room : ℕ) where
     unfolding load_told
     told_said e = rw (le-ltb (length file) block_bytes long, e)
 
-  pub told_other : (form_said file ≡ form_number → ⊥) → said_told file room ≡ loaded.Refused OtherForm
+  pub told_other : (form_said file ≡ form_number → ⊥) → said_told file room ≡ Err OtherForm
   unfolding said_told
   told_other h = rw (ne_eqb (form_said file) form_number h)
 
   module _ (form : form_said file ≡ form_number) where
-    pub told_cut : (length file ≡ file_length row_bytes (count_said file) → ⊥) → said_told file room ≡ loaded.Refused WrongLength
+    pub told_cut : (length file ≡ file_length row_bytes (count_said file) → ⊥) → said_told file room ≡ Err WrongLength
     unfolding said_told
     told_cut h = rw (eq-eqb (form_said file) form_number form, ne_eqb (length file) (file_length row_bytes (count_said file)) h)
 
@@ -184,7 +184,7 @@ module _ (file : List ℕ) (room : ℕ) where
     told_blocks h = rw (eq-eqb (form_said file) form_number form, eq-eqb (length file) (file_length row_bytes (count_said file)) h)
 
   pub told_unsound : sound_in file < blocks_for row_bytes (count_said file)
-      → blocks_told file room ≡ loaded.Refused (BadBlock (1 + sound_in file))
+      → blocks_told file room ≡ Err (BadBlock (1 + sound_in file))
   unfolding blocks_told
   told_unsound h = rw (lt-ltb (sound_in file) (blocks_for row_bytes (count_said file)) h)
 

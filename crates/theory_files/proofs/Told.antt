@@ -15,20 +15,17 @@ use Rattle.rules.specs.declared.Table.{Table}
 use Rattle.rules.specs.Rows.{well_formed}
 use Rattle.rules_files.specs.declared.Fault.{Fault}
 use Rattle.rules_files.specs.declared.Fault.TheVariants.{Outer, BadBlock, WrongLength, NoTable, OtherForm}
-use Rattle.rules_files.specs.declared.EndingRead.{EndingRead}
-use Rattle.rules_files.specs.declared.EndingRead.TheVariants.{Ends, Nothing}
-use Rattle.rules_files.specs.declared.Loaded.{Loaded}
-use Rattle.rules_files.specs.declared.Loaded.TheVariants as loaded
 use Rattle.rules_files.specs.Bytes.{word_bytes}
 use Rattle.rules_files.specs.Blocks.{block_bytes, sound, blocks_for, file_length}
 use Rattle.rules_files.specs.Files.{most_rows, rows_told, read_told}
 use Rattle.laws.specs.Bounds.{Bytes}
 use Rattle.theory_files.specs.Whole.{Fits, Whole, sound_of, whole_told}
 use Rattle.theory_files.proofs.Whole.{first_changed, others_changed, changed_inside}
+use Rattle.std.specs.Prelude.{Result, Ok, Err, Option, Some, None}
 
 -- a test that refuses has failed
-pub passed : (b : Bool) (why : Fault) (y : Loaded) (t : Table) → cond b (loaded.Refused why) y ≡ loaded.Rows t
-    → (b ≡ false) × (y ≡ loaded.Rows t)
+pub passed : (b : Bool) (why : Fault) (y : Result Table Fault) (t : Table) → cond b (Err why) y ≡ Ok t
+    → (b ≡ false) × (y ≡ Ok t)
 passed true why y t e = absurd (let z : ◌≡◌ {A = ℕ} 0 1 = cc in omega arith)
 passed false why y t e = (refl, e)
 
@@ -42,12 +39,12 @@ pub record Last (ws : List ℕ) (room : ℕ) (u t : Table) : Type 0 where
   pub room_is : u.count ≤ room
 
 -- what is known where a table is told of its rows
-pub last_of : (ws : List ℕ) (room : ℕ) (u t : Table) → rows_told ws room u ≡ loaded.Rows t → Last ws room u t
+pub last_of : (ws : List ℕ) (room : ℕ) (u t : Table) → rows_told ws room u ≡ Ok t → Last ws room u t
 unfolding rows_told
 last_of ws room u t q =
-    let full : Loaded = cond (ltb room u.count) (loaded.Refused (Outer NoRowRoom)) (loaded.Rows u) in
-    let formed : Loaded = cond (not (well_formed ws u)) (loaded.Refused NoTable) full in
-    let no = passed (ltb room u.count) (Outer NoRowRoom) (loaded.Rows u) t in
+    let full : (Result Table Fault) = cond (ltb room u.count) (Err (Outer NoRowRoom)) (Ok u) in
+    let formed : (Result Table Fault) = cond (not (well_formed ws u)) (Err NoTable) full in
+    let no = passed (ltb room u.count) (Outer NoRowRoom) (Ok u) t in
     let b = passed (not (well_formed ws u)) NoTable full t in
     let a = passed (ltb most_rows u.count) NoTable formed t q in
     let c = b a.1 in
@@ -59,31 +56,31 @@ last_of ws room u t q =
       room_is = ltb-false room u.count d.0;
     }
   where
-    rows_same : loaded.Rows u ≡ loaded.Rows t → u ≡ t
+    rows_same : ◌≡◌ {A = Result Table Fault} (Ok u) (Ok t) → u ≡ t
     rows_same e = cc
 
 -- what is read, behind 43
-pub record ReadOf (ws : List ℕ) (room count size : ℕ) (e : EndingRead) (t : Table) : Type 0 where
+pub record ReadOf (ws : List ℕ) (room count size : ℕ) (e : Option Ending) (t : Table) : Type 0 where
   pub count_is : t.count ≡ count
   pub size_is : t.length ≡ size
-  pub ending : e ≡ Ends t.ending
+  pub ending : e ≡ Some t.ending
   pub few : t.count ≤ most_rows
   pub well : well_formed ws t ≡ true
   pub room_is : t.count ≤ room
 
 -- what is known where a table is told of its count, its length and its ending too
-pub read_of : (ws : List ℕ) (room count size : ℕ) (e : EndingRead) (t : Table) → read_told ws room count size e ≡ loaded.Rows t
+pub read_of : (ws : List ℕ) (room count size : ℕ) (e : Option Ending) (t : Table) → read_told ws room count size e ≡ Ok t
     → ReadOf ws room count size e t
 unfolding read_told
-read_of ws room count size Nothing t q = absurd (let z : ◌≡◌ {A = ℕ} 0 1 = cc in omega arith)
-read_of ws room count size (Ends e) t q =
+read_of ws room count size None t q = absurd (let z : ◌≡◌ {A = ℕ} 0 1 = cc in omega arith)
+read_of ws room count size (Some e) t q =
     let u : Table = record { count = count; length = size; ending = e } in
     let l = last_of ws room u t q in
     let n : t.count ≡ count = ap (λ (x : Table). x.count) (sym l.same) in
     record {
       count_is = n;
       size_is = ap (λ (x : Table). x.length) (sym l.same);
-      ending = ap (λ (x : Table). Ends x.ending) l.same;
+      ending = ap (λ (x : Table). Some x.ending) l.same;
       few = rw n l.few;
       well = rw l.same at l.well;
       room_is = rw n l.room_is;
@@ -91,44 +88,44 @@ read_of ws room count size (Ends e) t q =
 
 -- the ending, then 43, then 4
 module _ (ws : List ℕ) (room count size : ℕ) where
-  pub told_nothing : (e : EndingRead) → e ≡ Nothing → read_told ws room count size e ≡ loaded.Refused NoTable
+  pub told_nothing : (e : Option Ending) → e ≡ None → read_told ws room count size e ≡ Err NoTable
   unfolding read_told
   told_nothing e f = rw f
 
-  pub told_rows : (e : EndingRead) (how : Ending) → e ≡ Ends how
+  pub told_rows : (e : Option Ending) (how : Ending) → e ≡ Some how
       → read_told ws room count size e ≡ rows_told ws room (record { count = count; length = size; ending = how })
   unfolding read_told
   told_rows e how f = rw f
 
 module _ (ws : List ℕ) (room : ℕ) (t : Table) where
-  pub told_many : most_rows < t.count → rows_told ws room t ≡ loaded.Refused NoTable
+  pub told_many : most_rows < t.count → rows_told ws room t ≡ Err NoTable
   unfolding rows_told
   told_many h = rw (lt-ltb most_rows t.count h)
 
   module _ (few : t.count ≤ most_rows) where
-    pub told_unformed : well_formed ws t ≡ false → rows_told ws room t ≡ loaded.Refused NoTable
+    pub told_unformed : well_formed ws t ≡ false → rows_told ws room t ≡ Err NoTable
     unfolding rows_told
     told_unformed e = rw (le-ltb most_rows t.count few, e)
 
-    pub told_full : well_formed ws t ≡ true → room < t.count → rows_told ws room t ≡ loaded.Refused (Outer NoRowRoom)
+    pub told_full : well_formed ws t ≡ true → room < t.count → rows_told ws room t ≡ Err (Outer NoRowRoom)
     unfolding rows_told
     told_full e h = rw (le-ltb most_rows t.count few, e, lt-ltb room t.count h)
 
-    pub told_table : well_formed ws t ≡ true → t.count ≤ room → rows_told ws room t ≡ loaded.Rows t
+    pub told_table : well_formed ws t ≡ true → t.count ≤ room → rows_told ws room t ≡ Ok t
     unfolding rows_told
     told_table e h = rw (le-ltb most_rows t.count few, e, le-ltb room t.count h)
 
 -- ---- the tests in front of it
 
 -- what the tests have shown where a table is told
-pub record IsTold (row said n : ℕ) (file : List ℕ) (other : Bool) (rest : Loaded) (t : Table) : Type 0 where
+pub record IsTold (row said n : ℕ) (file : List ℕ) (other : Bool) (rest : Result Table Fault) (t : Table) : Type 0 where
   pub whole : Whole row said n file
   pub form : other ≡ false
-  pub told : rest ≡ loaded.Rows t
+  pub told : rest ≡ Ok t
 
-module _ (row said n : ℕ) (file : List ℕ) (other : Bool) (rest : Loaded) where
+module _ (row said n : ℕ) (file : List ℕ) (other : Bool) (rest : Result Table Fault) where
   -- a table is told of a file whose blocks are all sound
-  pub told_whole : (t : Table) → whole_told row said n file other rest ≡ loaded.Rows t → IsTold row said n file other rest t
+  pub told_whole : (t : Table) → whole_told row said n file other rest ≡ Ok t → IsTold row said n file other rest t
   unfolding whole_told
   told_whole t q =
       let short = ltb (length file) block_bytes in
@@ -136,10 +133,10 @@ module _ (row said n : ℕ) (file : List ℕ) (other : Bool) (rest : Loaded) whe
       let size = file_length (row * word_bytes) n in
       let k = sound_of row n file in
       let unsound = ltb k (blocks_for (row * word_bytes) n) in
-      let behind : Loaded = cond unsound (loaded.Refused (BadBlock (1 + k))) rest in
-      let sized : Loaded = cond (not (eqb (length file) size)) (loaded.Refused WrongLength) behind in
-      let formed : Loaded = cond other (loaded.Refused OtherForm) sized in
-      let a = passed short WrongLength (cond (not good) (loaded.Refused (BadBlock 0)) formed) t q in
+      let behind : (Result Table Fault) = cond unsound (Err (BadBlock (1 + k))) rest in
+      let sized : (Result Table Fault) = cond (not (eqb (length file) size)) (Err WrongLength) behind in
+      let formed : (Result Table Fault) = cond other (Err OtherForm) sized in
+      let a = passed short WrongLength (cond (not good) (Err (BadBlock 0)) formed) t q in
       let b = passed (not good) (BadBlock 0) formed t a.1 in
       let c = passed other OtherForm sized t b.1 in
       let d = passed (not (eqb (length file) size)) WrongLength behind t c.1 in
@@ -168,13 +165,13 @@ module _ {row said : ℕ} (fits : Fits row said) (file : List ℕ) (bytes : Byte
   long_now = rw length-set w.long
 
   -- in block 0, whatever form it is judged by
-  pub first_bad : i < block_bytes → (words says k : ℕ) (other : Bool) (rest : Loaded)
-      → whole_told words says k (set file i v) other rest ≡ loaded.Refused (BadBlock 0)
+  pub first_bad : i < block_bytes → (words says k : ℕ) (other : Bool) (rest : Result Table Fault)
+      → whole_told words says k (set file i v) other rest ≡ Err (BadBlock 0)
   unfolding whole_told
   first_bad g words says k other rest =
       rw (le-ltb (length (set file i v)) block_bytes long_now, first_changed fits file bytes n w i v h l ne g (says * word_bytes))
 
-  other_bad : block_bytes ≤ i → (rest : Loaded) → whole_told row said n (set file i v) false rest ≡ loaded.Refused (BadBlock (i / block_bytes))
+  other_bad : block_bytes ≤ i → (rest : Result Table Fault) → whole_told row said n (set file i v) false rest ≡ Err (BadBlock (i / block_bytes))
   unfolding whole_told
   other_bad g rest =
       let s = others_changed fits file bytes n w i v h l ne g in
@@ -186,11 +183,11 @@ module _ {row said : ℕ} (fits : Fits row said) (file : List ℕ) (bytes : Byte
       rw (le-ltb (length (set file i v)) block_bytes long_now, first, size, s, others, x)
 
   -- any one changed byte is 41, with its block; behind block 0 it leaves what block 0 says
-  pub changed_bad : (k : ℕ) (other : Bool) (rest : Loaded) → (block_bytes ≤ i → (k ≡ n) × (other ≡ false))
-      → whole_told row said k (set file i v) other rest ≡ loaded.Refused (BadBlock (i / block_bytes))
+  pub changed_bad : (k : ℕ) (other : Bool) (rest : Result Table Fault) → (block_bytes ≤ i → (k ≡ n) × (other ≡ false))
+      → whole_told row said k (set file i v) other rest ≡ Err (BadBlock (i / block_bytes))
   changed_bad k other rest kept = go (ltb i block_bytes) refl
     where
-      go : (t : Bool) → ltb i block_bytes ≡ t → whole_told row said k (set file i v) other rest ≡ loaded.Refused (BadBlock (i / block_bytes))
+      go : (t : Bool) → ltb i block_bytes ≡ t → whole_told row said k (set file i v) other rest ≡ Err (BadBlock (i / block_bytes))
       go true e =
           let g = ltb-true i block_bytes e in
           let z : i / block_bytes ≡ 0 = omega arith in

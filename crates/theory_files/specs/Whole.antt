@@ -1,13 +1,13 @@
 -- A whole file, over the words of a row and the words that block 0 says: what it says, the words of its rows, and when all of its
 -- blocks are sound.
-use Rattle.std.specs.Prelude.{◌≡◌, Bool, true, cond, not, List, [], ◌∷◌, ℕ, zero, suc, ◌+◌, ◌*◌, ◌≤◌, ◌<◌, length, take, drop, eqb, ltb}
+use Rattle.std.specs.Prelude.{◌≡◌, Bool, true, cond, not, List, [], ◌∷◌, ℕ, zero, suc, ◌+◌, ◌*◌, ◌≤◌, ◌<◌, length, take, drop, eqb, ltb, Result, Err}
 use Rattle.rules_files.specs.declared.Fault.TheVariants.{BadBlock, WrongLength, OtherForm}
-use Rattle.rules_files.specs.declared.Loaded.{Loaded}
-use Rattle.rules_files.specs.declared.Loaded.TheVariants as loaded
 use Rattle.rules_files.specs.Bytes.{bytes_of, words_in, word_bytes}
 use Rattle.rules_files.specs.Blocks.{block_bytes, content_room, sound, blocks_for, file_length, file_of, sound_from, body_from}
 use Rattle.rules_files.specs.Files.{most_rows, said_at}
 use Rattle.laws.specs.Bounds.{Words}
+use Rattle.rules.specs.declared.Table.{Table}
+use Rattle.rules_files.specs.declared.Fault.{Fault}
 
 -- a block has room for a row, and block 0 for what it says
 pub record Fits (row said : ℕ) : Type 0 where
@@ -50,10 +50,10 @@ pub record Holds (row said : ℕ) (says rows : List ℕ) (n : ℕ) : Type 0 wher
 
 -- "42 for under 512, 41 for block 0, 44, 42, 41 for the first other bad block": the tests in front of what is told of the rows,
 -- where it is known whether block 0 says another form
-unfoldable pub whole_told : ℕ → ℕ → ℕ → List ℕ → Bool → Loaded → Loaded
+unfoldable pub whole_told : ℕ → ℕ → ℕ → List ℕ → Bool → Result Table Fault → Result Table Fault
 whole_told row said n file other rest =
-    cond (ltb (length file) block_bytes) (loaded.Refused WrongLength)
-    (cond (not (sound 0 0 (said * word_bytes) (take block_bytes file))) (loaded.Refused (BadBlock 0))
-    (cond other (loaded.Refused OtherForm)
-    (cond (not (eqb (length file) (file_length (row * word_bytes) n))) (loaded.Refused WrongLength)
-    (cond (ltb (sound_of row n file) (blocks_for (row * word_bytes) n)) (loaded.Refused (BadBlock (1 + sound_of row n file))) rest))))
+    cond (ltb (length file) block_bytes) (Err WrongLength)
+    (cond (not (sound 0 0 (said * word_bytes) (take block_bytes file))) (Err (BadBlock 0))
+    (cond other (Err OtherForm)
+    (cond (not (eqb (length file) (file_length (row * word_bytes) n))) (Err WrongLength)
+    (cond (ltb (sound_of row n file) (blocks_for (row * word_bytes) n)) (Err (BadBlock (1 + sound_of row n file))) rest))))

@@ -14,7 +14,6 @@ use Rattle.laws.proofs.Places.{newlines_le}
 use Rattle.rules.specs.declared.Table.{Table}
 use Rattle.rules.specs.Text.{most_bytes, not_newline, line_at, column_at, place_at}
 use Rattle.rules.specs.Rows.{rows_in, row_place, every, rows_fit, well_formed, words_per_row}
-use Rattle.rules_files.specs.declared.Loaded.TheVariants as loaded
 use Rattle.rules_files.specs.Files.{most_rows, form_said, count_said, row_words_in, load_told, encode, form_number}
 use Rattle.rules_forms.specs.Short.{placed_row, placed, on_one_line, shortened, short_encode, short_words_in, short_judged, short_words, short_number}
 use Rattle.rules_forms.specs.Forms.{is_form, judged, rows_beside, table_beside, is_place_in, ending_agrees, agrees, agrees_beside, encode_in}
@@ -32,11 +31,12 @@ use Rattle.theory_forms.proofs.Written.{written_form, written_words, written_cou
 use Rattle.theory_forms.proofs.Agree.{rows_placed, ending_placed}
 use Rattle.theory_forms.proofs.Moves.{move_is, written_is, own_form, only_one}
 use Rattle.theory_forms.proofs.Alike.{Alike, long_form, says_form, alike_told, alike_rows, back_told, back_bytes}
+use Rattle.std.specs.Prelude.{Ok}
 
 -- ---- from 1 to 2
 
 module _ (text file : List ℕ) (bytes : Bytes file) (t : Table) (long : form_said file ≡ form_number)
-    (held : load_told file (count_said file) ≡ loaded.Rows t)
+    (held : load_told file (count_said file) ≡ Ok t)
     (agree : agrees text (row_words_in file) t ≡ true) where
   is_read : Reads file (count_said file) t
   is_read = reads_of file (count_said file) t held
@@ -56,7 +56,7 @@ module _ (text file : List ℕ) (bytes : Bytes file) (t : Table) (long : form_sa
   unfolding short
   short_form = eq-eqb _ short_number (written_form (row_words_in file) t is_read.well is_read.few ws_words)
 
-  short_holds : judged short ≡ loaded.Rows (placed_table on_one_line t)
+  short_holds : judged short ≡ Ok (placed_table on_one_line t)
   unfolding judged short
   short_holds = rw short_form (written_judged (row_words_in file) t is_read.well is_read.few ws_words)
 
@@ -117,7 +117,7 @@ placed_words text h (suc n) {ws} b =
     (placed_words text h n (below_drop short_words b))
 
 module _ (text file : List ℕ) (bytes : Bytes file) (s : Table) (form : form_said file ≡ short_number)
-    (held : short_judged file ≡ loaded.Rows s)
+    (held : short_judged file ≡ Ok s)
     (same : length text ≡ s.length) where
   reads : ReadsShort file s
   reads = reads_short file s held
@@ -188,7 +188,7 @@ module _ (text file : List ℕ) (bytes : Bytes file) (s : Table) (form : form_sa
       let c = reads.count in
       take_all (words_per_row * s.count) (placed (place_at text) (count_said file) (short_words_in file)) (omega (arith, l, c))
 
-  long_holds : judged long_file ≡ loaded.Rows t
+  long_holds : judged long_file ≡ Ok t
   unfolding judged long_file
   long_holds =
       let c : t.count ≤ count_said (encode ws t) = omega (arith, count_is ws t text_well few t_words) in
@@ -220,7 +220,7 @@ record Agreed (text file g : List ℕ) : Type 0 where
   alike : Alike text file g
   agree : agrees_beside text file alike.t ≡ true
 
-module _ (text file : List ℕ) (bytes : Bytes file) (t : Table) (held : judged file ≡ loaded.Rows t)
+module _ (text file : List ℕ) (bytes : Bytes file) (t : Table) (held : judged file ≡ Ok t)
     (agree : agrees_beside text file t ≡ true) where
   -- to the form it has
   stays : (form : ℕ) → form ≡ form_said file → Agreed text file (encode_in form (rows_beside text file) (table_beside text file t))
@@ -235,7 +235,7 @@ module _ (text file : List ℕ) (bytes : Bytes file) (t : Table) (held : judged 
   shortens : is_short file ≡ false → Agreed text file (encode_in short_number (rows_beside text file) (table_beside text file t))
   unfolding judged rows_beside table_beside encode_in to_short
   shortens q =
-      let h : load_told file (count_said file) ≡ loaded.Rows t = rw q at held in
+      let h : load_told file (count_said file) ≡ Ok t = rw q at held in
       let a : agrees text (row_words_in file) t ≡ true = rw q at agree in
       let r : Agreed text file (short_encode (row_words_in file) t) =
       record { alike = to_short text file bytes t (long_form file t q held) h a; agree = agree } in
@@ -244,7 +244,7 @@ module _ (text file : List ℕ) (bytes : Bytes file) (t : Table) (held : judged 
   lengthens : is_short file ≡ true → Agreed text file (encode_in form_number (rows_beside text file) (table_beside text file t))
   unfolding judged rows_beside table_beside encode_in agrees to_long
   lengthens q =
-      let h : short_judged file ≡ loaded.Rows t = rw q at held in
+      let h : short_judged file ≡ Ok t = rw q at held in
       let l : length text ≡ t.length = eqb-true (length text) t.length (both_true (eqb (length text) t.length) _ agree).0 in
       let r : Agreed text file (encode (placed (place_at text) (count_said file) (short_words_in file)) (placed_table (place_at text) t)) =
       record { alike = to_long text file bytes t (eqb-true (form_said file) short_number q) h l; agree = agree } in

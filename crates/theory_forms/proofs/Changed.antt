@@ -11,8 +11,6 @@ use borrow.Author.Tests.{ltb-true, ltb-false}
 use Rattle.rules.specs.declared.Table.{Table}
 use Rattle.rules.specs.Rows.{words_per_row}
 use Rattle.rules_files.specs.declared.Fault.TheVariants.{BadBlock}
-use Rattle.rules_files.specs.declared.Loaded.{Loaded}
-use Rattle.rules_files.specs.declared.Loaded.TheVariants as loaded
 use Rattle.rules_files.specs.Blocks.{block_bytes}
 use Rattle.rules_files.specs.Files.{form_number, form_said, count_said, said_at}
 use Rattle.rules_forms.specs.Short.{short_words, short_table}
@@ -23,13 +21,15 @@ use Rattle.theory_files.proofs.Told.{first_bad, changed_bad}
 use Rattle.theory_files.proofs.Said.{said_words, long_fits, said_front, framed_whole, load_tests, reads_of}
 use Rattle.theory_files.proofs.Files.{changed_told}
 use Rattle.theory_forms.proofs.Short.{short_said_words, short_fits, short_whole, short_tests, reads_short}
+use Rattle.rules_files.specs.declared.Fault.{Fault}
+use Rattle.std.specs.Prelude.{Result, Ok, Err}
 
 module _ (file : List ℕ) (bytes : Bytes file) (i v : ℕ) (h : i < length file) (l : v < 256) (ne : get_or file i 0 ≡ v → ⊥) where
   now : List ℕ
   now = set file i v
 
   -- in block 0, whichever form is said now
-  in_first : {row said n : ℕ} → Fits row said → Whole row said n file → i < block_bytes → judged now ≡ loaded.Refused (BadBlock 0)
+  in_first : {row said n : ℕ} → Fits row said → Whole row said n file → i < block_bytes → judged now ≡ Err (BadBlock 0)
   unfolding judged now
   in_first {n = n} f w g =
       let bad = first_bad f file bytes n w i v h l ne g in
@@ -37,7 +37,7 @@ module _ (file : List ℕ) (bytes : Bytes file) (i v : ℕ) (h : i < length file
       let long = load_tests now (count_said now) ∙ bad words_per_row said_words (count_said now) (not (eqb (form_said now) form_number)) _ in
       both (is_short now) short long
     where
-      both : {x y z : Loaded} (b : Bool) → x ≡ z → y ≡ z → cond b x y ≡ z
+      both : {x y z : Result Table Fault} (b : Bool) → x ≡ z → y ≡ z → cond b x y ≡ z
       both true p q = p
       both false p q = q
 
@@ -47,18 +47,18 @@ module _ (file : List ℕ) (bytes : Bytes file) (i v : ℕ) (h : i < length file
   said_same g = said_front (set file i v) file (take-set-le block_bytes file i v g)
 
   by_block : {row said n : ℕ} → Fits row said → Whole row said n file
-      → (block_bytes ≤ i → judged now ≡ loaded.Refused (BadBlock (i / block_bytes))) → judged now ≡ loaded.Refused (BadBlock (i / block_bytes))
+      → (block_bytes ≤ i → judged now ≡ Err (BadBlock (i / block_bytes))) → judged now ≡ Err (BadBlock (i / block_bytes))
   by_block f w behind = go (ltb i block_bytes) refl
     where
-      go : (b : Bool) → ltb i block_bytes ≡ b → judged now ≡ loaded.Refused (BadBlock (i / block_bytes))
+      go : (b : Bool) → ltb i block_bytes ≡ b → judged now ≡ Err (BadBlock (i / block_bytes))
       go true e =
           let g = ltb-true i block_bytes e in
           let z : i / block_bytes ≡ 0 = omega arith in
           rw z (in_first f w g)
       go false e = behind (ltb-false i block_bytes e)
 
-  module _ (t : Table) (held : judged file ≡ loaded.Rows t) where
-    changed_short : is_short file ≡ true → judged now ≡ loaded.Refused (BadBlock (i / block_bytes))
+  module _ (t : Table) (held : judged file ≡ Ok t) where
+    changed_short : is_short file ≡ true → judged now ≡ Err (BadBlock (i / block_bytes))
     unfolding judged now
     changed_short q =
         let w = short_whole (reads_short file t (rw q at held)) in
@@ -66,7 +66,7 @@ module _ (file : List ℕ) (bytes : Bytes file) (i v : ℕ) (h : i < length file
         by_block short_fits w
         (λ g. rw (said_same g 0 (omega arith), q) (short_tests now ∙ bad (λ k. (said_same k 2 (omega arith), refl))))
 
-    changed_long : is_short file ≡ false → judged now ≡ loaded.Refused (BadBlock (i / block_bytes))
+    changed_long : is_short file ≡ false → judged now ≡ Err (BadBlock (i / block_bytes))
     unfolding judged now
     changed_long q =
         let f = (reads_of file (count_said file) t (rw q at held)).frame in
@@ -74,10 +74,10 @@ module _ (file : List ℕ) (bytes : Bytes file) (i v : ℕ) (h : i < length file
         (λ g. rw (said_same g 0 (omega arith), q) (changed_told file bytes f i v h l ne (count_said now)))
 
     -- any one changed byte is 41, with its block
-    pub judged_changed : judged (set file i v) ≡ loaded.Refused (BadBlock (i / block_bytes))
+    pub judged_changed : judged (set file i v) ≡ Err (BadBlock (i / block_bytes))
     unfolding now
     judged_changed = go (is_short file) refl
       where
-        go : (b : Bool) → is_short file ≡ b → judged now ≡ loaded.Refused (BadBlock (i / block_bytes))
+        go : (b : Bool) → is_short file ≡ b → judged now ≡ Err (BadBlock (i / block_bytes))
         go true q = changed_short q
         go false q = changed_long q

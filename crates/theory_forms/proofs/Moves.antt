@@ -13,16 +13,11 @@ use Rattle.rules.specs.declared.Table.{Table}
 use Rattle.rules.specs.Text.{place_at}
 use Rattle.rules.specs.Scan.{room_of}
 use Rattle.rules_files.specs.declared.Fault.TheVariants.{Outer, OtherForm}
-use Rattle.rules_files.specs.declared.Loaded.{Loaded}
-use Rattle.rules_files.specs.declared.Loaded.TheVariants as loaded
 use Rattle.rules_files.specs.Bytes.{bytes_of}
 use Rattle.rules_files.specs.Blocks.{file_length}
 use Rattle.rules_files.specs.Files.{form_said, count_said, load_told, encode, row_bytes, form_number}
 use Rattle.rules_forms.specs.declared.Apart.{Apart}
 use Rattle.rules_forms.specs.declared.Apart.TheVariants.{File, OtherText}
-use Rattle.rules_forms.specs.declared.Beside.TheVariants as beside
-use Rattle.rules_forms.specs.declared.Moved.{Moved}
-use Rattle.rules_forms.specs.declared.Moved.TheVariants as moved
 use Rattle.rules_forms.specs.Short.{shortened, short_said, short_encode, short_judged, short_bytes, short_number}
 use Rattle.rules_forms.specs.Forms.{is_form, row_bytes_in, judged, rows_beside, table_beside, agrees_beside, beside_told, beside_leaves, encode_in}
 use Rattle.rules_forms.specs.Forms.{move_judged, move_told, moved_from, move_leaves, is_short}
@@ -33,59 +28,61 @@ use Rattle.theory_files.proofs.Files.{read_stored, encode_length}
 use Rattle.theory_forms.specs.Forms.{IsMoved, SameBytes, written}
 use Rattle.theory_forms.proofs.Short.{reads_short, short_stored}
 use Rattle.theory_forms.proofs.Written.{ending_two}
+use Rattle.rules_files.specs.declared.Fault.{Fault}
+use Rattle.std.specs.Prelude.{Result, Ok, Err}
 
 -- ---- a move that was told
 
 -- what is known of a move that was told
 pub record MoveOf (text file : List ℕ) (form room n : ℕ) : Type 0 where
   pub table : Table
-  pub judged_is : judged file ≡ loaded.Rows table
+  pub judged_is : judged file ≡ Ok table
   pub known : is_form form ≡ true
   pub room_is : file_length (row_bytes_in form) table.count ≤ room
   pub agree : agrees_beside text file table ≡ true
   pub size : file_length (row_bytes_in form) table.count ≡ n
 
 -- a test that refuses has failed
-moved_past : (b : Bool) (why : Apart) (y : Moved) (n : ℕ) → cond b (moved.Refused why) y ≡ moved.Bytes n → (b ≡ false) × (y ≡ moved.Bytes n)
+moved_past : (b : Bool) (why : Apart) (y : Result ℕ Apart) (n : ℕ) → cond b (Err why) y ≡ Ok n → (b ≡ false) × (y ≡ Ok n)
 moved_past true why y n e = absurd (let z : ◌≡◌ {A = ℕ} 0 1 = cc in omega arith)
 moved_past false why y n e = (refl, e)
 
 -- each of its tests has been passed
-pub move_of : (text file : List ℕ) (form room n : ℕ) → move_told text file form room ≡ moved.Bytes n → MoveOf text file form room n
+pub move_of : (text file : List ℕ) (form room n : ℕ) → move_told text file form room ≡ Ok n → MoveOf text file form room n
 unfolding move_told move_judged
 move_of text file form room n q =
     let a = moved_past (not (is_form form)) (File OtherForm) (move_judged text file form room (judged file)) n q in
     go (judged file) refl (not-false (is_form form) a.0) a.1
   where
-    go : (l : Loaded) → judged file ≡ l → is_form form ≡ true → move_judged text file form room l ≡ moved.Bytes n
+    go : (l : Result Table Fault) → judged file ≡ l → is_form form ≡ true → move_judged text file form room l ≡ Ok n
         → MoveOf text file form room n
-    go (loaded.Refused why) e k q = absurd (let z : ◌≡◌ {A = ℕ} 0 1 = cc in omega arith)
-    go (loaded.Rows t) e k q =
+    go (Err why) e k q = absurd (let z : ◌≡◌ {A = ℕ} 0 1 = cc in omega arith)
+    go (Ok t) e k q =
         let size = file_length (row_bytes_in form) t.count in
-        let last = cond (not (agrees_beside text file t)) (moved.Refused OtherText) (moved.Bytes size) in
+        let last = cond (not (agrees_beside text file t)) (Err OtherText) (Ok size) in
         let b = moved_past (ltb room size) (File (Outer NoRowRoom)) last n q in
-        let c = moved_past (not (agrees_beside text file t)) OtherText (moved.Bytes size) n b.1 in
+        let c = moved_past (not (agrees_beside text file t)) OtherText (Ok size) n b.1 in
         let s : size ≡ n = same size c.1 in
         let agree = not-false (agrees_beside text file t) c.0 in
         record { table = t; judged_is = e; known = k; room_is = ltb-false room size b.0; agree = agree; size = s }
       where
-        same : (k : ℕ) → moved.Bytes k ≡ moved.Bytes n → k ≡ n
+        same : (k : ℕ) → ◌≡◌ {A = Result ℕ Apart} (Ok k) (Ok n) → k ≡ n
         same k e = cc
 
 -- ---- the one file
 
 -- of a file that is judged to hold a table, the file of its own form
-module _ (text file : List ℕ) (bytes : Bytes file) (t : Table) (held : judged file ≡ loaded.Rows t) where
+module _ (text file : List ℕ) (bytes : Bytes file) (t : Table) (held : judged file ≡ Ok t) where
   same_short : form_said file ≡ short_number → encode_in short_number (rows_beside text file) (table_beside text file t) ≡ file
   unfolding encode_in rows_beside table_beside judged place_at
   same_short f =
-      let j : short_judged file ≡ loaded.Rows t = rw (eq-eqb (form_said file) short_number f) at held in
+      let j : short_judged file ≡ Ok t = rw (eq-eqb (form_said file) short_number f) at held in
       rw (eq-eqb (form_said file) short_number f) (short_stored file bytes t (reads_short file t j) f (place_at text) (λ k. refl))
 
   same_long : (form_said file ≡ short_number → ⊥) → encode_in form_number (rows_beside text file) (table_beside text file t) ≡ file
   unfolding encode_in rows_beside table_beside judged
   same_long f =
-      let j : load_told file (count_said file) ≡ loaded.Rows t = rw (ne_eqb (form_said file) short_number f) at held in
+      let j : load_told file (count_said file) ≡ Ok t = rw (ne_eqb (form_said file) short_number f) at held in
       rw (ne_eqb (form_said file) short_number f) (rw append-nil at (read_stored file bytes (count_said file) t j []))
 
 -- ---- what a move writes
@@ -136,13 +133,13 @@ module _ (text file : List ℕ) (form : ℕ) (lent : List ℕ) (n : ℕ) (m : Is
 
 -- lent memory is untouched by each refusal
 pub move_untouched : (text file : List ℕ) (form : ℕ) (lent : List ℕ) (why : Apart)
-    → move_told text file form (length lent) ≡ moved.Refused why
+    → move_told text file form (length lent) ≡ Err why
     → move_leaves text file form lent ≡ lent
 unfolding move_leaves
 move_untouched text file form lent why e = rw (move_leaves, e)
 
 -- and by each refusal of a reading
-pub beside_untouched : (text file ws : List ℕ) (why : Apart) → beside_told text file (room_of ws) ≡ beside.Refused why
+pub beside_untouched : (text file ws : List ℕ) (why : Apart) → beside_told text file (room_of ws) ≡ Err why
     → beside_leaves text file ws ≡ ws
 unfolding beside_leaves
 beside_untouched text file ws why e = rw (beside_leaves, e)
@@ -158,7 +155,7 @@ only_one form k e = go (eqb form form_number) refl k
     go false f k = absurd (let z : false ≡ true = sym e ∙ k in let y : ◌≡◌ {A = ℕ} 0 1 = cc in omega arith)
 
 -- of a file that holds a table, the file of the form that it says
-pub own_form : (text file : List ℕ) → Bytes file → (t : Table) → judged file ≡ loaded.Rows t → is_form (form_said file) ≡ true
+pub own_form : (text file : List ℕ) → Bytes file → (t : Table) → judged file ≡ Ok t → is_form (form_said file) ≡ true
     → encode_in (form_said file) (rows_beside text file) (table_beside text file t) ≡ file
 own_form text file bytes t held k = go (is_short file) refl
   where

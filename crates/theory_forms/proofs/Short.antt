@@ -15,8 +15,6 @@ use Rattle.rules.specs.declared.Ending.TheVariants.{None, Refused}
 use Rattle.rules.specs.declared.Table.{Table}
 use Rattle.rules.specs.Text.{place}
 use Rattle.rules.specs.Rows.{row_in, well_formed, words_per_row}
-use Rattle.rules_files.specs.declared.EndingRead.TheVariants.{Ends}
-use Rattle.rules_files.specs.declared.Loaded.TheVariants as loaded
 use Rattle.rules_files.specs.Bytes.{words_in}
 use Rattle.rules_files.specs.Blocks.{content_of, sound, blocks_for, file_length, block_bytes}
 use Rattle.rules_files.specs.Files.{most_rows, ending_said, said_at, form_said, count_said, length_said, read_refused, read_ending}
@@ -30,6 +28,8 @@ use Rattle.theory_forms.proofs.Older.{refused_by_name}
 use Rattle.theory_files.proofs.Whole.{content_said, words_size, whole_file}
 use Rattle.theory_files.proofs.Told.{told_whole, read_of}
 use Rattle.theory_files.proofs.Said.{refused_said, ending_said_lem}
+use Rattle.std.specs.Prelude as option
+use Rattle.std.specs.Prelude.{Ok}
 
 -- ---- lines and columns put back and dropped again
 
@@ -86,13 +86,13 @@ placed_said at o None = refl
 placed_said at o (Refused why p) = rw (o p.offset.0)
 
 -- an ending that is read says the words that it was read from
-pub ending_short : (at : ℕ → Cursor) → ((k : ℕ) → (at k).offset.0 ≡ k) → (file : List ℕ) (e : Ending) → short_ending at file ≡ Ends e
+pub ending_short : (at : ℕ → Cursor) → ((k : ℕ) → (at k).offset.0 ≡ k) → (file : List ℕ) (e : Ending) → short_ending at file ≡ option.Some e
     → short_ending_said e ≡ said_at 3 file ∷ said_at 4 file ∷ []
 unfolding short_ending
 ending_short at o file e q = go (eqb (said_at 3 file) 0) refl q
   where
     go : (b : Bool) → eqb (said_at 3 file) 0 ≡ b
-        → cond b (read_ending 0 (place (said_at 4 file) 0 0)) (read_refused (said_at 3 file) (at (said_at 4 file))) ≡ Ends e
+        → cond b (read_ending 0 (place (said_at 4 file) 0 0)) (read_refused (said_at 3 file) (at (said_at 4 file))) ≡ option.Some e
         → short_ending_said e ≡ said_at 3 file ∷ said_at 4 file ∷ []
     go true f q = front_said e ∙ ap (take 2) (ending_said_lem 0 (place (said_at 4 file) 0 0) e q) ∙ rw (eqb-true (said_at 3 file) 0 f)
     go false f q = front_said e ∙ ap (take 2) (refused_said (said_at 3 file) (at (said_at 4 file)) e q) ∙ rw (o (said_at 4 file))
@@ -107,7 +107,7 @@ pub record ReadsShort (file : List ℕ) (t : Table) : Type 0 where
   pub others : blocks_for short_bytes (count_said file) ≤ short_sound_in file
   pub count : t.count ≡ count_said file
   pub size : t.length ≡ length_said file
-  pub ending : short_ending on_one_line file ≡ Ends t.ending
+  pub ending : short_ending on_one_line file ≡ option.Some t.ending
   pub few : t.count ≤ most_rows
   pub well : well_formed (placed on_one_line (count_said file) (short_words_in file)) t ≡ true
 
@@ -122,7 +122,7 @@ unfolding short_judged short_blocks short_sound_in sound_of whole_told
 short_tests file = refl
 
 -- what is known of a file that is judged to hold a table
-pub reads_short : (file : List ℕ) (t : Table) → short_judged file ≡ loaded.Rows t → ReadsShort file t
+pub reads_short : (file : List ℕ) (t : Table) → short_judged file ≡ Ok t → ReadsShort file t
 unfolding short_table short_sound_in sound_of
 reads_short file t q =
     let n = count_said file in
@@ -175,7 +175,7 @@ module _ (file : List ℕ) (bytes : Bytes file) (t : Table) (r : ReadsShort file
 -- ---- and a reader that knows form 1 alone refuses it by name
 
 -- so it is with every file of form 2 that holds a table
-pub older_refuses : (file : List ℕ) (t : Table) → form_said file ≡ short_number → short_judged file ≡ loaded.Rows t → RefusedByName file
+pub older_refuses : (file : List ℕ) (t : Table) → form_said file ≡ short_number → short_judged file ≡ Ok t → RefusedByName file
 older_refuses file t form held =
     let r = reads_short file t held in
     refused_by_name file (record { long = r.long; first = r.first; form = form })

@@ -17,8 +17,6 @@ use Rattle.rules.specs.Text.{place}
 use Rattle.rules.specs.Rows.{row_in, well_formed, words_per_row}
 use Rattle.rules.specs.Refusals.{lexical_number}
 use Rattle.refusals.proofs.Back.{number_some}
-use Rattle.rules_files.specs.declared.EndingRead.TheVariants.{Ends}
-use Rattle.rules_files.specs.declared.Loaded.TheVariants as loaded
 use Rattle.rules_files.specs.Files.{form_number, most_rows, ending_said, said_at, form_said, count_said, read_refused, read_ending}
 use Rattle.rules_forms.specs.Short.{short_row, shortened, placed, placed_ending, on_one_line, short_ending_said, short_said, short_encode}
 use Rattle.rules_forms.specs.Short.{short_ending, short_words_in, short_table, short_judged, short_words, short_number}
@@ -31,6 +29,8 @@ use Rattle.theory_files.proofs.Said.{refused_back}
 use Rattle.theory_files.proofs.Files.{said_words_lem}
 use Rattle.theory_forms.proofs.Short.{short_fits, short_tests, placed_table, short_said_words}
 use Rattle.theory_forms.proofs.Lines.{one_lined, well_few, well_placed}
+use Rattle.std.specs.Prelude as option
+use Rattle.std.specs.Prelude.{Ok}
 
 -- ---- words fit
 
@@ -62,10 +62,10 @@ ending_two (Refused why p) = refl
 -- the words that say an ending are read as that ending, on one line
 refused_one : (why : Lexical) (p : Cursor)
     → cond (eqb (lexical_number why) 0) (read_ending 0 p) (read_refused (lexical_number why) (on_one_line p.offset.0))
-    ≡ Ends (Refused why (on_one_line p.offset.0))
+    ≡ option.Some (Refused why (on_one_line p.offset.0))
 refused_one why p = rw (number_some why) (refused_back why (on_one_line p.offset.0))
 
-none_one : read_ending 0 (place 0 0 0) ≡ Ends None
+none_one : read_ending 0 (place 0 0 0) ≡ option.Some None
 unfolding read_ending
 none_one = refl
 
@@ -113,16 +113,16 @@ module _ (ws : List ℕ) (t : Table) (well : well_formed ws t ≡ true) (few : t
   written_whole = rw written_count (held_whole short_fits its)
 
   -- the ending that it tells
-  ending_is : short_ending on_one_line (short_encode ws t) ≡ Ends (placed_ending on_one_line t.ending)
+  ending_is : short_ending on_one_line (short_encode ws t) ≡ option.Some (placed_ending on_one_line t.ending)
   unfolding short_ending
   ending_is = rw (said_is 3 (omega arith), said_is 4 (omega arith)) (go t.ending)
     where
       go : (e : Ending) → cond (eqb (get_or (short_ending_said e) 0 0) 0) (read_ending 0 (place (get_or (short_ending_said e) 1 0) 0 0))
-          (read_refused (get_or (short_ending_said e) 0 0) (on_one_line (get_or (short_ending_said e) 1 0))) ≡ Ends (placed_ending on_one_line e)
+          (read_refused (get_or (short_ending_said e) 0 0) (on_one_line (get_or (short_ending_said e) 1 0))) ≡ option.Some (placed_ending on_one_line e)
       go None = none_one
       go (Refused why p) = refused_one why (place p.offset.0 0 0)
 
-  table_is : short_table (short_encode ws t) ≡ loaded.Rows (placed_table on_one_line t)
+  table_is : short_table (short_encode ws t) ≡ Ok (placed_table on_one_line t)
   unfolding short_table
   table_is =
       let n = t.count in
@@ -133,7 +133,7 @@ module _ (ws : List ℕ) (t : Table) (well : well_formed ws t ≡ true) (few : t
       rw (written_count, said_is 1 (omega arith), written_words) (r ∙ told_table w n (placed_table on_one_line t) few q (omega arith))
 
   -- it is judged to hold the table, its lines and columns on one line
-  pub written_judged : short_judged (short_encode ws t) ≡ loaded.Rows (placed_table on_one_line t)
+  pub written_judged : short_judged (short_encode ws t) ≡ Ok (placed_table on_one_line t)
   written_judged =
       let f : List ℕ = short_encode ws t in
       short_tests f ∙ whole_told_lem short_words short_said_words (count_said f) f false (short_table f) written_whole refl ∙ table_is

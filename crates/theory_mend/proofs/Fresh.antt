@@ -16,7 +16,6 @@ use Rattle.rules.specs.declared.Table.{Table}
 use Rattle.rules.specs.Text.{place_at, text_judged}
 use Rattle.rules.specs.Rows.{words_per_row, rows_in, row_at, eof_row, row_place, every, well_formed}
 use Rattle.rules.specs.Scan.{Reading, read_rows, read_ending, scan}
-use Rattle.rules_files.specs.declared.Loaded.TheVariants as loaded
 use Rattle.rules_files.specs.Blocks.{block_bytes, blocks_for, file_length}
 use Rattle.rules_files.specs.Files.{most_rows, form_said, count_said, encode}
 use Rattle.rules_forms.specs.Short.{short_number, on_one_line, short_encode}
@@ -32,6 +31,7 @@ use Rattle.theory_forms.proofs.Written.{written_form, written_words, written_cou
 use Rattle.theory_forms.proofs.Agree.{rows_placed, ending_placed, place_agrees}
 use Rattle.theory_forms.proofs.Moves.{encoded_length, only_one}
 use Rattle.theory_mend.proofs.Words.{scanned_words}
+use Rattle.std.specs.Prelude.{Ok}
 
 -- ---- how long the file is
 
@@ -62,7 +62,7 @@ ending_agrees_lem {T} (well_stops {m = m} a h) = place_agrees T m
 -- A file that is judged to hold the scan's table and rows, beside the text.
 pub record Holds (text file : List ℕ) : Type 0 where
   pub table : Table
-  pub judged_is : judged file ≡ loaded.Rows table
+  pub judged_is : judged file ≡ Ok table
   pub count : table.count ≡ (fresh_table text).count
   pub beside : table_beside text file table ≡ fresh_table text
   pub rows : rows_beside text file ≡ fresh_words text

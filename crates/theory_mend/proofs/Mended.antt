@@ -22,19 +22,18 @@ use Rattle.rules.specs.Rows.{words_per_row}
 use Rattle.rules.specs.Scan.{read_rows, read_ending, scan, room_of, scan_told, scan_leaves}
 use Rattle.rules_files.specs.declared.Fault.{Fault}
 use Rattle.rules_files.specs.declared.Fault.TheVariants.{Outer, TooManyRows, OtherForm}
-use Rattle.rules_files.specs.declared.Loaded.TheVariants as loaded
 use Rattle.rules_files.specs.Blocks.{block_bytes}
 use Rattle.rules_files.specs.Files.{most_rows, form_number, form_said, load_told, load_leaves, encode}
-use Rattle.rules_forms.specs.declared.Beside.TheVariants as beside
 use Rattle.rules_forms.specs.Forms.{is_form, beside_judged, beside_told, beside_leaves, encode_in}
-use Rattle.rules_mend.specs.declared.Mended.{Mended}
-use Rattle.rules_mend.specs.declared.Mended.TheVariants as mended
 use Rattle.rules_mend.specs.Mend.{fresh_table, fresh_words, fresh_file, listed, too_small, fresh_told, mend_told, mend_leaves, list_leaves}
 use Rattle.theory_files.proofs.Files.{stored_read, stored_words}
 use Rattle.theory_mend.specs.Mended.{IsMended, left, ReadsBack, IsRight, NothingAgain, Untouched, RestStays}
 use Rattle.theory_mend.specs.Mended.{block_at, Member, ListTells, HasRoom}
 use Rattle.theory_mend.proofs.Listed.{listed_exactly, cut_listed, listed_ascending, listed_none, none_right, unlisted, listed_most}
 use Rattle.theory_mend.proofs.Fresh.{Holds, fresh_whole, fresh_well, fresh_words_lem, fresh_size, fresh_agrees, fresh_says, fresh_holds}
+use Rattle.std.specs.Prelude.{Ok, Result, Err}
+use Rattle.rules_mend.specs.declared.Mended.{Mended}
+use Rattle.rules_mend.specs.declared.NotMended.{NotMended}
 
 -- ---- what is known of a mending that was told
 
@@ -50,16 +49,22 @@ pub record MendOf (text : List ℕ) (form : ℕ) (memory : List ℕ) (n : ℕ) (
   pub count_is : length (listed (fresh_file form text) (take n memory)) ≡ count
 
 -- a test that refuses has failed
-past : (b : Bool) (why : Fault) (p : Cursor) (y : Mended) (size count : ℕ) → cond b (mended.Refused why p) y ≡ mended.Blocks size count
-    → (b ≡ false) × (y ≡ mended.Blocks size count)
+past : (b : Bool) (why : Fault) (p : Cursor) (y : Result Mended NotMended) (size count : ℕ) → cond b (Err (record { why = why; at = p })) y ≡ Ok (record { bytes = size; listed = count })
+    → (b ≡ false) × (y ≡ Ok (record { bytes = size; listed = count }))
 past true why p y size count e = absurd (let z : ◌≡◌ {A = ℕ} 0 1 = cc in omega arith)
 past false why p y size count e = (refl, e)
 
-same_size : (a b c d : ℕ) → mended.Blocks a b ≡ mended.Blocks c d → a ≡ c
-same_size a b c d e = cc
+same_size : (a b c d : ℕ)
+    → ◌≡◌ {A = Result Mended NotMended} (Ok (record { bytes = a; listed = b })) (Ok (record { bytes = c; listed = d })) → a ≡ c
+same_size a b c d e =
+    let m : ◌≡◌ {A = Mended} (record { bytes = a; listed = b }) (record { bytes = c; listed = d }) = cc in
+    ap (λ (x : Mended). x.bytes) m
 
-same_count : (a b c d : ℕ) → mended.Blocks a b ≡ mended.Blocks c d → b ≡ d
-same_count a b c d e = cc
+same_count : (a b c d : ℕ)
+    → ◌≡◌ {A = Result Mended NotMended} (Ok (record { bytes = a; listed = b })) (Ok (record { bytes = c; listed = d })) → b ≡ d
+same_count a b c d e =
+    let m : ◌≡◌ {A = Mended} (record { bytes = a; listed = b }) (record { bytes = c; listed = d }) = cc in
+    ap (λ (x : Mended). x.listed) m
 
 -- It holds of each that was told.
 pub mend_of : (text : List ℕ) (form : ℕ) (memory : List ℕ) (n : ℕ) (list : List ℕ) (size count : ℕ)
@@ -70,18 +75,18 @@ mend_of text form memory n list size count m =
   where
     go : (v : Judged) → text_judged text ≡ v
         → (not (is_form form) ≡ false)
-        × (elim v as (λ _. Mended) [
+        × (elim v as (λ _. Result Mended NotMended) [
           | verdict.Fine ↦ fresh_told (fresh_file form text) (fresh_table text).count memory n list
-          | verdict.Refused why p ↦ mended.Refused (Outer why) p
-        ] ≡ mended.Blocks size count)
+          | verdict.Refused why p ↦ Err (record { why = Outer why; at = p })
+        ] ≡ Ok (record { bytes = size; listed = count }))
         → MendOf text form memory n list size count
     go (verdict.Refused why p) f a = absurd (let z : ◌≡◌ {A = ℕ} 0 1 = cc in omega arith)
     go verdict.Fine f a =
         let fresh = fresh_file form text in
         let found = listed (fresh_file form text) (take n memory) in
         let rows = (fresh_table text).count in
-        let done = mended.Blocks (length fresh) (length found) in
-        let last = cond (too_small fresh memory n list) (mended.Refused (Outer NoRowRoom) start_place) done in
+        let done : Result Mended NotMended = Ok (record { bytes = length fresh; listed = length found }) in
+        let last = cond (too_small fresh memory n list) (Err (record { why = Outer NoRowRoom; at = start_place })) done in
         let b = past (ltb most_rows rows) TooManyRows start_place last size count a.1 in
         let c = past (too_small fresh memory n list) (Outer NoRowRoom) start_place done size count b.1 in
         let d = neither (ltb (length memory) (length fresh)) (ltb (length memory) n || ltb (length list) (length found)) c.0 in
@@ -99,7 +104,7 @@ mend_of text form memory n list size count m =
 
 -- Where it holds, the mending is told.
 pub told_of : (text : List ℕ) (form : ℕ) (memory : List ℕ) (n : ℕ) (list : List ℕ) (size count : ℕ)
-    → MendOf text form memory n list size count → mend_told text form memory n list ≡ mended.Blocks size count
+    → MendOf text form memory n list size count → mend_told text form memory n list ≡ Ok (record { bytes = size; listed = count })
 unfolding mend_told fresh_told too_small
 told_of text form memory n list size count m =
     let fresh = fresh_file form text in
@@ -113,7 +118,7 @@ told_of text form memory n list size count m =
 -- ---- what is left
 
 module _ (text : List ℕ) (form : ℕ) (memory : List ℕ) (n : ℕ) (list : List ℕ) (size count : ℕ)
-    (e : mend_told text form memory n list ≡ mended.Blocks size count) where
+    (e : mend_told text form memory n list ≡ Ok (record { bytes = size; listed = count })) where
   file_left : mend_leaves text form memory n list ≡ fresh_file form text ++ drop size memory
   unfolding mend_leaves
   file_left = rw (mend_leaves, e)
@@ -131,7 +136,7 @@ module _ (text : List ℕ) (form : ℕ) (memory : List ℕ) (n : ℕ) (r : IsRig
   right_size : length (fresh_file form text) ≡ n
   right_size = ap length (sym r.file) ∙ length-take n memory ∙ omega (arith, r.held)
 
-  right_told : (list : List ℕ) → mend_told text form memory n list ≡ mended.Blocks n 0
+  right_told : (list : List ℕ) → mend_told text form memory n list ≡ Ok (record { bytes = n; listed = 0 })
   right_told list =
       let z : length (listed (fresh_file form text) (take n memory)) ≡ 0 = ap length none_listed in
       told_of text form memory n list n 0 (record {
@@ -169,7 +174,7 @@ only_right text form memory n list size m =
 
 -- A refused call leaves lent memory and the lent list as they were.
 pub mend_untouched : (text : List ℕ) (form : ℕ) (memory : List ℕ) (n : ℕ) (list : List ℕ) (why : Fault) (p : Cursor)
-    → mend_told text form memory n list ≡ mended.Refused why p → Untouched text form memory n list
+    → mend_told text form memory n list ≡ Err (record { why = why; at = p }) → Untouched text form memory n list
 unfolding mend_leaves list_leaves
 mend_untouched text form memory n list why p e = record { file = rw (mend_leaves, e); entries = rw (list_leaves, e) }
 
@@ -202,7 +207,7 @@ module _ (text : List ℕ) (form : ℕ) (memory : List ℕ) (n : ℕ) (list : Li
   unfolding fresh_table fresh_words
   scan_lays ws h = scan_leaves_lem text is_mended.fine ws ∙ laid_all (read_rows (scan text)) ws h
 
-  tells_beside : (room : ℕ) → (fresh_table text).count ≤ room → beside_told text (fresh_file form text) room ≡ beside.Rows (fresh_table text)
+  tells_beside : (room : ℕ) → (fresh_table text).count ≤ room → beside_told text (fresh_file form text) room ≡ Ok (fresh_table text)
   unfolding beside_told beside_judged
   tells_beside room h =
       let t = holds.table in
@@ -219,7 +224,7 @@ module _ (text : List ℕ) (form : ℕ) (memory : List ℕ) (n : ℕ) (list : Li
   long_is e = rw e
 
   tells_alone : form ≡ form_number → (room : ℕ) → (fresh_table text).count ≤ room
-      → load_told (fresh_file form text) room ≡ loaded.Rows (fresh_table text)
+      → load_told (fresh_file form text) room ≡ Ok (fresh_table text)
   tells_alone e room h =
       let f = is_mended.fine in
       rw (long_is e) (stored_read (fresh_words text) (fresh_table text) (fresh_well text f) is_mended.few (fresh_words_lem text f) room h)

@@ -12,30 +12,30 @@ use Rattle.rules.specs.Text.{start_place, text_judged}
 use Rattle.rules_files.specs.declared.Fault.TheVariants as fault
 use Rattle.rules_files.specs.Files.{most_rows}
 use Rattle.rules_forms.specs.Forms.{is_form}
-use Rattle.rules_mend.specs.declared.Mended.TheVariants as mended
 use Rattle.rules_mend.specs.Mend.{fresh_table, fresh_file, too_small, fresh_told, mend_told}
+use Rattle.std.specs.Prelude.{Err}
 
 module _ (text : List ℕ) (form : ℕ) (memory : List ℕ) (n : ℕ) (list : List ℕ) where
   -- 44, whatever the text
-  pub told_form : is_form form ≡ false → mend_told text form memory n list ≡ mended.Refused fault.OtherForm start_place
+  pub told_form : is_form form ≡ false → mend_told text form memory n list ≡ Err (record { why = fault.OtherForm; at = start_place })
   unfolding mend_told
   told_form e = rw e
 
   module _ (known : is_form form ≡ true) where
     -- 1 and 2
     pub told_text : (why : Outer) (p : Cursor) → text_judged text ≡ verdict.Refused why p
-        → mend_told text form memory n list ≡ mended.Refused (fault.Outer why) p
+        → mend_told text form memory n list ≡ Err (record { why = fault.Outer why; at = p })
     unfolding mend_told
     told_text why p e = rw (mend_told, known, e)
 
     module _ (fine : text_judged text ≡ verdict.Fine) where
       -- 40
-      pub told_many : most_rows < (fresh_table text).count → mend_told text form memory n list ≡ mended.Refused fault.TooManyRows start_place
+      pub told_many : most_rows < (fresh_table text).count → mend_told text form memory n list ≡ Err (record { why = fault.TooManyRows; at = start_place })
       unfolding mend_told fresh_told
       told_many h = rw (mend_told, known, fine, lt-ltb most_rows (fresh_table text).count h)
 
       -- 4
       pub told_small : (fresh_table text).count ≤ most_rows → too_small (fresh_file form text) memory n list ≡ true
-          → mend_told text form memory n list ≡ mended.Refused (fault.Outer NoRowRoom) start_place
+          → mend_told text form memory n list ≡ Err (record { why = fault.Outer NoRowRoom; at = start_place })
       unfolding mend_told fresh_told
       told_small h e = rw (mend_told, known, fine, le-ltb most_rows (fresh_table text).count h, e)

@@ -1,20 +1,17 @@
 -- What is claimed of a file that was mended, and of the blocks that are listed.
-use Rattle.std.specs.Prelude.{◌≡◌, true, List, [], ◌∷◌, ℕ, ◌+◌, ◌*◌, ◌/◌, ◌≤◌, ◌<◌, length, take, drop}
+use Rattle.std.specs.Prelude.{◌≡◌, true, List, [], ◌∷◌, ℕ, ◌+◌, ◌*◌, ◌/◌, ◌≤◌, ◌<◌, length, take, drop, Ok}
 use Rattle.rules.specs.declared.Judged.TheVariants as verdict
 use Rattle.rules.specs.declared.Told.TheVariants as told
 use Rattle.rules.specs.Text.{text_judged}
 use Rattle.rules.specs.Scan.{room_of, scan_told, scan_leaves}
-use Rattle.rules_files.specs.declared.Loaded.TheVariants as loaded
 use Rattle.rules_files.specs.Blocks.{block_bytes}
 use Rattle.rules_files.specs.Files.{most_rows, form_number, form_said, load_told, load_leaves}
-use Rattle.rules_forms.specs.declared.Beside.TheVariants as beside
 use Rattle.rules_forms.specs.Forms.{is_form, beside_told, beside_leaves}
-use Rattle.rules_mend.specs.declared.Mended.TheVariants as mended
 use Rattle.rules_mend.specs.Mend.{fresh_table, fresh_file, listed, mend_told, mend_leaves, list_leaves}
 
 -- A file was mended: n bytes of memory were the file, size are now, and count blocks are listed.
 pub record IsMended (text : List ℕ) (form : ℕ) (memory : List ℕ) (n : ℕ) (list : List ℕ) (size count : ℕ) : Type 0 where
-  pub told : mend_told text form memory n list ≡ mended.Blocks size count
+  pub told : mend_told text form memory n list ≡ Ok (record { bytes = size; listed = count })
 
 -- the file that it left
 abbrev pub left : List ℕ → ℕ → List ℕ → ℕ → List ℕ → ℕ → List ℕ
@@ -25,9 +22,9 @@ left text form memory n list size = take size (mend_leaves text form memory n li
 pub record ReadsBack (text : List ℕ) (form : ℕ) (file : List ℕ) : Type 0 where
   pub said : form_said file ≡ form
   pub scanned : (room : ℕ) → (fresh_table text).count ≤ room → scan_told text room ≡ told.Rows (fresh_table text)
-  pub beside : (room : ℕ) → (fresh_table text).count ≤ room → beside_told text file room ≡ beside.Rows (fresh_table text)
+  pub beside : (room : ℕ) → (fresh_table text).count ≤ room → beside_told text file room ≡ Ok (fresh_table text)
   pub rows_beside : (ws : List ℕ) → (fresh_table text).count ≤ room_of ws → beside_leaves text file ws ≡ scan_leaves text ws
-  pub alone : form ≡ form_number → (room : ℕ) → (fresh_table text).count ≤ room → load_told file room ≡ loaded.Rows (fresh_table text)
+  pub alone : form ≡ form_number → (room : ℕ) → (fresh_table text).count ≤ room → load_told file room ≡ Ok (fresh_table text)
   pub rows_alone : form ≡ form_number → (ws : List ℕ) → (fresh_table text).count ≤ room_of ws → load_leaves file ws ≡ scan_leaves text ws
 
 -- "A file equal to the fresh scan's in that form": the first n bytes of memory, of a text that has such a file
@@ -40,7 +37,7 @@ pub record IsRight (text : List ℕ) (form : ℕ) (memory : List ℕ) (n : ℕ) 
 
 -- it "comes back unchanged with an empty list", whatever list is lent; and so "mending again lists nothing and changes nothing"
 pub record NothingAgain (text : List ℕ) (form : ℕ) (memory : List ℕ) (size : ℕ) : Type 0 where
-  pub told : (list : List ℕ) → mend_told text form memory size list ≡ mended.Blocks size 0
+  pub told : (list : List ℕ) → mend_told text form memory size list ≡ Ok (record { bytes = size; listed = 0 })
   pub file : (list : List ℕ) → mend_leaves text form memory size list ≡ memory
   pub list : (list : List ℕ) → list_leaves text form memory size list ≡ list
 

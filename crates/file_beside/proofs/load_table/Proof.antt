@@ -9,11 +9,11 @@ use borrow.Author.Tests.{not-true, not-false}
 use Rattle.rules.specs.declared.Table.{Table}
 use Rattle.rules.specs.Rows.{words_per_row}
 use Rattle.rules.specs.Scan.{room_of}
-use Rattle.rules_forms.specs.declared.Beside.TheVariants as beside
 use Rattle.rules_forms.specs.Forms.{rows_beside, table_beside}
 use Rattle.file_beside.proofs.Answers.{told_full, told_other, told_rows}
 use Rattle.file_beside.proofs.load_table.Statement.{statement}
 use Rattle.file_beside.proofs.load_table.Tie as tie
+use Rattle.std.specs.Prelude.{Ok}
 
 -- the function's entry, as it is seen from the test of the room, from behind it, and from behind the agreement
 abbrev entry : tie.After-struct_known-1 → tie.Start
@@ -65,7 +65,7 @@ returns_3 c =
     let n = ap (λ (t : Table). t.count) w.take_beside.ensures.0 in
     let told = told_rows a.text.now a.file.now a.table (room_of a.rows.now) o.before.before.if-rows-table.false e in
     let left = ap (λ (k : ℕ). rows_beside a.text.now a.file.now ++ drop (words_per_row * k) a.rows.now) (sym n) in
-    (ap beside.Rows w.take_beside.ensures.0 ∙ sym told, w.take_beside.ensures.1 ∙ left)
+    (ap Ok w.take_beside.ensures.0 ∙ sym told, w.take_beside.ensures.1 ∙ left)
 
 pub load_table_spec : {M : Type 1} → statement M
 load_table_spec =

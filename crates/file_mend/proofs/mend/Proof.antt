@@ -3,11 +3,11 @@ use mathlib.Core.Path.{sym, ap, ◌∙◌}
 use borrow.Author.Rules.{rules}
 use Rattle.rules.specs.declared.Cursor.{Cursor}
 use Rattle.rules_files.specs.declared.Fault.TheVariants as fault
-use Rattle.rules_mend.specs.declared.Mended.TheVariants as mended
 use Rattle.theory_mend.proofs.Ways.{told_form}
 use Rattle.file_mend.proofs.Told.{by_number, refused, other_form}
 use Rattle.file_mend.proofs.mend.Statement.{statement}
 use Rattle.file_mend.proofs.mend.Tie as tie
+use Rattle.std.specs.Prelude.{Err}
 
 -- ---- the places on the way
 
@@ -71,7 +71,7 @@ returns_3 c =
     let o = other_form a.number e.before.if-number-eq-NUMBER.false e.if-number-eq-NUMBER-2.false in
     let t = told_form a.text.now a.number a.file.now a.n a.list.now o in
     refused a.text.now a.number a.file.now a.n a.list.now _ _
-    (t ∙ ap (λ (p : Cursor). mended.Refused fault.OtherForm p) (sym c.start.ensures))
+    (t ∙ ap (λ (p : Cursor). Err (record { why = fault.OtherForm; at = p })) (sym c.start.ensures))
 
 pub mend_spec : {M : Type 1} → statement M
 mend_spec =

@@ -12,7 +12,6 @@ use Rattle.rules.specs.declared.Table.{Table}
 use Rattle.rules_files.specs.declared.Fault.TheVariants as fault
 use Rattle.rules_files.specs.Files.{most_rows}
 use Rattle.rules_forms.specs.Shapes.{number_of}
-use Rattle.rules_mend.specs.declared.Mended.TheVariants as mended
 use Rattle.rules_mend.specs.Mend.{fresh_table, fresh_file, listed}
 use Rattle.theory_mend.proofs.Mended.{MendOf}
 use Rattle.theory_mend.proofs.Ways.{told_many, told_small}
@@ -22,6 +21,7 @@ use Rattle.file_mend.proofs.Told.{known, refused, blocks, nothing}
 use Rattle.file_mend.proofs.mend_text.Statement.{statement}
 use Rattle.file_mend.proofs.mend_text.Tie as tie
 use Rattle.file_mend.proofs.mend_text.Lts.{then-room-n, else-room-n}
+use Rattle.std.specs.Prelude.{Err}
 
 -- ---- the places on the way
 
@@ -135,7 +135,7 @@ returns c =
     let h : most_rows < (fresh_table a.text.now).count = omega (arith, c.before.if-table-gt-MOST_ROWS.true, rows v) in
     let t = told_many a.text.now (number_of a.form) a.file.now a.n a.list.now (known a.form) s.requires h in
     refused a.text.now (number_of a.form) a.file.now a.n a.list.now _ _
-    (t ∙ ap (λ (p : Cursor). mended.Refused fault.TooManyRows p) (sym c.start.ensures))
+    (t ∙ ap (λ (p : Cursor). Err (record { why = fault.TooManyRows; at = p })) (sym c.start.ensures))
 
 length_for_requires : tie.Need-length_for-length-requires
 length_for_requires c κs = search rules
@@ -157,7 +157,7 @@ returns_2 c =
     let t = told_small a.text.now (number_of a.form) a.file.now a.n a.list.now
     (known a.form) s.requires (few l.before) e in
     refused a.text.now (number_of a.form) a.file.now a.n a.list.now _ _
-    (t ∙ ap (λ (p : Cursor). mended.Refused (fault.Outer NoRowRoom) p) (sym c.start-then-room-length.ensures))
+    (t ∙ ap (λ (p : Cursor). Err (record { why = fault.Outer NoRowRoom; at = p })) (sym c.start-then-room-length.ensures))
 
 cast_t25 : tie.Need-overflow_cast-result
 cast_t25 c = omega (arith, small (at_length (fits c.before)))

@@ -7,7 +7,6 @@ use borrow.Author.Tests.{not-true, not-false}
 use Rattle.rows.proofs.Inside.{fine}
 use mathlib.Core.Bool.{true}
 use Rattle.rules.specs.Rows.{well_formed}
-use Rattle.rules_files.specs.declared.Stored.TheVariants as stored
 use Rattle.rules_files.specs.Blocks.{file_length}
 use Rattle.rules_files.specs.Files.{row_bytes}
 use Rattle.theory_files.proofs.Files.{store_untouched, store_written}
@@ -15,6 +14,7 @@ use Rattle.file_store.proofs.Going.{most_length, store_unformed, store_many, sto
 use borrow.Author.Rules.{rules}
 use Rattle.file_store.proofs.store.Statement.{statement}
 use Rattle.file_store.proofs.store.Tie as tie
+use Rattle.std.specs.Prelude.{Ok}
 
 -- ---- the places on the way: the function's entry, as it is seen from behind each test
 
@@ -88,7 +88,7 @@ returns_4 c =
     let e = l.before in
     let t = store_fits a.rows.now a.table (length a.file.now) (well e.before) e.if-count-gt-MOST_ROWS.false (room (at_room f)) in
     let written = store_written a.rows.now a.table a.file.now _ t in
-    (ap stored.Bytes l.length_for-length.ensures ∙ sym t, f.put_file.ensures ∙ sym written)
+    (ap Ok l.length_for-length.ensures ∙ sym t, f.put_file.ensures ∙ sym written)
 
 pub store_spec : {M : Type 1} → statement M
 store_spec =
