@@ -46,7 +46,7 @@ unfolding repeated
 repeated_on n v w = rw (add-one n) (wrote_then v w)
 
 -- nothing in front of the first argument, a comma in front of any other
-comma_none : (n : ℕ) → n ≤ 1 → comma n ≡ []
+pub comma_none : (n : ℕ) → n ≤ 1 → comma n ≡ []
 unfolding comma
 comma_none n h = rw (le-leb n 1 h)
 
