@@ -10,6 +10,7 @@ ghost use Rattle.layout_write.specs.Lent.{Lent};
 ghost use Rattle.layout_judge.specs.Judging.{is_parsed};
 ghost use Rattle.layout.specs.Laying.{IsLent, length_of, room_leaves, scratch_leaves};
 
+use layout_back::Source;
 use layout_judge::SCRATCH;
 use rules::Table;
 use rules_layout::Unlaid;
@@ -36,34 +37,28 @@ fn is_tree(
 }
 
 // How many bytes the layout has, if it has no more than 65,536.
-fn measured(text: &[u8], rows: &[u32], nodes: &[u32], count: u32) -> Option<usize>
-    requires { IsLent text.now rows.now nodes.now count }
-    ensures { (u : Tree) → Lent text.now rows.now nodes.now count u → result ≡ length_of
+fn measured(source: &Source<'_>, count: u32) -> Option<usize>
+    requires { IsLent source.now.text.now source.now.rows.now source.now.nodes.now count }
+    ensures { (u : Tree) → Lent source.now.text.now source.now.rows.now source.now.nodes.now count u → result ≡ length_of
         (layout u) }
 {
-    let start = layout_write::write(text, rows, nodes, count, &mut [0], PAST);
+    let start = layout_write::write(source, count, &mut [0], PAST);
     if start == 0 { None } else { Some(PAST - start) }
 }
 
 // The layout of a program, if it has room.
-fn placed(
-    text: &[u8],
-    rows: &[u32],
-    nodes: &[u32],
-    count: u32,
-    room: &mut [u8],
-) -> Result<u32, Unlaid>
-    requires { IsLent text.now rows.now nodes.now count }
-    ensures { (u : Tree) → Lent text.now rows.now nodes.now count u →
+fn placed(source: &Source<'_>, count: u32, room: &mut [u8]) -> Result<u32, Unlaid>
+    requires { IsLent source.now.text.now source.now.rows.now source.now.nodes.now count }
+    ensures { (u : Tree) → Lent source.now.text.now source.now.rows.now source.now.nodes.now count u →
         (result ≡ room_told (layout u) (length room.old)) × (room.new ≡ room_leaves (layout u) room.old) }
 {
-    let Some(long) = measured(text, rows, nodes, count) else {
+    let Some(long) = measured(source, count) else {
         return Err(Unlaid::NoRoom);
     };
     if room.len() < long {
         return Err(Unlaid::NoRoom);
     }
-    layout_write::write(text, rows, nodes, count, room, long);
+    layout_write::write(source, count, room, long);
     Ok(long as u32)
 }
 
@@ -87,5 +82,5 @@ pub fn lay_out(
     if !is_tree(text, rows, table, nodes, count, scratch) {
         return Err(Unlaid::NotItsTree);
     }
-    placed(text, rows, nodes, count, room)
+    placed(&Source { text, rows, nodes }, count, room)
 }

@@ -1,4 +1,6 @@
 // What a laying out tells, in eight words of one layout (specs/Words.antt).
+#![tactic(auto)]
+
 ghost use Rattle.std.specs.Prelude.{◌≡◌};
 ghost use Rattle.layout_answers.specs.Words.{unlaid_number, laid_words};
 
@@ -21,11 +23,7 @@ pub fn put_laid(answer: &mut [u32; 8], told: Result<u32, Unlaid>)
     ensures { answer.new ≡ laid_words told }
 {
     match told {
-        Ok(n) => {
-            put(answer, 0, no_place(), 0, 0, 0, n);
-        }
-        Err(why) => {
-            put(answer, unlaid_number(why), Cursor::start(), 0, 0, 0, 0);
-        }
+        Ok(n) => put(answer, 0, no_place(), 0, 0, 0, n),
+        Err(why) => put(answer, unlaid_number(why), Cursor::start(), 0, 0, 0, 0),
     }
 }

@@ -1,7 +1,7 @@
 -- Laws of what is written of an expression, step by step along its left parts.
 use mathlib.Core.Path.{◌≡◌, refl, sym, ap, ◌∙◌, subst}
 use mathlib.Core.List.{List, [], ◌∷◌, ◌++◌, append_assoc, append-nil}
-use Prim.Native.Nat.{ℕ, zero, suc, ◌+◌, ◌-◌, ◌≤◌, ◌<◌}
+use Prim.Native.Nat.{ℕ, suc, ◌+◌, ◌-◌, ◌≤◌, ◌<◌}
 use native.Mathlib.Omega.{arith}
 use lib.ListN.{length}
 use Rattle.rules.specs.Text.{bytes}
@@ -12,8 +12,8 @@ use Rattle.layout_back.proofs.Back.{wrote_none, wrote_then, wrote_as}
 use Rattle.layout_signs.specs.Levels.{node_level, right_place, operator_of, put, pairs, repeated, comma}
 use Rattle.layout_signs.proofs.Signs.{put_is, put_any, repeated_add}
 use Rattle.layout_expr.specs.declared.Back.{Back}
-use Rattle.layout_expr.specs.Parts.{kind_of, Sort, Expr, Args, Part, p_var, p_num, p_star, p_field, p_call, p_bin, p_none, p_arg}
-use Rattle.layout_expr.specs.Written.{Done, Stepped, WroteExpr, WroteArgs, WroteLeaf, WroteStep, WroteCall}
+use Rattle.layout_expr.specs.Parts.{kind_of, Expr, Args, Part, p_var, p_num, p_star, p_field, p_call, p_bin, p_none, p_arg}
+use Rattle.layout_expr.specs.Written.{Done, Stepped, WroteExpr, WroteArgs, WroteLeaf, WroteStep}
 
 -- what `name` promises of a row
 abbrev pub Named : (t rows : List ℕ) (row : ℕ) (room : List ℕ) (at : ℕ) (room' : List ℕ) (r : ℕ) → Type 0

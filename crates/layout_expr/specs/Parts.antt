@@ -1,6 +1,6 @@
 -- The bytes that nodes have in the layout, read off their words: which bytes an expression has whose nodes are those from one number up to
 -- another, and at which level it stands. A node's parts stand in front of it.
-use Rattle.std.specs.Prelude.{◌≡◌, List, [], ◌∷◌, ◌++◌, ℕ, suc, ◌≤◌}
+use Rattle.std.specs.Prelude.{◌≡◌, List, [], ◌++◌, ℕ, suc, ◌≤◌}
 use Rattle.rules.specs.Text.{bytes}
 use Rattle.rules.specs.Nodes.{NodeVariable, NodeNumber, NodeDereference, NodeAdd, NodeShr, NodeCall, NodeField}
 use Rattle.rules_decimal.specs.Decimal.{signed}

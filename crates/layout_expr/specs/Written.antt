@@ -4,7 +4,7 @@ use Rattle.rules.specs.Nodes.{NodeDereference, NodeAdd, NodeCall}
 use Rattle.layout_back.specs.Back.{Wrote}
 use Rattle.layout_signs.specs.Levels.{node_level, put}
 use Rattle.layout_expr.specs.declared.Back.{Back}
-use Rattle.layout_expr.specs.Parts.{kind_of, Sort, Expr, Args, Part}
+use Rattle.layout_expr.specs.Parts.{kind_of, Expr, Args, Part}
 
 -- bytes of the nodes from m on are written: r says where the nodes and where the bytes begin
 pub record Done (m : ℕ) (bs room : List ℕ) (at : ℕ) (room' : List ℕ) (r : Back) : Type 0 where

@@ -2,7 +2,7 @@
 use mathlib.Core.Path.{◌≡◌, refl, sym, ap, ◌∙◌}
 use mathlib.Core.Bool.{Bool, true, false, ◌&&◌}
 use mathlib.Core.List.{List, ◌++◌}
-use Prim.Native.Nat.{ℕ, ◌+◌, ◌*◌, ◌/◌, ◌≤◌}
+use Prim.Native.Nat.{ℕ, ◌*◌, ◌≤◌}
 use native.Mathlib.Omega.{arith}
 use lib.Dec.{eqb}
 use lib.ListN.{length, take, length-append}
@@ -12,12 +12,11 @@ use Rattle.rules.specs.declared.Judged.{Judged}
 use Rattle.rules.specs.declared.Judged.TheVariants as verdict
 use Rattle.rules.specs.declared.Outer.{Outer}
 use Rattle.rules.specs.declared.Table.{Table}
-use Rattle.rules.specs.declared.Told.{Told}
 use Rattle.rules.specs.declared.Told.TheVariants.{Rows, Refused}
-use Rattle.rules.specs.Text.{most_bytes, place_at, text_judged}
+use Rattle.rules.specs.Text.{place_at, text_judged}
 use Rattle.rules.specs.Kinds.{same_bytes}
 use Rattle.rules.specs.Rows.{words_of}
-use Rattle.rules.specs.Scan.{read, scan, read_rows, read_ending, room_of, told, scan_told, scan_leaves}
+use Rattle.rules.specs.Scan.{scan, read_rows, read_ending, room_of, scan_told, scan_leaves}
 use Rattle.rules_layout.specs.Layout.{is_whole, begins, is_scan, is_scanned}
 use Rattle.laws.proofs.Rows.{few_rows, words_length, scan_told_lem, told_all}
 use Rattle.laws.proofs.Valid.{fine_text, text_fine}

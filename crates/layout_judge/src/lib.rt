@@ -1,5 +1,7 @@
 // Whether the lent nodes are the lent text's tree: the table is the text's scan and the nodes are its parse, every word of both. Scan and
 // parse are made once more, into a scratch that the caller lends.
+#![tactic(auto)]
+
 ghost use Rattle.std.specs.Prelude.{◌≡◌, ◌≤◌, length, take};
 ghost use Rattle.rules.specs.Kinds.{same_bytes};
 ghost use Rattle.rules.specs.Scan.{scan_leaves};
@@ -12,30 +14,12 @@ use rules::{Ending, Parsed, Table, Told, node, row};
 // The words of a scratch: room for the rows, or the nodes, of the longest text.
 pub const SCRATCH: usize = 524296;
 
-// Whether the first n words of both are the same.
-fn same_words(a: &[u32], b: &[u32], n: usize) -> bool
-    requires { (n ≤ length a.now) × (n ≤ length b.now) }
-    ensures { result ≡ same_bytes (take n a.now) (take n b.now) }
-{
-    let mut i = 0;
-    while i < n {
-        if a[i] != b[i] {
-            return false;
-        }
-        i += 1;
-    }
-    true
-}
-
 // Whether the first n words of one are those that are lent first.
 fn begins_with(a: &[u32], lent: &[u32], n: usize) -> bool
     requires { n ≤ length a.now }
     ensures { result ≡ same_bytes (take n a.now) (take n lent.now) }
 {
-    if lent.len() < n {
-        return false;
-    }
-    same_words(a, lent, n)
+    lent.starts_with(&a[..n])
 }
 
 // Whether no refusal ends a table.
@@ -49,21 +33,14 @@ fn is_whole(ending: Ending) -> bool
 }
 
 // Whether no refusal ends two tables, of as many rows and of texts as long.
+#[tactic(auto, unfolding(crate::specs::Judging::same_table))]
 fn same_table(fresh: Table, table: Table) -> bool
     ensures { result ≡ same_table fresh table }
 {
-    let ending = fresh.ending;
-    let lent = table.ending;
-    if !is_whole(ending) {
-        return false;
-    }
-    if !is_whole(lent) {
-        return false;
-    }
-    if table.count != fresh.count {
-        return false;
-    }
-    table.length == fresh.length
+    is_whole(fresh.ending)
+        && is_whole(table.ending)
+        && table.count == fresh.count
+        && table.length == fresh.length
 }
 
 // Whether a table is that of the text, to the text's end. The text's rows are left in the scratch.

@@ -2,7 +2,17 @@
 use Rattle.std.specs.Prelude.{cond, ◌||◌, List, [], ◌++◌, ℕ, zero, suc, eqb, leb, ltb}
 use Rattle.rules.specs.Text.{bytes}
 use Rattle.rules.specs.Nodes.{NodeDereference, NodeAdd, NodeSub, NodeMul, NodeDiv, NodeMod, NodeShl, NodeShr}
+use Rattle.layout_signs.specs.declared.Binding.{Binding}
+use Rattle.layout_signs.specs.declared.Binding.TheVariants.{Sum, Shift, Product, Starred, Operand}
 use Rattle.rules_layout.specs.Rows.{sum_level, shift_level, product_level, dereference_level, operand_level}
+
+-- the number of a level
+abbrev pub number : Binding → ℕ
+number Sum = sum_level
+number Shift = shift_level
+number Product = product_level
+number Starred = dereference_level
+number Operand = operand_level
 
 -- the level of an expression, and so what the left of an operator takes
 unfoldable pub node_level : ℕ → ℕ

@@ -1,106 +1,91 @@
 // Levels and places of expressions by the kinds of nodes, and the bytes of signs.
+#![tactic(auto)]
+
 ghost use Rattle.std.specs.Prelude.{◌≡◌, ◌≤◌};
 ghost use Rattle.layout_back.specs.Back.{Wrote};
-ghost use Rattle.layout_signs.specs.Levels.{node_level, right_place, operator_of, pairs, repeated, comma};
+ghost use Rattle.layout_signs.specs.Levels.{number, node_level, right_place, operator_of, pairs, repeated, comma};
 
 use rules::node_kind::{ADD, DEREFERENCE, DIV, MOD, MUL, SHL, SHR, SUB};
 
-// The levels, and what places take.
-pub const SUM: u32 = 0;
-
-pub const SHIFT: u32 = 1;
-
-pub const PRODUCT: u32 = 2;
-
-pub const STARRED: u32 = 3;
-
-pub const OPERAND: u32 = 4;
+// How tightly an expression binds, which is its level, and what places take: what is not below that stands there without parentheses.
+#[derive(Clone, Copy)]
+pub enum Binding {
+    Sum,
+    Shift,
+    Product,
+    Starred,
+    Operand,
+}
 
 // The level of an expression by its node's kind.
-pub fn level(k: u32) -> u32
-    ensures { result ≡ node_level k }
+#[tactic(auto, unfolding(crate::specs::Levels::node_level))]
+pub fn level(k: u32) -> Binding
+    ensures { number result ≡ node_level k }
 {
-    if (k == ADD) | (k == SUB) {
-        return SUM;
+    match k {
+        ADD | SUB => Binding::Sum,
+        SHL | SHR => Binding::Shift,
+        MUL | DIV | MOD => Binding::Product,
+        DEREFERENCE => Binding::Starred,
+        _ => Binding::Operand,
     }
-    if (k == SHL) | (k == SHR) {
-        return SHIFT;
-    }
-    if ((k == MUL) | (k == DIV)) | (k == MOD) {
-        return PRODUCT;
-    }
-    if k == DEREFERENCE {
-        return STARRED;
-    }
-    OPERAND
 }
 
 // What the left of an operator, of a field's and of a call's dot takes.
-pub fn left(k: u32) -> u32
-    ensures { result ≡ node_level k }
+pub fn left(k: u32) -> Binding
+    ensures { number result ≡ node_level k }
 {
     level(k)
 }
 
 // What the right of an operator takes.
-pub fn right(k: u32) -> u32
-    ensures { result ≡ right_place k }
+#[tactic(auto, unfolding(crate::specs::Levels::right_place))]
+pub fn right(k: u32) -> Binding
+    ensures { number result ≡ right_place k }
 {
-    if !(((k == MUL) | (k == DIV)) | (k == MOD)) {
-        return PRODUCT;
+    match k {
+        MUL | DIV | MOD => Binding::Starred,
+        _ => Binding::Product,
     }
-    STARRED
 }
 
 // How many pairs of parentheses an expression of a level has at a place.
-pub fn pairs(place: u32, level: u32) -> u32
-    ensures { (result ≡ pairs place level) × (result ≤ 1) }
+#[tactic(auto, unfolding(crate::specs::Levels::pairs))]
+pub fn pairs(place: Binding, level: Binding) -> u32
+    ensures { (result ≡ pairs (number place) (number level)) × (result ≤ 1) }
 {
-    if level < place {
-        return 1;
-    }
-    0
+    u32::from((level as u32) < place as u32)
 }
 
 // An operator's sign.
+#[tactic(auto, unfolding(crate::specs::Levels::operator_of))]
 pub fn operator(k: u32, room: &mut [u8], at: usize) -> usize
     ensures { Wrote (operator_of k) room.old at room.new result }
 {
-    if k == ADD {
-        return layout_back::bytes(b"+ ", room, at);
+    match k {
+        ADD => layout_back::bytes(b"+ ", room, at),
+        SUB => layout_back::bytes(b"- ", room, at),
+        MUL => layout_back::bytes(b"* ", room, at),
+        DIV => layout_back::bytes(b"/ ", room, at),
+        MOD => layout_back::bytes(b"% ", room, at),
+        SHL => layout_back::bytes(b"<< ", room, at),
+        _ => layout_back::bytes(b">> ", room, at),
     }
-    if k == SUB {
-        return layout_back::bytes(b"- ", room, at);
-    }
-    if k == MUL {
-        return layout_back::bytes(b"* ", room, at);
-    }
-    if k == DIV {
-        return layout_back::bytes(b"/ ", room, at);
-    }
-    if k == MOD {
-        return layout_back::bytes(b"% ", room, at);
-    }
-    if k == SHL {
-        return layout_back::bytes(b"<< ", room, at);
-    }
-    layout_back::bytes(b">> ", room, at)
 }
 
 // Bytes so many times.
 pub fn repeated(bytes: &[u8], times: u32, room: &mut [u8], at: usize) -> usize
     ensures { Wrote (repeated times bytes.now) room.old at room.new result }
 {
-    let mut left = times;
     let mut to = at;
-    while 0 < left {
+    for _ in 0..times {
         to = layout_back::bytes(bytes, room, to);
-        left -= 1;
     }
     to
 }
 
 // What stands behind a call's receiver and arguments, so many of them, and in front of the next.
+#[tactic(auto, using(crate::proofs::Signs::comma_nothing), unfolding(crate::specs::Levels::comma))]
 pub fn comma(things: u32, room: &mut [u8], at: usize) -> usize
     ensures { Wrote (comma things) room.old at room.new result }
 {

@@ -1,7 +1,7 @@
 -- Laws of what is written of things and of their braces.
 use mathlib.Core.Path.{◌≡◌, refl, sym, ap, ◌∙◌, subst}
-use mathlib.Core.List.{List, [], ◌∷◌, ◌++◌, append_assoc, append-nil}
-use Prim.Native.Nat.{ℕ, zero, suc, ◌-◌, ◌≤◌, ◌<◌}
+use mathlib.Core.List.{List, [], ◌++◌, append_assoc, append-nil}
+use Prim.Native.Nat.{ℕ, suc, ◌-◌, ◌≤◌, ◌<◌}
 use native.Mathlib.Omega.{arith}
 use lib.ListN.{length}
 use Rattle.rules.specs.Text.{bytes}
@@ -12,9 +12,9 @@ use Rattle.layout_expr.specs.declared.Back.{Back}
 use Rattle.layout_expr.specs.Parts.{kind_of}
 use Rattle.layout_expr.specs.Written.{Done}
 use Rattle.layout_expr.proofs.Ways.{Named}
-use Rattle.layout_lines.specs.Lines.{Line, WroteLine}
+use Rattle.layout_lines.specs.Lines.{WroteLine}
 use Rattle.layout_lines.proofs.ByKind.{spelled_at}
-use Rattle.layout_tree.specs.Things.{Sort, One, Body, Many, Thing, t_line, t_unit, t_event, t_if, t_if_else, t_body, t_none, t_more, Program, WroteThing, WroteHeaded, WroteGuarded, WroteBranch, WroteProgram}
+use Rattle.layout_tree.specs.Things.{Sort, One, Body, Many, Thing, t_line, t_unit, t_event, t_if, t_if_else, t_body, t_none, t_more, Program, WroteThing, WroteHeaded, WroteGuarded, WroteBranch}
 
 module _ {t rows nodes : List ℕ} where
   -- ---- one thing

@@ -1,7 +1,7 @@
 -- The bytes of all nodes: lines, and what has lines in braces.
 use Rattle.std.specs.Prelude.{◌≡◌, List, [], ◌++◌, ℕ, suc, ◌≤◌}
 use Rattle.rules.specs.Text.{bytes}
-use Rattle.rules.specs.Nodes.{NodeIf, NodeUnit, NodeEvent, NodeProgram}
+use Rattle.rules.specs.Nodes.{NodeIf, NodeUnit, NodeEvent}
 use Rattle.layout_back.specs.Back.{Wrote}
 use Rattle.layout_back.specs.Words.{word_of, SpelledAs}
 use Rattle.layout_expr.specs.declared.Back.{Back}

@@ -1,5 +1,5 @@
--- Laws of words: the last of each choice, and a map's lines that are left out.
-use mathlib.Core.Path.{◌≡◌, refl, sym, ap}
+-- Laws of words: a map's lines that are left out, and the forms of fields.
+use mathlib.Core.Path.{◌≡◌, sym, ap}
 use mathlib.Core.List.{List, [], ◌++◌}
 use Prim.Native.Nat.{ℕ}
 use native.Mathlib.Omega.{arith}
@@ -7,27 +7,7 @@ use borrow.Author.Tests.{eq-eqb, ne_eqb}
 use Rattle.rules.specs.Text.{bytes}
 use Rattle.rules_decimal.specs.Decimal.{signed}
 use Rattle.layout_back.specs.Words.{number_of}
-use Rattle.layout_words.specs.Words.{type_word, map_word, decl_word, assign_sign, text_word, typed_line, field_words}
-
-pub type_last : (n : ℕ) → (n ≡ 1 → ⊥) → (n ≡ 2 → ⊥) → (n ≡ 3 → ⊥) → bytes "i64 " ≡ type_word n
-unfolding type_word
-type_last n a b c = sym (rw (ne_eqb n 1 a, ne_eqb n 2 b, ne_eqb n 3 c))
-
-pub map_last : (n : ℕ) → (n ≡ 1 → ⊥) → (n ≡ 2 → ⊥) → (n ≡ 3 → ⊥) → (n ≡ 4 → ⊥) → bytes "prog_array " ≡ map_word n
-unfolding map_word
-map_last n a b c d = sym (rw (ne_eqb n 1 a, ne_eqb n 2 b, ne_eqb n 3 c, ne_eqb n 4 d))
-
-pub decl_last : (k : ℕ) → (k ≡ 16 → ⊥) → (k ≡ 17 → ⊥) → bytes "heap " ≡ decl_word k
-unfolding decl_word
-decl_last k a b = sym (rw (ne_eqb k 16 a, ne_eqb k 17 b))
-
-pub assign_last : (k : ℕ) → (k ≡ 14 → ⊥) → bytes "+= " ≡ assign_sign k
-unfolding assign_sign
-assign_last k a = sym (rw (ne_eqb k 14 a))
-
-pub text_last : (k : ℕ) → (k ≡ 23 → ⊥) → bytes "license " ≡ text_word k
-unfolding text_word
-text_last k a = sym (rw (ne_eqb k 23 a))
+use Rattle.layout_words.specs.Words.{type_word, typed_line, field_words}
 
 pub typed_none : (head : List ℕ) (n : ℕ) → n ≡ 0 → [] ≡ typed_line head n
 unfolding typed_line

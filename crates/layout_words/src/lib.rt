@@ -1,75 +1,70 @@
 // The words that a node has no row for, and what stands in a map's braces.
+#![tactic(auto)]
+
 ghost use Rattle.layout_back.specs.Back.{Wrote};
 ghost use Rattle.layout_words.specs.Words.{type_word, map_word, decl_word, assign_sign, text_word, typed_line, map_lines, field_words};
 
 use rules::{fact, node_kind};
 
 // A type of keys, values and elements.
+#[tactic(auto, unfolding(crate::specs::Words::type_word))]
 pub fn type_word(n: u32, room: &mut [u8], at: usize) -> usize
     ensures { Wrote (type_word n) room.old at room.new result }
 {
-    if n == fact::TYPE_U32 {
-        return layout_back::bytes(b"u32 ", room, at);
+    match n {
+        fact::TYPE_U32 => layout_back::bytes(b"u32 ", room, at),
+        fact::TYPE_U64 => layout_back::bytes(b"u64 ", room, at),
+        fact::TYPE_I32 => layout_back::bytes(b"i32 ", room, at),
+        _ => layout_back::bytes(b"i64 ", room, at),
     }
-    if n == fact::TYPE_U64 {
-        return layout_back::bytes(b"u64 ", room, at);
-    }
-    if n == fact::TYPE_I32 {
-        return layout_back::bytes(b"i32 ", room, at);
-    }
-    layout_back::bytes(b"i64 ", room, at)
 }
 
 // A type of maps.
+#[tactic(auto, unfolding(crate::specs::Words::map_word))]
 fn map_word(n: u32, room: &mut [u8], at: usize) -> usize
     ensures { Wrote (map_word n) room.old at room.new result }
 {
-    if n == fact::MAP_HASH {
-        return layout_back::bytes(b"hash ", room, at);
+    match n {
+        fact::MAP_HASH => layout_back::bytes(b"hash ", room, at),
+        fact::MAP_ARRAY => layout_back::bytes(b"array ", room, at),
+        fact::MAP_RINGBUF => layout_back::bytes(b"ringbuf ", room, at),
+        fact::MAP_LRU_HASH => layout_back::bytes(b"lru_hash ", room, at),
+        _ => layout_back::bytes(b"prog_array ", room, at),
     }
-    if n == fact::MAP_ARRAY {
-        return layout_back::bytes(b"array ", room, at);
-    }
-    if n == fact::MAP_RINGBUF {
-        return layout_back::bytes(b"ringbuf ", room, at);
-    }
-    if n == fact::MAP_LRU_HASH {
-        return layout_back::bytes(b"lru_hash ", room, at);
-    }
-    layout_back::bytes(b"prog_array ", room, at)
 }
 
 // The word of a declaration.
+#[tactic(auto, unfolding(crate::specs::Words::decl_word))]
 pub fn decl_word(k: u32, room: &mut [u8], at: usize) -> usize
     ensures { Wrote (decl_word k) room.old at room.new result }
 {
-    if k == node_kind::REG {
-        return layout_back::bytes(b"reg ", room, at);
+    match k {
+        node_kind::REG => layout_back::bytes(b"reg ", room, at),
+        node_kind::IMM => layout_back::bytes(b"imm ", room, at),
+        _ => layout_back::bytes(b"heap ", room, at),
     }
-    if k == node_kind::IMM {
-        return layout_back::bytes(b"imm ", room, at);
-    }
-    layout_back::bytes(b"heap ", room, at)
 }
 
 // The sign of an assignment.
+#[tactic(auto, unfolding(crate::specs::Words::assign_sign))]
 pub fn assign_sign(k: u32, room: &mut [u8], at: usize) -> usize
     ensures { Wrote (assign_sign k) room.old at room.new result }
 {
-    if k == node_kind::ASSIGN {
-        return layout_back::bytes(b"= ", room, at);
+    match k {
+        node_kind::ASSIGN => layout_back::bytes(b"= ", room, at),
+        _ => layout_back::bytes(b"+= ", room, at),
     }
-    layout_back::bytes(b"+= ", room, at)
 }
 
 // The word of a section or a licence.
+#[tactic(auto, unfolding(crate::specs::Words::text_word))]
 pub fn text_word(k: u32, room: &mut [u8], at: usize) -> usize
     ensures { Wrote (text_word k) room.old at room.new result }
 {
-    if k == node_kind::SECTION {
-        return layout_back::bytes(b"section ", room, at);
+    match k {
+        node_kind::SECTION => layout_back::bytes(b"section ", room, at),
+        _ => layout_back::bytes(b"license ", room, at),
     }
-    layout_back::bytes(b"license ", room, at)
 }
 
 // A map's key or value behind its word, where there is one.

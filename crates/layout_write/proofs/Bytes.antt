@@ -2,10 +2,10 @@
 use mathlib.Core.Path.{◌≡◌, refl, sym, ap, ◌∙◌}
 use mathlib.Core.Bool.{Bool, true, false, cond}
 use mathlib.Core.List.{List, [], ◌∷◌, ◌++◌, append_assoc, append-nil}
-use Prim.Native.Nat.{ℕ, zero, suc}
+use Prim.Native.Nat.{ℕ}
 use lib.Dec.{ltb}
 use Rattle.rules.specs.Text.{bytes}
-use Rattle.rules.specs.Kinds.{reserved, signs, KeywordReturn, KeywordIf, KeywordGuard, KeywordElse, KeywordUnit, KeywordMap, KeywordEvent, KeywordBytes, LBrace, RBrace, LParen, RParen, Colon, Dot, Comma, Semicolon, LBracket, RBracket, Equals, Star, Eof}
+use Rattle.rules.specs.Kinds.{reserved, signs, LBrace, RBrace, LParen, RParen, Dot, Comma, Semicolon, Equals, Star, Eof}
 use Rattle.rules.specs.Tree.{Tree, none, num, var, star, group, field, call, bin, one, more, decl, ret, plain, assign, guard, then_body, else_body, seq, text, unit, map_decl, plain_field, bytes_field, array_field, event, program, Tok, sign, name, string, value, kind_of, yield}
 use Rattle.rules_decimal.specs.Decimal.{signed}
 use Rattle.rules_layout.specs.Rows.{spelling_in, fields_of, level, placed, laid, left_of, right_of}

@@ -1,14 +1,14 @@
 -- The words that stand for numbers: what a kind of row and the kind of its node say alike.
 use mathlib.Core.Path.{◌≡◌, refl, sym, ap, ◌∙◌, subst}
 use mathlib.Core.Bool.{Bool, true, false, cond, ◌||◌}
-use mathlib.Core.List.{List, [], ◌∷◌, ◌++◌, append_assoc, append-nil}
-use Prim.Native.Nat.{ℕ, zero, suc, pred, ◌+◌, ◌-◌, ◌^◌, ◌≤◌, ◌<◌}
+use mathlib.Core.List.{List, [], ◌++◌, append_assoc, append-nil}
+use Prim.Native.Nat.{ℕ, zero, suc, pred, ◌≤◌}
 use native.Mathlib.Omega.{arith}
 use lib.Dec.{eqb, leb}
-use borrow.Author.Tests.{eqb-true, eqb-false, leb-true, eq-eqb, ne_eqb}
+use borrow.Author.Tests.{eqb-true, eqb-false, leb-true}
 use Rattle.rules.specs.Text.{bytes}
 use Rattle.rules.specs.Kinds.{reserved, signs, KeywordKey, KeywordValue}
-use Rattle.rules.specs.Tree.{Tree, none, seq, map_type, typed, limit, first, sign, name, value, kind_of, yield, map_types, type_of, typed_by, limit_of, lacking, type_number}
+use Rattle.rules.specs.Tree.{Tree, none, seq, map_type, typed, limit, first, sign, kind_of, yield, map_types, type_of, typed_by, limit_of, lacking, type_number}
 use Rattle.rules.specs.Nodes.{binary_node, decl_node, assign_node, text_node}
 use Rattle.rules.specs.Parse.{is_add, is_shift, is_mul, is_assign, is_declaring, is_text, is_type}
 use Rattle.rules.specs.Grammar.{MapFields, Is}
@@ -19,7 +19,7 @@ use Rattle.rules_layout.specs.Bytes.{spelled, behind, row_bytes, rows_bytes}
 use Rattle.theory_layout.proofs.Fields.{said, has_type}
 use Rattle.layout_signs.specs.Levels.{node_level, right_place, operator_of}
 use Rattle.layout_words.specs.Words.{type_word, map_word, decl_word, assign_sign, text_word, typed_line, map_lines}
-use Rattle.layout_write.proofs.Bytes.{rows_append, rows_snoc}
+use Rattle.layout_write.proofs.Bytes.{rows_append}
 
 -- ---- kinds by their tests
 

@@ -1,25 +1,25 @@
 -- The nodes of a program, with its rows and its text, have the bytes of its layout: tree by tree along the grammar.
 use mathlib.Core.Path.{◌≡◌, refl, sym, ap, ◌∙◌, subst}
-use mathlib.Core.Bool.{Bool, true, false}
-use mathlib.Core.List.{List, [], ◌∷◌, ◌++◌, append_assoc, append-nil}
-use Prim.Native.Nat.{ℕ, zero, suc, ◌+◌, ◌-◌, ◌*◌, ◌/◌, ◌%◌, ◌^◌, ◌≤◌, ◌<◌}
+use mathlib.Core.Bool.{true}
+use mathlib.Core.List.{List, ◌∷◌, ◌++◌, append_assoc, append-nil}
+use Prim.Native.Nat.{ℕ, suc, ◌+◌, ◌/◌, ◌%◌, ◌^◌, ◌≤◌, ◌<◌}
 use native.Mathlib.Nat.{add-zero, div-add-mod'}
 use native.Mathlib.Omega.{arith}
-use lib.ListN.{length, get_or, take, drop, length-drop}
+use lib.ListN.{length, get_or, drop, length-drop}
 use lib.Seq.{drop-drop, drop-append_seam, get_or-drop}
 use Rattle.rules.specs.Text.{bytes}
-use Rattle.rules.specs.Kinds.{KeywordKey, KeywordValue, KeywordReturn, KeywordIf, KeywordGuard, KeywordElse, KeywordUnit, KeywordMap, KeywordEvent, Identifier, StringLiteral, LBrace, RBrace, LParen, RParen, Dot, Comma, Semicolon, Equals, Star, Eof}
-use Rattle.rules.specs.Tree.{Tok, sign, name, string, value, kind_of, spelling_of, yield, Tree, none, num, var, star, group, field, call, bin, one, more, decl, ret, plain, assign, guard, then_body, else_body, seq, text, unit, map_decl, plain_field, bytes_field, array_field, event, program, count, type_of, typed_by, limit_of, type_number}
-use Rattle.rules.specs.Nodes.{Node, node, fact_node, width, size, nodes_of, binary_node, decl_node, assign_node, text_node}
-use Rattle.rules.specs.Grammar.{Nt, Add, Shift, Mul, Unary, Basic, Args, Stmt, Stmts, Item, Items, Chain, MapField, MapFields, EventField, EventFields, Decl, Decls, Program, Is, i_num, i_var, i_group, i_field, i_bare, i_call, i_one, i_more, i_prim, i_star, i_unary, i_mul, i_lone, i_shift, i_up, i_add, i_decl, i_ret, i_plain, i_assign, i_if, i_if_else, i_no_stmts, i_stmts, i_stmt, i_text, i_no_items, i_items, i_first, i_shifted, i_type, i_typed, i_limit, i_no_fields, i_fields, i_plain_field, i_bytes_field, i_array_field, i_no_event_fields, i_event_fields, i_unit, i_map, i_event, i_no_decls, i_decls, i_program}
+use Rattle.rules.specs.Kinds.{Eof}
+use Rattle.rules.specs.Tree.{Tok, sign, name, string, kind_of, spelling_of, yield, Tree, none, num, var, star, group, field, call, bin, one, more, decl, ret, plain, assign, guard, then_body, else_body, seq, text, unit, map_decl, plain_field, bytes_field, array_field, event, count, type_number}
+use Rattle.rules.specs.Nodes.{Node, node, fact_node, width, binary_node, decl_node, assign_node, text_node}
+use Rattle.rules.specs.Grammar.{Args, Is, i_one, i_more}
 use Rattle.theory_grammar.proofs.Laws.{yield_width}
 use Rattle.theory_grammar.proofs.Complete.{From}
 use Rattle.parse_nodes.specs.Names.{Names, Spans}
 use Rattle.rules_decimal.specs.Decimal.{signed}
-use Rattle.rules_layout.specs.Rows.{level, level_by, left_of, right_of, fields_of}
+use Rattle.rules_layout.specs.Rows.{level, left_of, fields_of}
 use Rattle.rules_layout.specs.Bytes.{row_bytes, rows_bytes, layout}
 use Rattle.layout_back.specs.Words.{word_of, number_of, SpelledAs}
-use Rattle.layout_signs.specs.Levels.{node_level, right_place, operator_of, put, comma}
+use Rattle.layout_signs.specs.Levels.{node_level, right_place, operator_of, put}
 use Rattle.layout_signs.proofs.Signs.{comma_none, comma_one}
 use Rattle.layout_words.specs.Words.{type_word, decl_word, assign_sign, text_word, map_lines, field_words}
 use Rattle.layout_words.proofs.Words.{plain_words, bytes_words, array_words}
@@ -29,8 +29,8 @@ use Rattle.layout_lines.specs.Lines.{Line, l_plain, l_assign, l_decl, l_return, 
 use Rattle.layout_lines.proofs.ByKind.{spelled_at, fields_are, lines_are}
 use Rattle.layout_tree.specs.Things.{Sort, One, Body, Many, Thing, t_line, t_unit, t_event, t_if, t_if_else, t_body, t_none, t_more}
 use Rattle.layout_write.proofs.Bytes.{lay_num, lay_var, lay_star, lay_group, level_group, lay_field, lay_call, lay_bin, lay_none, lay_one, lay_more, lay_decl, lay_ret, lay_plain, lay_assign, lay_guard, lay_then, lay_else, lay_seq, lay_text, lay_unit, lay_event, lay_map, lay_plain_field, lay_bytes_field, lay_array_field}
-use Rattle.layout_write.proofs.Facts.{OpOf, WordOf, add_op, shift_op, mul_op, decl_word_lem, assign_word, text_word_lem, type_word_lem, map_lines_lem}
-use Rattle.layout_write.proofs.Nodes.{At, at_left, at_after, at_next, kind_at, name_at, children_at, fact0_at, fact1_at, fact2_at, fact3_at}
+use Rattle.layout_write.proofs.Facts.{OpOf, WordOf}
+use Rattle.layout_write.proofs.Nodes.{At, kind_at, name_at, children_at, fact0_at, fact1_at, fact2_at, fact3_at}
 
 -- a call has arguments between its parentheses, or none
 pub args_some : {d : ℕ} {a : Tree} → Is true Args d a → 1 ≤ count a

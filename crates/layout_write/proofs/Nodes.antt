@@ -1,9 +1,9 @@
 -- Nodes that stand one behind the other in words, and what their words say.
 use mathlib.Core.Path.{◌≡◌, refl, sym, ap, ◌∙◌}
 use mathlib.Core.List.{List, [], ◌∷◌, ◌++◌, append_assoc}
-use Prim.Native.Nat.{ℕ, zero, suc, ◌+◌, ◌*◌}
+use Prim.Native.Nat.{ℕ, suc, ◌+◌, ◌*◌}
 use native.Mathlib.Omega.{arith}
-use lib.ListN.{length, get_or, drop, length-append}
+use lib.ListN.{length, get_or, drop}
 use lib.Seq.{get_or-drop, drop-drop, drop_at}
 use Rattle.rules.specs.Tree.{Tree}
 use Rattle.rules.specs.Nodes.{Node, node_words, words_of_nodes, nodes_of, size}

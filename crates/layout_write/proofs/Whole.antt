@@ -1,13 +1,13 @@
 -- The nodes of a program that is read from rows are those of its layout: along the grammar.
-use mathlib.Core.Path.{◌≡◌, refl, sym, ap, ◌∙◌, subst}
+use mathlib.Core.Path.{◌≡◌, refl, sym, subst}
 use mathlib.Core.Bool.{true}
-use mathlib.Core.List.{List, [], ◌∷◌, ◌++◌, append-nil}
-use Prim.Native.Nat.{ℕ, suc, ◌+◌, ◌*◌, ◌≤◌}
+use mathlib.Core.List.{List, [], ◌∷◌, ◌++◌}
+use Prim.Native.Nat.{ℕ, suc, ◌+◌}
 use native.Mathlib.Omega.{arith}
-use lib.ListN.{length, drop}
-use Rattle.rules.specs.Kinds.{KeywordReturn, KeywordIf, KeywordGuard, KeywordElse, KeywordUnit, KeywordMap, KeywordEvent, LBrace, RBrace, LParen, RParen, Dot, Comma, Semicolon, Equals, Star, Eof}
-use Rattle.rules.specs.Tree.{Tok, sign, name, string, value, yield, Tree, none, num, var, star, group, field, call, bin, one, more, decl, ret, plain, assign, guard, then_body, else_body, seq, text, unit, map_decl, plain_field, bytes_field, array_field, event, program, count}
-use Rattle.rules.specs.Nodes.{Node, width, size, nodes_of, words_of_nodes, tree_words}
+use lib.ListN.{length}
+use Rattle.rules.specs.Kinds.{RBrace, LParen, RParen, Dot, Comma, Semicolon, Eof}
+use Rattle.rules.specs.Tree.{Tok, sign, name, yield, Tree, then_body, else_body, program, count}
+use Rattle.rules.specs.Nodes.{width, size, nodes_of, tree_words}
 use Rattle.rules.specs.Grammar.{Nt, Add, Shift, Mul, Unary, Basic, Args, Stmt, Stmts, Item, Items, Chain, MapField, MapFields, EventField, EventFields, Decl, Decls, Program, Is, i_num, i_var, i_group, i_field, i_bare, i_call, i_one, i_more, i_prim, i_star, i_unary, i_mul, i_lone, i_shift, i_up, i_add, i_decl, i_ret, i_plain, i_assign, i_if, i_if_else, i_no_stmts, i_stmts, i_stmt, i_text, i_no_items, i_items, i_first, i_shifted, i_type, i_typed, i_limit, i_no_fields, i_fields, i_plain_field, i_bytes_field, i_array_field, i_no_event_fields, i_event_fields, i_unit, i_map, i_event, i_no_decls, i_decls, i_program}
 use Rattle.theory_grammar.proofs.Complete.{From}
 use Rattle.parse_nodes.specs.Names.{Names, Spans}
@@ -19,7 +19,7 @@ use Rattle.layout_write.specs.Lent.{Lent}
 use Rattle.layout_write.proofs.Bytes.{lay_program}
 use Rattle.layout_write.proofs.Facts.{add_op, shift_op, mul_op, decl_word_lem, assign_word, text_word_lem, type_word_lem, map_lines_lem}
 use Rattle.layout_write.proofs.Nodes.{At, at_left, at_after, at_next, children_at}
-use Rattle.layout_write.proofs.Made.{args_some, next, after, split, second, third, to_third, to_fifth, named, quoted, MadeExpr, MadeArgs, MadeOne, MadeMany, MadeBody, num_made, var_made, star_made, group_made, field_made, call_made, bin_made, bare_made, one_made, more_made, decl_made, ret_made, plain_made, assign_made, text_made, plain_field_made, bytes_field_made, array_field_made, map_made, body_made, unit_made, event_made, if_made, if_else_made, none_made, seq_made}
+use Rattle.layout_write.proofs.Made.{args_some, next, after, split, second, third, to_third, to_fifth, named, quoted, MadeExpr, MadeArgs, MadeOne, MadeMany, num_made, var_made, star_made, group_made, field_made, call_made, bin_made, bare_made, one_made, more_made, decl_made, ret_made, plain_made, assign_made, text_made, plain_field_made, bytes_field_made, array_field_made, map_made, body_made, unit_made, event_made, if_made, if_else_made, none_made, seq_made}
 
 -- what the nodes of a nonterminal's tree are; what is in a map has none, and a program's are told below
 abbrev Made : (t ws nodes : List ℕ) → Nt → Tree → ℕ → ℕ → Type 0

@@ -1,13 +1,9 @@
 -- `is_parse` meets its contract: a parse into room for every text, and what it leaves held against what is lent.
-use mathlib.Core.Path.{◌≡◌, sym, ◌∙◌}
+use mathlib.Core.Path.{sym, ◌∙◌}
 use Rattle.layout_judge.proofs.Read.{parse_refused, other_count, nodes_inside, same_nodes}
 use borrow.Author.Rules.{rules}
 use Rattle.layout_judge.proofs.is_parse.Statement.{statement}
 use Rattle.layout_judge.proofs.is_parse.Tie as tie
-use Rattle.layout_judge.proofs.is_parse.Reads as reads
-use Rattle.layout_judge.proofs.is_parse.Lts as lts
-use Rattle.layout_judge.proofs.begins_with.Reads as begins_with_reads
-use Rattle.parse.proofs.parse.Reads as parse_reads
 
 -- src/lib.rt:101:31
 parse_requires : tie.Need-parse-requires

@@ -1,18 +1,10 @@
 -- `is_scan` meets its contract: a scan into room for every text, and what it leaves held against what is lent.
-use mathlib.Core.Path.{◌≡◌, sym, ◌∙◌}
-use mathlib.Core.Bool.{true, false}
+use mathlib.Core.Path.{sym, ◌∙◌}
 use borrow.Author.Tests.{not-true, not-false}
-use Rattle.rules.specs.declared.Told.TheVariants.{Rows}
-use Rattle.rules.specs.Scan.{room_of, scan_told}
 use Rattle.layout_judge.proofs.Held.{scan_refused, other_table, rows_inside, same_rows}
 use borrow.Author.Rules.{rules}
 use Rattle.layout_judge.proofs.is_scan.Statement.{statement}
 use Rattle.layout_judge.proofs.is_scan.Tie as tie
-use Rattle.layout_judge.proofs.is_scan.Reads as reads
-use Rattle.layout_judge.proofs.is_scan.Lts as lts
-use Rattle.layout_judge.proofs.begins_with.Reads as begins_with_reads
-use Rattle.layout_judge.proofs.same_table.Reads as same_table_reads
-use Rattle.scan.proofs.scan.Reads as scan_reads
 
 -- src/lib.rt:80:29
 scan_requires : tie.Need-scan-requires

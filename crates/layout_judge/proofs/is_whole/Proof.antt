@@ -3,8 +3,6 @@ use Rattle.rules_layout.specs.Layout.{is_whole}
 use borrow.Author.Rules.{rules}
 use Rattle.layout_judge.proofs.is_whole.Statement.{statement}
 use Rattle.layout_judge.proofs.is_whole.Tie as tie
-use Rattle.layout_judge.proofs.is_whole.Reads as reads
-use Rattle.layout_judge.proofs.is_whole.Lts as lts
 
 -- src/lib.rt:41:25
 enum_told : tie.Need-enum_told-1
