@@ -2,16 +2,16 @@
 use mathlib.Core.Path.{◌≡◌, refl, sym, ap, ◌∙◌}
 use mathlib.Core.Bool.{Bool, true, false, cond}
 use mathlib.Core.List.{List, [], ◌∷◌, ◌++◌, append_assoc, append-nil}
-use Prim.Native.Nat.{ℕ, ◌+◌, ◌-◌, ◌*◌, ◌≤◌, ◌<◌}
+use Prim.Native.Nat.{ℕ, ◌+◌, ◌*◌, ◌≤◌, ◌<◌}
 use native.Mathlib.Numerals.{add-one}
 use native.Mathlib.Omega.{arith}
 use lib.ListN.{length, get_or, set, take, drop, length-append, length-drop}
 use lib.Seq.{take_at, drop_at, drop-drop, get_or-append-add, sets-eq}
-use Rattle.rules.specs.Nodes.{Node, node_words, words_of_nodes}
+use Rattle.rules.specs.Nodes.{Node, missing, node_words, words_of_nodes}
 use Rattle.theory_grammar.proofs.Laws.{words_length, words_append}
 use Rattle.theory_entries.specs.Entries.{has_name, entries_in}
 use Rattle.theory_entries.proofs.Entries.{entries_append}
-use Rattle.program_index.specs.Write.{put_at, EntryPut, Entries}
+use Rattle.program_index.specs.Write.{AsksEntry, put_at, EntryPut, AsksEntries, Entries}
 
 -- Of the nodes ns the first n have their entries.
 pub record Filling (ns : List Node) (x₀ : List ℕ) (n : ℕ) (x : List ℕ) (made : ℕ) : Type 0 where
@@ -37,15 +37,6 @@ pub record Next (ns : List Node) (x₀ : List ℕ) (n : ℕ) (x : List ℕ) (mad
 pub filling_start : (ns : List Node) (x₀ : List ℕ) → Filling ns x₀ 0 x₀ 0
 unfolding entries_in
 filling_start ns x₀ = record { done = []; left = ns; split = refl; here = refl; many = refl; few = omega arith; words = refl }
-
--- ---- one entry
-
-module _ (m : List ℕ) (n : ℕ) (x : List ℕ) (made : ℕ) where
-  pub put_other : has_name (get_or m (n * 8) 0) ≡ false → EntryPut m n x made x made
-  put_other e = record { told = rw e; left = rw e }
-
-  pub put_named : has_name (get_or m (n * 8) 0) ≡ true → EntryPut m n x made (put_at made (get_or m (n * 8 + 2) 0) n x) (made + 1)
-  put_named e = record { told = rw e; left = rw e }
 
 -- the entry of a first node
 one_named : (n : ℕ) (y : Node) → has_name y.kind ≡ true → entries_in n (y ∷ []) ≡ y.name ∷ n ∷ []
@@ -86,23 +77,6 @@ module _ (ns : List Node) (x₀ : List ℕ) (n : ℕ) (x : List ℕ) (made : ℕ
         few = f.few;
         words = f.words;
       }
-
-  pub filling_length : length (entries_in 0 ns) ≤ length x₀ → Filling ns x₀ n x made → length x ≡ length x₀
-  filling_length h f =
-      let l : length (entries_in 0 ns) ≡ length (entries_in 0 (f.done ++ f.left)) =
-      ap (λ (k : List Node). length (entries_in 0 k)) f.split in
-      let k : length (entries_in 0 (f.done ++ f.left)) ≡ length (entries_in 0 f.done ++ entries_in (0 + length f.done) f.left) =
-      ap length (entries_append 0 f.done f.left) in
-      omega (
-        arith,
-        l,
-        k,
-        length-append (entries_in 0 f.done) (entries_in (0 + length f.done) f.left),
-        f.many,
-        ap length f.words,
-        length-append (entries_in 0 f.done) (drop (made * 2) x₀),
-        length-drop (made * 2) x₀,
-      )
 
   module _ (g : Next ns x₀ n x made) (m rest : List ℕ) (w : m ≡ words_of_nodes ns ++ rest) where
     behind : List ℕ
@@ -226,3 +200,14 @@ module _ (ns : List Node) (x₀ : List ℕ) (n : ℕ) (x : List ℕ) (made : ℕ
                 few = omega (arith, q, g.few);
                 words = y ∙ (g.words ∙ rw (a, q));
               }
+
+-- what was asked for all serves for the next node, the n-th
+pub asks_next : {m : List ℕ} {count : ℕ} {x₀ : List ℕ} → AsksEntries m count x₀ → (n : ℕ) (x : List ℕ) (made : ℕ) → n < count → count ≤ missing
+    → ((ns : List Node) (rest : List ℕ) → length ns ≡ count → m ≡ words_of_nodes ns ++ rest → Filling ns x₀ n x made) → AsksEntry m n x made
+asks_next {m} {count} {x₀} a n x made l b f =
+    let g : Next a.nodes x₀ n x made = filling_next a.nodes x₀ n x made (f a.nodes a.rest a.many a.words) (omega (arith, a.many)) in
+    record {
+      lent = node_lent a.nodes x₀ n x made g m a.rest a.words;
+      room = next_room a.nodes x₀ n x made g m a.rest a.words a.room;
+      few = let k = g.few in omega arith;
+    }

@@ -1,4 +1,6 @@
 // The entries of an index, from the nodes of a program, in the order of the nodes.
+#![tactic(auto)]
+
 ghost use Rattle.std.specs.Prelude.{◌≡◌};
 ghost use Rattle.theory_entries.specs.Entries.{has_name};
 ghost use Rattle.program_index.specs.Write.{AsksEntry, EntryPut, AsksEntries, EntriesWritten};
@@ -12,10 +14,7 @@ pub const ENTRY_WORDS: usize = 2;
 fn has_name(kind: u32) -> bool
     ensures { result ≡ has_name kind }
 {
-    if kind == node_kind::MAP {
-        return true;
-    }
-    kind == node_kind::EVENT
+    matches!(kind, node_kind::MAP | node_kind::EVENT)
 }
 
 // The entry of node n after so many others, if it has one. Tells how many there are then.
@@ -39,10 +38,8 @@ pub fn write_entries(nodes: &[u32], count: u32, index: &mut [u32]) -> u32
     ensures { EntriesWritten nodes.now count index.old index.new result }
 {
     let mut made = 0;
-    let mut n = 0;
-    while n < count {
+    for n in 0..count {
         made = put_entry(nodes, n, index, made);
-        n += 1;
     }
     made
 }

@@ -11,7 +11,7 @@ use Rattle.laws.proofs.Lists.{lent_tail, back_tail}
 use Rattle.theory_grammar.proofs.Laws.{words_length, words_append}
 use Rattle.theory_moved.specs.Moved.{moved}
 use Rattle.theory_within.specs.Within.{Within, AllWithin, and_more}
-use Rattle.program_move.specs.Move.{FirstMoved}
+use Rattle.program_move.specs.Move.{AsksFirst, FirstMoved, AsksMove}
 
 -- Of the nodes ns those in front, up to word `at`, are moved by k.
 pub record Going (ns : List Node) (rest : List ℕ) (k at : ℕ) (m : List ℕ) : Type 0 where
@@ -44,21 +44,6 @@ module _ (ns : List Node) (rest : List ℕ) (k : ℕ) where
   going_start m e = record { done = []; left = ns; split = refl; here = refl; words = e }
 
   module _ (at : ℕ) (m : List ℕ) where
-    pub going_length : Going ns rest k at m → length m ≡ 8 * length ns + length rest
-    going_length g =
-        let a : length m ≡ length (words_of_nodes (map (moved k) g.done) ++ (words_of_nodes g.left ++ rest)) = ap length g.words in
-        let b : length ns ≡ length (g.done ++ g.left) = ap length g.split in
-        omega (
-          arith,
-          a,
-          b,
-          length-append (words_of_nodes (map (moved k) g.done)) (words_of_nodes g.left ++ rest),
-          length-append (words_of_nodes g.left) rest,
-          moved_length k g.done,
-          words_length g.left,
-          length-append g.done g.left,
-        )
-
     -- all are moved
     pub going_ends : Going ns rest k at m → length ns * 8 ≤ at → m ≡ words_of_nodes (map (moved k) ns) ++ rest
     unfolding words_of_nodes
@@ -130,3 +115,22 @@ module _ (ns : List Node) (rest : List ℕ) (k : ℕ) where
               append_assoc,
             )));
       }
+
+-- what was asked for all serves for the next node, the i-th
+module _ {m₀ : List ℕ} {n k : ℕ} (a : AsksMove m₀ n k) (i : ℕ) (m : List ℕ) (l : i < n)
+    (g : (ns : List Node) (rest : List ℕ) → length ns ≡ n → m₀ ≡ words_of_nodes ns ++ rest → Going ns rest k (i * 8) m) where
+  next : Next a.nodes a.rest k (i * 8) m
+  next = going_next a.nodes a.rest k (i * 8) m (g a.nodes a.rest a.many a.words) (omega (arith, a.many))
+
+  pub starts : i * 8 ≤ length m
+  starts = inside _ _ _ (i * 8) m next
+
+  pub asks_first : AsksFirst (take (length m - i * 8) (drop (i * 8) m)) k
+  asks_first = record {
+    first = next.first;
+    rest = words_of_nodes next.more ++ a.rest;
+    words = next_lent _ _ _ (i * 8) m next;
+    last = a.last;
+    within = next_within _ _ _ (i * 8) m next a.last a.within;
+    fits = a.fits;
+  }

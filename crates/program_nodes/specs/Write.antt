@@ -6,6 +6,8 @@ use Rattle.rules.specs.Calls.{node_room}
 use Rattle.rules_program.specs.Both.{declarations, rows_of_all, nodes_of_all, nodes_of_both}
 use Rattle.rules_program.specs.Program.{tree_in}
 use Rattle.parse.specs.Program.{reading_of}
+use Rattle.program_names.specs.declared.Scanned.{Scanned}
+use Rattle.program_names.specs.declared.Both.{Both}
 use Rattle.program_alone.specs.Told.{IsProgram}
 use Rattle.program_move.specs.Move.{with_more}
 
@@ -14,6 +16,13 @@ use Rattle.program_move.specs.Move.{with_more}
 -- what its rows are read to
 abbrev pub tree_of : List ℕ → List ℕ → ℕ → Tree
 tree_of t ws n = tree_in (reading_of t ws n)
+
+-- a text that was scanned is a program, and what it is read to
+abbrev pub Reads : Scanned → Type 0
+Reads s = IsProgram s.text.now s.rows.now s.count
+
+abbrev pub tree_read : Scanned → Tree
+tree_read s = tree_of s.text.now s.rows.now s.count
 
 -- The words of some nodes, and after them what was there; told is how many.
 pub record Written (ns : List Node) (m m' : List ℕ) (r : ℕ) : Type 0 where
@@ -46,3 +55,10 @@ pub record AsksBoth (t₀ ws₀ : List ℕ) (n₀ : ℕ) (t ws : List ℕ) (n : 
   pub prelude : IsProgram t₀ ws₀ n₀
   pub probe : IsProgram t ws n
   pub room : n₀ + n ≤ node_room m
+
+-- of a prelude and a probe
+abbrev pub nodes_of_pair : Both → List Node
+nodes_of_pair b = nodes_of_both (tree_read b.prelude) (tree_read b.probe)
+
+abbrev pub AsksPair : Both → List ℕ → Type 0
+AsksPair b m = AsksBoth b.prelude.text.now b.prelude.rows.now b.prelude.count b.probe.text.now b.probe.rows.now b.probe.count m
