@@ -4,6 +4,8 @@ use Rattle.rules.specs.declared.Cursor.{Cursor}
 use Rattle.rules_decimal.specs.Decimal.{decimal, signed}
 use Rattle.rules.specs.Text.{bytes}
 use Rattle.rules.specs.Rows.{row_in, value_bits}
+use Rattle.lister_parts.specs.declared.Listed.{Listed}
+use Rattle.lister_parts.specs.declared.Listed.TheVariants.{Row, Node}
 
 -- ---- lines
 
@@ -29,6 +31,11 @@ node_line i ws = decimal i ++ spaced ws ++ bytes "\n"
 -- `refused`, number, offset, line, column
 unfoldable pub refusal_line : ℕ → Cursor → List ℕ
 refusal_line number p = bytes "refused" ++ spaced (number ∷ p.offset.0 ∷ p.line.0 ∷ p.column.0 ∷ []) ++ bytes "\n"
+
+-- the line of a row, or of a node
+abbrev pub line_of : Listed → ℕ → List ℕ → List ℕ
+line_of Row = row_line
+line_of Node = node_line
 
 -- n lines, the first of them for row or node i, each of eight of the words
 unfoldable pub lines : (ℕ → List ℕ → List ℕ) → ℕ → ℕ → List ℕ → List ℕ

@@ -3,7 +3,7 @@
 
 ghost use Rattle.std.specs.Prelude.{◌≡◌, ◌*◌, ◌≤◌, length};
 ghost use Rattle.lister_parts.specs.Adds.{Adds, most_of_rows, most_of_nodes, most_of_refusal};
-ghost use Rattle.lister_parts.specs.Parts.{row_line, node_line, refusal_line, lines, most_lines, listed_rows, listed_nodes};
+ghost use Rattle.lister_parts.specs.Parts.{row_line, node_line, refusal_line, lines, most_lines, listed_rows, listed_nodes, line_of};
 ghost use Rattle.lister_parts.specs.Parts.{heading as Parts·heading};
 
 use line::{bytes, number, put, value, word, words};
@@ -51,34 +51,33 @@ fn node_line(out: &mut [u8], at: usize, i: usize, node: &[u32]) -> usize
     put(out, told, b'\n')
 }
 
-// The lines of the first rows.
-fn row_lines(out: &mut [u8], at: usize, rows: &[u32], count: usize) -> usize
-    requires { count * 8 ≤ length rows.now }
-    ensures { Adds (lines row_line 0 count rows.now) out.old at out.new result }
-{
-    let mut at = at;
-    let mut i = 0;
-    while i < count {
-        let from = i * 8;
-        let end = from + 8;
-        at = row_line(out, at, i, &rows[from..end]);
-        i += 1;
-    }
-    at
+// What a line is of.
+#[derive(Clone, Copy)]
+enum Listed {
+    Row,
+    Node,
 }
 
-// The lines of the first nodes.
-fn node_lines(out: &mut [u8], at: usize, nodes: &[u32], count: usize) -> usize
-    requires { count * 8 ≤ length nodes.now }
-    ensures { Adds (lines node_line 0 count nodes.now) out.old at out.new result }
+// The line of a row or of a node.
+fn listed_line(out: &mut [u8], at: usize, what: Listed, i: usize, words: &[u32]) -> usize
+    requires { length words.now ≡ 8 }
+    ensures { Adds (line_of what i words.now) out.old at out.new result }
+{
+    match what {
+        Listed::Row => row_line(out, at, i, words),
+        Listed::Node => node_line(out, at, i, words),
+    }
+}
+
+// The lines of the first rows, or of the first nodes.
+fn lines(out: &mut [u8], at: usize, what: Listed, words: &[u32], count: usize) -> usize
+    requires { count * 8 ≤ length words.now }
+    ensures { Adds (lines (line_of what) 0 count words.now) out.old at out.new result }
 {
     let mut at = at;
-    let mut i = 0;
-    while i < count {
+    for i in 0..count {
         let from = i * 8;
-        let end = from + 8;
-        at = node_line(out, at, i, &nodes[from..end]);
-        i += 1;
+        at = listed_line(out, at, what, i, &words[from..from + 8]);
     }
     at
 }
@@ -91,7 +90,7 @@ pub fn list_rows(out: &mut [u8], at: usize, rows: &[u32], count: u32) -> usize
     ensures rows_len_bound { length (listed_rows count rows.now) ≤ most_of_rows }
 {
     let headed = heading(out, at, b"rows", count);
-    row_lines(out, headed, rows, count as usize)
+    lines(out, headed, Listed::Row, rows, count as usize)
 }
 
 // The nodes, headed.
@@ -102,5 +101,5 @@ pub fn list_nodes(out: &mut [u8], at: usize, nodes: &[u32], count: u32) -> usize
     ensures nodes_len_bound { length (listed_nodes count nodes.now) ≤ most_of_nodes }
 {
     let headed = heading(out, at, b"nodes", count);
-    node_lines(out, headed, nodes, count as usize)
+    lines(out, headed, Listed::Node, nodes, count as usize)
 }

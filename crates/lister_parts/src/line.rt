@@ -24,10 +24,8 @@ pub fn bytes(out: &mut [u8], at: usize, text: &[u8]) -> usize
     ensures { Adds text.now out.old at out.new result }
 {
     let mut at = at;
-    let mut i = 0;
-    while i < text.len() {
-        at = put(out, at, text[i]);
-        i += 1;
+    for byte in text {
+        at = put(out, at, *byte);
     }
     at
 }
@@ -53,10 +51,8 @@ pub fn words(out: &mut [u8], at: usize, list: &[u32]) -> usize
     ensures { Adds (spaced list.now) out.old at out.new result }
 {
     let mut at = at;
-    let mut i = 0;
-    while i < list.len() {
-        at = word(out, at, list[i]);
-        i += 1;
+    for n in list {
+        at = word(out, at, *n);
     }
     at
 }
@@ -66,10 +62,10 @@ pub fn value(out: &mut [u8], at: usize, low: u32, high: u32) -> usize
     ensures { Adds (Text·bytes " " ++ signed (high * 2 ^ 32 + low)) out.old at out.new result }
 {
     let behind = put(out, at, b' ');
-    let bits = (high as u64) * 4294967296 + low as u64;
+    let bits = high as u64 * 4294967296 + low as u64;
     if bits < 9223372036854775808 {
         return number(out, behind, bits);
     }
     let signed = put(out, behind, b'-');
-    number(out, signed, std::num::wrapping_sub_u64(0, bits))
+    number(out, signed, bits.wrapping_neg())
 }

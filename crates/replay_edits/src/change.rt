@@ -1,16 +1,14 @@
 // An edit of the sample: its numbers, the text that it makes, the old table changed, and the rows that are expected.
-use replay_input::input::{LOST, count, letter};
-use replay_input::memory::put;
-use replay_input::part::{Part, bytes_of, number};
+ghost use Rattle.std.specs.Prelude.{◌≡◌, length};
+
+use replay_input::memory::{first, put};
+use replay_input::reader::{Lost, Reader};
 use rules::{kind, row};
 
 // The most bytes of a text, and the words that there are for its rows.
 pub const BYTES: usize = 600;
 
 pub const WORDS: usize = 2500;
-
-// The last word at which a row may start.
-const LAST_ROW: usize = WORDS - row::WORDS;
 
 // What kind of edit it is; old bytes a to b become n others.
 #[derive(Clone, Copy)]
@@ -19,111 +17,57 @@ pub struct Edit {
     pub a: u32,
     pub b: u32,
     pub n: u32,
-    pub next: usize,
 }
 
 // The next edit's numbers.
-pub fn edit_at(sample: &[u8], at: usize) -> Edit {
-    let kind = number(sample, letter(sample, at, b'A'));
-    let a = number(sample, kind.next);
-    let b = number(sample, a.next);
-    let n = number(sample, b.next);
-    Edit {
-        kind: kind.value,
-        a: a.value,
-        b: b.value,
-        n: n.value,
-        next: n.next,
-    }
-}
-
-// The bytes from one on.
-fn behind(text: &[u8], b: u32) -> &[u8] {
-    let from = b as usize;
-    let end = text.len();
-    bytes_of(text, Part { from, end })
+pub fn edit_read(sample: &mut Reader<'_>) -> Result<Edit, Lost> {
+    sample.letter(b'A')?;
+    Ok(Edit {
+        kind: sample.number()?,
+        a: sample.number()?,
+        b: sample.number()?,
+        n: sample.number()?,
+    })
 }
 
 // The text that an edit makes of an old one: how many bytes it has.
 pub fn edited(text: &mut [u8; BYTES], old: &[u8], edit: Edit, new: &[u8]) -> usize {
-    let kept = put(text, 0, replay_input::first(old, edit.a as u64));
+    let kept = put(text, 0, first(old, edit.a as usize));
     let grown = put(text, kept, new);
-    put(text, grown, behind(old, edit.b))
+    put(text, grown, old.get(edit.b as usize..).unwrap_or(&[]))
 }
 
-// Words of the old rows, each changed to what the sample says: the place behind them.
-pub fn damaged(sample: &[u8], at: usize, rows: &mut [u32; WORDS]) -> usize {
-    let size = count(sample, letter(sample, at, b'D'));
-    let mut next = size.next;
-    let mut i: u64 = 0;
-    while i < size.value {
-        let index = number(sample, next);
-        let word = number(sample, index.next);
-        next = word.next;
-        let k = index.value as usize;
-        if WORDS <= k {
-            return LOST;
-        }
-        if next == LOST {
-            return LOST;
-        }
-        rows[k] = word.value;
-        i += 1;
+// Words of the old rows, each changed to what the sample says.
+pub fn damaged(sample: &mut Reader<'_>, rows: &mut [u32; WORDS]) -> Result<(), Lost> {
+    sample.letter(b'D')?;
+    for _ in 0..sample.count()? {
+        let index = sample.number()? as usize;
+        let word = sample.number()?;
+        *rows.get_mut(index).ok_or(Lost)? = word;
     }
-    next
+    Ok(())
 }
 
-// The two words of a value: a number's are the sample's, any other row's are zeros.
-fn value_read(sample: &[u8], at: usize, rows: &mut [u32; WORDS], base: usize) -> usize {
-    if LAST_ROW < base {
-        return LOST;
+// The next row, in all words but the last, which the sample does not have. A number's value is the sample's, any other row's is zero.
+fn row_read(sample: &mut Reader<'_>, row: &mut [u32]) -> Result<(), Lost>
+    requires { length row.old ≡ 8 }
+{
+    sample.numbers(&mut row[..row::LOW])?;
+    let is_number = row[row::KIND] == kind::NUMBER;
+    let value = &mut row[row::LOW..row::COMMENTS];
+    if is_number {
+        return sample.numbers(value);
     }
-    if rows[base] != kind::NUMBER {
-        rows[base + row::LOW] = 0;
-        rows[base + row::HIGH] = 0;
-        return at;
-    }
-    let low = number(sample, at);
-    let high = number(sample, low.next);
-    rows[base + row::LOW] = low.value;
-    rows[base + row::HIGH] = high.value;
-    high.next
+    value.fill(0);
+    Ok(())
 }
 
-// The next row, written from a word on: the place behind it.
-fn row_read(sample: &[u8], at: usize, rows: &mut [u32; WORDS], base: usize) -> usize {
-    if LAST_ROW < base {
-        return LOST;
+// The rows that are expected.
+pub fn rows_read(sample: &mut Reader<'_>, rows: &mut [u32; WORDS]) -> Result<(), Lost> {
+    sample.letter(b'R')?;
+    let size = sample.bounded(WORDS / row::WORDS)?;
+    for row in rows.chunks_exact_mut(row::WORDS).take(size) {
+        row_read(sample, row)?;
     }
-    let kind = number(sample, at);
-    let start = number(sample, kind.next);
-    let end = number(sample, start.next);
-    let line = number(sample, end.next);
-    let column = number(sample, line.next);
-    rows[base] = kind.value;
-    rows[base + row::START] = start.value;
-    rows[base + row::END] = end.value;
-    rows[base + row::LINE] = line.value;
-    rows[base + row::COLUMN] = column.value;
-    value_read(sample, column.next, rows, base)
-}
-
-// The rows that are expected, in all words but the last, which the sample does not have: the place behind them.
-pub fn rows_read(sample: &[u8], at: usize, rows: &mut [u32; WORDS]) -> usize {
-    let size = count(sample, letter(sample, at, b'R'));
-    let mut next = size.next;
-    let mut base = 0;
-    let mut i: u64 = 0;
-    while i < size.value {
-        next = row_read(sample, next, rows, base);
-        if next == LOST {
-            return LOST;
-        }
-        if LAST_ROW < base {
-            return LOST;
-        }
-        base += row::WORDS;
-        i += 1;
-    }
-    next
+    Ok(())
 }

@@ -5,13 +5,13 @@
 // `stdin`, which says at its head where each expectation comes from.
 #![tactic(auto)]
 
-use call::{calls_compared, words_compared};
+use call::{Lent, calls_compared, words_compared};
 use change::{BYTES, WORDS};
-use replay_input::input::{LOST, letter};
+use replay_input::memory::first;
+use replay_input::reader::Reader;
 use replay_input::tally::Tally;
 use replay_input::told::table_of;
-use replay_input::words::words_read;
-use replay_input::{SAMPLE, lines, part};
+use replay_input::{Stop, lines};
 use report::RESTARTS;
 use rules::Table;
 use std::io;
@@ -21,93 +21,69 @@ mod change;
 mod report;
 mod words;
 
-// The table of a text, its rows in lent memory.
-fn scanned(text: &[u8], rows: &mut [u32; WORDS]) -> Table {
-    table_of(scan::scan(text, rows))
-}
-
-// The rows of the first so many bytes of a text, in lent memory.
-fn scanned_first(text: &[u8; BYTES], size: usize, rows: &mut [u32; WORDS]) {
-    scanned(replay_input::first(text, size as u64), rows);
-}
-
 // The restart place of an edit at a against the sample's.
 fn restart_compared(
     rt: &impl Print,
-    sample: &[u8],
-    tally: Tally,
+    sample: &mut Reader<'_>,
+    tally: &mut Tally,
     old: &[u32; WORDS],
     table: Table,
     a: u32,
-) -> io::Result<Tally> {
+) -> Result<(), Stop> {
+    let before = tally.differences;
     let mut theirs = [0u32; 6];
-    let next = words_read(sample, letter(sample, tally.at, b'S'), &mut theirs, 4);
-    if next == LOST {
-        return Ok(tally.moved(LOST));
-    }
+    sample.letter(b'S')?;
+    sample.numbers(&mut theirs[..4])?;
     let ours = words::restart_words(edit::restart(old, table, a));
-    let begun = tally.moved(next);
-    let now = words_compared(rt, begun, &ours, &theirs)?;
-    Ok(now.held(RESTARTS, begun.differences == now.differences))
+    words_compared(rt, tally, &ours, &theirs)?;
+    let agrees = tally.differences == before;
+    tally.held(RESTARTS, agrees);
+    Ok(())
 }
 
 // The sample's next edit: its restart place and its calls.
-fn edit_compared(rt: &impl Print, sample: &[u8], tally: Tally) -> io::Result<Tally> {
+fn edit_compared(rt: &impl Print, sample: &mut Reader<'_>, tally: &mut Tally) -> Result<(), Stop> {
     let mut old = [0u32; WORDS];
     let mut rows = [0u32; WORDS];
-    let mut text = [0u8; BYTES];
-    let before = part::part_at(sample, tally.at, b'T');
-    let table = scanned(part::bytes_of(sample, before), &mut old);
-    let edit = change::edit_at(sample, change::damaged(sample, before.end, &mut old));
-    let new = part::part_at(sample, edit.next, b'N');
-    let size = change::edited(
-        &mut text,
-        part::bytes_of(sample, before),
-        edit,
-        part::bytes_of(sample, new),
-    );
-    scanned_first(&text, size, &mut rows);
-    let begun = restart_compared(
-        rt,
-        sample,
-        tally.moved(new.end).next_item(),
-        &old,
+    let mut bytes = [0u8; BYTES];
+    let before = sample.part(b'T')?;
+    let table = table_of(scan::scan(before, &mut old));
+    change::damaged(sample, &mut old)?;
+    let edit = change::edit_read(sample)?;
+    let size = change::edited(&mut bytes, before, edit, sample.part(b'N')?);
+    let text = first(&bytes, size);
+    scan::scan(text, &mut rows);
+    tally.next_item();
+    restart_compared(rt, sample, tally, &old, table, edit.a)?;
+    change::rows_read(sample, &mut rows)?;
+    let lent = Lent {
+        old: &old,
         table,
-        edit.a,
-    )?;
-    let now = begun.moved(change::rows_read(sample, begun.at, &mut rows));
-    calls_compared(rt, sample, now, &old, table, edit, &text, size, &rows)
+        edit,
+        text,
+        rows: &rows,
+    };
+    calls_compared(rt, sample, tally, lent, &bytes)
 }
 
-// So many edits, as far as the sample can be read.
-fn edits(rt: &impl Print, sample: &[u8], at: usize, size: u64) -> io::Result<Tally> {
-    let mut tally = Tally::start(at);
-    for _ in 0..size {
-        let now = edit_compared(rt, sample, tally)?;
-        if now.at == LOST {
-            return Ok(tally);
-        }
-        tally = now;
-    }
-    Ok(tally)
-}
-
-// The counts of a sample.
+// Runs the edits of a sample and writes what agreed.
 fn replay(rt: &impl Print, sample: &[u8]) -> io::Result<()> {
-    let size = replay_input::headed(sample, b"spoonharbor-edits");
-    let tally = edits(rt, sample, size.next, size.value)?;
-    lines::two(rt, b"edits ", tally.item, b" of ", size.value)?;
-    lines::one(
-        rt,
-        b"bytes behind the last edit ",
-        replay_input::rest(sample, tally.at),
-    )?;
-    report::counts(rt, tally)
+    let head = replay_input::head(sample, b"spoonharbor-edits");
+    let mut edits = head.items;
+    let mut tally = Tally::new();
+    replay_input::ended(replay_input::items(
+        &mut edits,
+        head.size,
+        &mut tally,
+        |sample, tally| edit_compared(rt, sample, tally),
+    ))?;
+    lines::two(rt, b"edits ", tally.item, b" of ", head.size)?;
+    lines::one(rt, b"bytes behind the last edit ", edits.left())?;
+    report::counts(rt, &tally)
 }
 
 // The counts of the sample on standard input.
 fn main(rt: HostRuntime) -> io::Result<()> {
-    let mut sample = [0u8; SAMPLE];
-    let size = replay_input::filled(&rt, &mut sample)?;
-    replay(&rt, replay_input::shown(&sample, size))
+    let sample = replay_input::sample(&rt, rt.alloc())?;
+    replay(&rt, &sample)
 }

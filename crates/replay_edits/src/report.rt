@@ -15,7 +15,7 @@ pub const ROWS: usize = 31;
 pub const CHANGES: usize = 32;
 
 // The calls by the kind of edit.
-fn kinds(rt: &impl Print, tally: Tally) -> io::Result<()> {
+fn kinds(rt: &impl Print, tally: &Tally) -> io::Result<()> {
     line(rt, b"worked cases: ", tally, KINDS)?;
     line(rt, b"at the text's start: ", tally, KINDS + 1)?;
     line(rt, b"at the text's end: ", tally, KINDS + 2)?;
@@ -35,7 +35,7 @@ fn kinds(rt: &impl Print, tally: Tally) -> io::Result<()> {
 }
 
 // All counts.
-pub fn counts(rt: &impl Print, tally: Tally) -> io::Result<()> {
+pub fn counts(rt: &impl Print, tally: &Tally) -> io::Result<()> {
     line(rt, b"restart places ", tally, RESTARTS)?;
     line(rt, b"calls ", tally, CALLS)?;
     line(rt, b"changes ", tally, CHANGES)?;

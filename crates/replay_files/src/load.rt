@@ -3,12 +3,11 @@ use crate::report::{DAMAGES, LOADS, ROWS, STORES, words_compared};
 use crate::table::{COUNT, NUMBER};
 use file_answers::put_loaded;
 use file_load::load;
-use replay_input::file::{BYTES, ROW_WORDS, changed, first_bytes};
-use replay_input::input::{LOST, count, letter};
-use replay_input::memory::{UNTOUCHED, expected, first_changed, lent_words};
-use replay_input::part::{bounded, number};
-use replay_input::tally::{Tally, counter, difference};
-use replay_input::words::words_read;
+use replay_input::Stop;
+use replay_input::file::{BYTES, ROW_WORDS, changed};
+use replay_input::memory::{UNTOUCHED, first, first_changed, lent};
+use replay_input::reader::{Lost, Reader};
+use replay_input::tally::{Tally, difference};
 use rules::row;
 use std::io;
 
@@ -19,96 +18,73 @@ const KINDS: usize = STORES - DAMAGES;
 #[derive(Clone, Copy)]
 struct Call {
     damage: u32,
-    size: u32,
-    words: u32,
-    next: usize,
+    size: usize,
+    words: usize,
 }
 
 // The next call.
-fn call_at(sample: &[u8], at: usize) -> Call {
-    let damage = number(sample, at);
-    let size = bounded(sample, damage.next, BYTES);
-    let words = bounded(sample, size.next, ROW_WORDS);
-    Call {
-        damage: damage.value,
-        size: size.value,
-        words: words.value,
-        next: words.next,
-    }
+fn call_read(sample: &mut Reader<'_>) -> Result<Call, Lost> {
+    Ok(Call {
+        damage: sample.number()?,
+        size: sample.bounded(BYTES)?,
+        words: sample.bounded(ROW_WORDS)?,
+    })
 }
 
 // Memory behind a call against so many rows and what was there: what differs is written.
 fn memory_compared(
     rt: &impl Print,
-    tally: Tally,
+    tally: &mut Tally,
     memory: &[u32; ROW_WORDS],
     rows: &[u32; ROW_WORDS],
     count: u32,
-) -> io::Result<Tally> {
-    let i = first_changed(memory, rows, count);
-    if i < ROW_WORDS {
-        difference(
-            rt,
-            tally,
-            b"table ",
-            b": row word ",
-            i,
-            memory[i],
-            expected(rows, count, i),
-        )?;
+) -> io::Result<()> {
+    let written = first(rows, count as usize * row::WORDS);
+    let changed = first_changed(memory, written, UNTOUCHED);
+    if let Some((i, ours, theirs)) = changed {
+        difference(rt, tally, b"table ", b": row word ", i, ours, theirs)?;
     }
-    Ok(tally.up_to(ROWS, count, i / row::WORDS, i < ROW_WORDS))
-}
-
-// One load more, of a file with this damage, of which a number is expected; it agrees if it has no difference more.
-fn counted(before: Tally, now: Tally, damage: u32, number: u32) -> Tally {
-    let agrees = before.differences == now.differences;
-    now.held(LOADS, agrees)
-        .held(counter(0, number, DAMAGES), agrees)
-        .held(counter(DAMAGES, damage, KINDS), agrees)
+    tally.up_to(ROWS, count, changed.map(|(i, _, _)| i / row::WORDS));
+    Ok(())
 }
 
 // The sample's next load.
 fn load_compared(
     rt: &impl Print,
-    sample: &[u8],
-    tally: Tally,
+    sample: &mut Reader<'_>,
+    tally: &mut Tally,
     rows: &[u32; ROW_WORDS],
     file: &[u8; BYTES],
-) -> io::Result<Tally> {
-    let call = call_at(sample, tally.at);
+) -> Result<(), Stop> {
+    let call = call_read(sample)?;
     let mut bytes = *file;
     let mut theirs = [0u32; 8];
-    let read = changed(sample, call.next, &mut bytes);
-    let next = words_read(sample, read, &mut theirs, 8);
-    if next == LOST {
-        return Ok(tally.moved(LOST));
-    }
+    changed(sample, &mut bytes)?;
+    sample.numbers(&mut theirs)?;
+    let before = tally.differences;
     let mut memory = [UNTOUCHED; ROW_WORDS];
     let mut ours = [0u32; 8];
-    let lent = lent_words(&mut memory, call.words as usize);
-    put_loaded(&mut ours, load(first_bytes(&bytes, call.size), lent));
-    let begun = tally.moved(next).next_call();
-    let told_too = words_compared(rt, begun, &ours, &theirs)?;
-    let now = memory_compared(rt, told_too, &memory, rows, theirs[COUNT])?;
-    Ok(counted(begun, now, call.damage, theirs[NUMBER]))
+    let told = load(first(&bytes, call.size), lent(&mut memory, call.words));
+    put_loaded(&mut ours, told);
+    tally.next_call();
+    words_compared(rt, tally, &ours, &theirs)?;
+    memory_compared(rt, tally, &memory, rows, theirs[COUNT])?;
+    let agrees = tally.differences == before;
+    tally.held(LOADS, agrees);
+    tally.held_among(0, theirs[NUMBER], DAMAGES, agrees);
+    tally.held_among(DAMAGES, call.damage, KINDS, agrees);
+    Ok(())
 }
 
 // The sample's loads of a table.
 pub fn loads_compared(
     rt: &impl Print,
-    sample: &[u8],
-    tally: Tally,
+    sample: &mut Reader<'_>,
+    tally: &mut Tally,
     rows: &[u32; ROW_WORDS],
     file: &[u8; BYTES],
-) -> io::Result<Tally> {
-    let calls = count(sample, letter(sample, tally.at, b'L'));
-    let mut now = tally.moved(calls.next);
-    for _ in 0..calls.value {
-        if now.at == LOST {
-            return Ok(now);
-        }
-        now = load_compared(rt, sample, now, rows, file)?;
-    }
-    Ok(now)
+) -> Result<(), Stop> {
+    replay_input::calls(sample, b'L', tally, |sample, tally| {
+        load_compared(rt, sample, tally, rows, file)
+    })
 }

@@ -5,83 +5,51 @@
 
 use load::loads_compared;
 use replay_input::file::{BYTES, ROW_WORDS, file_read};
-use replay_input::input::{LOST, letter};
+use replay_input::memory::first;
+use replay_input::reader::Reader;
 use replay_input::tally::Tally;
-use replay_input::words::words_read;
-use replay_input::{SAMPLE, lines};
-use rules::row;
+use replay_input::{Stop, lines};
 use std::io;
 use store::stores_compared;
+use table::rows_read;
 
 mod load;
 mod report;
 mod store;
 mod table;
 
-// The words of the first so many rows, or all if there are fewer.
-fn first_rows(rows: &[u32], size: u32) -> &[u32] {
-    let end = size as usize * row::WORDS;
-    if rows.len() < end {
-        return rows;
-    }
-    &rows[..end]
-}
-
-// The sample's stores and loads of a table with so many rows.
-fn calls_compared(
-    rt: &impl Print,
-    sample: &[u8],
-    tally: Tally,
-    table: &[u32; 8],
-    rows: &[u32; ROW_WORDS],
-    size: u32,
-    file: &[u8; BYTES],
-) -> io::Result<Tally> {
-    let now = stores_compared(rt, sample, tally, table, first_rows(rows, size), file)?;
-    loads_compared(rt, sample, now, rows, file)
-}
-
-// The sample's next table, with its calls.
-fn table_compared(rt: &impl Print, sample: &[u8], tally: Tally) -> io::Result<Tally> {
+// The sample's next table, with its stores and loads.
+fn table_compared(rt: &impl Print, sample: &mut Reader<'_>, tally: &mut Tally) -> Result<(), Stop> {
     let mut table = [0u32; 8];
     let mut rows = [0u32; ROW_WORDS];
     let mut file = [0u8; BYTES];
-    let told = words_read(sample, letter(sample, tally.at, b'T'), &mut table, 8);
-    let listed = table::rows_read(sample, told, &mut rows);
-    let written = file_read(sample, listed.next, &mut file);
-    let begun = tally.moved(written.next).next_item();
-    calls_compared(rt, sample, begun, &table, &rows, listed.value, &file)
+    sample.letter(b'T')?;
+    sample.numbers(&mut table)?;
+    let size = rows_read(sample, &mut rows)?;
+    file_read(sample, &mut file)?;
+    tally.next_item();
+    stores_compared(rt, sample, tally, &table, first(&rows, size), &file)?;
+    loads_compared(rt, sample, tally, &rows, &file)
 }
 
-// So many tables, as far as the sample can be read.
-fn tables(rt: &impl Print, sample: &[u8], at: usize, size: u64) -> io::Result<Tally> {
-    let mut tally = Tally::start(at);
-    for _ in 0..size {
-        let now = table_compared(rt, sample, tally)?;
-        if now.at == LOST {
-            return Ok(tally);
-        }
-        tally = now;
-    }
-    Ok(tally)
-}
-
-// The counts of a sample.
+// Runs the tables of a sample and writes what agreed.
 fn replay(rt: &impl Print, sample: &[u8]) -> io::Result<()> {
-    let size = replay_input::headed(sample, b"spoonharbor-files");
-    let tally = tables(rt, sample, size.next, size.value)?;
-    lines::two(rt, b"tables ", tally.item, b" of ", size.value)?;
-    lines::one(
-        rt,
-        b"bytes behind the last table ",
-        replay_input::rest(sample, tally.at),
-    )?;
-    report::counts(rt, tally)
+    let head = replay_input::head(sample, b"spoonharbor-files");
+    let mut tables = head.items;
+    let mut tally = Tally::new();
+    replay_input::ended(replay_input::items(
+        &mut tables,
+        head.size,
+        &mut tally,
+        |sample, tally| table_compared(rt, sample, tally),
+    ))?;
+    lines::two(rt, b"tables ", tally.item, b" of ", head.size)?;
+    lines::one(rt, b"bytes behind the last table ", tables.left())?;
+    report::counts(rt, &tally)
 }
 
 // The counts of the sample on standard input.
 fn main(rt: HostRuntime) -> io::Result<()> {
-    let mut sample = [0u8; SAMPLE];
-    let size = replay_input::filled(&rt, &mut sample)?;
-    replay(&rt, replay_input::shown(&sample, size))
+    let sample = replay_input::sample(&rt, rt.alloc())?;
+    replay(&rt, &sample)
 }

@@ -19,15 +19,15 @@ pub const ROWS: usize = 55;
 // Eight words that were told against those that are expected: what differs is written.
 pub fn words_compared(
     rt: &impl Print,
-    tally: Tally,
+    tally: &mut Tally,
     ours: &[u32; 8],
     theirs: &[u32; 8],
-) -> io::Result<Tally> {
+) -> io::Result<()> {
     tally::words_compared(rt, tally, b"table ", ours, theirs)
 }
 
 // The loads by what happened to the file.
-fn damages(rt: &impl Print, tally: Tally) -> io::Result<()> {
+fn damages(rt: &impl Print, tally: &Tally) -> io::Result<()> {
     line(rt, b"sound: ", tally, DAMAGES)?;
     line(rt, b"one byte changed: ", tally, DAMAGES + 1)?;
     line(
@@ -48,7 +48,7 @@ fn damages(rt: &impl Print, tally: Tally) -> io::Result<()> {
 }
 
 // All counts.
-pub fn counts(rt: &impl Print, tally: Tally) -> io::Result<()> {
+pub fn counts(rt: &impl Print, tally: &Tally) -> io::Result<()> {
     line(rt, b"stores ", tally, STORES)?;
     line(rt, b"loads ", tally, LOADS)?;
     line(rt, b"blocks ", tally, BLOCKS)?;

@@ -13,31 +13,13 @@ fn onward(digest: u32, x: u32) -> u32 {
     ((digest as u64 * FACTOR + x as u64) % MODULUS) as u32
 }
 
-// A digest with one byte more.
-fn byte_onward(digest: u32, byte: u8) -> u32 {
-    onward(digest, byte as u32)
-}
-
-// The digest of bytes.
-pub fn bytes_digest(bytes: &[u8]) -> u32 {
-    let mut digest: u32 = 0;
-    let mut i = 0;
-    while i < bytes.len() {
-        digest = byte_onward(digest, bytes[i]);
-        i += 1;
-    }
-    digest
-}
-
-// The digest of words.
-pub fn words_digest(words: &[u32]) -> u32 {
-    let mut digest: u32 = 0;
-    let mut i = 0;
-    while i < words.len() {
-        digest = onward(digest, words[i]);
-        i += 1;
-    }
-    digest
+// The digest of bytes or words.
+pub fn digest<T: Copy>(list: &[T]) -> u32
+where
+    u32: From<T>,
+{
+    list.iter()
+        .fold(0, |digest, x| onward(digest, u32::from(*x)))
 }
 
 // Ten words of eight and two digests.

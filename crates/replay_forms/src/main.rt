@@ -4,74 +4,47 @@
 #![tactic(auto)]
 
 use calls::call_compared;
-use replay_input::file::{BYTES, file_read, first_bytes};
-use replay_input::input::{LOST, count, letter};
+use replay_input::file::{BYTES, file_read};
+use replay_input::memory::first;
+use replay_input::reader::Reader;
 use replay_input::tally::Tally;
-use replay_input::{SAMPLE, lines, part};
+use replay_input::{Stop, lines};
 use std::io;
 
 mod answer;
 mod calls;
 mod report;
 
-// The sample's calls of a text and a file.
-fn calls_compared(
-    rt: &impl Print,
-    sample: &[u8],
-    tally: Tally,
-    text: &[u8],
-    file: &[u8],
-) -> io::Result<Tally> {
-    let calls = count(sample, letter(sample, tally.at, b'C'));
-    let mut now = tally.moved(calls.next);
-    for _ in 0..calls.value {
-        if now.at == LOST {
-            return Ok(now);
-        }
-        now = call_compared(rt, sample, now, text, file)?;
-    }
-    Ok(now)
-}
-
 // The sample's next text and file, with its calls.
-fn case_compared(rt: &impl Print, sample: &[u8], tally: Tally) -> io::Result<Tally> {
+fn case_compared(rt: &impl Print, sample: &mut Reader<'_>, tally: &mut Tally) -> Result<(), Stop> {
     let mut bytes = [0u8; BYTES];
-    let shown = part::part_at(sample, tally.at, b'P');
-    let written = file_read(sample, shown.end, &mut bytes);
-    let begun = tally.moved(written.next).next_item();
-    let text = part::bytes_of(sample, shown);
-    calls_compared(rt, sample, begun, text, first_bytes(&bytes, written.value))
+    let text = sample.part(b'P')?;
+    let size = file_read(sample, &mut bytes)?;
+    let file = first(&bytes, size);
+    tally.next_item();
+    replay_input::calls(sample, b'C', tally, |sample, tally| {
+        call_compared(rt, sample, tally, text, file)
+    })
 }
 
-// So many cases, as far as the sample can be read.
-fn cases(rt: &impl Print, sample: &[u8], at: usize, size: u64) -> io::Result<Tally> {
-    let mut tally = Tally::start(at);
-    for _ in 0..size {
-        let now = case_compared(rt, sample, tally)?;
-        if now.at == LOST {
-            return Ok(tally);
-        }
-        tally = now;
-    }
-    Ok(tally)
-}
-
-// The counts of a sample.
+// Runs the cases of a sample and writes what agreed.
 fn replay(rt: &impl Print, sample: &[u8]) -> io::Result<()> {
-    let size = replay_input::headed(sample, b"spoonharbor-forms");
-    let tally = cases(rt, sample, size.next, size.value)?;
-    lines::two(rt, b"cases ", tally.item, b" of ", size.value)?;
-    lines::one(
-        rt,
-        b"bytes behind the last case ",
-        replay_input::rest(sample, tally.at),
-    )?;
-    report::counts(rt, tally)
+    let head = replay_input::head(sample, b"spoonharbor-forms");
+    let mut cases = head.items;
+    let mut tally = Tally::new();
+    replay_input::ended(replay_input::items(
+        &mut cases,
+        head.size,
+        &mut tally,
+        |sample, tally| case_compared(rt, sample, tally),
+    ))?;
+    lines::two(rt, b"cases ", tally.item, b" of ", head.size)?;
+    lines::one(rt, b"bytes behind the last case ", cases.left())?;
+    report::counts(rt, &tally)
 }
 
 // The counts of the sample on standard input.
 fn main(rt: HostRuntime) -> io::Result<()> {
-    let mut sample = [0u8; SAMPLE];
-    let size = replay_input::filled(&rt, &mut sample)?;
-    replay(&rt, replay_input::shown(&sample, size))
+    let sample = replay_input::sample(&rt, rt.alloc())?;
+    replay(&rt, &sample)
 }

@@ -9,24 +9,21 @@ pub const NUMBERS: usize = 46;
 pub const KINDS: usize = 3;
 
 // The calls that agree, by what is expected of them.
-fn numbers_written(rt: &impl Print, tally: Tally) -> io::Result<()> {
-    for i in 0..NUMBERS {
-        if 0 < tally.agreed[i] {
-            two(rt, b"expected ", i as u64, b": agreed ", tally.agreed[i])?;
+fn numbers_written(rt: &impl Print, tally: &Tally) -> io::Result<()> {
+    for (i, counter) in tally.counters.iter().enumerate().take(NUMBERS) {
+        if 0 < counter.agreed {
+            two(rt, b"expected ", i as u64, b": agreed ", counter.agreed)?;
         }
     }
     Ok(())
 }
 
 // All counts.
-pub fn counts(rt: &impl Print, tally: Tally) -> io::Result<()> {
-    one(
-        rt,
-        b"readings beside the text: agreed ",
-        tally.agreed[NUMBERS],
-    )?;
-    one(rt, b"moves: agreed ", tally.agreed[NUMBERS + 1])?;
-    one(rt, b"mendings: agreed ", tally.agreed[NUMBERS + 2])?;
+pub fn counts(rt: &impl Print, tally: &Tally) -> io::Result<()> {
+    let kinds = &tally.counters[NUMBERS..];
+    one(rt, b"readings beside the text: agreed ", kinds[0].agreed)?;
+    one(rt, b"moves: agreed ", kinds[1].agreed)?;
+    one(rt, b"mendings: agreed ", kinds[2].agreed)?;
     numbers_written(rt, tally)?;
     one(rt, b"differences ", tally.differences)
 }

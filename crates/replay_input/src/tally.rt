@@ -1,132 +1,123 @@
-// Where the reading of the sample stands, what was counted, and what is written of it.
+// What was counted of a sample, and what is written of it.
 use crate::lines::{told, two};
-use crate::more;
-use crate::words::first_other;
 use std::io;
 
-// How many counters there are; as a counter it is none.
+// How many counters there are.
 pub const COUNTERS: usize = 56;
 
 // How many differences are written; the others are only counted.
 const WRITTEN: u64 = 20;
 
-// The place in the sample; the edit, table or case of it that is read, and the call of that; for each thing that has a counter how many
-// were held against the sample and how many agree; how many differences there are.
+// Of one thing, how many were held against the sample and how many agree.
+#[derive(Clone, Copy)]
+pub struct Counter {
+    pub seen: u64,
+    pub agreed: u64,
+}
+
+impl Counter {
+    // So many more, of which so many agree.
+    fn add(&mut self, seen: u64, agreed: u64) {
+        self.seen = plus(self.seen, seen);
+        self.agreed = plus(self.agreed, agreed);
+    }
+}
+
+// The edit, table or case of the sample that is read, and the call of that; for each thing that is counted its counter; how many
+// differences there are.
 #[derive(Clone, Copy)]
 pub struct Tally {
-    pub at: usize,
     pub item: u64,
     pub call: u64,
-    pub seen: [u64; COUNTERS],
-    pub agreed: [u64; COUNTERS],
+    pub counters: [Counter; COUNTERS],
     pub differences: u64,
 }
 
 impl Tally {
-    // Nothing is read and counted, and the first item is at this place.
-    pub fn start(at: usize) -> Tally {
+    // Nothing is read and counted.
+    pub fn new() -> Tally {
         Tally {
-            at,
             item: 0,
             call: 0,
-            seen: [0; COUNTERS],
-            agreed: [0; COUNTERS],
+            counters: [Counter { seen: 0, agreed: 0 }; COUNTERS],
             differences: 0,
         }
     }
 
-    // The place in the sample is another.
-    pub fn moved(mut self, at: usize) -> Tally {
-        self.at = at;
-        self
-    }
-
     // The next item; no call of it is read.
-    pub fn next_item(mut self) -> Tally {
-        self.item = more(self.item);
+    pub fn next_item(&mut self) {
+        self.item = self.item.saturating_add(1);
         self.call = 0;
-        self
     }
 
     // The next call of the item.
-    pub fn next_call(mut self) -> Tally {
-        self.call = more(self.call);
-        self
+    pub fn next_call(&mut self) {
+        self.call = self.call.saturating_add(1);
     }
 
     // One difference more.
-    pub fn differs(mut self) -> Tally {
-        self.differences = more(self.differences);
-        self
+    pub fn differs(&mut self) {
+        self.differences = self.differences.saturating_add(1);
     }
 
     // One thing more that was held.
-    pub fn held(mut self, what: usize, agrees: bool) -> Tally {
-        if what < COUNTERS {
-            self.seen[what] = more(self.seen[what]);
+    pub fn held(&mut self, what: usize, agrees: bool) {
+        if let Some(counter) = self.counters.get_mut(what) {
+            counter.seen = counter.seen.saturating_add(1);
             if agrees {
-                self.agreed[what] = more(self.agreed[what]);
+                counter.agreed = counter.agreed.saturating_add(1);
             }
         }
-        self
+    }
+
+    // One thing more that was held, of number n of so many whose counters stand from a first on; none where it is another.
+    pub fn held_among(&mut self, first: usize, n: u32, most: usize, agrees: bool) {
+        let k = n as usize;
+        if k < most {
+            self.held(first.saturating_add(k), agrees);
+        }
     }
 
     // So many of a thing more, of which so many agree.
-    pub fn many(mut self, what: usize, count: u64, agreed: u64) -> Tally {
-        if what < COUNTERS {
-            self.seen[what] = plus(self.seen[what], count);
-            self.agreed[what] = plus(self.agreed[what], agreed);
+    pub fn many(&mut self, what: usize, seen: u64, agreed: u64) {
+        if let Some(counter) = self.counters.get_mut(what) {
+            counter.add(seen, agreed);
         }
-        self
     }
 
     // So many of a thing more, of which all agree; or where one differs, those before it.
-    pub fn up_to(self, what: usize, count: u32, same: usize, differs: bool) -> Tally {
-        let all = count as u64;
-        let before = same as u64;
-        if !differs {
-            return self.many(what, all, all);
+    pub fn up_to(&mut self, what: usize, count: u32, differs: Option<usize>) {
+        let all = u64::from(count);
+        let same = differs.map_or(all, |before| all.min(before as u64));
+        self.many(what, all, same);
+        if differs.is_some() {
+            self.differs();
         }
-        if all < before {
-            return self.many(what, all, all).differs();
-        }
-        self.many(what, all, before).differs()
     }
 }
 
 // So many more, as far as that goes.
 fn plus(n: u64, count: u64) -> u64 {
-    if n < 4294967296 {
-        if count < 4294967296 {
-            return n + count;
-        }
+    if n < 4294967296 && count < 4294967296 {
+        n + count
+    } else {
+        n
     }
-    n
-}
-
-// The counter of one of so many numbers, from a first on; none where it is another.
-pub fn counter(first: usize, n: u32, most: usize) -> usize {
-    let k = n as usize;
-    if k < most {
-        if first < COUNTERS {
-            return first + k;
-        }
-    }
-    COUNTERS
 }
 
 // How many of a thing were held against the sample, and how many agree.
-pub fn line(rt: &impl Print, name: &[u8], tally: Tally, what: usize) -> io::Result<()> {
-    if what < COUNTERS {
-        two(rt, name, tally.seen[what], b", agreed ", tally.agreed[what])?;
+pub fn line(rt: &impl Print, name: &[u8], tally: &Tally, what: usize) -> io::Result<()> {
+    if let Some(counter) = tally.counters.get(what) {
+        two(rt, name, counter.seen, b", agreed ", counter.agreed)?;
     }
     Ok(())
 }
 
-// How many calls of which number i is expected were held against the sample, and how many agree; nothing where there are none.
-fn number_line(rt: &impl Print, tally: Tally, i: usize) -> io::Result<()> {
-    if i < COUNTERS {
-        if 0 < tally.seen[i] {
+// The calls by the number that is expected of them, from a first one on; nothing of those that there are none of.
+pub fn numbers(rt: &impl Print, tally: &Tally, first: usize, most: usize) -> io::Result<()> {
+    for i in first..most {
+        let seen = tally.counters.get(i).map_or(0, |counter| counter.seen);
+        if 0 < seen {
             told(rt, b"expected ", i as u64)?;
             line(rt, b": ", tally, i)?;
         }
@@ -134,34 +125,27 @@ fn number_line(rt: &impl Print, tally: Tally, i: usize) -> io::Result<()> {
     Ok(())
 }
 
-// The calls by the number that is expected of them, from a first one on.
-pub fn numbers(rt: &impl Print, tally: Tally, first: usize, most: usize) -> io::Result<()> {
-    for i in first..most {
-        number_line(rt, tally, i)?;
-    }
-    Ok(())
-}
-
-// Whether the next difference is written: the first few are.
-fn is_written(tally: Tally) -> bool {
-    tally.differences < WRITTEN
-}
-
 // Part i of what a call of the item told or left is one number, and another is expected.
 pub fn difference(
     rt: &impl Print,
-    tally: Tally,
+    tally: &Tally,
     item: &[u8],
     part: &[u8],
     i: usize,
     ours: u32,
     theirs: u32,
 ) -> io::Result<()> {
-    if is_written(tally) {
+    if tally.differences < WRITTEN {
         told(rt, item, tally.item)?;
         told(rt, b", call ", tally.call)?;
         told(rt, part, i as u64)?;
-        two(rt, b" is ", ours as u64, b", expected ", theirs as u64)?;
+        two(
+            rt,
+            b" is ",
+            u64::from(ours),
+            b", expected ",
+            u64::from(theirs),
+        )?;
     }
     Ok(())
 }
@@ -169,17 +153,17 @@ pub fn difference(
 // Words that a call told against as many that are expected: what differs first is written.
 pub fn words_compared(
     rt: &impl Print,
-    tally: Tally,
+    tally: &mut Tally,
     item: &[u8],
     ours: &[u32],
     theirs: &[u32],
-) -> io::Result<Tally> {
-    let i = first_other(ours, theirs);
-    if i < ours.len() {
-        if i < theirs.len() {
-            difference(rt, tally, item, b": word ", i, ours[i], theirs[i])?;
-            return Ok(tally.differs());
+) -> io::Result<()> {
+    for (i, (our, their)) in ours.iter().zip(theirs).enumerate() {
+        if our != their {
+            difference(rt, tally, item, b": word ", i, *our, *their)?;
+            tally.differs();
+            return Ok(());
         }
     }
-    Ok(tally)
+    Ok(())
 }

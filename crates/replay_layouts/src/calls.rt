@@ -2,11 +2,11 @@
 use crate::report::{FORGED, NUMBERS};
 use layout_answers::put_laid;
 use layout_judge::SCRATCH;
-use replay_input::input::LOST;
-use replay_input::memory::{UNTOUCHED_BYTE, lent_bytes};
-use replay_input::tally::{Tally, counter, difference, words_compared};
+use replay_input::Stop;
+use replay_input::memory::{UNTOUCHED_BYTE, first, first_changed, lent};
+use replay_input::reader::Reader;
+use replay_input::tally::{Tally, difference, words_compared};
 use replay_input::told::table_of;
-use replay_input::words::words_read;
 use rules::{Parsed, Table};
 use std::io;
 
@@ -37,23 +37,13 @@ const BYTES: usize = 4096;
 
 const WORDS: usize = 8192;
 
-// A word of a call as a size.
-fn wide(word: u32) -> usize {
-    word as usize
-}
-
-// A byte as a word.
-fn widened(byte: u8) -> u32 {
-    byte as u32
-}
-
 // One of the words is another, if that is what is changed.
 fn changed(words: &mut [u32; WORDS], call: &[u32; CALL], what: u32) {
-    let at = wide(call[PLACE]);
-    if call[WHAT] == what {
-        if at < WORDS {
-            words[at] = call[WORD];
-        }
+    if call[WHAT] != what {
+        return;
+    }
+    if let Some(word) = words.get_mut(call[PLACE] as usize) {
+        *word = call[WORD];
     }
 }
 
@@ -119,88 +109,50 @@ fn expected_words(call: &[u32; CALL]) -> [u32; 8] {
     [number, 0, 1, 1, 0, 0, 0, 0]
 }
 
-// Byte i of memory behind a call that wrote so many bytes of a layout.
-fn expected(layout: &[u8], size: usize, i: usize) -> u8 {
-    if size <= i {
-        return UNTOUCHED_BYTE;
-    }
-    if layout.len() <= i {
-        return UNTOUCHED_BYTE;
-    }
-    layout[i]
-}
-
-// The first byte of memory that is not as expected; the number of bytes where there is none.
-fn first_changed(memory: &[u8; BYTES], layout: &[u8], size: usize) -> usize {
-    let mut i = 0;
-    while i < BYTES {
-        if memory[i] != expected(layout, size, i) {
-            return i;
-        }
-        i += 1;
-    }
-    i
-}
-
 // Memory behind a call against so many bytes of a layout and what was there: what differs is written.
 fn memory_compared(
     rt: &impl Print,
-    tally: Tally,
+    tally: &mut Tally,
     memory: &[u8; BYTES],
     layout: &[u8],
     size: usize,
-) -> io::Result<Tally> {
-    let i = first_changed(memory, layout, size);
-    if i < BYTES {
-        let ours = widened(memory[i]);
-        let theirs = widened(expected(layout, size, i));
-        difference(rt, tally, b"case ", b": byte ", i, ours, theirs)?;
-        return Ok(tally.differs());
+) -> io::Result<()> {
+    let written = first(layout, size);
+    if let Some((i, ours, theirs)) = first_changed(memory, written, UNTOUCHED_BYTE) {
+        difference(
+            rt,
+            tally,
+            b"case ",
+            b": byte ",
+            i,
+            u32::from(ours),
+            u32::from(theirs),
+        )?;
+        tally.differs();
     }
-    Ok(tally)
-}
-
-// What a call told and left against what is expected.
-fn answer_compared(
-    rt: &impl Print,
-    begun: Tally,
-    text: &[u8],
-    layout: &[u8],
-    call: &[u32; CALL],
-    scratch: &mut [u32; SCRATCH],
-) -> io::Result<Tally> {
-    let mut memory = [UNTOUCHED_BYTE; BYTES];
-    let lent = lent_bytes(&mut memory, wide(call[ROOM]));
-    let ours = told_by(text, call, scratch, lent);
-    let told = words_compared(rt, begun, b"case ", &ours, &expected_words(call))?;
-    let now = memory_compared(rt, told, &memory, layout, wide(call[LENGTH]))?;
-    let agrees = begun.differences == now.differences;
-    Ok(
-        now.held(counter(0, call[EXPECTED], NUMBERS), agrees)
-            .held(counter(NUMBERS, call[WHAT], FORGED), agrees),
-    )
+    Ok(())
 }
 
 // The sample's next call.
 pub fn call_compared(
     rt: &impl Print,
-    sample: &[u8],
-    tally: Tally,
+    sample: &mut Reader<'_>,
+    tally: &mut Tally,
     text: &[u8],
     layout: &[u8],
     scratch: &mut [u32; SCRATCH],
-) -> io::Result<Tally> {
+) -> Result<(), Stop> {
     let mut call = [0u32; CALL];
-    let next = words_read(sample, tally.at, &mut call, CALL);
-    if next == LOST {
-        return Ok(tally.moved(LOST));
-    }
-    answer_compared(
-        rt,
-        tally.moved(next).next_call(),
-        text,
-        layout,
-        &call,
-        scratch,
-    )
+    sample.numbers(&mut call)?;
+    let before = tally.differences;
+    let mut memory = [UNTOUCHED_BYTE; BYTES];
+    let room = lent(&mut memory, call[ROOM] as usize);
+    let ours = told_by(text, &call, scratch, room);
+    tally.next_call();
+    words_compared(rt, tally, b"case ", &ours, &expected_words(&call))?;
+    memory_compared(rt, tally, &memory, layout, call[LENGTH] as usize)?;
+    let agrees = tally.differences == before;
+    tally.held_among(0, call[EXPECTED], NUMBERS, agrees);
+    tally.held_among(NUMBERS, call[WHAT], FORGED, agrees);
+    Ok(())
 }

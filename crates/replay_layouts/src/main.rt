@@ -5,91 +5,48 @@
 
 use calls::call_compared;
 use layout_judge::SCRATCH;
-use replay_input::input::{LOST, count, letter};
-use replay_input::part::{bytes_of, part_at};
+use replay_input::reader::Reader;
 use replay_input::tally::Tally;
-use replay_input::{SAMPLE, lines};
+use replay_input::{Stop, lines};
 use std::io;
 
 mod calls;
 mod report;
 
-// The sample's calls of a text and its layout.
-fn calls_compared(
-    rt: &impl Print,
-    sample: &[u8],
-    tally: Tally,
-    text: &[u8],
-    layout: &[u8],
-    scratch: &mut [u32; SCRATCH],
-) -> io::Result<Tally> {
-    let calls = count(sample, letter(sample, tally.at, b'C'));
-    let mut now = tally.moved(calls.next);
-    for _ in 0..calls.value {
-        if now.at == LOST {
-            return Ok(now);
-        }
-        now = call_compared(rt, sample, now, text, layout, scratch)?;
-    }
-    Ok(now)
-}
-
 // The sample's next text and layout, with its calls.
 fn case_compared(
     rt: &impl Print,
-    sample: &[u8],
-    tally: Tally,
+    sample: &mut Reader<'_>,
+    tally: &mut Tally,
     scratch: &mut [u32; SCRATCH],
-) -> io::Result<Tally> {
-    let shown = part_at(sample, tally.at, b'T');
-    let laid = part_at(sample, shown.end, b'L');
-    let begun = tally.moved(laid.end).next_item();
-    calls_compared(
-        rt,
-        sample,
-        begun,
-        bytes_of(sample, shown),
-        bytes_of(sample, laid),
-        scratch,
-    )
+) -> Result<(), Stop> {
+    let text = sample.part(b'T')?;
+    let layout = sample.part(b'L')?;
+    tally.next_item();
+    replay_input::calls(sample, b'C', tally, |sample, tally| {
+        call_compared(rt, sample, tally, text, layout, scratch)
+    })
 }
 
-// So many cases, as far as the sample can be read.
-fn cases(
-    rt: &impl Print,
-    sample: &[u8],
-    at: usize,
-    size: u64,
-    scratch: &mut [u32; SCRATCH],
-) -> io::Result<Tally> {
-    let mut tally = Tally::start(at);
-    for _ in 0..size {
-        let now = case_compared(rt, sample, tally, scratch)?;
-        if now.at == LOST {
-            return Ok(tally);
-        }
-        tally = now;
-    }
-    Ok(tally)
-}
-
-// The counts of a sample.
+// Runs the cases of a sample and writes what agreed.
 fn replay(rt: &impl Print, sample: &[u8], scratch: &mut [u32; SCRATCH]) -> io::Result<()> {
-    let size = replay_input::headed(sample, b"spoonharbor-layouts");
-    let tally = cases(rt, sample, size.next, size.value, scratch)?;
-    lines::two(rt, b"cases ", tally.item, b" of ", size.value)?;
-    lines::one(
-        rt,
-        b"bytes behind the last case ",
-        replay_input::rest(sample, tally.at),
-    )?;
-    report::counts(rt, tally)
+    let head = replay_input::head(sample, b"spoonharbor-layouts");
+    let mut cases = head.items;
+    let mut tally = Tally::new();
+    replay_input::ended(replay_input::items(
+        &mut cases,
+        head.size,
+        &mut tally,
+        |sample, tally| case_compared(rt, sample, tally, scratch),
+    ))?;
+    lines::two(rt, b"cases ", tally.item, b" of ", head.size)?;
+    lines::one(rt, b"bytes behind the last case ", cases.left())?;
+    report::counts(rt, &tally)
 }
 
 // The counts of the sample on standard input.
 fn main(rt: HostRuntime) -> io::Result<()> {
-    let mut sample = [0u8; SAMPLE];
     let mut scratch = [0u32; SCRATCH];
-    let size = replay_input::filled(&rt, &mut sample)?;
-    replay(&rt, replay_input::shown(&sample, size), &mut scratch)
+    let sample = replay_input::sample(&rt, rt.alloc())?;
+    replay(&rt, &sample, &mut scratch)
 }

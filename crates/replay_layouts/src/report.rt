@@ -9,7 +9,7 @@ pub const NUMBERS: usize = 5;
 pub const FORGED: usize = 4;
 
 // All counts.
-pub fn counts(rt: &impl Print, tally: Tally) -> io::Result<()> {
+pub fn counts(rt: &impl Print, tally: &Tally) -> io::Result<()> {
     line(rt, b"nothing changed: ", tally, NUMBERS)?;
     line(rt, b"a word of the rows: ", tally, NUMBERS + 1)?;
     line(rt, b"a word of the nodes: ", tally, NUMBERS + 2)?;

@@ -3,11 +3,13 @@
 // `cargo run --release --offline --bin sample 4000 1` writes in compare/; compare/README.md says what stands in it.
 #![tactic(auto)]
 
-use replay_input::input::LOST;
+use replay_input::lines;
+use replay_input::memory::first;
+use replay_input::reader::{Lost, Reader};
 use replay_input::tally::Tally;
 use replay_input::told::table_of;
-use replay_input::{SAMPLE, lines};
 use std::io;
+use text::{BYTES, text_read};
 
 mod compared;
 mod report;
@@ -15,126 +17,81 @@ mod table;
 mod text;
 mod tree;
 
+// How many of the cases that differ are named.
+const NAMED: usize = 8;
+
 // What was counted of the cases that were read, and how many of them differ, with the numbers of the first few.
 #[derive(Clone, Copy)]
 struct Run {
     tally: Tally,
     differing: u64,
-    first: [u64; 8],
+    first: [u64; NAMED],
 }
 
 impl Run {
     // Nothing is read yet.
-    fn start(at: usize) -> Run {
+    fn new() -> Run {
         Run {
-            tally: Tally::start(at),
+            tally: Tally::new(),
             differing: 0,
-            first: [0; 8],
+            first: [0; NAMED],
         }
     }
 
     // One case more.
-    fn with(mut self, tally: Tally) -> Run {
+    fn add(&mut self, tally: Tally) {
         if tally.differences != self.tally.differences {
-            let n = self.differing;
-            if n < 8 {
-                self.first[n as usize] = tally.item;
+            if let Some(named) = self.first.get_mut(self.differing as usize) {
+                *named = tally.item;
             }
-            self.differing = replay_input::more(n);
+            self.differing = self.differing.saturating_add(1);
         }
         self.tally = tally;
-        self
-    }
-
-    // No case more: the sample cannot be read on.
-    fn lost(mut self) -> Run {
-        let tally = self.tally;
-        self.tally = tally.moved(LOST);
-        self
     }
 }
 
-// A text against the sample's answers for it.
-fn answers_compared(sample: &[u8], tally: Tally, text: &[u8]) -> Tally {
+// The sample's next case: a text against the sample's answers for it.
+fn case_compared(sample: &mut Reader<'_>, tally: &mut Tally) -> Result<(), Lost> {
+    let mut bytes = [0u8; BYTES];
+    let size = text_read(sample, &mut bytes)?;
+    let text = first(&bytes, size);
+    tally.next_item();
     let mut rows = [0u32; 16000];
     let told = scan::scan(text, &mut rows);
-    let now = table::table_compared(sample, tally, &rows, told);
-    tree::parse_compared(sample, now, text, &rows, table_of(told))
+    table::table_compared(sample, tally, &rows, told)?;
+    tree::parse_compared(sample, tally, text, &rows, table_of(told))
 }
 
-// The first so many bytes against the sample's answers for them.
-fn first_compared(sample: &[u8], tally: Tally, text: &[u8; 4096], size: u64) -> Tally {
-    answers_compared(sample, tally, replay_input::first(text, size))
-}
-
-// The sample's next case.
-fn case_compared(sample: &[u8], tally: Tally) -> Tally {
-    let mut text = [0u8; 4096];
-    let size = replay_input::input::count(
-        sample,
-        replay_input::input::letter(sample, tally.at, b'T'),
-    );
-    let next = text::bytes(sample, size.next, &mut text, size.value);
-    if next == LOST {
-        return tally.moved(LOST);
-    }
-    first_compared(sample, tally.moved(next).next_item(), &text, size.value)
-}
-
-// The number of the case that differs behind i others.
-fn differing_line(rt: &impl Print, run: Run, i: usize) -> io::Result<()> {
-    if i < 8 {
-        if (i as u64) < run.differing {
-            lines::one(rt, b"differing case ", run.first[i])?;
-        }
+// So many cases, if the sample says how many.
+fn cases(sample: &mut Reader<'_>, run: &mut Run, size: Result<u64, Lost>) -> Result<(), Lost> {
+    for _ in 0..size? {
+        let mut tally = run.tally;
+        case_compared(sample, &mut tally)?;
+        run.add(tally);
     }
     Ok(())
 }
 
-// The numbers of the first few cases that differ.
-fn list_differing(rt: &impl Print, run: Run) -> io::Result<()> {
-    for i in 0..8 {
-        differing_line(rt, run, i)?;
-    }
-    Ok(())
-}
-
-// So many cases, as far as the sample can be read.
-fn cases(sample: &[u8], at: usize, size: u64) -> Run {
-    let mut run = Run::start(at);
-    let mut i: u64 = 0;
-    while i < size {
-        let now = case_compared(sample, run.tally);
-        if now.at == LOST {
-            return run.lost();
-        }
-        run = run.with(now);
-        i += 1;
-    }
-    run
-}
-
-// Runs the cases of a sample and writes what agreed.
-fn replay(rt: &impl Print, sample: &[u8]) -> io::Result<()> {
-    let size = replay_input::input::count(
-        sample,
-        replay_input::header(sample, b"spoonharbor-sample"),
-    );
-    let run = cases(sample, size.next, size.value);
-    lines::two(rt, b"cases ", run.tally.item, b" of ", size.value)?;
-    lines::one(
-        rt,
-        b"bytes behind the last case ",
-        replay_input::rest(sample, run.tally.at),
-    )?;
-    report::counts(rt, run.tally)?;
+// Runs the cases of a sample and writes what agreed. Of a sample that cannot be read on no bytes are left.
+fn replay(rt: &impl Print, mut sample: Reader<'_>) -> io::Result<()> {
+    let mut run = Run::new();
+    let size = replay_input::item_count(&mut sample, b"spoonharbor-sample");
+    let left = match cases(&mut sample, &mut run, size) {
+        Ok(()) => sample.left(),
+        Err(Lost) => 0,
+    };
+    lines::two(rt, b"cases ", run.tally.item, b" of ", size.unwrap_or(0))?;
+    lines::one(rt, b"bytes behind the last case ", left)?;
+    report::counts(rt, &run.tally)?;
     lines::one(rt, b"differing cases ", run.differing)?;
-    list_differing(rt, run)
+    for case in run.first.iter().take(run.differing as usize) {
+        lines::one(rt, b"differing case ", *case)?;
+    }
+    Ok(())
 }
 
 // Replays the sample on standard input.
 fn main(rt: HostRuntime) -> io::Result<()> {
-    let mut sample = [0u8; SAMPLE];
-    let size = replay_input::filled(&rt, &mut sample)?;
-    replay(&rt, replay_input::shown(&sample, size))
+    let sample = replay_input::sample(&rt, rt.alloc())?;
+    replay(&rt, Reader::new(&sample))
 }

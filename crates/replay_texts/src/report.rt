@@ -24,7 +24,7 @@ pub const NODES: usize = 7;
 pub const UNSAID: usize = 8;
 
 // How many of each thing agreed.
-pub fn counts(rt: &impl Print, tally: Tally) -> io::Result<()> {
+pub fn counts(rt: &impl Print, tally: &Tally) -> io::Result<()> {
     line(rt, b"row counts ", tally, TABLES)?;
     line(rt, b"rows ", tally, ROWS)?;
     line(rt, b"endings ", tally, ENDINGS)?;
@@ -41,6 +41,6 @@ pub fn counts(rt: &impl Print, tally: Tally) -> io::Result<()> {
     one(
         rt,
         b"words that the sample does not say ",
-        tally.seen[UNSAID],
+        tally.counters[UNSAID].seen,
     )
 }

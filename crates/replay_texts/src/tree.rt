@@ -1,33 +1,30 @@
 // What a parse tells and writes, held against the sample's.
-use crate::compared::{compared, judged, part, wide};
+use crate::compared::{compared, judged, part};
 use crate::report::{DECLARATIONS, NODES, PROGRAMS, REFUSALS, UNCOMPARED};
 use refusals::{first_told, lexical_number, reason_number, second_told, syntax_number};
-use replay_input::input::{LOST, count, letter};
-use replay_input::more;
+use replay_input::reader::{Lost, Reader};
 use replay_input::tally::Tally;
-use rules::{Cursor, Ending, Parsed, Reason, Syntax, Table, node, node_kind};
+use rules::{Ending, Parsed, Reason, Syntax, Table, node, node_kind};
 
-// What was counted, and the next of our own nodes.
+// The nodes that a parse wrote, so many of them, and the next that is held against the sample.
 #[derive(Clone, Copy)]
-struct Walk {
-    tally: Tally,
-    node: usize,
+struct Nodes<'a> {
+    words: &'a [u32],
+    count: usize,
+    next: usize,
 }
 
 // The number of a refused parse, its place, the two words that it tells, and that the place is known. Zeros where it is not refused.
 fn refusal_words(parsed: Parsed) -> [u32; 7] {
     match parsed {
-        Parsed::Nodes(_) => [0, 0, 0, 0, 0, 0, 0],
+        Parsed::Nodes(_) => [0; 7],
         Parsed::Refused(why, place, _) => {
-            let number = reason_number(why);
-            let mut first = 0;
-            let mut second = 0;
-            if let Reason::Syntax(x) = why {
-                first = first_told(x);
-                second = second_told(x);
-            }
+            let (first, second) = match why {
+                Reason::Syntax(x) => (first_told(x), second_told(x)),
+                _ => (0, 0),
+            };
             [
-                number,
+                reason_number(why),
                 place.offset.0,
                 place.line.0,
                 place.column.0,
@@ -48,153 +45,111 @@ fn node_count(parsed: Parsed) -> usize {
 }
 
 // Whether a node is a section's or a licence's, which the sample leaves out.
-fn left_out(node: &[u32]) -> bool {
-    if node.len() == 0 {
-        return false;
-    }
-    if node[node::KIND] == node_kind::SECTION {
-        return true;
-    }
-    node[node::KIND] == node_kind::LICENSE
+fn is_left_out(node: &[u32]) -> bool {
+    node.first().is_some_and(|kind| matches!(*kind, node_kind::SECTION | node_kind::LICENSE))
 }
 
-// The first of our nodes from i on that the sample does not leave out.
-fn past_left_out(nodes: &[u32], own: usize, i: usize) -> usize {
-    let mut at = i;
-    while at < own {
-        if !left_out(part(nodes, own, at)) {
-            return at;
+impl<'a> Nodes<'a> {
+    // Node i; no words where there are not as many.
+    fn node(&self, i: usize) -> &'a [u32] {
+        part(self.words, self.count, i)
+    }
+
+    // The next node that the sample does not leave out, which is passed then; no words where there is none.
+    fn take_next(&mut self) -> &'a [u32] {
+        for i in self.next..self.count {
+            if !is_left_out(self.node(i)) {
+                self.next = i + 1;
+                return self.node(i);
+            }
         }
-        at += 1;
+        self.next = self.next.max(self.count);
+        &[]
     }
-    at
-}
 
-// The sample's next node against our next.
-fn node_compared(sample: &[u8], walk: Walk, nodes: &[u32], own: usize) -> Walk {
-    let i = past_left_out(nodes, own, walk.node);
-    let next = if i < own { i + 1 } else { i };
-    let before = walk.tally;
-    let tally = compared(sample, before, NODES, part(nodes, own, i), node::WORDS);
-    Walk { tally, node: next }
+    // Whether the next node is the program's and the last: at the last row, with so many declarations.
+    fn ends(&self, rows: u32, size: u64) -> bool {
+        let node = self.node(self.next);
+        node.len() == node::WORDS
+            && self.count.checked_sub(self.next) == Some(1)
+            && node[node::KIND] == node_kind::PROGRAM
+            && node[node::NAME] == node::MISSING
+            && u64::from(node[node::PLACE]) + 1 == u64::from(rows)
+            && u64::from(node[node::CHILDREN]) == size
+    }
 }
 
 // The sample's next declaration against our next nodes.
-fn declaration_compared(sample: &[u8], walk: Walk, nodes: &[u32], own: usize) -> Walk {
-    let before = walk.tally;
-    let size = count(sample, letter(sample, before.at, b'D'));
-    let begun = before.moved(size.next);
-    let mut now = Walk {
-        tally: begun,
-        node: walk.node,
-    };
-    let mut i: u64 = 0;
-    while i < size.value {
-        if now.tally.at == LOST {
-            return now;
-        }
-        now = node_compared(sample, now, nodes, own);
-        i += 1;
+fn declaration_compared(
+    sample: &mut Reader<'_>,
+    tally: &mut Tally,
+    nodes: &mut Nodes<'_>,
+) -> Result<(), Lost> {
+    let before = tally.differences;
+    sample.letter(b'D')?;
+    for _ in 0..sample.count()? {
+        compared(sample, tally, NODES, nodes.take_next(), node::WORDS)?;
     }
-    let behind = now.tally;
-    let agrees = behind.differences == before.differences;
-    let tally = judged(behind, DECLARATIONS, agrees);
-    Walk {
-        tally,
-        node: now.node,
-    }
-}
-
-// Whether our next node is the program's and the last: at the last row, with so many declarations.
-fn program_agrees(nodes: &[u32], own: usize, i: usize, rows: u32, size: u64) -> bool {
-    let node = part(nodes, own, i);
-    if node.len() < node::WORDS {
-        return false;
-    }
-    if own <= i {
-        return false;
-    }
-    if own - i != 1 {
-        return false;
-    }
-    if node[node::KIND] != node_kind::PROGRAM {
-        return false;
-    }
-    if node[node::NAME] != node::MISSING {
-        return false;
-    }
-    if more(wide(node[node::PLACE])) != rows as u64 {
-        return false;
-    }
-    wide(node[node::CHILDREN]) == size
+    let agrees = tally.differences == before;
+    judged(tally, DECLARATIONS, agrees);
+    Ok(())
 }
 
 // An accepted text: its declarations, then the program.
-fn program_compared(sample: &[u8], tally: Tally, nodes: &[u32], own: usize, rows: u32) -> Tally {
-    let size = count(sample, tally.at);
-    let begun = tally.moved(size.next);
-    let mut now = Walk {
-        tally: begun,
-        node: 0,
-    };
-    let mut i: u64 = 0;
-    while i < size.value {
-        if now.tally.at == LOST {
-            return now.tally;
-        }
-        now = declaration_compared(sample, now, nodes, own);
-        i += 1;
+fn program_compared(
+    sample: &mut Reader<'_>,
+    tally: &mut Tally,
+    mut nodes: Nodes<'_>,
+    rows: u32,
+) -> Result<(), Lost> {
+    let size = sample.count()?;
+    for _ in 0..size {
+        declaration_compared(sample, tally, &mut nodes)?;
     }
-    let agrees = program_agrees(nodes, own, now.node, rows, size.value);
-    judged(now.tally, PROGRAMS, agrees)
-}
-
-// Whether a refusal has this number and place.
-fn refused_at(ours: [u32; 7], number: u32, place: Cursor) -> bool {
-    if ours[0] != number {
-        return false;
-    }
-    if ours[1] != place.offset.0 {
-        return false;
-    }
-    if ours[2] != place.line.0 {
-        return false;
-    }
-    ours[3] == place.column.0
+    judged(tally, PROGRAMS, nodes.ends(rows, size));
+    Ok(())
 }
 
 // A parse that the sample has no answer for: it is the table's refused ending, or the language alone says 27 or 32.
 fn uncompared_agrees(table: Table, ours: [u32; 7]) -> bool {
-    let ending = table.ending;
-    match ending {
+    match table.ending {
         Ending::None => {
-            if ours[0] == syntax_number(Syntax::OutOfRange) {
-                return true;
-            }
-            ours[0] == syntax_number(Syntax::TooDeep)
+            ours[0] == syntax_number(Syntax::OutOfRange)
+                || ours[0] == syntax_number(Syntax::TooDeep)
         }
-        Ending::Refused(why, place) => refused_at(ours, lexical_number(why), place),
+        Ending::Refused(why, place) => {
+            ours[0] == lexical_number(why)
+                && ours[1] == place.offset.0
+                && ours[2] == place.line.0
+                && ours[3] == place.column.0
+        }
     }
 }
 
 // The sample's parse against ours.
 pub fn parse_compared(
-    sample: &[u8],
-    tally: Tally,
+    sample: &mut Reader<'_>,
+    tally: &mut Tally,
     text: &[u8],
     rows: &[u32],
     table: Table,
-) -> Tally {
+) -> Result<(), Lost> {
     let mut nodes = [0u32; 16000];
     let parsed = parse::parse(text, rows, table, &mut nodes);
-    let form = count(sample, letter(sample, tally.at, b'P'));
-    let now = tally.moved(form.next);
     let ours = refusal_words(parsed);
-    let number = form.value;
-    match number {
-        0 => judged(now, UNCOMPARED, uncompared_agrees(table, ours)),
-        1 => compared(sample, now, REFUSALS, &ours, 7),
-        2 => program_compared(sample, now, &nodes, node_count(parsed), table.count),
-        _ => now.moved(LOST),
+    let written = Nodes {
+        words: &nodes,
+        count: node_count(parsed),
+        next: 0,
+    };
+    sample.letter(b'P')?;
+    match sample.count()? {
+        0 => {
+            judged(tally, UNCOMPARED, uncompared_agrees(table, ours));
+            Ok(())
+        }
+        1 => compared(sample, tally, REFUSALS, &ours, 7),
+        2 => program_compared(sample, tally, written, table.count),
+        _ => Err(Lost),
     }
 }

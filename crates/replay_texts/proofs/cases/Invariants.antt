@@ -1,6 +1,0 @@
--- The cases that are left fall.
-use Rattle.std.proofs.Common.{◌-◌}
-use Rattle.replay_texts.proofs.cases.Given as goal
-
-abbrev pub decreases-loop-i : goal.decreases-loop-i
-decreases-loop-i l = l.size - l.i
