@@ -10,7 +10,6 @@ ghost use Rattle.rules_forms.specs.Forms.{judged, rows_beside, table_beside, end
 ghost use Rattle.file_beside.specs.Counting.{Counts, CountsTo, Holds, Agrees, last_place, rows_agree, placed_at, table_leaves};
 
 use file_load::{form_of, judge, row_of, take_rows};
-use rows::shape;
 use rows::shape::Row;
 use rules::{Cursor, Ending, Outer, Table, row};
 use rules_files::Fault;
@@ -45,7 +44,7 @@ fn rows_agree(text: &[u8], file: &[u8], table: Table) -> Option<Cursor>
     for i in 0..table.count as usize {
         let r = row_of(Form::Full, file, table.count, i);
         here = place_from(text, here, r.start);
-        if !same_line(shape::row_place(r), here) {
+        if !same_line(r.place(), here) {
             return None;
         }
     }
@@ -96,7 +95,7 @@ fn place_of(form: Form, text: &[u8], here: Cursor, r: Row) -> Cursor
     ensures { result ≡ placed_at form text.now (as_row r) }
 {
     match form {
-        Form::Full => shape::row_place(r),
+        Form::Full => r.place(),
         Form::Short => place_from(text, here, r.start),
     }
 }

@@ -6,7 +6,7 @@ use Rattle.file_load.proofs.Judging.{Judging, judging_start, judging_end, judgin
 use Rattle.file_load.proofs.judge_blocks.Goals as goal
 
 pub loop-k-init : goal.loop-k-init
-loop-k-init c = rw c.no_row-last.ensures (judging_start c.args.form c.args.file.now c.args.count c.args.plain c.requires.0 c.requires.1)
+loop-k-init c = rw c.none-last.ensures (judging_start c.args.form c.args.file.now c.args.count c.args.plain c.requires.0 c.requires.1)
 
 pub overflow_cast-number : goal.overflow_cast-number
 overflow_cast-number c =
