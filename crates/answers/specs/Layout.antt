@@ -1,6 +1,6 @@
 -- The one layout of eight words in which every answer of the outer face is given, and in which a table is lent:
 -- refusal number (0 if none), its offset, line and column, two words that it tells, a count, a length.
-use Rattle.std.specs.Prelude.{Bool, true, cond, List, [], ◌∷◌, ℕ, ◌+◌, ◌*◌, get_or, eqb}
+use Rattle.std.specs.Prelude.{Result, Ok, Err, Bool, true, cond, List, [], ◌∷◌, ℕ, ◌+◌, ◌*◌, get_or, eqb}
 use Rattle.rules.specs.Rows.{at_end, at_start, words_per_row}
 use Rattle.rules.specs.declared.Cursor.{Cursor}
 use Rattle.rules.specs.declared.Ending.{Ending}
@@ -11,10 +11,6 @@ use Rattle.rules.specs.declared.Told.{Told}
 use Rattle.rules.specs.declared.Told.TheVariants as told
 use Rattle.rules.specs.declared.Judged.{Judged}
 use Rattle.rules.specs.declared.Judged.TheVariants as judged
-use Rattle.rules.specs.declared.Asked.{Asked}
-use Rattle.rules.specs.declared.Asked.TheVariants as asked
-use Rattle.rules.specs.declared.Restart.{Restart}
-use Rattle.rules.specs.declared.Restart.TheVariants as restarts
 use Rattle.rules.specs.declared.Syntax.{Syntax}
 use Rattle.rules.specs.declared.Reason.{Reason}
 use Rattle.rules.specs.declared.Reason.TheVariants as reason
@@ -51,14 +47,14 @@ abbrev pub judged_words : ℕ → ℕ → Judged → List ℕ
 judged_words x y judged.Fine = words 0 nowhere x y 0 0
 judged_words x y (judged.Refused why p) = words (outer_number why) p 0 0 0 0
 
-abbrev pub asked_words : Asked → List ℕ
-asked_words (asked.Is n) = words 0 nowhere n 0 0 0
-asked_words (asked.Refused why) = outer_words why
+abbrev pub asked_words : Result ℕ Outer → List ℕ
+asked_words (Ok n) = words 0 nowhere n 0 0 0
+asked_words (Err why) = outer_words why
 
 -- the place itself, with number 0
-abbrev pub restart_words : Restart → List ℕ
-restart_words (restarts.At p) = words 0 p 0 0 0 0
-restart_words (restarts.Refused why) = outer_words why
+abbrev pub restart_words : Result Cursor Outer → List ℕ
+restart_words (Ok p) = words 0 p 0 0 0 0
+restart_words (Err why) = outer_words why
 
 -- the kind that was found stands last
 abbrev pub syntax_words : Syntax → Cursor → ℕ → List ℕ

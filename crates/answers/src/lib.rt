@@ -6,8 +6,7 @@ use refusals::{
     first_told, is_lexical, lexical_number, lexical_of, outer_number, second_told, syntax_number,
 };
 use rules::{
-    Asked, Column, Cursor, Ending, Line, Offset, Outer, Parsed, Reason, Restart, Syntax, Table,
-    Told,
+    Column, Cursor, Ending, Line, Offset, Outer, Parsed, Reason, Syntax, Table, Told,
 };
 
 // ---- numbers
@@ -118,28 +117,28 @@ pub fn put_parsed(answer: &mut [u32; 8], parsed: Parsed)
 }
 
 // What a method set tells.
-pub fn put_asked(answer: &mut [u32; 8], asked: Asked)
+pub fn put_asked(answer: &mut [u32; 8], asked: Result<u32, Outer>)
     ensures { answer.new ≡ asked_words asked }
 {
     match asked {
-        Asked::Is(n) => {
+        Ok(n) => {
             put(answer, 0, no_place(), n, 0, 0, 0);
         }
-        Asked::Refused(why) => {
+        Err(why) => {
             put_outer(answer, why);
         }
     }
 }
 
 // Where a window must start, or why not.
-pub fn put_restart(answer: &mut [u32; 8], told: Restart)
+pub fn put_restart(answer: &mut [u32; 8], told: Result<Cursor, Outer>)
     ensures { answer.new ≡ restart_words told }
 {
     match told {
-        Restart::At(p) => {
+        Ok(p) => {
             put(answer, 0, p, 0, 0, 0, 0);
         }
-        Restart::Refused(why) => {
+        Err(why) => {
             put_outer(answer, why);
         }
     }

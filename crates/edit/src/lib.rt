@@ -10,7 +10,7 @@ use edit_kept::{copy_rows, kept_rows, place_behind};
 use edit_parts::{Tail, behind, new_length, refused, sensible, tell};
 use rows::shape::{row_at, row_place, wide};
 use rows::well_formed;
-use rules::{Cursor, Outer, Restart, Table, Told, limit, row};
+use rules::{Cursor, Outer, Table, Told, limit, row};
 use scan_meet::Olds;
 use scan_place::{pass, window_bytes};
 use scan_stop::{Stop, lacks};
@@ -241,15 +241,15 @@ pub fn edit(
 }
 
 // Where the window of an edit at a must start.
-pub fn restart(old: &[u32], table: Table, a: u32) -> Restart
+pub fn restart(old: &[u32], table: Table, a: u32) -> Result<Cursor, Outer>
     ensures { result ≡ restart_told old.now table a }
 {
     if !well_formed(old, table) {
-        return Restart::Refused(Outer::NotWellFormed);
+        return Err(Outer::NotWellFormed);
     }
     let length = table.length;
     if length < a {
-        return Restart::Refused(Outer::EditNotSensible);
+        return Err(Outer::EditNotSensible);
     }
-    Restart::At(place_behind(old, kept_rows(old, table.count as usize, a)))
+    Ok(place_behind(old, kept_rows(old, table.count as usize, a)))
 }

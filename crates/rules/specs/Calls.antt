@@ -1,14 +1,13 @@
 -- What the calls over a lent table answer and leave in lent memory: the table test, spelling, the method sets, and the parse.
-use Rattle.std.specs.Prelude.{cond, ◌&&◌, List, [], ◌++◌, map, ℕ, ◌+◌, ◌*◌, ◌/◌, length, drop, eqb, leb, ltb}
+use Rattle.std.specs.Prelude.{Result, Ok, Err, cond, ◌&&◌, List, [], ◌++◌, map, ℕ, ◌*◌, ◌/◌, length, drop, eqb, leb, ltb}
 use Rattle.rules.specs.declared.Cursor.{Cursor}
 use Rattle.rules.specs.declared.Ending.{Ending}
 use Rattle.rules.specs.declared.Ending.TheVariants as ending
 use Rattle.rules.specs.declared.Table.{Table}
+use Rattle.rules.specs.declared.Outer.{Outer}
 use Rattle.rules.specs.declared.Outer.TheVariants.{NotWellFormed, NoNodeRoom}
 use Rattle.rules.specs.declared.Judged.{Judged}
 use Rattle.rules.specs.declared.Judged.TheVariants as verdict
-use Rattle.rules.specs.declared.Asked.{Asked}
-use Rattle.rules.specs.declared.Asked.TheVariants as asked
 use Rattle.rules.specs.declared.Reason.TheVariants as reason
 use Rattle.rules.specs.declared.Parsed.{Parsed}
 use Rattle.rules.specs.declared.Parsed.TheVariants as parsed
@@ -46,12 +45,12 @@ spelling_part t ws tbl row =
 
 -- ---- sets: kind over 10 or method over 15 answers 3
 
-unfoldable pub member_asked : ℕ → ℕ → Asked
+unfoldable pub member_asked : ℕ → ℕ → Result ℕ Outer
 member_asked kind method =
-    cond (leb kind Unknown && leb method ProbeReadKernelStr) (asked.Is (cond (allows kind method) 1 0)) (asked.Refused NotWellFormed)
+    cond (leb kind Unknown && leb method ProbeReadKernelStr) (Ok (cond (allows kind method) 1 0)) (Err NotWellFormed)
 
-unfoldable pub size_asked : ℕ → Asked
-size_asked kind = cond (leb kind Unknown) (asked.Is (set_size kind)) (asked.Refused NotWellFormed)
+unfoldable pub size_asked : ℕ → Result ℕ Outer
+size_asked kind = cond (leb kind Unknown) (Ok (set_size kind)) (Err NotWellFormed)
 
 -- ---- parse
 

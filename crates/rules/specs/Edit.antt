@@ -1,15 +1,14 @@
 -- "The edit": from the old table, the places and a window of the new text, the new table.
 -- Old bytes a to b (b not included) become n new bytes.
-use Rattle.std.specs.Prelude.{Bool, true, false, cond, not, ◌&&◌, ◌||◌, List, [], ◌∷◌, ◌++◌, map, ℕ, zero, suc, pred, ◌+◌, ◌-◌, length, take, eqb, leb, ltb}
+use Rattle.std.specs.Prelude.{Result, Ok, Err, Bool, true, false, cond, not, ◌&&◌, ◌||◌, List, [], ◌∷◌, ◌++◌, map, ℕ, zero, suc, pred, ◌+◌, ◌-◌, length, take, eqb, leb, ltb}
 use Rattle.rules.specs.declared.Cursor.{Cursor}
 use Rattle.rules.specs.declared.Ending.{Ending}
 use Rattle.rules.specs.declared.Ending.TheVariants as ending
 use Rattle.rules.specs.declared.Table.{Table}
+use Rattle.rules.specs.declared.Outer.{Outer}
 use Rattle.rules.specs.declared.Outer.TheVariants.{TextTooLong, BadByte, NotWellFormed, EditNotSensible, WindowShort}
 use Rattle.rules.specs.declared.Told.{Told}
 use Rattle.rules.specs.declared.Told.TheVariants.{Refused}
-use Rattle.rules.specs.declared.Restart.{Restart}
-use Rattle.rules.specs.declared.Restart.TheVariants as starts
 use Rattle.rules.specs.Text.{byte, most_bytes, valid_bytes, cut_bytes, is_blank, place, start_place, over}
 use Rattle.rules.specs.Rows.{Row, row_at, eof_row, row_place, rows_in, well_formed}
 use Rattle.rules.specs.Lex.{blank, comment, row, refused, known, end, unknown, item}
@@ -240,7 +239,7 @@ edit_leaves ws t a b n start w new =
     (laid (new_rows rows t.ending a b n w (ends rows t.length a b n w)) new))))))
 
 -- where the window of an edit at a must start: 3, then 6 where a is over the old length
-unfoldable pub restart_told : List ℕ → Table → ℕ → Restart
+unfoldable pub restart_told : List ℕ → Table → ℕ → Result Cursor Outer
 restart_told ws t a =
-    cond (not (well_formed ws t)) (starts.Refused NotWellFormed)
-    (cond (ltb t.length a) (starts.Refused EditNotSensible) (starts.At (restart (rows_in t.count ws) a)))
+    cond (not (well_formed ws t)) (Err NotWellFormed)
+    (cond (ltb t.length a) (Err EditNotSensible) (Ok (restart (rows_in t.count ws) a)))

@@ -128,20 +128,6 @@ pub enum Judged {
     Refused(Outer, Cursor),
 }
 
-// Where the window of an edit starts.
-#[derive(Clone, Copy)]
-pub enum Restart {
-    At(Cursor),
-    Refused(Outer),
-}
-
-// A number that was asked for: a set's size, or 1 for a member and 0 for none.
-#[derive(Clone, Copy)]
-pub enum Asked {
-    Is(u32),
-    Refused(Outer),
-}
-
 // Why rows are no program. The kinds that would have fitted, a bit for each: 0 to 31, and from 32 on; a map's field, 1 to 4.
 #[derive(Clone, Copy)]
 pub enum Syntax {

@@ -13,17 +13,17 @@ no_place_requires c κs = search rules
 put_requires : tie.Need-put-requires
 put_requires c κs = search rules
 
-enum_known_asked_2 : tie.Need-enum_known-asked-in-Refused-1
+enum_known_asked_2 : tie.Need-enum_known-asked-in-Err-1
 enum_known_asked_2 c = search rules
 
 put_outer_requires : tie.Need-put_outer-requires
 put_outer_requires c κs = search rules
 
-returns : tie.Need-returns-in-Is
-returns c = rw c.before.before.before.in-Is.is (c.put.ensures ∙ rw c.before.no_place.ensures)
+returns : tie.Need-returns-in-Ok
+returns c = rw c.before.before.before.in-Ok.is (c.put.ensures ∙ rw c.before.no_place.ensures)
 
-returns_2 : tie.Need-returns-in-Refused
-returns_2 c = rw c.before.before.in-Refused.is c.put_outer.ensures
+returns_2 : tie.Need-returns-in-Err
+returns_2 c = rw c.before.before.in-Err.is c.put_outer.ensures
 
 pub put_asked_spec : {M : Type 1} → statement M
 put_asked_spec =
