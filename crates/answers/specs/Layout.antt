@@ -9,8 +9,7 @@ use Rattle.rules.specs.declared.Outer.{Outer}
 use Rattle.rules.specs.declared.Table.{Table}
 use Rattle.rules.specs.declared.Told.{Told}
 use Rattle.rules.specs.declared.Told.TheVariants as told
-use Rattle.rules.specs.declared.Judged.{Judged}
-use Rattle.rules.specs.declared.Judged.TheVariants as judged
+use Rattle.rules.specs.Outcomes.{Judged}
 use Rattle.rules.specs.declared.Syntax.{Syntax}
 use Rattle.rules.specs.declared.Reason.{Reason}
 use Rattle.rules.specs.declared.Reason.TheVariants as reason
@@ -44,8 +43,8 @@ outer_words why = words (outer_number why) start_place 0 0 0 0
 
 -- the part from x to y
 abbrev pub judged_words : ℕ → ℕ → Judged → List ℕ
-judged_words x y judged.Fine = words 0 nowhere x y 0 0
-judged_words x y (judged.Refused why p) = words (outer_number why) p 0 0 0 0
+judged_words x y (Ok _) = words 0 nowhere x y 0 0
+judged_words x y (Err e) = words (outer_number e.why) e.at 0 0 0 0
 
 abbrev pub asked_words : Result ℕ Outer → List ℕ
 asked_words (Ok n) = words 0 nowhere n 0 0 0

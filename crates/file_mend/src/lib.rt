@@ -1,7 +1,6 @@
 // A file mended in place: the text is read in the order of blocks, once to hold each block against what it should be,
 // and once more, where one differs, to write.
-ghost use Rattle.std.specs.Prelude.{◌≡◌};
-ghost use Rattle.rules.specs.declared.Judged.TheVariants.{Fine};
+ghost use Rattle.std.specs.Prelude.{◌≡◌, Ok};
 ghost use Rattle.rules.specs.Text.{text_judged};
 ghost use Rattle.rules_forms.specs.Shapes.{number_of};
 ghost use Rattle.rules_mend.specs.Mend.{mend_told, mend_leaves, list_leaves};
@@ -9,7 +8,7 @@ ghost use Rattle.rules_mend.specs.Mend.{mend_told, mend_leaves, list_leaves};
 use file_rewrite::mend_blocks;
 use file_sizes::length_for;
 use file_survey::survey;
-use rules::{Cursor, Judged, Outer};
+use rules::{Cursor, Outer};
 use rules_files::{Fault, form};
 use rules_forms::{Form, short};
 use rules_mend::Mended;
@@ -17,7 +16,7 @@ use scan_place::judge_text;
 
 // A file of n bytes in lent memory, where the text is fine: 40, then 4, or it is mended.
 fn mend_text(form: Form, text: &[u8], file: &mut [u8], n: usize, list: &mut [u32]) -> Mended
-    requires { text_judged text.now ≡ Fine }
+    requires { text_judged text.now ≡ Ok tt }
     ensures { (result ≡ mend_told text.now (number_of form) file.old n list.old)
         × ((file.new
         ≡ mend_leaves text.now (number_of form) file.old n list.old)
@@ -52,8 +51,8 @@ fn mend_in(form: Form, text: &[u8], file: &mut [u8], n: usize, list: &mut [u32])
         ≡ list_leaves text.now (number_of form) file.old n list.old)) }
 {
     match judge_text(text) {
-        Judged::Refused(why, at) => Mended::Refused(Fault::Outer(why), at),
-        Judged::Fine => mend_text(form, text, file, n, list),
+        Err(e) => Mended::Refused(Fault::Outer(e.why), e.at),
+        Ok(()) => mend_text(form, text, file, n, list),
     }
 }
 

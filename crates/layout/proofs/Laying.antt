@@ -9,8 +9,8 @@ use lib.ListN.{length, take, drop, take-append-drop}
 use borrow.Author.Tests.{eqb-true, le-ltb}
 use Rattle.rules.specs.declared.Ending.{Ending}
 use Rattle.rules.specs.declared.Ending.TheVariants as ending
-use Rattle.rules.specs.declared.Judged.{Judged}
-use Rattle.rules.specs.declared.Judged.TheVariants as verdict
+use Rattle.rules.specs.Outcomes.{Judged}
+use Rattle.std.specs.declared.result.Result.TheVariants.{Ok, Err}
 use Rattle.rules.specs.declared.Table.{Table}
 use Rattle.rules.specs.Text.{most_bytes, place_at, text_judged}
 use Rattle.rules.specs.Rows.{Row, rows_in, words_of}
@@ -59,21 +59,21 @@ begun xs ws e = sym (take-append-drop (length xs) ws) ∙ ap (λ (l : List ℕ).
 
 -- A text, to its end, and its scan.
 record Own (t ws : List ℕ) (tbl : Table) : Type 0 where
-  judged_fine : text_judged t ≡ verdict.Fine
+  judged_fine : text_judged t ≡ Ok tt
   scanned : Scanned t ws tbl
   ends : tbl.ending ≡ ending.None
 
 module _ (t ws : List ℕ) (tbl : Table) where
-  fine_scan : is_scanned t ws tbl ≡ true → (text_judged t ≡ verdict.Fine) × (is_scan t ws tbl ≡ true)
+  fine_scan : is_scanned t ws tbl ≡ true → (text_judged t ≡ Ok tt) × (is_scan t ws tbl ≡ true)
   unfolding is_scanned
   fine_scan e = by (text_judged t) refl e
     where
-      by : (j : Judged) → text_judged t ≡ j → elim j as (λ _. Bool) [ verdict.Fine ↦ is_scan t ws tbl | verdict.Refused why p ↦ false ] ≡ true
-          → (text_judged t ≡ verdict.Fine) × (is_scan t ws tbl ≡ true)
-      by verdict.Fine q h = (q, h)
-      by (verdict.Refused why p) q h = absurd (true≢false (sym h))
+      by : (j : Judged) → text_judged t ≡ j → elim j as (λ _. Bool) [ Ok _ ↦ is_scan t ws tbl | Err e ↦ false ] ≡ true
+          → (text_judged t ≡ Ok tt) × (is_scan t ws tbl ≡ true)
+      by (Ok _) q h = (q, h)
+      by (Err e) q h = absurd (true≢false (sym h))
 
-  own_of : text_judged t ≡ verdict.Fine → is_scan t ws tbl ≡ true → Own t ws tbl
+  own_of : text_judged t ≡ Ok tt → is_scan t ws tbl ≡ true → Own t ws tbl
   unfolding is_scan
   own_of q e =
       let xs : List ℕ = words_of (read_rows (scan t)) in
@@ -100,7 +100,7 @@ module _ (t ws : List ℕ) (tbl : Table) where
       }
 
 module _ {t ws : List ℕ} {tbl : Table} (o : Own t ws tbl) where
-  well : judged t ws tbl ≡ verdict.Fine
+  well : judged t ws tbl ≡ Ok tt
   well = judged_well t ws tbl o.judged_fine (scanned_well_formed o.scanned) (ap (λ (x : Table). x.length) o.scanned.told)
 
   -- its nodes have room

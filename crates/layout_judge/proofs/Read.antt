@@ -11,8 +11,8 @@ use borrow.Author.Tests.{eq-eqb, ne_eqb}
 use Rattle.rules.specs.declared.Cursor.{Cursor}
 use Rattle.rules.specs.declared.Ending.{Ending}
 use Rattle.rules.specs.declared.Ending.TheVariants as ending
-use Rattle.rules.specs.declared.Judged.{Judged}
-use Rattle.rules.specs.declared.Judged.TheVariants as verdict
+use Rattle.rules.specs.Outcomes.{Judged}
+use Rattle.std.specs.declared.result.Result.TheVariants.{Ok, Err}
 use Rattle.rules.specs.declared.Outer.TheVariants.{NoNodeRoom}
 use Rattle.rules.specs.declared.Parsed.{Parsed}
 use Rattle.rules.specs.declared.Parsed.TheVariants as parsed
@@ -58,11 +58,11 @@ module _ (t ws : List ℕ) (tbl : Table) where
   parse_given m n e = by (judged t ws tbl) e
     where
       by : (v : Judged)
-          → elim v [ verdict.Fine ↦ ending_told t ws tbl tbl.ending (node_room m) | verdict.Refused why p ↦ parsed.Refused (reason.Outer why) p 0 ]
+          → elim v [ Ok _ ↦ ending_told t ws tbl tbl.ending (node_room m) | Err e ↦ parsed.Refused (reason.Outer e.why) e.at 0 ]
           ≡ parsed.Nodes n
-          → Given (reading t ws tbl) m (elim v [ verdict.Fine ↦ ending_leaves t ws tbl tbl.ending m | verdict.Refused why p ↦ m ]) n
-      by verdict.Fine e = ending_given m n tbl.ending e
-      by (verdict.Refused why p) e = let z : ◌≡◌ {A = ℕ} 0 1 = cc in absurd (omega arith)
+          → Given (reading t ws tbl) m (elim v [ Ok _ ↦ ending_leaves t ws tbl tbl.ending m | Err e ↦ m ]) n
+      by (Ok _) e = ending_given m n tbl.ending e
+      by (Err refusal) e = let z : ◌≡◌ {A = ℕ} 0 1 = cc in absurd (omega arith)
 
   room_is : (m : List ℕ) → length m ≡ 524296 → node_room m ≡ 65537
   unfolding node_room

@@ -10,8 +10,8 @@ use borrow.Author.Tests.{leb-true, lt-ltb, le-ltb}
 use Rattle.rules.specs.declared.Cursor.{Cursor}
 use Rattle.rules.specs.declared.Ending.{Ending}
 use Rattle.rules.specs.declared.Ending.TheVariants as ending
-use Rattle.rules.specs.declared.Judged.{Judged}
-use Rattle.rules.specs.declared.Judged.TheVariants as verdict
+use Rattle.rules.specs.Outcomes.{Judged}
+use Rattle.std.specs.declared.result.Result.TheVariants.{Ok, Err}
 use Rattle.rules.specs.declared.Outer.{Outer}
 use Rattle.rules.specs.declared.Outer.TheVariants.{NoNodeRoom}
 use Rattle.rules.specs.declared.Parsed.{Parsed}
@@ -63,8 +63,8 @@ unfolding scan_told count_of
 scan_few t m = by (text_judged t) refl
   where
     by : (v : Judged) → text_judged t ≡ v → count_of (scan_told t m) ≤ m
-    by verdict.Fine q = rw (scan_told, q) (told_few (length t) m (read_rows (scan t)) (read_ending (scan t)))
-    by (verdict.Refused why p) q = rw (scan_told, q) (omega arith)
+    by (Ok _) q = rw (scan_told, q) (told_few (length t) m (read_rows (scan t)) (read_ending (scan t)))
+    by (Err e) q = rw (scan_told, q) (omega arith)
 
 -- ---- no more nodes
 
@@ -92,12 +92,12 @@ module _ (t ws : List ℕ) (tbl : Table) (m : List ℕ) (n : ℕ) where
   parse_few e l = by (judged t ws tbl) e l
     where
       by : (v : Judged)
-          → elim v [ verdict.Fine ↦ ending_told t ws tbl tbl.ending (node_room m) | verdict.Refused why p ↦ parsed.Refused (reason.Outer why) p 0 ]
+          → elim v [ Ok _ ↦ ending_told t ws tbl tbl.ending (node_room m) | Err e ↦ parsed.Refused (reason.Outer e.why) e.at 0 ]
           ≡ parsed.Nodes n
-          → length {A = ℕ} (elim v [ verdict.Fine ↦ ending_leaves t ws tbl tbl.ending m | verdict.Refused why p ↦ m ]) ≡ length m
+          → length {A = ℕ} (elim v [ Ok _ ↦ ending_leaves t ws tbl tbl.ending m | Err e ↦ m ]) ≡ length m
           → n * 8 ≤ length m
-      by verdict.Fine e l = ending_few tbl.ending e l
-      by (verdict.Refused why p) e l = let z : ◌≡◌ {A = ℕ} 0 1 = cc in absurd (omega arith)
+      by (Ok _) e l = ending_few tbl.ending e l
+      by (Err refusal) e l = let z : ◌≡◌ {A = ℕ} 0 1 = cc in absurd (omega arith)
 
 -- ---- what is listed
 

@@ -16,7 +16,8 @@ use Rattle.rules.specs.declared.Outer.TheVariants.{NoNodeRoom}
 use Rattle.rules.specs.declared.Cursor.{Cursor}
 use Rattle.rules.specs.declared.Ending.TheVariants as ending
 use Rattle.rules.specs.declared.Table.{Table}
-use Rattle.rules.specs.declared.Judged.TheVariants as verdict
+use Rattle.rules.specs.Outcomes.{unfit}
+use Rattle.std.specs.declared.result.Result.TheVariants.{Ok, Err}
 use Rattle.rules.specs.declared.Reason.TheVariants as reason
 use Rattle.rules.specs.declared.Parsed.{Parsed}
 use Rattle.rules.specs.declared.Parsed.TheVariants as parsed
@@ -29,8 +30,7 @@ use Rattle.rules.specs.Nodes.{node, missing, node_words, width, size, place_of, 
 use Rattle.rules.specs.Parse
 use Rattle.rules.specs.Parse.{Out, ok, no, kind_at}
 use Rattle.rules.specs.Grammar.{Decl, Is, i_unit, i_map, i_event}
-use Rattle.rules.specs.Calls.{judged, tokens, node_room, place_of_row, out_told, out_leaves, reading}
-use Rattle.rules.specs.Calls.{ending_told, ending_leaves, parse_told, parse_leaves}
+use Rattle.rules.specs.Calls.{judged, tokens, node_room, place_of_row, out_told, out_leaves, reading, ending_told, ending_leaves, parse_told, parse_leaves}
 use Rattle.theory_grammar.proofs.Laws.{nodes_within_rows, tree_length, words_program}
 use Rattle.theory_grammar.proofs.Runs.{All, all_ok, all_both, map_all}
 use Rattle.theory_grammar.proofs.Sound.{Reads, top_sound}
@@ -166,11 +166,11 @@ module _ (t ws : List ℕ) (tbl : Table) (m : List ℕ) where
   abbrev pub Whole : Parsed → List ℕ → Type 0
   Whole r m' = (r ≡ parse_told t ws tbl (node_room m)) × (m' ≡ parse_leaves t ws tbl m)
 
-  pub whole_refused : (why : Outer) (p : Cursor) → judged t ws tbl ≡ verdict.Refused why p → Whole (parsed.Refused (reason.Outer why) p 0) m
+  pub whole_refused : (why : Outer) (p : Cursor) → judged t ws tbl ≡ Err (unfit why p) → Whole (parsed.Refused (reason.Outer why) p 0) m
   unfolding parse_told parse_leaves
   whole_refused why p e = rw (parse_told, parse_leaves, e) (refl, refl)
 
-  module _ (fine : judged t ws tbl ≡ verdict.Fine) where
+  module _ (fine : judged t ws tbl ≡ Ok tt) where
     pub whole_ending : (why : Lexical) (p : Cursor) → tbl.ending ≡ ending.Refused why p → Whole (parsed.Refused (reason.Lexical why) p 0) m
     unfolding parse_told parse_leaves ending_told ending_leaves
     whole_ending why p e = rw (parse_told, parse_leaves, fine) (rw (ending_told, ending_leaves, e) (refl, refl))

@@ -12,7 +12,7 @@ ghost use Rattle.parse.specs.Program.{TopMet, ProgramMet, AsksTable, AsksEnded, 
 use parse_nodes::{At, Got};
 use rows::shape;
 use rules::kind::{EOF, EVENT, MAP, UNIT};
-use rules::{Cursor, Ending, Judged, Outer, Parsed, Reason, Syntax, Table, fits, node, node_kind};
+use rules::{Cursor, Ending, Outer, Parsed, Reason, Syntax, Table, fits, node, node_kind};
 
 // A map, an event or a unit at the row.
 fn top(text: &[u8], rows: &[u32], count: u32, nodes: &mut [u32], row: u32, node: u32) -> Got
@@ -152,10 +152,10 @@ pub fn parse(text: &[u8], rows: &[u32], table: Table, nodes: &mut [u32]) -> Pars
     ensures left { nodes.new ≡ parse_leaves text.now rows.now table nodes.old }
 {
     match rows::judge(text, rows, table) {
-        Judged::Refused(why, at) => {
-            return Parsed::Refused(Reason::Outer(why), at, 0);
+        Err(e) => {
+            return Parsed::Refused(Reason::Outer(e.why), e.at, 0);
         }
-        Judged::Fine => {}
+        Ok(()) => {}
     }
     let ending = table.ending;
     match ending {

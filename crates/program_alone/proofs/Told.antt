@@ -11,8 +11,8 @@ use borrow.Author.Tests.{le-ltb}
 use Rattle.rules.specs.declared.Cursor.{Cursor}
 use Rattle.rules.specs.declared.Ending.{Ending}
 use Rattle.rules.specs.declared.Ending.TheVariants as ending
-use Rattle.rules.specs.declared.Judged.{Judged}
-use Rattle.rules.specs.declared.Judged.TheVariants as verdict
+use Rattle.rules.specs.Outcomes.{Judged, unfit}
+use Rattle.std.specs.declared.result.Result.TheVariants.{Ok, Err}
 use Rattle.rules.specs.declared.Lexical.{Lexical}
 use Rattle.rules.specs.declared.Outer.{Outer}
 use Rattle.rules.specs.declared.Parsed.{Parsed}
@@ -57,12 +57,12 @@ module _ (ws : List ℕ) where
 -- ---- the call
 
 module _ (t ws : List ℕ) (tbl : Table) where
-  pub told_refused : (why : Outer) (p : Cursor) → judged t ws tbl ≡ verdict.Refused why p
+  pub told_refused : (why : Outer) (p : Cursor) → judged t ws tbl ≡ Err (unfit why p)
       → alone.Refused (reason.Outer why) p 0 ≡ alone_told t ws tbl
   unfolding alone_told parse_told alone_of
   told_refused why p e = rw (alone_told, parse_told, e)
 
-  module _ (well : judged t ws tbl ≡ verdict.Fine) where
+  module _ (well : judged t ws tbl ≡ Ok tt) where
     pub told_ending : (why : Lexical) (p : Cursor) → tbl.ending ≡ ending.Refused why p
         → alone.Refused (reason.Lexical why) p 0 ≡ alone_told t ws tbl
     unfolding alone_told parse_told ending_told alone_of
@@ -110,15 +110,15 @@ module _ (t ws : List ℕ) (tbl : Table) where
   pub told_program : alone_told t ws tbl ≡ alone.Program → IsProgram t ws tbl.count
   told_program e = go (judged t ws tbl) refl
     where
-      clean : (v : Ending) → judged t ws tbl ≡ verdict.Fine → tbl.ending ≡ v → IsProgram t ws tbl.count
+      clean : (v : Ending) → judged t ws tbl ≡ Ok tt → tbl.ending ≡ v → IsProgram t ws tbl.count
       clean ending.None w n =
           let a = out_program ws (reading_of t ws tbl.count) (told_read t ws tbl w n ∙ e) in
           program_read t ws tbl w n a.tree a.behind a.is
       clean (ending.Refused why p) w n = absurd (no_program (reason.Lexical why) p 0 (told_ending t ws tbl w why p n ∙ e))
 
       go : (v : Judged) → judged t ws tbl ≡ v → IsProgram t ws tbl.count
-      go verdict.Fine w = clean tbl.ending w refl
-      go (verdict.Refused why p) w = absurd (no_program (reason.Outer why) p 0 (told_refused t ws tbl why p w ∙ e))
+      go (Ok _) w = clean tbl.ending w refl
+      go (Err refusal) w = absurd (no_program (reason.Outer refusal.why) refusal.at 0 (told_refused t ws tbl refusal.why refusal.at w ∙ e))
 
   -- What is refused alone is what a parse in enough room is refused with.
   pub alone_refused : {why : Reason} {p : Cursor} {k : ℕ} → alone_told t ws tbl ≡ alone.Refused why p k

@@ -6,7 +6,7 @@ ghost use Rattle.program_alone.specs.Told.{alone_of, alone_told};
 
 use parse::Passed;
 use rows::shape;
-use rules::{Cursor, Ending, Judged, Reason, Table};
+use rules::{Cursor, Ending, Reason, Table};
 
 // The text is a program; or why not, where, and the kind that 21 found.
 #[derive(Clone, Copy)]
@@ -39,10 +39,10 @@ pub fn read(text: &[u8], rows: &[u32], table: Table) -> Alone
     ensures { result ≡ alone_told text.now rows.now table }
 {
     match rows::judge(text, rows, table) {
-        Judged::Refused(why, at) => {
-            return Alone::Refused(Reason::Outer(why), at, 0);
+        Err(e) => {
+            return Alone::Refused(Reason::Outer(e.why), e.at, 0);
         }
-        Judged::Fine => {}
+        Ok(()) => {}
     }
     let ending = table.ending;
     match ending {

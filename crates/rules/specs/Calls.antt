@@ -6,8 +6,7 @@ use Rattle.rules.specs.declared.Ending.TheVariants as ending
 use Rattle.rules.specs.declared.Table.{Table}
 use Rattle.rules.specs.declared.Outer.{Outer}
 use Rattle.rules.specs.declared.Outer.TheVariants.{NotWellFormed, NoNodeRoom}
-use Rattle.rules.specs.declared.Judged.{Judged}
-use Rattle.rules.specs.declared.Judged.TheVariants as verdict
+use Rattle.rules.specs.Outcomes.{Judged, unfit}
 use Rattle.rules.specs.declared.Reason.TheVariants as reason
 use Rattle.rules.specs.declared.Parsed.{Parsed}
 use Rattle.rules.specs.declared.Parsed.TheVariants as parsed
@@ -25,8 +24,8 @@ use Rattle.rules.specs.Parse.{Out, ok, no, parse}
 unfoldable pub judged : List ℕ → List ℕ → Table → Judged
 judged t ws tbl =
     elim (text_judged t) [
-      | verdict.Fine ↦ cond (well_formed ws tbl && eqb tbl.length (length t)) verdict.Fine (verdict.Refused NotWellFormed start_place)
-      | verdict.Refused why p ↦ verdict.Refused why p
+      | Ok _ ↦ cond (well_formed ws tbl && eqb tbl.length (length t)) (Ok tt) (Err (unfit NotWellFormed start_place))
+      | Err e ↦ Err e
     ]
 
 -- ---- spelling: 1, 2, 3, a row number from the count on being 3
@@ -34,14 +33,14 @@ judged t ws tbl =
 unfoldable pub spelling_judged : List ℕ → List ℕ → Table → ℕ → Judged
 spelling_judged t ws tbl row =
     elim (judged t ws tbl) [
-      | verdict.Fine ↦ cond (ltb row tbl.count) verdict.Fine (verdict.Refused NotWellFormed start_place)
-      | verdict.Refused why p ↦ verdict.Refused why p
+      | Ok _ ↦ cond (ltb row tbl.count) (Ok tt) (Err (unfit NotWellFormed start_place))
+      | Err e ↦ Err e
     ]
 
 -- refusals hand back the empty part at 0
 unfoldable pub spelling_part : List ℕ → List ℕ → Table → ℕ → List ℕ
 spelling_part t ws tbl row =
-    elim (spelling_judged t ws tbl row) [ verdict.Fine ↦ spelling t (row_no ws row) | verdict.Refused why p ↦ [] ]
+    elim (spelling_judged t ws tbl row) [ Ok _ ↦ spelling t (row_no ws row) | Err e ↦ [] ]
 
 -- ---- sets: kind over 10 or method over 15 answers 3
 
@@ -92,10 +91,10 @@ ending_leaves t ws tbl (ending.Refused why p) new = new
 unfoldable pub parse_told : List ℕ → List ℕ → Table → ℕ → Parsed
 parse_told t ws tbl room =
     elim (judged t ws tbl) [
-      | verdict.Fine ↦ ending_told t ws tbl tbl.ending room
-      | verdict.Refused why p ↦ parsed.Refused (reason.Outer why) p 0
+      | Ok _ ↦ ending_told t ws tbl tbl.ending room
+      | Err e ↦ parsed.Refused (reason.Outer e.why) e.at 0
     ]
 
 unfoldable pub parse_leaves : List ℕ → List ℕ → Table → List ℕ → List ℕ
 parse_leaves t ws tbl new =
-    elim (judged t ws tbl) [ verdict.Fine ↦ ending_leaves t ws tbl tbl.ending new | verdict.Refused why p ↦ new ]
+    elim (judged t ws tbl) [ Ok _ ↦ ending_leaves t ws tbl tbl.ending new | Err e ↦ new ]

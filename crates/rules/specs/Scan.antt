@@ -1,11 +1,10 @@
 -- The scan of a text into rows and ending, and what a scan with so much room answers and leaves in lent memory.
-use Rattle.std.specs.Prelude.{cond, List, [], ◌∷◌, ◌++◌, ℕ, zero, suc, pred, ◌+◌, ◌*◌, ◌/◌, min, length, take, drop, leb}
+use Rattle.std.specs.Prelude.{cond, List, [], ◌∷◌, ◌++◌, ℕ, zero, suc, pred, ◌+◌, ◌*◌, ◌/◌, min, length, take, drop, leb, Ok, Err}
 use Rattle.rules.specs.declared.Cursor.{Cursor}
 use Rattle.rules.specs.declared.Lexical.{Lexical}
 use Rattle.rules.specs.declared.Ending.{Ending}
 use Rattle.rules.specs.declared.Ending.TheVariants as ending
 use Rattle.rules.specs.declared.Outer.TheVariants.{NoRowRoom}
-use Rattle.rules.specs.declared.Judged.TheVariants as verdict
 use Rattle.rules.specs.declared.Told.{Told}
 use Rattle.rules.specs.declared.Told.TheVariants.{Rows, Refused}
 use Rattle.rules.specs.Text.{place_at, start_place, text_judged}
@@ -64,10 +63,10 @@ laid rows ws = words_of (take (room_of ws) rows) ++ drop (words_per_row * min (r
 unfoldable pub scan_told : List ℕ → ℕ → Told
 scan_told t m =
     elim (text_judged t) [
-      | verdict.Fine ↦ told (length t) m (read_rows (scan t)) (read_ending (scan t))
-      | verdict.Refused why p ↦ Refused why p 0
+      | Ok _ ↦ told (length t) m (read_rows (scan t)) (read_ending (scan t))
+      | Err e ↦ Refused e.why e.at 0
     ]
 
 -- 1, 2: rows untouched
 unfoldable pub scan_leaves : List ℕ → List ℕ → List ℕ
-scan_leaves t ws = elim (text_judged t) [ verdict.Fine ↦ laid (read_rows (scan t)) ws | verdict.Refused why p ↦ ws ]
+scan_leaves t ws = elim (text_judged t) [ Ok _ ↦ laid (read_rows (scan t)) ws | Err e ↦ ws ]

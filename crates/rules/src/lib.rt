@@ -121,11 +121,11 @@ pub enum Told {
     Refused(Outer, Cursor, u32),
 }
 
-// Whether a call has what it asks for, or why it is refused and where.
+// Why a call has not what it asks for, and where.
 #[derive(Clone, Copy)]
-pub enum Judged {
-    Fine,
-    Refused(Outer, Cursor),
+pub struct Unfit {
+    pub why: Outer,
+    pub at: Cursor,
 }
 
 // Why rows are no program. The kinds that would have fitted, a bit for each: 0 to 31, and from 32 on; a map's field, 1 to 4.

@@ -1,7 +1,6 @@
 -- "Lay out a probe", the call: what it tells, and what it leaves in the lent room. Lent are a text, rows and their table, nodes and their
 -- count, and a room of bytes.
-use Rattle.std.specs.Prelude.{Bool, true, false, cond, ◌&&◌, List, [], ◌++◌, ℕ, ◌*◌, length, take, drop, eqb, leb}
-use Rattle.rules.specs.declared.Judged.TheVariants as verdict
+use Rattle.std.specs.Prelude.{Bool, true, false, cond, ◌&&◌, List, [], ◌++◌, ℕ, ◌*◌, length, take, drop, eqb, leb, Ok, Err}
 use Rattle.rules.specs.declared.Ending.{Ending}
 use Rattle.rules.specs.declared.Ending.TheVariants as ending
 use Rattle.rules.specs.declared.Table.{Table}
@@ -38,7 +37,7 @@ is_scan t ws tbl =
 
 -- the table of a text that is one
 unfoldable pub is_scanned : List ℕ → List ℕ → Table → Bool
-is_scanned t ws tbl = elim (text_judged t) [ verdict.Fine ↦ is_scan t ws tbl | verdict.Refused why p ↦ false ]
+is_scanned t ws tbl = elim (text_judged t) [ Ok _ ↦ is_scan t ws tbl | Err e ↦ false ]
 
 -- the nodes are a tree's, as many and every word
 unfoldable pub is_tree : Tree → List ℕ → ℕ → Bool
@@ -71,8 +70,8 @@ tree_told (no why r) nodes count room = out.Refused NotItsTree
 unfoldable pub layout_told : List ℕ → List ℕ → Table → List ℕ → ℕ → ℕ → LaidOut
 layout_told t ws tbl nodes count room =
     elim (text_judged t) [
-      | verdict.Fine ↦ cond (is_scan t ws tbl) (tree_told (reading t) nodes count room) (out.Refused NotItsTree)
-      | verdict.Refused why p ↦ out.Refused NotItsTree
+      | Ok _ ↦ cond (is_scan t ws tbl) (tree_told (reading t) nodes count room) (out.Refused NotItsTree)
+      | Err e ↦ out.Refused NotItsTree
     ]
 
 -- ---- what it leaves: the layout, and then what was there; "the room is then untouched"

@@ -1,6 +1,5 @@
 -- Mending: what a fresh scan stores, which blocks differ from it, what the call tells, and what it leaves in lent memory and the lent list.
-use Rattle.std.specs.Prelude.{Bool, cond, not, ◌||◌, List, [], ◌∷◌, ◌++◌, ℕ, zero, suc, ◌/◌, length, take, drop, ltb}
-use Rattle.rules.specs.declared.Judged.TheVariants as verdict
+use Rattle.std.specs.Prelude.{Bool, cond, not, ◌||◌, List, [], ◌∷◌, ◌++◌, ℕ, zero, suc, ◌/◌, length, take, drop, ltb, Ok, Err}
 use Rattle.rules.specs.declared.Outer.TheVariants.{NoRowRoom}
 use Rattle.rules.specs.declared.Table.{Table}
 use Rattle.rules.specs.Text.{start_place, text_judged}
@@ -63,8 +62,8 @@ unfoldable pub mend_told : List ℕ → ℕ → List ℕ → ℕ → List ℕ �
 mend_told text form memory n list =
     cond (not (is_form form)) (mended.Refused OtherForm start_place)
     (elim (text_judged text) [
-      | verdict.Fine ↦ fresh_told (fresh_file form text) (fresh_table text).count memory n list
-      | verdict.Refused why p ↦ mended.Refused (Outer why) p
+      | Ok _ ↦ fresh_told (fresh_file form text) (fresh_table text).count memory n list
+      | Err e ↦ mended.Refused (Outer e.why) e.at
     ])
 
 -- ---- what it leaves

@@ -1,8 +1,7 @@
 -- "A site prelude": the bytes of a row of either text, and a name looked up in the index.
-use Rattle.std.specs.Prelude.{Bool, true, cond, ◌&&◌, List, ℕ, suc, zero, ◌+◌, ◌-◌, ◌*◌, length, get_or, leb, ltb}
+use Rattle.std.specs.Prelude.{Bool, true, cond, ◌&&◌, List, ℕ, suc, zero, ◌+◌, ◌-◌, ◌*◌, length, get_or, leb, ltb, Ok, Err}
 use Rattle.rules.specs.declared.Table.{Table}
 use Rattle.rules.specs.declared.Outer.TheVariants.{NotWellFormed}
-use Rattle.rules.specs.declared.Judged.TheVariants as verdict
 use Rattle.rules.specs.Text.{start_place}
 use Rattle.rules.specs.Kinds.{same_bytes}
 use Rattle.rules.specs.Rows.{row_no, spelling}
@@ -39,10 +38,10 @@ module _ (prelude pws : List ℕ) (ptable : Table) (text ws : List ℕ) (table :
   unfoldable pub name_told : ℕ → Named
   name_told row =
       elim (judged prelude pws ptable) [
-        | verdict.Refused why at ↦ part.Refused why at Prelude
-        | verdict.Fine ↦ elim (judged text ws table) [
-          | verdict.Refused why at ↦ part.Refused why at Probe
-          | verdict.Fine ↦ part_told row
+        | Err e ↦ part.Refused e.why e.at Prelude
+        | Ok _ ↦ elim (judged text ws table) [
+          | Err e ↦ part.Refused e.why e.at Probe
+          | Ok _ ↦ part_told row
         ]
       ]
 
@@ -81,9 +80,9 @@ module _ (prelude pws : List ℕ) (ptable : Table) (text ws : List ℕ) (table :
   unfoldable pub find_told : List ℕ → ℕ → List ℕ → Found
   find_told index entries name =
       elim (judged prelude pws ptable) [
-        | verdict.Refused why at ↦ found.Refused why at Prelude
-        | verdict.Fine ↦ elim (judged text ws table) [
-          | verdict.Refused why at ↦ found.Refused why at Probe
-          | verdict.Fine ↦ cond (is_index index entries) (entry_told index entries name) (found.Refused NotWellFormed start_place Prelude)
+        | Err e ↦ found.Refused e.why e.at Prelude
+        | Ok _ ↦ elim (judged text ws table) [
+          | Err e ↦ found.Refused e.why e.at Probe
+          | Ok _ ↦ cond (is_index index entries) (entry_told index entries name) (found.Refused NotWellFormed start_place Prelude)
         ]
       ]

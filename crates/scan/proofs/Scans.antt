@@ -11,7 +11,8 @@ use Rattle.rules.specs.declared.Cursor.{Cursor}
 use Rattle.rules.specs.declared.Ending.TheVariants as ending
 use Rattle.rules.specs.declared.Told.TheVariants as tells
 use Rattle.rules.specs.declared.Outer.{Outer}
-use Rattle.rules.specs.declared.Judged.TheVariants as verdict
+use Rattle.rules.specs.Outcomes.{unfit}
+use Rattle.std.specs.declared.result.Result.TheVariants.{Ok, Err}
 use Rattle.rules.specs.Text.{most_bytes, place_at, start_place, text_judged}
 use Rattle.rules.specs.Rows.{Row, row_at, rows_in}
 use Rattle.rules.specs.Lex.{Piece, blank, comment, row, refused, known, piece, item}
@@ -130,11 +131,11 @@ module _ (ws : List ℕ) (least : ℕ) (t : List ℕ) where
 -- ---- the answer
 
 module _ (t ws : List ℕ) where
-  pub refused_text : {why : Outer} {p : Cursor} → text_judged t ≡ verdict.Refused why p →
+  pub refused_text : {why : Outer} {p : Cursor} → text_judged t ≡ Err (unfit why p) →
       (tells.Refused why p 0 ≡ scan_told t (room_of ws)) × (ws ≡ scan_leaves t ws)
   refused_text e = (sym (scan_told_refused t e (room_of ws)), sym (scan_leaves_refused t e ws))
 
-  pub all_rows : text_judged t ≡ verdict.Fine →
+  pub all_rows : text_judged t ≡ Ok tt →
       (told (length t) (room_of ws) (read_rows (scan t)) (read_ending (scan t)) ≡ scan_told t (room_of ws))
       × (laid (read_rows (scan t)) ws ≡ scan_leaves t ws)
   all_rows e = (sym (scan_told_lem t e (room_of ws)), sym (scan_leaves_lem t e ws))

@@ -5,7 +5,7 @@ ghost use Rattle.rules.specs.Rows.{Row};
 ghost use Rattle.rules.specs.Scan.{told as told_of, room_of, scan_told, scan_leaves};
 ghost use Rattle.scan_stop.specs.declared.Stop.TheVariants.{Over};
 
-use rules::{Cursor, Ending, Judged, Outer, Table, Told, limit, row};
+use rules::{Cursor, Ending, Outer, Table, Told, limit, row};
 use scan_meet::Olds;
 use scan_place::judge_text;
 use scan_stop::{Stop, Walked};
@@ -47,10 +47,10 @@ pub fn scan(text: &[u8], rows: &mut [u32]) -> Told
     ensures left { rows.new ≡ scan_leaves text.now rows.old }
 {
     match judge_text(text) {
-        Judged::Refused(why, at) => {
-            return Told::Refused(why, at, 0);
+        Err(e) => {
+            return Told::Refused(e.why, e.at, 0);
         }
-        Judged::Fine => {}
+        Ok(()) => {}
     }
     let none: [u32; 1] = [0];
     let olds = Olds {

@@ -10,7 +10,8 @@ use contract.Lifetimes.{Lfts}
 use borrow.Fn.Kinds.{Dens, ended_of}
 use denote.Triple.Clauses.{AtExit}
 use Rattle.rules.specs.declared.Outer.TheVariants.{NotWellFormed}
-use Rattle.rules.specs.declared.Judged.TheVariants as verdict
+use Rattle.rules.specs.Outcomes.{unfit}
+use Rattle.std.specs.declared.result.Result.TheVariants.{Err}
 use Rattle.rules.specs.declared.Parsed.{Parsed}
 use Rattle.rules.specs.declared.Told.{Told}
 use Rattle.rules.specs.declared.Told.TheVariants as told
@@ -65,7 +66,7 @@ module _ (t lent ws table new : List ℕ) (g : OuterLent t lent ws table) where
 
   module _ (k : Readable t) where
     -- the scan's 4: its words tell no table
-    no_room : room_of lent < length (rows_of t) → judged t ws (table_of table) ≡ verdict.Refused NotWellFormed start_place
+    no_room : room_of lent < length (rows_of t) → judged t ws (table_of table) ≡ Err (unfit NotWellFormed start_place)
     unfolding is_ending
     no_room h =
         let f : is_ending (get_or table 0 0) ≡ false = rw (g.told, scan_few_rows t (room_of lent) k h) in

@@ -18,7 +18,8 @@ use Rattle.rules.specs.declared.Syntax.{Syntax}
 use Rattle.rules.specs.declared.Syntax.TheVariants.{Wanted, NotTopLevel, NotMapField, MapTypeUnknown, NotType, MaxNegative, OutOfRange, ShiftCount, MapLacks, NotEventType, CallOnOther, TooDeep}
 use Rattle.rules.specs.declared.Reason.{Reason}
 use Rattle.rules.specs.declared.Reason.TheVariants as reason
-use Rattle.rules.specs.declared.Judged.TheVariants as verdict
+use Rattle.rules.specs.Outcomes.{unfit}
+use Rattle.std.specs.declared.result.Result.TheVariants.{Ok, Err}
 use Rattle.rules.specs.declared.Table.{Table}
 use Rattle.rules.specs.declared.Parsed.{Parsed}
 use Rattle.rules.specs.declared.Parsed.TheVariants as parsed
@@ -91,7 +92,7 @@ module _ (t ws : List ℕ) (table : Table) (new : List ℕ) where
   Answers = Answer t new tells leaves
 
   -- 1 and 2
-  text_refused : (why : Outer) (at : Cursor) → judged t ws table ≡ verdict.Refused why at → Refused new tells leaves (reason.Outer why) at 0
+  text_refused : (why : Outer) (at : Cursor) → judged t ws table ≡ Err (unfit why at) → Refused new tells leaves (reason.Outer why) at 0
   unfolding parse_told parse_leaves
   text_refused why at e = record { told = rw (parse_told, e); left = rw (parse_leaves, e) }
 
@@ -103,7 +104,7 @@ module _ (t ws : List ℕ) (table : Table) (new : List ℕ) where
 
   -- a scanned table: not 3, and then its refused ending
   module _ (k : Readable t) (s : Scanned t ws table) where
-    fine : judged t ws table ≡ verdict.Fine
+    fine : judged t ws table ≡ Ok tt
     fine = judged_well t ws table (text_fine t k.fits k.good) (scanned_well_formed s) (ap (λ (x : Table). x.length) s.told)
 
     stopped : (why : Lexical) (at : Cursor) → read_ending (scan t) ≡ ending.Refused why at

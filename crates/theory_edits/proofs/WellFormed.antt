@@ -13,7 +13,7 @@ use Rattle.rules.specs.declared.Ending.{Ending}
 use Rattle.rules.specs.declared.Ending.TheVariants as ending
 use Rattle.rules.specs.declared.Table.{Table}
 use Rattle.rules.specs.declared.Outer.TheVariants.{TextTooLong, BadByte, NoRowRoom}
-use Rattle.rules.specs.declared.Judged.{Judged}
+use Rattle.rules.specs.Outcomes.{Judged}
 use Rattle.rules.specs.declared.Told.{Told}
 use Rattle.rules.specs.declared.Told.TheVariants.{Rows, Refused}
 use Rattle.rules.specs.Kinds

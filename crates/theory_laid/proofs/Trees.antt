@@ -11,8 +11,8 @@ use Rattle.rules.specs.declared.Cursor.{Cursor}
 use Rattle.rules.specs.declared.Lexical.{Lexical}
 use Rattle.rules.specs.declared.Ending.{Ending}
 use Rattle.rules.specs.declared.Ending.TheVariants as ending
-use Rattle.rules.specs.declared.Judged.{Judged}
-use Rattle.rules.specs.declared.Judged.TheVariants as verdict
+use Rattle.rules.specs.Outcomes.{Judged}
+use Rattle.std.specs.declared.result.Result.TheVariants.{Ok, Err}
 use Rattle.rules.specs.Text.{text_judged}
 use Rattle.rules.specs.Kinds.{same_bytes}
 use Rattle.rules.specs.Rows.{words_of}
@@ -74,7 +74,7 @@ module _ (text rows table nodes : List ℕ) (count : ℕ) where
   -- ---- of the text's tree
 
   module _ (p : Tree) (x : ItsTree text rows table nodes count p) where
-    pub its_fine : text_judged text ≡ verdict.Fine
+    pub its_fine : text_judged text ≡ Ok tt
     its_fine = text_fine text x.scans.readable.fits x.scans.readable.good
 
     its_scan : is_scan text rows (table_of table) ≡ true
@@ -107,12 +107,12 @@ module _ (text rows table nodes : List ℕ) (count : ℕ) where
   -- ---- what passes is the text's tree
 
   scan_of : (j : Judged) → text_judged text ≡ j → is_scanned text rows (table_of table) ≡ true
-      → (text_judged text ≡ verdict.Fine) × (is_scan text rows (table_of table) ≡ true)
+      → (text_judged text ≡ Ok tt) × (is_scan text rows (table_of table) ≡ true)
   unfolding is_scanned
-  scan_of verdict.Fine q e = (q, sym (rw (is_scanned, q)) ∙ e)
-  scan_of (verdict.Refused why p) q e = absurd (true≢false (sym e ∙ rw (is_scanned, q)))
+  scan_of (Ok _) q e = (q, sym (rw (is_scanned, q)) ∙ e)
+  scan_of (Err refusal) q e = absurd (true≢false (sym e ∙ rw (is_scanned, q)))
 
-  is_tree_lem : text_judged text ≡ verdict.Fine → is_scan text rows (table_of table) ≡ true → (u : Tree) (j : ℕ) → reading text ≡ ok u j
+  is_tree_lem : text_judged text ≡ Ok tt → is_scan text rows (table_of table) ≡ true → (u : Tree) (j : ℕ) → reading text ≡ ok u j
       → is_tree u nodes count ≡ true → ItsTree text rows table nodes count u
   unfolding is_scan is_tree tokens_of
   is_tree_lem fine s u j e t =

@@ -1,6 +1,5 @@
 -- What is claimed of a file that was mended, and of the blocks that are listed.
-use Rattle.std.specs.Prelude.{◌≡◌, true, List, [], ◌∷◌, ℕ, ◌+◌, ◌*◌, ◌/◌, ◌≤◌, ◌<◌, length, take, drop}
-use Rattle.rules.specs.declared.Judged.TheVariants as verdict
+use Rattle.std.specs.Prelude.{◌≡◌, true, List, [], ◌∷◌, ℕ, ◌+◌, ◌*◌, ◌/◌, ◌≤◌, ◌<◌, length, take, drop, Ok}
 use Rattle.rules.specs.declared.Told.TheVariants as told
 use Rattle.rules.specs.Text.{text_judged}
 use Rattle.rules.specs.Scan.{room_of, scan_told, scan_leaves}
@@ -33,7 +32,7 @@ pub record ReadsBack (text : List ℕ) (form : ℕ) (file : List ℕ) : Type 0 w
 -- "A file equal to the fresh scan's in that form": the first n bytes of memory, of a text that has such a file
 pub record IsRight (text : List ℕ) (form : ℕ) (memory : List ℕ) (n : ℕ) : Type 0 where
   pub known : is_form form ≡ true
-  pub fine : text_judged text ≡ verdict.Fine
+  pub fine : text_judged text ≡ Ok tt
   pub few : (fresh_table text).count ≤ most_rows
   pub held : n ≤ length memory
   pub file : take n memory ≡ fresh_file form text

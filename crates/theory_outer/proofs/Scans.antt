@@ -11,8 +11,8 @@ use lib.ListN.{length, take, drop, get_or}
 use borrow.Author.Tests.{ltb-true, ltb-false}
 use Rattle.rules.specs.declared.Ending.{Ending}
 use Rattle.rules.specs.declared.Ending.TheVariants as ending
-use Rattle.rules.specs.declared.Judged.{Judged}
-use Rattle.rules.specs.declared.Judged.TheVariants as verdict
+use Rattle.rules.specs.Outcomes.{Judged}
+use Rattle.std.specs.declared.result.Result.TheVariants.{Ok, Err}
 use Rattle.rules.specs.declared.Lexical.TheVariants as lexical
 use Rattle.rules.specs.declared.Outer.TheVariants.{TextTooLong, BadByte, NoRowRoom}
 use Rattle.rules.specs.declared.Table.{Table}
@@ -211,9 +211,9 @@ spelled {text} {rows} {table} {k} {answer} s = by (judged text rows (table_of ta
   where
     by : (v : Judged) → judged text rows (table_of table) ≡ v → (x : Bool) → ltb k (table_of table).count ≡ x
         → Spells text rows (table_of table) k answer
-    by verdict.Fine e true x =
+    by (Ok _) e true x =
         let t : answer ≡ words 0 nowhere (row_no rows k).start (row_no rows k).end 0 0
         = spelling_says s ∙ rw (spelling_judged, e, x, start_word rows k, end_word rows k) in
         spells e (ltb-true _ _ x) (record { told = t; part = rw t })
-    by verdict.Fine e false x = beyond e (ltb-false _ _ x) (spelling_says s ∙ rw (spelling_judged, e, x))
-    by (verdict.Refused why p) e x f = unread why p e (spelling_says s ∙ rw (spelling_judged, e))
+    by (Ok _) e false x = beyond e (ltb-false _ _ x) (spelling_says s ∙ rw (spelling_judged, e, x))
+    by (Err refusal) e x f = unread refusal.why refusal.at e (spelling_says s ∙ rw (spelling_judged, e))

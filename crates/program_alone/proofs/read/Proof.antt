@@ -1,7 +1,7 @@
 -- `read` meets its contract: 1, 2 and 3, the table's refused ending, and then the reading.
 use mathlib.Core.Path.{◌≡◌, sym, ◌∙◌}
 use borrow.Author.Rules.{rules}
-use Rattle.rules.specs.declared.Judged.TheVariants as verdict
+use Rattle.std.specs.declared.result.Result.TheVariants.{Ok}
 use Rattle.rules.specs.Calls.{judged}
 use Rattle.program_alone.proofs.Told.{told_refused, told_ending, told_read, table_ended}
 use Rattle.program_alone.proofs.read.Statement.{statement}
@@ -12,15 +12,15 @@ use Rattle.program_alone.proofs.read.Tie as tie
 abbrev start : tie.After-judge → tie.Start
 start c = c.before.before.before
 
-abbrev entry : tie.In-Fine → tie.Start
+abbrev entry : tie.In-Ok → tie.Start
 entry c = start c.before
 
-abbrev unrefused : tie.In-None → tie.In-Fine
+abbrev unrefused : tie.In-None → tie.In-Ok
 unrefused c = c.before
 
 -- the table is well formed
-well : (c : tie.In-Fine) → judged (entry c).args.text.now (entry c).args.rows.now (entry c).args.table ≡ verdict.Fine
-well c = sym c.before.judge.ensures ∙ c.in-Fine.is
+well : (c : tie.In-Ok) → judged (entry c).args.text.now (entry c).args.rows.now (entry c).args.table ≡ Ok tt
+well c = sym c.before.judge.ensures ∙ c.in-Ok.is
 
 judge_requires : tie.Need-judge-requires
 judge_requires c κs = search rules

@@ -2,7 +2,7 @@
 use mathlib.Core.Path.{◌≡◌, sym, ◌∙◌}
 use native.Mathlib.Omega.{arith}
 use borrow.Author.Rules.{rules}
-use Rattle.rules.specs.declared.Judged.TheVariants as verdict
+use Rattle.std.specs.declared.result.Result.TheVariants.{Ok}
 use Rattle.rules.specs.Text.{text_judged}
 use Rattle.rules.specs.Scan.{read_rows, read_ending, scan, room_of}
 use Rattle.laws.proofs.Valid.{fine_text}
@@ -11,8 +11,8 @@ use Rattle.scan.proofs.scan.Statement.{statement}
 use Rattle.scan.proofs.scan.Tie as tie
 
 -- the text is neither too long nor has it a bad byte
-text_well : (c : tie.In-Fine) → text_judged c.before.before.before.before.args.text.now ≡ verdict.Fine
-text_well c = sym c.before.judge_text.ensures ∙ c.in-Fine.is
+text_well : (c : tie.In-Ok) → text_judged c.before.before.before.before.args.text.now ≡ Ok tt
+text_well c = sym c.before.judge_text.ensures ∙ c.in-Ok.is
 
 judge_text_requires : tie.Need-judge_text-requires
 judge_text_requires c κs = search rules
