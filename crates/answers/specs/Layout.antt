@@ -7,14 +7,10 @@ use Rattle.rules.specs.declared.Ending.{Ending}
 use Rattle.rules.specs.declared.Ending.TheVariants as ending
 use Rattle.rules.specs.declared.Outer.{Outer}
 use Rattle.rules.specs.declared.Table.{Table}
-use Rattle.rules.specs.declared.Told.{Told}
-use Rattle.rules.specs.declared.Told.TheVariants as told
-use Rattle.rules.specs.Outcomes.{Judged}
+use Rattle.rules.specs.Outcomes.{Told, Judged, Parsed}
 use Rattle.rules.specs.declared.Syntax.{Syntax}
 use Rattle.rules.specs.declared.Reason.{Reason}
 use Rattle.rules.specs.declared.Reason.TheVariants as reason
-use Rattle.rules.specs.declared.Parsed.{Parsed}
-use Rattle.rules.specs.declared.Parsed.TheVariants as parsed
 use Rattle.rules.specs.Text.{place, start_place}
 use Rattle.rules.specs.Refusals.{outer_number, lexical_number, syntax_number, first_told, second_told}
 use Rattle.rules.specs.Calls.{spelling_judged}
@@ -35,8 +31,8 @@ ending_words count length ending.None = words 0 nowhere 0 0 count length
 ending_words count length (ending.Refused why p) = words (lexical_number why) p 0 0 count length
 
 abbrev pub told_words : Told → List ℕ
-told_words (told.Rows t) = ending_words t.count t.length t.ending
-told_words (told.Refused why p n) = words (outer_number why) p 0 0 n 0
+told_words (Ok t) = ending_words t.count t.length t.ending
+told_words (Err e) = words (outer_number e.why) e.at 0 0 e.rows 0
 
 abbrev pub outer_words : Outer → List ℕ
 outer_words why = words (outer_number why) start_place 0 0 0 0
@@ -65,8 +61,8 @@ reason_words (reason.Lexical why) p found = words (lexical_number why) p 0 0 0 0
 reason_words (reason.Syntax why) p found = syntax_words why p found
 
 abbrev pub parsed_words : Parsed → List ℕ
-parsed_words (parsed.Nodes n) = words 0 nowhere 0 0 n 0
-parsed_words (parsed.Refused why p found) = reason_words why p found
+parsed_words (Ok n) = words 0 nowhere 0 0 n 0
+parsed_words (Err e) = reason_words e.why e.at e.found
 
 -- ---- a table that is lent in the words in which it was told
 

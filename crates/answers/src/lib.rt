@@ -62,7 +62,7 @@ pub fn put_told(answer: &mut [u32; 8], told: Told)
     ensures { answer.new ≡ told_words told }
 {
     match told {
-        Told::Rows(t) => {
+        Ok(t) => {
             let ending = t.ending;
             match ending {
                 Ending::None => {
@@ -73,8 +73,8 @@ pub fn put_told(answer: &mut [u32; 8], told: Told)
                 }
             }
         }
-        Told::Refused(why, at, n) => {
-            put(answer, outer_number(why), at, 0, 0, n, 0);
+        Err(e) => {
+            put(answer, outer_number(e.why), e.at, 0, 0, e.rows, 0);
         }
     }
 }
@@ -99,18 +99,18 @@ pub fn put_parsed(answer: &mut [u32; 8], parsed: Parsed)
     ensures { answer.new ≡ parsed_words parsed }
 {
     match parsed {
-        Parsed::Nodes(n) => {
+        Ok(n) => {
             put(answer, 0, no_place(), 0, 0, n, 0);
         }
-        Parsed::Refused(why, at, found) => match why {
+        Err(e) => match e.why {
             Reason::Outer(x) => {
-                put(answer, outer_number(x), at, 0, 0, 0, 0);
+                put(answer, outer_number(x), e.at, 0, 0, 0, 0);
             }
             Reason::Lexical(x) => {
-                put(answer, lexical_number(x), at, 0, 0, 0, 0);
+                put(answer, lexical_number(x), e.at, 0, 0, 0, 0);
             }
             Reason::Syntax(x) => {
-                put_syntax(answer, x, at, found);
+                put_syntax(answer, x, e.at, e.found);
             }
         },
     }

@@ -10,7 +10,7 @@ use edit_kept::{copy_rows, kept_rows, place_behind};
 use edit_parts::{Tail, behind, new_length, refused, sensible, tell};
 use rows::shape::{row_at, row_place, wide};
 use rows::well_formed;
-use rules::{Cursor, Outer, Table, Told, limit, row};
+use rules::{Cursor, Outer, Table, Told, Unread, limit, row};
 use scan_meet::Olds;
 use scan_place::{pass, window_bytes};
 use scan_stop::{Stop, lacks};
@@ -147,7 +147,11 @@ fn reread(old: &[u32], job: Job, window: &[u8], new: &mut [u32]) -> Told
     }
     let valid = window_bytes(window, whole);
     if valid < window.len() {
-        return Told::Refused(Outer::BadByte, pass(window, begin, valid), 0);
+        return Err(Unread {
+            why: Outer::BadByte,
+            at: pass(window, begin, valid),
+            rows: 0,
+        });
     }
     if is_short(old, job, window, whole) {
         return refused(Outer::WindowShort);

@@ -14,7 +14,7 @@ use denote.Triple.Clauses.{AtExit}
 use Rattle.std.specs.declared.result.Result.{Result}
 use Rattle.std.specs.declared.result.Result.TheVariants.{Ok}
 use Rattle.rules.specs.declared.Table.{Table}
-use Rattle.rules.specs.declared.Told.{Told}
+use Rattle.rules.specs.Outcomes.{Told}
 use Rattle.rules.specs.Text.{valid}
 use Rattle.rules.specs.Scan.{read_rows, scan, room_of}
 use Rattle.rules.specs.Edit.{restart, restart_told}

@@ -1,8 +1,7 @@
 -- Whether an edit is sensible, what stands behind more rows, and what is told.
-use Rattle.std.specs.Prelude.{Bool, ◌&&◌, ℕ, ◌+◌, ◌^◌, ◌<◌, eqb, leb}
+use Rattle.std.specs.Prelude.{Bool, ◌&&◌, ℕ, ◌+◌, ◌^◌, ◌<◌, eqb, leb, Ok, Err}
 use Rattle.rules.specs.declared.Outer.TheVariants.{NoRowRoom}
-use Rattle.rules.specs.declared.Told.{Told}
-use Rattle.rules.specs.declared.Told.TheVariants as tells
+use Rattle.rules.specs.Outcomes.{Told, unread}
 use Rattle.rules.specs.Text.{start_place}
 use Rattle.rules.specs.Edit.{new_length}
 use Rattle.edit_parts.specs.declared.Tail.{Tail}
@@ -22,8 +21,8 @@ FewBehind n Full = Unit
 
 -- so many kept rows, and what stands behind them
 unfoldable pub tell_of : ℕ → Tail → ℕ → ℕ → Told
-tell_of k (Rows n e) size m = tells.Rows (record { count = k + n; length = size; ending = e })
-tell_of k Full size m = tells.Refused NoRowRoom start_place m
+tell_of k (Rows n e) size m = Ok (record { count = k + n; length = size; ending = e })
+tell_of k Full size m = Err (unread NoRowRoom start_place m)
 
 unfoldable pub TellsFit : ℕ → Tail → ℕ → Type 0
 TellsFit k (Rows n e) m = k + n < 2 ^ 32

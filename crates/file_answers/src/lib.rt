@@ -6,7 +6,7 @@ ghost use Rattle.file_answers.specs.Layout.{fault_words, stored_words, loaded_wo
 
 use answers::{no_place, put, put_told};
 use refusals::outer_number;
-use rules::{Cursor, Told};
+use rules::Cursor;
 use rules_files::{Fault, Loaded, Stored, form};
 use rules_forms::{Apart, Beside, Moved};
 use rules_mend::Mended;
@@ -77,7 +77,7 @@ pub fn put_loaded(answer: &mut [u32; 8], told: Loaded)
 {
     match told {
         Loaded::Rows(table) => {
-            put_told(answer, Told::Rows(table));
+            put_told(answer, Ok(table));
         }
         Loaded::Refused(why) => {
             put_fault(answer, why);
@@ -128,7 +128,7 @@ pub fn put_beside(answer: &mut [u32; 8], told: Beside)
 {
     match told {
         Beside::Rows(table) => {
-            put_told(answer, Told::Rows(table));
+            put_told(answer, Ok(table));
         }
         Beside::Refused(why) => {
             put_apart(answer, why);

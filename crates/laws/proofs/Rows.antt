@@ -11,9 +11,8 @@ use Rattle.rules.specs.declared.Cursor.{Cursor}
 use Rattle.rules.specs.declared.Ending.{Ending}
 use Rattle.rules.specs.declared.Outer.{Outer}
 use Rattle.rules.specs.declared.Outer.TheVariants.{NoRowRoom}
-use Rattle.rules.specs.Outcomes.{unfit}
+use Rattle.rules.specs.Outcomes.{unfit, unread}
 use Rattle.std.specs.declared.result.Result.TheVariants.{Ok, Err}
-use Rattle.rules.specs.declared.Told.TheVariants.{Rows, Refused}
 use Rattle.rules.specs.Text.{start_place, text_judged}
 use Rattle.rules.specs.Rows.{Row, row_words, row_in, row_at, row_no, rows_in, words_of}
 use Rattle.rules.specs.Lex.{Piece, blank, comment, row, refused, piece}
@@ -210,7 +209,7 @@ few_rows pos c zero k (b ∷ s) = pick (piece (b ∷ s)) (λ d m. few_rows pos d
     pick (refused why p d) h = omega arith
 
 module _ (t : List ℕ) where
-  pub scan_told_refused : {why : Outer} {p : Cursor} → text_judged t ≡ Err (unfit why p) → (m : ℕ) → scan_told t m ≡ Refused why p 0
+  pub scan_told_refused : {why : Outer} {p : Cursor} → text_judged t ≡ Err (unfit why p) → (m : ℕ) → scan_told t m ≡ Err (unread why p 0)
   unfolding scan_told
   scan_told_refused e m = rw (scan_told, e)
 
@@ -227,10 +226,10 @@ module _ (t : List ℕ) where
   scan_leaves_lem e ws = rw (scan_leaves, e)
 
 module _ (n m : ℕ) (rows : List Row) (e : Ending) where
-  pub told_all : length rows ≤ m → told n m rows e ≡ Rows (record { count = length rows; length = n; ending = e })
+  pub told_all : length rows ≤ m → told n m rows e ≡ Ok (record { count = length rows; length = n; ending = e })
   unfolding told
   told_all h = rw (le-leb (length rows) m h)
 
-  pub told_full : m < length rows → told n m rows e ≡ Refused NoRowRoom start_place m
+  pub told_full : m < length rows → told n m rows e ≡ Err (unread NoRowRoom start_place m)
   unfolding told
   told_full h = rw (lt-leb (length rows) m h)

@@ -8,12 +8,10 @@ use lib.Dec.{eqb}
 use lib.ListN.{length, take, length-append}
 use lib.Seq.{take-append_seam}
 use Rattle.rules.specs.declared.Cursor.{Cursor}
-use Rattle.rules.specs.Outcomes.{Judged, unfit}
+use Rattle.rules.specs.Outcomes.{Judged, unfit, Told, unread}
 use Rattle.std.specs.declared.result.Result.TheVariants.{Ok, Err}
 use Rattle.rules.specs.declared.Outer.{Outer}
 use Rattle.rules.specs.declared.Table.{Table}
-use Rattle.rules.specs.declared.Told.{Told}
-use Rattle.rules.specs.declared.Told.TheVariants.{Rows, Refused}
 use Rattle.rules.specs.Text.{most_bytes, place_at, text_judged}
 use Rattle.rules.specs.Kinds.{same_bytes}
 use Rattle.rules.specs.Rows.{words_of}
@@ -49,7 +47,7 @@ module _ (t ws : List ℕ) (tbl : Table) where
   tests = both_both (is_whole (read_ending (scan t)) && is_whole tbl.ending) (eqb tbl.count (length (read_rows (scan t))) && eqb tbl.length (length t)) (begins (words_of (read_rows (scan t))) ws)
 
   -- a refusal is told of what is no text
-  pub scan_refused : (m : List ℕ) → length m ≡ 524296 → {why : Outer} {p : Cursor} {n : ℕ} → scan_told t (room_of m) ≡ Refused why p n → false ≡ is_scanned t ws tbl
+  pub scan_refused : (m : List ℕ) → length m ≡ 524296 → {why : Outer} {p : Cursor} {n : ℕ} → scan_told t (room_of m) ≡ Err (unread why p n) → false ≡ is_scanned t ws tbl
   scan_refused m h {why} {p} {n} e = by (text_judged t) refl
     where
       by : (j : Judged) → text_judged t ≡ j → false ≡ is_scanned t ws tbl
@@ -60,7 +58,7 @@ module _ (t ws : List ℕ) (tbl : Table) where
       by (Err e) d = no_text e.why e.at d
 
   -- rows are told of a text
-  module _ (m : List ℕ) (f : Table) (e : scan_told t (room_of m) ≡ Rows f) where
+  module _ (m : List ℕ) (f : Table) (e : scan_told t (room_of m) ≡ Ok f) where
     held : Scanned t (scan_leaves t m) f
     held = scan_scanned t m f e
 

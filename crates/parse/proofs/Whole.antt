@@ -16,11 +16,9 @@ use Rattle.rules.specs.declared.Outer.TheVariants.{NoNodeRoom}
 use Rattle.rules.specs.declared.Cursor.{Cursor}
 use Rattle.rules.specs.declared.Ending.TheVariants as ending
 use Rattle.rules.specs.declared.Table.{Table}
-use Rattle.rules.specs.Outcomes.{unfit}
+use Rattle.rules.specs.Outcomes.{unfit, Parsed, unparsed}
 use Rattle.std.specs.declared.result.Result.TheVariants.{Ok, Err}
 use Rattle.rules.specs.declared.Reason.TheVariants as reason
-use Rattle.rules.specs.declared.Parsed.{Parsed}
-use Rattle.rules.specs.declared.Parsed.TheVariants as parsed
 use Rattle.rules.specs.Text.{start_place}
 use Rattle.rules.specs.Kinds.{Eof}
 use Rattle.rules.specs.Refusals.{found_told}
@@ -119,17 +117,17 @@ written m t h =
 
 module _ (ws : List ℕ) (o : Out) (m m' : List ℕ) where
   pub final_ok : (t : Tree) (j x : ℕ) (r : Got) → o ≡ ok t j → x ≡ size t → 8 * size t ≤ length m → Met o 0 0 m m' r
-      → Final ws o m m' (parsed.Nodes x)
+      → Final ws o m m' (Ok x)
   unfolding out_told out_leaves
   final_ok t j x r e q h met =
       let w : Met (ok t j) 0 0 m m' r = subst (λ (y : Out). Met y 0 0 m m' r) e met in
-      rw e (ap parsed.Nodes q, w.1 ∙ written m t h)
+      rw e (ap Ok q, w.1 ∙ written m t h)
 
   pub final_no : (why : Syntax) (p : ℕ) (x : Cursor) (k : ℕ) → o ≡ no why p → x ≡ place_of_row ws p
       → k ≡ found_told why (row_no ws p).kind → m' ≡ m
-      → Final ws o m m' (parsed.Refused (reason.Syntax why) x k)
+      → Final ws o m m' (Err (unparsed (reason.Syntax why) x k))
   unfolding out_told out_leaves
-  final_no why p x k e q f s = rw e ((λ j. parsed.Refused (reason.Syntax why) (q j) (f j)), s)
+  final_no why p x k e q f s = rw e ((λ j. (Err (unparsed (reason.Syntax why) (q j) (f j)))), s)
 
 -- ---- a whole table
 
@@ -166,17 +164,17 @@ module _ (t ws : List ℕ) (tbl : Table) (m : List ℕ) where
   abbrev pub Whole : Parsed → List ℕ → Type 0
   Whole r m' = (r ≡ parse_told t ws tbl (node_room m)) × (m' ≡ parse_leaves t ws tbl m)
 
-  pub whole_refused : (why : Outer) (p : Cursor) → judged t ws tbl ≡ Err (unfit why p) → Whole (parsed.Refused (reason.Outer why) p 0) m
+  pub whole_refused : (why : Outer) (p : Cursor) → judged t ws tbl ≡ Err (unfit why p) → Whole (Err (unparsed (reason.Outer why) p 0)) m
   unfolding parse_told parse_leaves
   whole_refused why p e = rw (parse_told, parse_leaves, e) (refl, refl)
 
   module _ (fine : judged t ws tbl ≡ Ok tt) where
-    pub whole_ending : (why : Lexical) (p : Cursor) → tbl.ending ≡ ending.Refused why p → Whole (parsed.Refused (reason.Lexical why) p 0) m
+    pub whole_ending : (why : Lexical) (p : Cursor) → tbl.ending ≡ ending.Refused why p → Whole (Err (unparsed (reason.Lexical why) p 0)) m
     unfolding parse_told parse_leaves ending_told ending_leaves
     whole_ending why p e = rw (parse_told, parse_leaves, fine) (rw (ending_told, ending_leaves, e) (refl, refl))
 
     module _ (e : tbl.ending ≡ ending.None) where
-      pub whole_tight : node_room m < tbl.count → (r : Parsed) → r ≡ parsed.Refused (reason.Outer NoNodeRoom) start_place 0 → Whole r m
+      pub whole_tight : node_room m < tbl.count → (r : Parsed) → r ≡ Err (unparsed (reason.Outer NoNodeRoom) start_place 0) → Whole r m
       unfolding parse_told parse_leaves ending_told ending_leaves
       whole_tight h r q =
           rw (parse_told, parse_leaves, fine) (rw (ending_told, ending_leaves, e) (rw (lt-ltb (node_room m) tbl.count h) (q, refl)))

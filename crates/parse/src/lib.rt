@@ -1,9 +1,9 @@
 // The parse call: a text, its table and lent room for nodes. The rows are passed twice, first without a node written, so that a refused
 // parse leaves node memory as it was.
-ghost use Rattle.std.specs.Prelude.{◌≡◌, ◌+◌, ◌*◌, ◌≤◌, ◌<◌, length};
+ghost use Rattle.std.specs.Prelude.{◌≡◌, ◌+◌, ◌*◌, ◌≤◌, ◌<◌, length, Err};
 ghost use Rattle.rules.specs.Text.{start_place};
 ghost use Rattle.rules.specs.Calls.{parse_told, parse_leaves, node_room};
-ghost use Rattle.rules.specs.declared.Parsed.TheVariants as parsed;
+ghost use Rattle.rules.specs.Outcomes.{unparsed};
 ghost use Rattle.rules.specs.declared.Reason.TheVariants as reason;
 ghost use Rattle.parse_nodes.specs.Post.{AsksOpen};
 ghost use Rattle.parse_nodes.specs.Names.{Spans};
@@ -12,7 +12,7 @@ ghost use Rattle.parse.specs.Program.{TopMet, ProgramMet, AsksTable, AsksEnded, 
 use parse_nodes::{At, Got};
 use rows::shape;
 use rules::kind::{EOF, EVENT, MAP, UNIT};
-use rules::{Cursor, Ending, Outer, Parsed, Reason, Syntax, Table, fits, node, node_kind};
+use rules::{Cursor, Ending, Outer, Parsed, Reason, Syntax, Table, Unparsed, fits, node, node_kind};
 
 // A map, an event or a unit at the row.
 fn top(text: &[u8], rows: &[u32], count: u32, nodes: &mut [u32], row: u32, node: u32) -> Got
@@ -110,9 +110,13 @@ pub fn program_passed(text: &[u8], rows: &[u32], count: u32, none: &mut [u32]) -
 
 // A refusal of the call itself.
 fn outer(why: Outer) -> Parsed
-    ensures { result ≡ parsed.Refused (reason.Outer why) start_place 0 }
+    ensures { result ≡ Err (unparsed (reason.Outer why) start_place 0) }
 {
-    Parsed::Refused(Reason::Outer(why), Cursor::start(), 0)
+    Err(Unparsed {
+        why: Reason::Outer(why),
+        at: Cursor::start(),
+        found: 0,
+    })
 }
 
 // The nodes of a program that the first pass has come to the end of, into enough room. It is not refused.
@@ -122,8 +126,8 @@ pub fn written(text: &[u8], rows: &[u32], count: u32, nodes: &mut [u32]) -> Pars
         nodes.new result }
 {
     match program(text, rows, count, nodes) {
-        Got::Done(t) => Parsed::Nodes(t.node),
-        Got::Refused(_, _) => Parsed::Nodes(0),
+        Got::Done(t) => Ok(t.node),
+        Got::Refused(_, _) => Ok(0),
     }
 }
 
@@ -137,11 +141,11 @@ fn twice(text: &[u8], rows: &[u32], count: u32, nodes: &mut [u32]) -> Parsed
         Passed::To(_) => written(text, rows, count, nodes),
         Passed::Refused(why, r) => {
             let row = shape::row_at(rows, r);
-            Parsed::Refused(
-                Reason::Syntax(why),
-                shape::row_place(row),
-                refusals::found_told(why, row.kind),
-            )
+            Err(Unparsed {
+                why: Reason::Syntax(why),
+                at: shape::row_place(row),
+                found: refusals::found_told(why, row.kind),
+            })
         }
     }
 }
@@ -151,16 +155,15 @@ pub fn parse(text: &[u8], rows: &[u32], table: Table, nodes: &mut [u32]) -> Pars
     ensures told { result ≡ parse_told text.now rows.now table (node_room nodes.old) }
     ensures left { nodes.new ≡ parse_leaves text.now rows.now table nodes.old }
 {
-    match rows::judge(text, rows, table) {
-        Err(e) => {
-            return Parsed::Refused(Reason::Outer(e.why), e.at, 0);
-        }
-        Ok(()) => {}
-    }
+    rows::judge(text, rows, table)?;
     let ending = table.ending;
     match ending {
         Ending::Refused(why, at) => {
-            return Parsed::Refused(Reason::Lexical(why), at, 0);
+            return Err(Unparsed {
+                why: Reason::Lexical(why),
+                at,
+                found: 0,
+            });
         }
         Ending::None => {}
     }

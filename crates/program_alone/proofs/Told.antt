@@ -11,12 +11,10 @@ use borrow.Author.Tests.{le-ltb}
 use Rattle.rules.specs.declared.Cursor.{Cursor}
 use Rattle.rules.specs.declared.Ending.{Ending}
 use Rattle.rules.specs.declared.Ending.TheVariants as ending
-use Rattle.rules.specs.Outcomes.{Judged, unfit}
+use Rattle.rules.specs.Outcomes.{Judged, unfit, Parsed, unparsed}
 use Rattle.std.specs.declared.result.Result.TheVariants.{Ok, Err}
 use Rattle.rules.specs.declared.Lexical.{Lexical}
 use Rattle.rules.specs.declared.Outer.{Outer}
-use Rattle.rules.specs.declared.Parsed.{Parsed}
-use Rattle.rules.specs.declared.Parsed.TheVariants as parsed
 use Rattle.rules.specs.declared.Reason.{Reason}
 use Rattle.rules.specs.declared.Reason.TheVariants as reason
 use Rattle.rules.specs.declared.Syntax.{Syntax}
@@ -122,23 +120,23 @@ module _ (t ws : List ℕ) (tbl : Table) where
 
   -- What is refused alone is what a parse in enough room is refused with.
   pub alone_refused : {why : Reason} {p : Cursor} {k : ℕ} → alone_told t ws tbl ≡ alone.Refused why p k
-      → parse_told t ws tbl tbl.count ≡ parsed.Refused why p k
+      → parse_told t ws tbl tbl.count ≡ Err (unparsed why p k)
   unfolding alone_told alone_of
   alone_refused {why} {p} {k} e = go (parse_told t ws tbl tbl.count) e
     where
-      go : (r : Parsed) → alone_of r ≡ alone.Refused why p k → r ≡ parsed.Refused why p k
-      go (parsed.Nodes n) e = let z : ◌≡◌ {A = ℕ} 0 1 = cc in absurd (omega arith)
-      go (parsed.Refused why' p' k') e = cc
+      go : (r : Parsed) → alone_of r ≡ alone.Refused why p k → r ≡ Err (unparsed why p k)
+      go (Ok n) e = let z : ◌≡◌ {A = ℕ} 0 1 = cc in absurd (omega arith)
+      go (Err refusal) e = cc
 
   -- A program has nodes.
   pub record SomeNodes : Type 0 where
     pub many : ℕ
-    pub told : parse_told t ws tbl tbl.count ≡ parsed.Nodes many
+    pub told : parse_told t ws tbl tbl.count ≡ Ok many
 
   pub alone_program : alone_told t ws tbl ≡ alone.Program → SomeNodes
   unfolding alone_told alone_of
   alone_program e = go (parse_told t ws tbl tbl.count) refl e
     where
       go : (r : Parsed) → parse_told t ws tbl tbl.count ≡ r → alone_of r ≡ alone.Program → SomeNodes
-      go (parsed.Nodes n) q e = record { many = n; told = q }
-      go (parsed.Refused why p k) q e = absurd (no_program why p k e)
+      go (Ok n) q e = record { many = n; told = q }
+      go (Err refusal) q e = absurd (no_program refusal.why refusal.at refusal.found e)

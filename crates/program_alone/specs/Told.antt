@@ -1,9 +1,8 @@
 -- What a parse of a text alone tells in enough room, but for the number of nodes; and what holds of a text that is a
 -- program.
-use Rattle.std.specs.Prelude.{◌≡◌, true, List, ℕ}
+use Rattle.std.specs.Prelude.{◌≡◌, true, List, ℕ, Ok, Err}
 use Rattle.rules.specs.declared.Table.{Table}
-use Rattle.rules.specs.declared.Parsed.{Parsed}
-use Rattle.rules.specs.declared.Parsed.TheVariants as parsed
+use Rattle.rules.specs.Outcomes.{Parsed}
 use Rattle.rules.specs.Rows.{rows_in}
 use Rattle.rules.specs.Tree.{Tree}
 use Rattle.rules.specs.Nodes.{width}
@@ -16,8 +15,8 @@ use Rattle.program_alone.specs.declared.Alone.{Alone}
 use Rattle.program_alone.specs.declared.Alone.TheVariants as alone
 
 unfoldable pub alone_of : Parsed → Alone
-alone_of (parsed.Nodes n) = alone.Program
-alone_of (parsed.Refused why at found) = alone.Refused why at found
+alone_of (Ok n) = alone.Program
+alone_of (Err e) = alone.Refused e.why e.at e.found
 
 -- Room for a node for each row is enough.
 unfoldable pub alone_told : List ℕ → List ℕ → Table → Alone

@@ -5,7 +5,7 @@ ghost use Rattle.rules.specs.Nodes.{nodes_of};
 ghost use Rattle.program_alone.specs.Told.{IsProgram};
 ghost use Rattle.program_nodes.specs.Write.{tree_of, Written, nodes_after, nodes_of_texts, AsksAfter, AsksBoth};
 
-use rules::{Parsed, node};
+use rules::node;
 
 // The nodes of one text.
 fn write_one(text: &[u8], rows: &[u32], count: u32, nodes: &mut [u32]) -> u32
@@ -13,8 +13,8 @@ fn write_one(text: &[u8], rows: &[u32], count: u32, nodes: &mut [u32]) -> u32
     ensures { Written (nodes_of 0 (tree_of text.now rows.now count)) nodes.old nodes.new result }
 {
     match parse::written(text, rows, count, nodes) {
-        Parsed::Nodes(n) => n,
-        Parsed::Refused(_, _, _) => 0,
+        Ok(n) => n,
+        Err(_) => 0,
     }
 }
 

@@ -17,12 +17,13 @@ struct Walk {
 // The number of a refused parse, its place, the two words that it tells, and that the place is known. Zeros where it is not refused.
 fn refusal_words(parsed: Parsed) -> [u32; 7] {
     match parsed {
-        Parsed::Nodes(_) => [0, 0, 0, 0, 0, 0, 0],
-        Parsed::Refused(why, place, _) => {
-            let number = reason_number(why);
+        Ok(_) => [0, 0, 0, 0, 0, 0, 0],
+        Err(e) => {
+            let place = e.at;
+            let number = reason_number(e.why);
             let mut first = 0;
             let mut second = 0;
-            if let Reason::Syntax(x) = why {
+            if let Reason::Syntax(x) = e.why {
                 first = first_told(x);
                 second = second_told(x);
             }
@@ -42,8 +43,8 @@ fn refusal_words(parsed: Parsed) -> [u32; 7] {
 // How many nodes a parse gave; none where it is refused.
 fn node_count(parsed: Parsed) -> usize {
     match parsed {
-        Parsed::Nodes(n) => n as usize,
-        Parsed::Refused(_, _, _) => 0,
+        Ok(n) => n as usize,
+        Err(_) => 0,
     }
 }
 

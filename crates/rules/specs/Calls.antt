@@ -6,10 +6,8 @@ use Rattle.rules.specs.declared.Ending.TheVariants as ending
 use Rattle.rules.specs.declared.Table.{Table}
 use Rattle.rules.specs.declared.Outer.{Outer}
 use Rattle.rules.specs.declared.Outer.TheVariants.{NotWellFormed, NoNodeRoom}
-use Rattle.rules.specs.Outcomes.{Judged, unfit}
+use Rattle.rules.specs.Outcomes.{Judged, unfit, Parsed, unparsed}
 use Rattle.rules.specs.declared.Reason.TheVariants as reason
-use Rattle.rules.specs.declared.Parsed.{Parsed}
-use Rattle.rules.specs.declared.Parsed.TheVariants as parsed
 use Rattle.rules.specs.Text.{start_place, text_judged}
 use Rattle.rules.specs.Refusals.{found_told}
 use Rattle.rules.specs.Rows.{Row, row_no, rows_in, row_place, well_formed, spelling}
@@ -66,8 +64,8 @@ node_room new = length new / words_per_node
 
 -- the reading of rows that stand in ws
 unfoldable pub out_told : List ℕ → Out → Parsed
-out_told ws (ok t j) = parsed.Nodes (size t)
-out_told ws (no why r) = parsed.Refused (reason.Syntax why) (place_of_row ws r) (found_told why (row_no ws r).kind)
+out_told ws (ok t j) = Ok (size t)
+out_told ws (no why r) = Err (unparsed (reason.Syntax why) (place_of_row ws r) (found_told why (row_no ws r).kind))
 
 -- the nodes, and then what was there; a refusal leaves node memory untouched
 unfoldable pub out_leaves : Out → List ℕ → List ℕ
@@ -80,8 +78,8 @@ reading t ws tbl = parse (tokens t (rows_in tbl.count ws))
 -- A refused ending is answered between 3 and 5. 5: node room below row count.
 unfoldable pub ending_told : List ℕ → List ℕ → Table → Ending → ℕ → Parsed
 ending_told t ws tbl ending.None room =
-    cond (ltb room tbl.count) (parsed.Refused (reason.Outer NoNodeRoom) start_place 0) (out_told ws (reading t ws tbl))
-ending_told t ws tbl (ending.Refused why p) room = parsed.Refused (reason.Lexical why) p 0
+    cond (ltb room tbl.count) (Err (unparsed (reason.Outer NoNodeRoom) start_place 0)) (out_told ws (reading t ws tbl))
+ending_told t ws tbl (ending.Refused why p) room = Err (unparsed (reason.Lexical why) p 0)
 
 unfoldable pub ending_leaves : List ℕ → List ℕ → Table → Ending → List ℕ → List ℕ
 ending_leaves t ws tbl ending.None new = cond (ltb (node_room new) tbl.count) new (out_leaves (reading t ws tbl) new)
@@ -92,7 +90,7 @@ unfoldable pub parse_told : List ℕ → List ℕ → Table → ℕ → Parsed
 parse_told t ws tbl room =
     elim (judged t ws tbl) [
       | Ok _ ↦ ending_told t ws tbl tbl.ending room
-      | Err e ↦ parsed.Refused (reason.Outer e.why) e.at 0
+      | Err e ↦ Err (unparsed (reason.Outer e.why) e.at 0)
     ]
 
 unfoldable pub parse_leaves : List ℕ → List ℕ → Table → List ℕ → List ℕ

@@ -7,8 +7,7 @@ use Rattle.rules.specs.declared.Ending.TheVariants as ending
 use Rattle.rules.specs.declared.Table.{Table}
 use Rattle.rules.specs.declared.Outer.{Outer}
 use Rattle.rules.specs.declared.Outer.TheVariants.{TextTooLong, BadByte, NotWellFormed, EditNotSensible, WindowShort}
-use Rattle.rules.specs.declared.Told.{Told}
-use Rattle.rules.specs.declared.Told.TheVariants.{Refused}
+use Rattle.rules.specs.Outcomes.{Told, unread}
 use Rattle.rules.specs.Text.{byte, most_bytes, valid_bytes, cut_bytes, is_blank, place, start_place, over}
 use Rattle.rules.specs.Rows.{Row, row_at, eof_row, row_place, rows_in, well_formed}
 use Rattle.rules.specs.Lex.{blank, comment, row, refused, known, end, unknown, item}
@@ -216,13 +215,13 @@ window_short rows e len a b n w = is_short (seen rows e a b n w (ends rows len a
 unfoldable pub edit_told : List ℕ → Table → (a b n start : ℕ) → List ℕ → ℕ → Told
 edit_told ws t a b n start w m =
     let rows : List Row = rows_in t.count ws in
-    cond (not (well_formed ws t)) (Refused NotWellFormed start_place 0)
-    (cond (not (sensible rows t.length a b n start w)) (Refused EditNotSensible start_place 0)
-    (cond (ltb most_bytes (new_length t.length a b n)) (Refused TextTooLong start_place 0)
-    (cond (unjudged rows t.length a b n w) (Refused WindowShort start_place 0)
+    cond (not (well_formed ws t)) (Err (unread NotWellFormed start_place 0))
+    (cond (not (sensible rows t.length a b n start w)) (Err (unread EditNotSensible start_place 0))
+    (cond (ltb most_bytes (new_length t.length a b n)) (Err (unread TextTooLong start_place 0))
+    (cond (unjudged rows t.length a b n w) (Err (unread WindowShort start_place 0))
     (cond (not (window_valid (ends rows t.length a b n w) w))
-    (Refused BadByte (over (restart rows a) (take (window_bytes (ends rows t.length a b n w) w) w)) 0)
-    (cond (window_short rows t.ending t.length a b n w) (Refused WindowShort start_place 0)
+    (Err (unread BadByte (over (restart rows a) (take (window_bytes (ends rows t.length a b n w) w) w)) 0))
+    (cond (window_short rows t.ending t.length a b n w) (Err (unread WindowShort start_place 0))
     (told (new_length t.length a b n) m (new_rows rows t.ending a b n w (ends rows t.length a b n w))
     (new_ending rows t.ending a b n w (ends rows t.length a b n w))))))))
 

@@ -5,8 +5,7 @@ use Rattle.rules.specs.declared.Lexical.{Lexical}
 use Rattle.rules.specs.declared.Ending.{Ending}
 use Rattle.rules.specs.declared.Ending.TheVariants as ending
 use Rattle.rules.specs.declared.Outer.TheVariants.{NoRowRoom}
-use Rattle.rules.specs.declared.Told.{Told}
-use Rattle.rules.specs.declared.Told.TheVariants.{Rows, Refused}
+use Rattle.rules.specs.Outcomes.{Told, unread}
 use Rattle.rules.specs.Text.{place_at, start_place, text_judged}
 use Rattle.rules.specs.Rows.{Row, row_at, eof_row, words_of, words_per_row}
 use Rattle.rules.specs.Lex.{blank, comment, row, refused, piece}
@@ -53,7 +52,7 @@ room_of ws = length ws / words_per_row
 -- "4 standing where the row that finds no room is complete": the rows of a text of n bytes, into room for m
 unfoldable pub told : ℕ → ℕ → List Row → Ending → Told
 told n m rows e =
-    cond (leb (length rows) m) (Rows (record { count = length rows; length = n; ending = e })) (Refused NoRowRoom start_place m)
+    cond (leb (length rows) m) (Ok (record { count = length rows; length = n; ending = e })) (Err (unread NoRowRoom start_place m))
 
 -- as many rows as there is room for, and then what was there
 unfoldable pub laid : List Row → List ℕ → List ℕ
@@ -64,7 +63,7 @@ unfoldable pub scan_told : List ℕ → ℕ → Told
 scan_told t m =
     elim (text_judged t) [
       | Ok _ ↦ told (length t) m (read_rows (scan t)) (read_ending (scan t))
-      | Err e ↦ Refused e.why e.at 0
+      | Err e ↦ Err (unread e.why e.at 0)
     ]
 
 -- 1, 2: rows untouched

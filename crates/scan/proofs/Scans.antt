@@ -9,9 +9,8 @@ use lib.ListN.{length}
 use lib.Dec.{leb}
 use Rattle.rules.specs.declared.Cursor.{Cursor}
 use Rattle.rules.specs.declared.Ending.TheVariants as ending
-use Rattle.rules.specs.declared.Told.TheVariants as tells
+use Rattle.rules.specs.Outcomes.{unread, unfit}
 use Rattle.rules.specs.declared.Outer.{Outer}
-use Rattle.rules.specs.Outcomes.{unfit}
 use Rattle.std.specs.declared.result.Result.TheVariants.{Ok, Err}
 use Rattle.rules.specs.Text.{most_bytes, place_at, start_place, text_judged}
 use Rattle.rules.specs.Rows.{Row, row_at, rows_in}
@@ -132,7 +131,7 @@ module _ (ws : List ℕ) (least : ℕ) (t : List ℕ) where
 
 module _ (t ws : List ℕ) where
   pub refused_text : {why : Outer} {p : Cursor} → text_judged t ≡ Err (unfit why p) →
-      (tells.Refused why p 0 ≡ scan_told t (room_of ws)) × (ws ≡ scan_leaves t ws)
+      (Err (unread why p 0) ≡ scan_told t (room_of ws)) × (ws ≡ scan_leaves t ws)
   refused_text e = (sym (scan_told_refused t e (room_of ws)), sym (scan_leaves_refused t e ws))
 
   pub all_rows : text_judged t ≡ Ok tt →

@@ -5,7 +5,7 @@ ghost use Rattle.rules.specs.Rows.{Row};
 ghost use Rattle.rules.specs.Scan.{told as told_of, room_of, scan_told, scan_leaves};
 ghost use Rattle.scan_stop.specs.declared.Stop.TheVariants.{Over};
 
-use rules::{Cursor, Ending, Outer, Table, Told, limit, row};
+use rules::{Cursor, Ending, Outer, Table, Told, Unread, limit, row};
 use scan_meet::Olds;
 use scan_place::judge_text;
 use scan_stop::{Stop, Walked};
@@ -32,9 +32,13 @@ fn told(bytes: usize, room: usize, walked: Walked) -> Told
     let count = walked.count;
     let stop = walked.stop;
     if room < count {
-        return Told::Refused(Outer::NoRowRoom, Cursor::start(), room as u32);
+        return Err(Unread {
+            why: Outer::NoRowRoom,
+            at: Cursor::start(),
+            rows: room as u32,
+        });
     }
-    Told::Rows(Table {
+    Ok(Table {
         count: count as u32,
         length: bytes as u32,
         ending: ending_of(stop),
@@ -46,12 +50,7 @@ pub fn scan(text: &[u8], rows: &mut [u32]) -> Told
     ensures told { result ≡ scan_told text.now (room_of rows.old) }
     ensures left { rows.new ≡ scan_leaves text.now rows.old }
 {
-    match judge_text(text) {
-        Err(e) => {
-            return Told::Refused(e.why, e.at, 0);
-        }
-        Ok(()) => {}
-    }
+    judge_text(text)?;
     let none: [u32; 1] = [0];
     let olds = Olds {
         count: 0,

@@ -18,11 +18,9 @@ use Rattle.rules.specs.declared.Syntax.{Syntax}
 use Rattle.rules.specs.declared.Syntax.TheVariants.{Wanted, NotTopLevel, NotMapField, MapTypeUnknown, NotType, MaxNegative, OutOfRange, ShiftCount, MapLacks, NotEventType, CallOnOther, TooDeep}
 use Rattle.rules.specs.declared.Reason.{Reason}
 use Rattle.rules.specs.declared.Reason.TheVariants as reason
-use Rattle.rules.specs.Outcomes.{unfit}
+use Rattle.rules.specs.Outcomes.{unfit, Parsed, unparsed}
 use Rattle.std.specs.declared.result.Result.TheVariants.{Ok, Err}
 use Rattle.rules.specs.declared.Table.{Table}
-use Rattle.rules.specs.declared.Parsed.{Parsed}
-use Rattle.rules.specs.declared.Parsed.TheVariants as parsed
 use Rattle.rules.specs.Text.{most_bytes, valid_bytes, valid, place_at, start_place}
 use Rattle.rules.specs.Refusals.{syntax_number, found_told}
 use Rattle.rules.specs.Rows.{Row, row_words, row_in, rows_in, words_of, row_place}
@@ -159,7 +157,7 @@ module _ (t ws : List ℕ) (table : Table) (new : List ℕ) where
       unfolding out_told out_leaves place_of_row
       refused why k q = record {
         told =
-            told_is (no why k) q ∙ ap (λ (y : Row). parsed.Refused (reason.Syntax why) (row_place y) (found_told why y.kind))
+            told_is (no why k) q ∙ ap (λ (y : Row). (Err (unparsed (reason.Syntax why) (row_place y) (found_told why y.kind))))
             (row_of why k q).same;
         left = left_is (no why k) q;
       }

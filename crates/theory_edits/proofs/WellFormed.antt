@@ -13,9 +13,8 @@ use Rattle.rules.specs.declared.Ending.{Ending}
 use Rattle.rules.specs.declared.Ending.TheVariants as ending
 use Rattle.rules.specs.declared.Table.{Table}
 use Rattle.rules.specs.declared.Outer.TheVariants.{TextTooLong, BadByte, NoRowRoom}
-use Rattle.rules.specs.Outcomes.{Judged}
-use Rattle.rules.specs.declared.Told.{Told}
-use Rattle.rules.specs.declared.Told.TheVariants.{Rows, Refused}
+use Rattle.rules.specs.Outcomes.{Judged, Told, unread}
+use Rattle.std.specs.declared.result.Result.TheVariants.{Ok, Err}
 use Rattle.rules.specs.Kinds
 use Rattle.rules.specs.Kinds.{is_made}
 use Rattle.rules.specs.Text.{most_bytes, valid_bytes, valid, place_at, start_place, text_judged}
@@ -178,10 +177,10 @@ scanned_well_formed {t} {ws} {table} s =
 
 -- What a scan says, with room for m rows: 1, 2, 4, or its table.
 pub data Scans (t : List ℕ) (m : ℕ) : Told → Type 0 where
-  says_1 : Scans t m (Refused TextTooLong start_place 0)
-  says_2 : Scans t m (Refused BadByte (place_at t (valid_bytes t)) 0)
-  says_4 : Scans t m (Refused NoRowRoom start_place m)
-  says_rows : length t ≤ most_bytes → valid t ≡ true → length (read_rows (scan t)) ≤ m → Scans t m (Rows (table_of t))
+  says_1 : Scans t m (Err (unread TextTooLong start_place 0))
+  says_2 : Scans t m (Err (unread BadByte (place_at t (valid_bytes t)) 0))
+  says_4 : Scans t m (Err (unread NoRowRoom start_place m))
+  says_rows : length t ≤ most_bytes → valid t ≡ true → length (read_rows (scan t)) ≤ m → Scans t m (Ok (table_of t))
 
 pub scan_says : (t : List ℕ) (m : ℕ) → Scans t m (scan_told t m)
 unfolding told
@@ -194,20 +193,20 @@ scan_says t m = by (text_judged_lem t) refl (leb (length (read_rows (scan t))) m
     by (fine l v) e true g = rw (scan_told_lem t e m, g) (says_rows l v (leb-true _ m g))
 
 -- a text whose scan tells rows is valid
-pub scan_valid : (t : List ℕ) (m : ℕ) (table : Table) → scan_told t m ≡ Rows table → valid t ≡ true
+pub scan_valid : (t : List ℕ) (m : ℕ) (table : Table) → scan_told t m ≡ Ok table → valid t ≡ true
 scan_valid t m table e = by (scan_says t m) e
   where
-    by : {x : Told} → Scans t m x → x ≡ Rows table → valid t ≡ true
+    by : {x : Told} → Scans t m x → x ≡ Ok table → valid t ≡ true
     by says_1 f = absurd (let z : ◌≡◌ {A = ℕ} 0 1 = cc in let y : ⊥ = omega arith in y)
     by says_2 f = absurd (let z : ◌≡◌ {A = ℕ} 0 1 = cc in let y : ⊥ = omega arith in y)
     by says_4 f = absurd (let z : ◌≡◌ {A = ℕ} 0 1 = cc in let y : ⊥ = omega arith in y)
     by (says_rows l v r) f = v
 
 -- where it tells rows, it leaves them
-pub scan_scanned : (t new : List ℕ) (table : Table) → scan_told t (room_of new) ≡ Rows table → Scanned t (scan_leaves t new) table
+pub scan_scanned : (t new : List ℕ) (table : Table) → scan_told t (room_of new) ≡ Ok table → Scanned t (scan_leaves t new) table
 scan_scanned t new table e = by (scan_says t (room_of new)) e
   where
-    by : {x : Told} → Scans t (room_of new) x → x ≡ Rows table → Scanned t (scan_leaves t new) table
+    by : {x : Told} → Scans t (room_of new) x → x ≡ Ok table → Scanned t (scan_leaves t new) table
     by says_1 f = absurd (let z : ◌≡◌ {A = ℕ} 0 1 = cc in let y : ⊥ = omega arith in y)
     by says_2 f = absurd (let z : ◌≡◌ {A = ℕ} 0 1 = cc in let y : ⊥ = omega arith in y)
     by says_4 f = absurd (let z : ◌≡◌ {A = ℕ} 0 1 = cc in let y : ⊥ = omega arith in y)

@@ -16,7 +16,6 @@ use Rattle.rules.specs.declared.Cursor.{Cursor}
 use Rattle.rules.specs.Outcomes.{Judged}
 use Rattle.std.specs.declared.result.Result.TheVariants.{Ok, Err}
 use Rattle.rules.specs.declared.Outer.TheVariants.{NoRowRoom}
-use Rattle.rules.specs.declared.Told.TheVariants as told
 use Rattle.rules.specs.Text.{start_place, text_judged}
 use Rattle.rules.specs.Rows.{words_per_row}
 use Rattle.rules.specs.Scan.{read_rows, read_ending, scan, room_of, scan_told, scan_leaves}
@@ -192,7 +191,7 @@ module _ (text : List ℕ) (form : ℕ) (memory : List ℕ) (n : ℕ) (list : Li
   holds : Holds text (fresh_file form text)
   holds = fresh_holds text is_mended.fine is_mended.few form
 
-  scans : (room : ℕ) → (fresh_table text).count ≤ room → scan_told text room ≡ told.Rows (fresh_table text)
+  scans : (room : ℕ) → (fresh_table text).count ≤ room → scan_told text room ≡ Ok (fresh_table text)
   unfolding fresh_table
   scans room h = scan_told_lem text is_mended.fine room ∙ told_all (length text) room (read_rows (scan text)) (read_ending (scan text)) h
 

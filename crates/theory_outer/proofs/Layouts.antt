@@ -15,7 +15,7 @@ use Rattle.rules.specs.declared.Ending.{Ending}
 use Rattle.rules.specs.declared.Ending.TheVariants as ending
 use Rattle.rules.specs.declared.Lexical.{Lexical}
 use Rattle.rules.specs.declared.Table.{Table}
-use Rattle.rules.specs.declared.Told.{Told}
+use Rattle.rules.specs.Outcomes.{Told}
 use Rattle.rules.specs.Text.{most_bytes, place_at}
 use Rattle.rules.specs.Refusals.{lexical_number}
 use Rattle.rules.specs.Rows.{words_of}

@@ -13,8 +13,8 @@ use Rattle.rules.specs.declared.Ending.{Ending}
 use Rattle.rules.specs.declared.Ending.TheVariants as ending
 use Rattle.rules.specs.declared.Lexical.TheVariants as lexical
 use Rattle.rules.specs.declared.Table.{Table}
-use Rattle.rules.specs.declared.Told.{Told}
-use Rattle.rules.specs.declared.Told.TheVariants.{Rows}
+use Rattle.rules.specs.Outcomes.{Told}
+use Rattle.std.specs.declared.result.Result.TheVariants.{Ok}
 use Rattle.rules.specs.Text.{valid}
 use Rattle.rules.specs.Rows.{words_of}
 use Rattle.rules.specs.Scan.{read_rows, scan, room_of, scan_told, scan_leaves}
@@ -82,7 +82,7 @@ ending_is k n (ending.Refused lexical.OpenString p) = refl
 ending_is k n (ending.Refused lexical.BadEscape p) = refl
 ending_is k n (ending.Refused lexical.NumberTooLarge p) = refl
 
-table_is : (table : Table) → is_ending (get_or (told_words (Rows table)) 0 0) ≡ true
+table_is : (table : Table) → is_ending (get_or (told_words (Ok table)) 0 0) ≡ true
 table_is table = ending_is table.count table.length table.ending
 
 -- what is told of a valid text is not 2
@@ -97,7 +97,7 @@ pub table_exactly : {t lent new answer : List ℕ} → OuterLent t lent new answ
 table_exactly {t} {lent} {new} {answer} g = (
   λ h. record { fits = (lent_scanned g h).fits; good = lent_valid g h; room = lent_room g h },
   λ p.
-      let f : answer ≡ told_words (Rows (scanned.table_of t))
+      let f : answer ≡ told_words (Ok (scanned.table_of t))
       = g.told ∙ ap (λ (x : Told). told_words x) (scan_rows t (room_of lent) (record { fits = p.fits; good = p.good }) p.room) in
       ap (λ (ws : List ℕ). is_ending (get_or ws 0 0)) f ∙ table_is (scanned.table_of t),
 )

@@ -11,13 +11,11 @@ use lib.ListN.{length, take, drop, get_or}
 use borrow.Author.Tests.{ltb-true, ltb-false}
 use Rattle.rules.specs.declared.Ending.{Ending}
 use Rattle.rules.specs.declared.Ending.TheVariants as ending
-use Rattle.rules.specs.Outcomes.{Judged}
+use Rattle.rules.specs.Outcomes.{Judged, Told, unread}
 use Rattle.std.specs.declared.result.Result.TheVariants.{Ok, Err}
 use Rattle.rules.specs.declared.Lexical.TheVariants as lexical
 use Rattle.rules.specs.declared.Outer.TheVariants.{TextTooLong, BadByte, NoRowRoom}
 use Rattle.rules.specs.declared.Table.{Table}
-use Rattle.rules.specs.declared.Told.{Told}
-use Rattle.rules.specs.declared.Told.TheVariants.{Rows, Refused}
 use Rattle.rules.specs.Text.{most_bytes, valid_bytes, valid, place_at, start_place}
 use Rattle.rules.specs.Rows.{Row, row_no, rows_in, well_formed, spelling}
 use Rattle.rules.specs.Scan.{Reading, read_rows, read_ending, scan, room_of, scan_told}
@@ -42,10 +40,10 @@ use Rattle.theory_outer.proofs.Lent.{scan_lends, lent_words, lent_is, lent_scann
 -- ---- the ways in which a scan ends
 
 data Tells (t : List ℕ) (m : ℕ) : Told → Type 0 where
-  tells_1 : Tells t m (Refused TextTooLong start_place 0)
-  tells_2 : valid t ≡ false → Tells t m (Refused BadByte (place_at t (valid_bytes t)) 0)
-  tells_4 : length t ≤ most_bytes → m < length (rows_of t) → Tells t m (Refused NoRowRoom start_place m)
-  tells_rows : Tells t m (Rows (scanned.table_of t))
+  tells_1 : Tells t m (Err (unread TextTooLong start_place 0))
+  tells_2 : valid t ≡ false → Tells t m (Err (unread BadByte (place_at t (valid_bytes t)) 0))
+  tells_4 : length t ≤ most_bytes → m < length (rows_of t) → Tells t m (Err (unread NoRowRoom start_place m))
+  tells_rows : Tells t m (Ok (scanned.table_of t))
 
 tells : (t : List ℕ) (m : ℕ) → Tells t m (scan_told t m)
 tells t m = by (ltb most_bytes (length t)) refl (valid t) refl (ltb m (length (rows_of t))) refl
@@ -71,7 +69,7 @@ ending_number k n (ending.Refused lexical.OpenString p) f = omega arith
 ending_number k n (ending.Refused lexical.BadEscape p) f = omega arith
 ending_number k n (ending.Refused lexical.NumberTooLarge p) f = omega arith
 
-rows_number : (t : Table) → 0 < get_or (told_words (Rows t)) 0 0 → 7 < get_or (told_words (Rows t)) 0 0
+rows_number : (t : Table) → 0 < get_or (told_words (Ok t)) 0 0 → 7 < get_or (told_words (Ok t)) 0 0
 rows_number t h = ending_number t.count t.length t.ending h
 
 not_4 : {t : List ℕ} {m : ℕ} {x : Told} → Tells t m x → (length t ≤ most_bytes → length (rows_of t) ≤ m) → get_or (told_words x) 0 0 ≡ 4 → ⊥
@@ -178,7 +176,7 @@ module _ {text lent answer rows : List ℕ} (s : ScanCall text lent answer rows)
   unfolding is_ending
   comments_add_up e =
       let h : is_ending (get_or answer 0 0) ≡ true = rw e in
-      let f : get_or (told_words (Rows (scanned.table_of text))) 0 0 ≡ 0
+      let f : get_or (told_words (Ok (scanned.table_of text))) 0 0 ≡ 0
       = ap (λ (ws : List ℕ). get_or ws 0 0) (sym (lent_words (scan_lends s) h)) ∙ e in
       let d = none_told (scanned.table_of text).count (scanned.table_of text).length (read_ending (scan text)) f in
       ap (λ (t : Table). counted (rows_in t.count rows)) (lent_is (scan_lends s) h)

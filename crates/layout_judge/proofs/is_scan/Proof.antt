@@ -2,7 +2,6 @@
 use mathlib.Core.Path.{◌≡◌, sym, ◌∙◌}
 use mathlib.Core.Bool.{true, false}
 use borrow.Author.Tests.{not-true, not-false}
-use Rattle.rules.specs.declared.Told.TheVariants.{Rows}
 use Rattle.rules.specs.Scan.{room_of, scan_told}
 use Rattle.layout_judge.proofs.Held.{scan_refused, other_table, rows_inside, same_rows}
 use borrow.Author.Rules.{rules}
