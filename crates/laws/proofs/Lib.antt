@@ -12,3 +12,4 @@ pub mod Rows
 pub mod Calls
 pub mod Spelled
 pub mod Tight
+pub mod Outcomes

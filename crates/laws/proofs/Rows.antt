@@ -11,6 +11,7 @@ use Rattle.rules.specs.declared.Cursor.{Cursor}
 use Rattle.rules.specs.declared.Ending.{Ending}
 use Rattle.rules.specs.declared.Outer.{Outer}
 use Rattle.rules.specs.declared.Outer.TheVariants.{NoRowRoom}
+use Rattle.rules.specs.declared.Unfit.{Unfit}
 use Rattle.rules.specs.Outcomes.{unfit, unread}
 use Rattle.std.specs.declared.result.Result.TheVariants.{Ok, Err}
 use Rattle.rules.specs.Text.{start_place, text_judged}
@@ -209,11 +210,11 @@ few_rows pos c zero k (b ∷ s) = pick (piece (b ∷ s)) (λ d m. few_rows pos d
     pick (refused why p d) h = omega arith
 
 module _ (t : List ℕ) where
-  pub scan_told_refused : {why : Outer} {p : Cursor} → text_judged t ≡ Err (unfit why p) → (m : ℕ) → scan_told t m ≡ Err (unread why p 0)
+  pub scan_told_refused : {e : Unfit} → text_judged t ≡ Err e → (m : ℕ) → scan_told t m ≡ Err (unread e.why e.at 0)
   unfolding scan_told
   scan_told_refused e m = rw (scan_told, e)
 
-  pub scan_leaves_refused : {why : Outer} {p : Cursor} → text_judged t ≡ Err (unfit why p) → (ws : List ℕ) → scan_leaves t ws ≡ ws
+  pub scan_leaves_refused : {e : Unfit} → text_judged t ≡ Err e → (ws : List ℕ) → scan_leaves t ws ≡ ws
   unfolding scan_leaves
   scan_leaves_refused e ws = rw (scan_leaves, e)
 

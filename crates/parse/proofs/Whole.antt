@@ -16,6 +16,7 @@ use Rattle.rules.specs.declared.Outer.TheVariants.{NoNodeRoom}
 use Rattle.rules.specs.declared.Cursor.{Cursor}
 use Rattle.rules.specs.declared.Ending.TheVariants as ending
 use Rattle.rules.specs.declared.Table.{Table}
+use Rattle.rules.specs.declared.Unfit.{Unfit}
 use Rattle.rules.specs.Outcomes.{unfit, Parsed, unparsed}
 use Rattle.std.specs.declared.result.Result.TheVariants.{Ok, Err}
 use Rattle.rules.specs.declared.Reason.TheVariants as reason
@@ -164,9 +165,9 @@ module _ (t ws : List ℕ) (tbl : Table) (m : List ℕ) where
   abbrev pub Whole : Parsed → List ℕ → Type 0
   Whole r m' = (r ≡ parse_told t ws tbl (node_room m)) × (m' ≡ parse_leaves t ws tbl m)
 
-  pub whole_refused : (why : Outer) (p : Cursor) → judged t ws tbl ≡ Err (unfit why p) → Whole (Err (unparsed (reason.Outer why) p 0)) m
+  pub whole_refused : {e : Unfit} → judged t ws tbl ≡ Err e → Whole (Err (unparsed (reason.Outer e.why) e.at 0)) m
   unfolding parse_told parse_leaves
-  whole_refused why p e = rw (parse_told, parse_leaves, e) (refl, refl)
+  whole_refused e = rw (parse_told, parse_leaves, e) (refl, refl)
 
   module _ (fine : judged t ws tbl ≡ Ok tt) where
     pub whole_ending : (why : Lexical) (p : Cursor) → tbl.ending ≡ ending.Refused why p → Whole (Err (unparsed (reason.Lexical why) p 0)) m

@@ -9,6 +9,7 @@ use lib.ListN.{length}
 use lib.Dec.{leb}
 use Rattle.rules.specs.declared.Cursor.{Cursor}
 use Rattle.rules.specs.declared.Ending.TheVariants as ending
+use Rattle.rules.specs.declared.Unfit.{Unfit}
 use Rattle.rules.specs.Outcomes.{unread, unfit}
 use Rattle.rules.specs.declared.Outer.{Outer}
 use Rattle.std.specs.declared.result.Result.TheVariants.{Ok, Err}
@@ -130,8 +131,8 @@ module _ (ws : List ℕ) (least : ℕ) (t : List ℕ) where
 -- ---- the answer
 
 module _ (t ws : List ℕ) where
-  pub refused_text : {why : Outer} {p : Cursor} → text_judged t ≡ Err (unfit why p) →
-      (Err (unread why p 0) ≡ scan_told t (room_of ws)) × (ws ≡ scan_leaves t ws)
+  pub refused_text : {e : Unfit} → text_judged t ≡ Err e →
+      (Err (unread e.why e.at 0) ≡ scan_told t (room_of ws)) × (ws ≡ scan_leaves t ws)
   refused_text e = (sym (scan_told_refused t e (room_of ws)), sym (scan_leaves_refused t e ws))
 
   pub all_rows : text_judged t ≡ Ok tt →

@@ -13,6 +13,7 @@ use Rattle.std.specs.declared.result.Result.TheVariants.{Ok, Err}
 use Rattle.rules.specs.declared.Outer.TheVariants.{WindowShort}
 use Rattle.rules.specs.Text.{most_bytes, valid, start_place}
 use Rattle.rules.specs.Scan.{room_of, told, scan_told, scan_leaves}
+use Rattle.laws.proofs.Outcomes.{unread_same}
 use Rattle.theory_edits.specs.Scanned.{Scanned}
 use Rattle.theory_edits.specs.Change.{Change, old_text, new_text, Window, Unjudged, Unmet, TooShort}
 use Rattle.theory_edits.specs.Demand3.{Given, Due, tells, leaves, SaysSeven, IsFresh}
@@ -24,9 +25,9 @@ scan_no_7 : (t : List ℕ) (m : ℕ) → scan_told t m ≡ Err (unread WindowSho
 scan_no_7 t m e = by (scan_says t m) e
   where
     by : {x : Told} → Scans t m x → x ≡ Err (unread WindowShort start_place 0) → ⊥
-    by says_1 f = let q : ◌≡◌ {A = ℕ} 0 1 = cc in omega arith
-    by says_2 f = let q : ◌≡◌ {A = ℕ} 0 1 = cc in omega arith
-    by says_4 f = let q : ◌≡◌ {A = ℕ} 0 1 = cc in omega arith
+    by says_1 f = let q : ◌≡◌ {A = ℕ} 0 1 = cc (unread_same f).0 in omega arith
+    by says_2 f = let q : ◌≡◌ {A = ℕ} 0 1 = cc (unread_same f).0 in omega arith
+    by says_4 f = let q : ◌≡◌ {A = ℕ} 0 1 = cc (unread_same f).0 in omega arith
     by (says_rows l v r) f = let q : ◌≡◌ {A = ℕ} 0 1 = cc in omega arith
 
 -- 7 tells no rows

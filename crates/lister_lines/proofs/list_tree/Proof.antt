@@ -27,7 +27,7 @@ list_nodes_requires : tie.Need-list_nodes-requires
 unfolding room
 list_nodes_requires c κs =
     let p = c.before.before.before.before.parse in
-    let few = tree_few _ _ _ p.result p.new.nodes p.ensures.0 p.ensures.1 c.before.before.in-Nodes.count c.before.before.in-Nodes.is p.auto.nodes in
+    let few = tree_few _ _ _ p.result p.new.nodes p.ensures.0 p.ensures.1 c.before.before.in-Ok.count c.before.before.in-Ok.is p.auto.nodes in
     (omega (arith, few, p.auto.nodes, room_length), omega (arith, few))
 
 enum_known_why : tie.Need-enum_known-why
@@ -39,27 +39,27 @@ reason_number_requires c κs = search rules
 refusal_line_requires : tie.Need-refusal_line-requires
 refusal_line_requires c κs = search rules
 
-same_length : tie.Need-shape_of-out-in-Nodes
+same_length : tie.Need-shape_of-out-in-Ok
 same_length c = search rules
 
-returns : tie.Need-returns-in-Nodes
+returns : tie.Need-returns-in-Ok
 unfolding room
 returns c =
     let p = c.before.before.before.before.before.before.before.parse in
     let h = c.before.before.list_nodes.ensures in
-    let e = tree_nodes _ _ _ p.result p.new.nodes p.ensures.0 p.ensures.1 c.before.before.before.before.before.in-Nodes.count c.before.before.before.before.before.in-Nodes.is in
+    let e = tree_nodes _ _ _ p.result p.new.nodes p.ensures.0 p.ensures.1 c.before.before.before.before.before.in-Ok.count c.before.before.before.before.before.in-Ok.is in
     (adds_same (sym e) h.0, omega (arith, ap length e, h.1))
 
-same_length_2 : tie.Need-shape_of-out-in-Refused
+same_length_2 : tie.Need-shape_of-out-in-Err
 same_length_2 c = search rules
 
-returns_2 : tie.Need-returns-in-Refused
+returns_2 : tie.Need-returns-in-Err
 unfolding room
 returns_2 c =
     let p = c.before.before.before.before.before.before.before.parse in
     let h = c.before.before.refusal_line.ensures in
-    let e = tree_refused _ _ _ p.result p.new.nodes p.ensures.0 p.ensures.1 c.before.before.before.before.before.in-Refused.why c.before.before.before.before.before.in-Refused.place c.before.before.before.before.before.in-Refused.field-2 c.before.before.before.before.before.in-Refused.is in
-    let f = ap (λ (k : ℕ). refusal_line k c.before.before.before.before.before.in-Refused.place) c.before.before.before.reason_number.ensures ∙ sym e in
+    let e = tree_refused _ _ _ p.result p.new.nodes p.ensures.0 p.ensures.1 c.before.before.before.before.before.in-Err.e.why c.before.before.before.before.before.in-Err.e.at c.before.before.before.before.before.in-Err.e.found c.before.before.before.before.before.in-Err.is in
+    let f = ap (λ (k : ℕ). refusal_line k c.before.before.before.before.before.in-Err.e.at) c.before.before.before.reason_number.ensures ∙ sym e in
     (adds_same f h.0, omega (arith, ap length f, h.1))
 
 pub list_tree_spec : {M : Type 1} → statement M

@@ -28,11 +28,11 @@ judge_requires c κs = search rules
 enum_known_why : tie.Need-enum_known-why
 enum_known_why c = search rules
 
-returns : tie.Need-returns-in-Refused
+returns : tie.Need-returns-in-Err
 returns c =
     let j = c.before in
     let a = (start j).args in
-    told_refused a.text.now a.rows.now a.table c.in-Refused.why c.in-Refused.at (sym j.judge.ensures ∙ c.in-Refused.is)
+    told_refused a.text.now a.rows.now a.table c.in-Err.e.why c.in-Err.e.at (sym j.judge.ensures ∙ c.in-Err.is)
 
 enum_told : tie.Need-enum_told-1
 enum_told c = search rules
@@ -40,11 +40,11 @@ enum_told c = search rules
 enum_known_ending : tie.Need-enum_known-ending
 enum_known_ending c = search rules
 
-returns_2 : tie.Need-returns-in-Refused-ending
+returns_2 : tie.Need-returns-in-Refused
 returns_2 c =
     let d = c.before in
     let a = (entry d).args in
-    told_ending a.text.now a.rows.now a.table (well d) c.in-Refused-ending.why c.in-Refused-ending.at c.in-Refused-ending.is
+    told_ending a.text.now a.rows.now a.table (well d) c.in-Refused.why c.in-Refused.at c.in-Refused.is
 
 enum_told_2 : tie.Need-enum_told-in-None
 enum_told_2 c = search rules

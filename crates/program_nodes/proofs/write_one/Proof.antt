@@ -19,23 +19,23 @@ enum_known_n c = search rules
 enum_told : tie.Need-enum_told-1
 enum_told c = search rules
 
-same_length : tie.Need-shape_of-nodes-in-Nodes
+same_length : tie.Need-shape_of-nodes-in-Ok
 same_length c = search rules
 
-returns : tie.Need-returns-in-Nodes
+returns : tie.Need-returns-in-Ok
 returns c =
     let w = c.before.before.before in
     let s = start w in
-    one_written s.requires.0 s.args.nodes.now _ w.written.result w.written.ensures _ c.in-Nodes.is
+    one_written s.requires.0 s.args.nodes.now _ w.written.result w.written.ensures _ c.in-Ok.is
 
-same_length_2 : tie.Need-shape_of-nodes-in-Refused
+same_length_2 : tie.Need-shape_of-nodes-in-Err
 same_length_2 c = search rules
 
-returns_2 : tie.Need-returns-in-Refused
+returns_2 : tie.Need-returns-in-Err
 returns_2 c =
     let w = c.before.before.before in
     let s = start w in
-    absurd (one_refused s.requires.0 s.args.nodes.now _ w.written.result w.written.ensures _ _ _ c.in-Refused.is)
+    absurd (one_refused s.requires.0 s.args.nodes.now _ w.written.result w.written.ensures _ _ _ c.in-Err.is)
 
 pub write_one_spec : {M : Type 1} → statement M
 write_one_spec = tie.close (tie.spec written_requires enum_known_n enum_told same_length returns same_length_2 returns_2)

@@ -28,16 +28,16 @@ mul_put : tie.Need-offset_bounds-rows-at
 mul_put c = search rules
 
 shared_slice_read_put : tie.Need-bounds-rows-at
-shared_slice_read_put c = let h = told c.before.before.before.before.before.before.before.before.args.text.now c.before.before.before.before.before.before.before.before.args.rows.now c.before.before.before.before.before.table_of.result c.before.before.before.before.before.before.before.before.args.row (sym c.before.before.before.before.spelling_judge.ensures ∙ c.before.before.before.in-Fine.is) in omega (arith, h.lent)
+shared_slice_read_put c = let h = told c.before.before.before.before.before.before.before.before.args.text.now c.before.before.before.before.before.before.before.before.args.rows.now c.before.before.before.before.before.table_of.result c.before.before.before.before.before.before.before.before.args.row (sym c.before.before.before.before.spelling_judge.ensures ∙ c.before.before.before.in-Ok.is) in omega (arith, h.lent)
 
-add_put_2 : tie.Need-overflow_add-at-in-Fine
+add_put_2 : tie.Need-overflow_add-at-in-Ok
 add_put_2 c = search rules
 
-mul_put_2 : tie.Need-offset_bounds-rows-at-in-Fine
+mul_put_2 : tie.Need-offset_bounds-rows-at-in-Ok
 mul_put_2 c = search rules
 
-shared_slice_read_put_2 : tie.Need-bounds-rows-at-in-Fine
-shared_slice_read_put_2 c = let h = told c.before.before.before.before.before.before.before.before.before.args.text.now c.before.before.before.before.before.before.before.before.before.args.rows.now c.before.before.before.before.before.before.table_of.result c.before.before.before.before.before.before.before.before.before.args.row (sym c.before.before.before.before.before.spelling_judge.ensures ∙ c.before.before.before.before.in-Fine.is) in omega (arith, h.lent)
+shared_slice_read_put_2 : tie.Need-bounds-rows-at-in-Ok
+shared_slice_read_put_2 c = let h = told c.before.before.before.before.before.before.before.before.before.args.text.now c.before.before.before.before.before.before.before.before.before.args.rows.now c.before.before.before.before.before.before.table_of.result c.before.before.before.before.before.before.before.before.before.args.row (sym c.before.before.before.before.before.spelling_judge.ensures ∙ c.before.before.before.before.in-Ok.is) in omega (arith, h.lent)
 
 put_requires : tie.Need-put-requires
 put_requires c κs = search rules
@@ -48,14 +48,14 @@ enum_known_why c = search rules
 outer_number_requires : tie.Need-outer_number-requires
 outer_number_requires c κs = search rules
 
-put_requires_2 : tie.Need-put-requires-in-Refused
+put_requires_2 : tie.Need-put-requires-in-Err
 put_requires_2 c κs = search rules
 
-returns : tie.Need-returns-in-Fine
-returns c = rw (← c.before.before.before.before.before.before.before.table_of.ensures, sym c.before.before.before.before.before.before.spelling_judge.ensures ∙ c.before.before.before.before.before.in-Fine.is) (c.put.ensures ∙ rw c.before.before.before.no_place.ensures)
+returns : tie.Need-returns-in-Ok
+returns c = rw (← c.before.before.before.before.before.before.before.table_of.ensures, sym c.before.before.before.before.before.before.spelling_judge.ensures ∙ c.before.before.before.before.before.in-Ok.is) (c.put.ensures ∙ rw c.before.before.before.no_place.ensures)
 
-returns_2 : tie.Need-returns-in-Refused
-returns_2 c = rw (← c.before.before.before.before.before.table_of.ensures, sym c.before.before.before.before.spelling_judge.ensures ∙ c.before.before.before.in-Refused.is) (c.put-in-Refused.ensures ∙ rw c.before.outer_number.ensures)
+returns_2 : tie.Need-returns-in-Err
+returns_2 c = rw (← c.before.before.before.before.before.table_of.ensures, sym c.before.before.before.before.spelling_judge.ensures ∙ c.before.before.before.in-Err.is) (c.put-in-Err.ensures ∙ rw c.before.outer_number.ensures)
 
 pub spoonharbor_spelling_spec : {M : Type 1} → statement M
 spoonharbor_spelling_spec =
