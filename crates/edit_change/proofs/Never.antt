@@ -17,6 +17,7 @@ use Rattle.rules.specs.Text.{most_bytes, start_place, over}
 use Rattle.rules.specs.Rows.{Row, rows_in, well_formed}
 use Rattle.rules.specs.Scan.{told}
 use Rattle.rules.specs.Edit.{is_short, seen, restart, new_length, sensible, ends, judging, unjudged, window_bytes, window_valid, window_short, new_rows, new_ending, edit_told}
+use Rattle.laws.proofs.Outcomes.{unread_same}
 use Rattle.laws.proofs.Tests.{both_true, true_both}
 use Rattle.theory_edits.proofs.Kept.{restart_le}
 use Rattle.theory_edits.proofs.LookItem.{same_look}
@@ -28,19 +29,19 @@ use Rattle.edit_change.proofs.Calls.{Fits, fits_by, reaches}
 -- ---- what is told is no 7
 
 no_1 : {at : Cursor} {i : ℕ} → NotSeven (Err (unread TextTooLong at i))
-no_1 = record { never = λ p k e. let q : ◌≡◌ {A = ℕ} 0 1 = cc in omega arith }
+no_1 = record { never = λ p k e. let q : ◌≡◌ {A = ℕ} 0 1 = cc (unread_same e).0 in omega arith }
 
 no_2 : {at : Cursor} {i : ℕ} → NotSeven (Err (unread BadByte at i))
-no_2 = record { never = λ p k e. let q : ◌≡◌ {A = ℕ} 0 1 = cc in omega arith }
+no_2 = record { never = λ p k e. let q : ◌≡◌ {A = ℕ} 0 1 = cc (unread_same e).0 in omega arith }
 
 no_3 : {at : Cursor} {i : ℕ} → NotSeven (Err (unread NotWellFormed at i))
-no_3 = record { never = λ p k e. let q : ◌≡◌ {A = ℕ} 0 1 = cc in omega arith }
+no_3 = record { never = λ p k e. let q : ◌≡◌ {A = ℕ} 0 1 = cc (unread_same e).0 in omega arith }
 
 no_4 : {at : Cursor} {i : ℕ} → NotSeven (Err (unread NoRowRoom at i))
-no_4 = record { never = λ p k e. let q : ◌≡◌ {A = ℕ} 0 1 = cc in omega arith }
+no_4 = record { never = λ p k e. let q : ◌≡◌ {A = ℕ} 0 1 = cc (unread_same e).0 in omega arith }
 
 no_6 : {at : Cursor} {i : ℕ} → NotSeven (Err (unread EditNotSensible at i))
-no_6 = record { never = λ p k e. let q : ◌≡◌ {A = ℕ} 0 1 = cc in omega arith }
+no_6 = record { never = λ p k e. let q : ◌≡◌ {A = ℕ} 0 1 = cc (unread_same e).0 in omega arith }
 
 no_rows : {t : Table} → NotSeven (Ok t)
 no_rows = record { never = λ p k e. let q : ◌≡◌ {A = ℕ} 0 1 = cc in omega arith }

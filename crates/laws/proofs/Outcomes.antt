@@ -22,3 +22,7 @@ pub unparsed_same : {w v : Reason} {p q : Cursor} {n m : ℕ} → ◌≡◌ {A =
 unparsed_same {w} {v} {p} {q} {n} {m} e =
     let k : unparsed w p n ≡ unparsed v q m = cc in
     (ap (λ (u : Unparsed). u.why) k, ap (λ (u : Unparsed). u.at) k, ap (λ (u : Unparsed). u.found) k)
+
+pub unparsed_alike : {w v : Reason} {p q : Cursor} {n m : ℕ} → w ≡ v → p ≡ q → n ≡ m
+    → ◌≡◌ {A = Parsed} (Err (unparsed w p n)) (Err (unparsed v q m))
+unparsed_alike e f g = cc

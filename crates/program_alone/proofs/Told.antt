@@ -24,6 +24,7 @@ use Rattle.rules.specs.Rows.{row_no, rows_in}
 use Rattle.rules.specs.Tree.{Tree}
 use Rattle.rules.specs.Parse.{Out, ok, no}
 use Rattle.rules.specs.Calls.{judged, node_room, place_of_row, tokens, out_told, reading, ending_told, parse_told}
+use Rattle.laws.proofs.Outcomes.{unparsed_alike}
 use Rattle.laws.proofs.Calls.{judged_fine}
 use Rattle.rows.proofs.Inside.{fine}
 use Rattle.theory_grammar.proofs.Laws.{yield_width}
@@ -126,7 +127,11 @@ module _ (t ws : List ℕ) (tbl : Table) where
     where
       go : (r : Parsed) → alone_of r ≡ alone.Refused why p k → r ≡ Err (unparsed why p k)
       go (Ok n) e = let z : ◌≡◌ {A = ℕ} 0 1 = cc in absurd (omega arith)
-      go (Err refusal) e = cc
+      go (Err refusal) e =
+          let w : refusal.why ≡ why = cc in
+          let q : refusal.at ≡ p = cc in
+          let n : refusal.found ≡ k = cc in
+          unparsed_alike w q n
 
   -- A program has nodes.
   pub record SomeNodes : Type 0 where
