@@ -5,8 +5,8 @@ use mathlib.Core.List.{List}
 use mathlib.Core.Path.{◌≡◌, refl, ap, ◌∙◌}
 use lib.Dec.{leb}
 use lib.ListN.{length, get_or}
-use Rattle.rules.specs.declared.Ending.{Ending}
-use Rattle.rules.specs.declared.Ending.TheVariants.{None, Refused}
+use Rattle.rules.specs.Outcomes.{Ending}
+use Rattle.std.specs.declared.option.Option.TheVariants.{None, Some}
 use Rattle.rules.specs.declared.Table.{Table}
 use Rattle.std.specs.declared.result.Result.TheVariants.{Ok}
 use Rattle.rules.specs.Rows.{well_formed}
@@ -20,7 +20,7 @@ told_table table = by table.count table.length table.ending
   where
     by : (k n : ℕ) (e : Ending) → table_of (ending_words k n e) ≡ record { count = k; length = n; ending = e }
     by k n None = refl
-    by k n (Refused why p) = rw (number_some why, number_lexical why, number_back why)
+    by k n (Some e) = rw (number_some e.why, number_lexical e.why, number_back e.why)
 
 -- So it is for words that are known to be the table's.
 pub lent_table : (table : Table) {answer : List ℕ} → answer ≡ told_words (Ok table) → table_of answer ≡ table

@@ -1,13 +1,11 @@
 -- The one layout of eight words in which every answer of the outer face is given, and in which a table is lent:
 -- refusal number (0 if none), its offset, line and column, two words that it tells, a count, a length.
-use Rattle.std.specs.Prelude.{Result, Ok, Err, Bool, true, cond, List, [], ◌∷◌, ℕ, ◌+◌, ◌*◌, get_or, eqb}
+use Rattle.std.specs.Prelude.{Result, Ok, Err, Bool, true, cond, List, [], ◌∷◌, ℕ, ◌+◌, ◌*◌, get_or, eqb, None, Some}
 use Rattle.rules.specs.Rows.{at_end, at_start, words_per_row}
 use Rattle.rules.specs.declared.Cursor.{Cursor}
-use Rattle.rules.specs.declared.Ending.{Ending}
-use Rattle.rules.specs.declared.Ending.TheVariants as ending
+use Rattle.rules.specs.Outcomes.{Ending, halt, Told, Judged, Parsed}
 use Rattle.rules.specs.declared.Outer.{Outer}
 use Rattle.rules.specs.declared.Table.{Table}
-use Rattle.rules.specs.Outcomes.{Told, Judged, Parsed}
 use Rattle.rules.specs.declared.Syntax.{Syntax}
 use Rattle.rules.specs.declared.Reason.{Reason}
 use Rattle.rules.specs.declared.Reason.TheVariants as reason
@@ -27,8 +25,8 @@ nowhere = place 0 0 0
 -- ---- answers
 
 abbrev pub ending_words : ℕ → ℕ → Ending → List ℕ
-ending_words count length ending.None = words 0 nowhere 0 0 count length
-ending_words count length (ending.Refused why p) = words (lexical_number why) p 0 0 count length
+ending_words count length None = words 0 nowhere 0 0 count length
+ending_words count length (Some e) = words (lexical_number e.why) e.at 0 0 count length
 
 abbrev pub told_words : Told → List ℕ
 told_words (Ok t) = ending_words t.count t.length t.ending
@@ -72,7 +70,7 @@ is_ending number = cond (eqb number 0) true (is_lexical number)
 
 abbrev pub ending_of : List ℕ → Ending
 ending_of ws =
-    cond (eqb (get_or ws 0 0) 0) ending.None (ending.Refused (lexical_of (get_or ws 0 0)) (place (get_or ws 1 0) (get_or ws 2 0) (get_or ws 3 0)))
+    cond (eqb (get_or ws 0 0) 0) None (Some (halt (lexical_of (get_or ws 0 0)) (place (get_or ws 1 0) (get_or ws 2 0) (get_or ws 3 0))))
 
 -- Words whose first is no ending tell no table: their length is one that no text has, so no call takes them for well formed.
 unfoldable pub length_of : List ℕ → ℕ

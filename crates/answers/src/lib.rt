@@ -6,7 +6,7 @@ use refusals::{
     first_told, is_lexical, lexical_number, lexical_of, outer_number, second_told, syntax_number,
 };
 use rules::{
-    Column, Cursor, Ending, Line, Offset, Outer, Parsed, Reason, Syntax, Table, Told,
+    Column, Cursor, Halt, Line, Offset, Outer, Parsed, Reason, Syntax, Table, Told,
 };
 
 // ---- numbers
@@ -65,11 +65,11 @@ pub fn put_told(answer: &mut [u32; 8], told: Told)
         Ok(t) => {
             let ending = t.ending;
             match ending {
-                Ending::None => {
+                None => {
                     put(answer, 0, no_place(), 0, 0, t.count, t.length);
                 }
-                Ending::Refused(why, at) => {
-                    put(answer, lexical_number(why), at, 0, 0, t.count, t.length);
+                Some(e) => {
+                    put(answer, lexical_number(e.why), e.at, 0, 0, t.count, t.length);
                 }
             }
         }
@@ -164,19 +164,19 @@ pub fn table_of(told: &[u32; 8]) -> Table
         return Table {
             count: told[6],
             length,
-            ending: Ending::None,
+            ending: None,
         };
     }
     Table {
         count: told[6],
         length,
-        ending: Ending::Refused(
-            lexical_of(number),
-            Cursor {
+        ending: Some(Halt {
+            why: lexical_of(number),
+            at: Cursor {
                 offset: Offset(told[1]),
                 line: Line(told[2]),
                 column: Column(told[3]),
             },
-        ),
+        }),
     }
 }

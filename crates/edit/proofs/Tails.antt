@@ -12,10 +12,9 @@ use borrow.Rule.Slice.PartMut.{put_mid}
 use borrow.Author.Tests.{le-leb, lt-leb, leb-false}
 use Rattle.edit_parts.proofs.Room.{leb_behind}
 use Rattle.rules.specs.declared.Cursor.{Cursor}
-use Rattle.rules.specs.declared.Ending.{Ending}
+use Rattle.rules.specs.Outcomes.{Ending, Told, unread}
 use Rattle.rules.specs.declared.Outer.TheVariants.{NoRowRoom}
 use Rattle.rules.specs.declared.Table.{Table}
-use Rattle.rules.specs.Outcomes.{Told, unread}
 use Rattle.std.specs.declared.result.Result.TheVariants.{Ok, Err}
 use Rattle.rules.specs.Text.{start_place}
 use Rattle.rules.specs.Rows.{Row, rows_in, row_place, words_of}

@@ -2,10 +2,9 @@
 -- behind the kept rows.
 use Rattle.std.specs.Prelude.{◌≡◌, Bool, true, false, cond, not, ◌&&◌, List, map, ℕ, ◌+◌, ◌*◌, ◌^◌, ◌≤◌, ◌<◌, length, take, drop, eqb, leb, Err}
 use Rattle.rules.specs.declared.Cursor.{Cursor}
-use Rattle.rules.specs.declared.Ending.{Ending}
+use Rattle.rules.specs.Outcomes.{Ending, Told, unread}
 use Rattle.rules.specs.declared.Table.{Table}
 use Rattle.rules.specs.declared.Outer.TheVariants.{BadByte, NoRowRoom, WindowShort}
-use Rattle.rules.specs.Outcomes.{Told, unread}
 use Rattle.rules.specs.Text.{most_bytes, start_place, over}
 use Rattle.rules.specs.Rows.{Row, rows_in, row_place, well_formed}
 use Rattle.rules.specs.Edit.{Seen, kept, restart, new_length, seen, is_short, seen_rows, seen_ending, carry_row, carry_ending, recounted, ends, unjudged, window_bytes, window_valid, window_short, new_rows, new_ending}

@@ -6,7 +6,7 @@ ghost use Rattle.rows.specs.Shape.{as_row, row_no};
 ghost use Rattle.edit_carry.specs.Moves.{Moves, MovesPlace, MovesRow, MovesEnding};
 
 use rows::shape::Row;
-use rules::{Column, Cursor, Ending, Line, Offset, row};
+use rules::{Column, Cursor, Ending, Halt, Line, Offset, row};
 
 // A counter moved.
 fn moved(x: u32, o: u32, p: u32) -> u32
@@ -46,8 +46,11 @@ pub fn carry_ending(e: Ending, o: Cursor, p: Cursor) -> Ending
     ensures { result ≡ carry_ending o p e }
 {
     match e {
-        Ending::None => Ending::None,
-        Ending::Refused(why, q) => Ending::Refused(why, carry_place(q, o, p)),
+        None => None,
+        Some(halt) => Some(Halt {
+            why: halt.why,
+            at: carry_place(halt.at, o, p),
+        }),
     }
 }
 

@@ -17,7 +17,7 @@ use file_sizes::{block_rows, length_for, row_bytes, rows_here};
 use refusals::{is_lexical, lexical_of};
 use rows::shape;
 use rows::shape::Row;
-use rules::{Column, Cursor, Ending, Line, Offset, Outer, Table, kind, limit, row};
+use rules::{Column, Cursor, Halt, Line, Offset, Outer, Table, kind, limit, row};
 use rules_files::{EndingRead, Fault, Loaded, form};
 use rules_forms::{Form, short};
 
@@ -50,7 +50,10 @@ fn read_refused(number: u32, p: Cursor) -> EndingRead
     ensures { result ≡ read_refused number p }
 {
     if is_lexical(number) {
-        return EndingRead::Ends(Ending::Refused(lexical_of(number), p));
+        return EndingRead::Ends(Some(Halt {
+            why: lexical_of(number),
+            at: p,
+        }));
     }
     EndingRead::Nothing
 }
@@ -71,7 +74,7 @@ fn read_ending(number: u32, p: Cursor) -> EndingRead
     if p.column.0 != 0 {
         return EndingRead::Nothing;
     }
-    EndingRead::Ends(Ending::None)
+    EndingRead::Ends(None)
 }
 
 // The ending that block 0 of form 1 tells.
@@ -113,7 +116,7 @@ fn short_ending(file: &[u8]) -> EndingRead
     if offset != 0 {
         return EndingRead::Nothing;
     }
-    EndingRead::Ends(Ending::None)
+    EndingRead::Ends(None)
 }
 
 // The ending that block 0 of a form tells.
@@ -136,13 +139,13 @@ fn plain_rows(read: EndingRead, count: u32) -> u32
     match read {
         EndingRead::Nothing => 0,
         EndingRead::Ends(ending) => match ending {
-            Ending::None => {
+            None => {
                 if count == 0 {
                     return 0;
                 }
                 count - 1
             }
-            Ending::Refused(_, _) => count,
+            Some(_) => count,
         },
     }
 }
@@ -264,13 +267,13 @@ fn table_fits(form: Form, file: &[u8], table: Table, stand: bool) -> bool
     }
     let ending = table.ending;
     match ending {
-        Ending::None => {
+        None => {
             if count == 0 {
                 return false;
             }
             last_closes(form, file, count, size, count as usize - 1)
         }
-        Ending::Refused(_, p) => place_breaks(form, file, count, size, p),
+        Some(e) => place_breaks(form, file, count, size, e.at),
     }
 }
 

@@ -7,7 +7,7 @@ use native.Mathlib.Omega.{arith}
 use lib.ListN.{length, drop, length-append, length-take, length-drop}
 use Rattle.laws.proofs.Valid.{fine_text}
 use Rattle.laws.proofs.Rows.{few_rows}
-use Rattle.rules.specs.declared.Ending.{Ending}
+use Rattle.rules.specs.Outcomes.{Ending}
 use Rattle.std.specs.declared.result.Result.TheVariants.{Ok}
 use Rattle.rules.specs.declared.Table.{Table}
 use Rattle.rules.specs.Text.{start_place, place_at, text_judged}

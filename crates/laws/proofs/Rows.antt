@@ -8,11 +8,10 @@ use lib.ListN.{length, take, drop, get_or, length-append, length-take, length-dr
 use lib.Seq.{take-add, take_all, take-append-le, take-append-add, get_or-take, get_or-drop, drop-drop}
 use borrow.Author.Tests.{le-leb, lt-leb}
 use Rattle.rules.specs.declared.Cursor.{Cursor}
-use Rattle.rules.specs.declared.Ending.{Ending}
+use Rattle.rules.specs.Outcomes.{Ending, unfit, unread}
 use Rattle.rules.specs.declared.Outer.{Outer}
 use Rattle.rules.specs.declared.Outer.TheVariants.{NoRowRoom}
 use Rattle.rules.specs.declared.Unfit.{Unfit}
-use Rattle.rules.specs.Outcomes.{unfit, unread}
 use Rattle.std.specs.declared.result.Result.TheVariants.{Ok, Err}
 use Rattle.rules.specs.Text.{start_place, text_judged}
 use Rattle.rules.specs.Rows.{Row, row_words, row_in, row_at, row_no, rows_in, words_of}

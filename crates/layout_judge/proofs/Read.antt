@@ -9,9 +9,8 @@ use lib.ListN.{length, take, drop, length-append}
 use lib.Seq.{take-append_seam}
 use borrow.Author.Tests.{eq-eqb, ne_eqb}
 use Rattle.rules.specs.declared.Cursor.{Cursor}
-use Rattle.rules.specs.declared.Ending.{Ending}
-use Rattle.rules.specs.declared.Ending.TheVariants as ending
-use Rattle.rules.specs.Outcomes.{Judged, Parsed, unparsed}
+use Rattle.rules.specs.Outcomes.{Ending, Judged, Parsed, unparsed}
+use Rattle.std.specs.declared.option.Option.TheVariants.{None, Some}
 use Rattle.std.specs.declared.result.Result.TheVariants.{Ok, Err}
 use Rattle.rules.specs.declared.Outer.TheVariants.{NoNodeRoom}
 use Rattle.rules.specs.declared.Reason.{Reason}
@@ -43,13 +42,13 @@ out_given ws (no why r) m n e = let z : ◌≡◌ {A = ℕ} 0 1 = cc in absurd (
 module _ (t ws : List ℕ) (tbl : Table) where
   ending_given : (m : List ℕ) (n : ℕ) (e : Ending) → ending_told t ws tbl e (node_room m) ≡ Ok n → Given (reading t ws tbl) m (ending_leaves t ws tbl e m) n
   unfolding ending_told ending_leaves
-  ending_given m n ending.None e = by (ltb (node_room m) tbl.count) e
+  ending_given m n None e = by (ltb (node_room m) tbl.count) e
     where
       by : (b : Bool) → cond b (Err (unparsed (reason.Outer NoNodeRoom) start_place 0)) (out_told ws (reading t ws tbl)) ≡ Ok n
           → Given (reading t ws tbl) m (cond b m (out_leaves (reading t ws tbl) m)) n
       by true e = let z : ◌≡◌ {A = ℕ} 0 1 = cc in absurd (omega arith)
       by false e = out_given ws (reading t ws tbl) m n e
-  ending_given m n (ending.Refused why p) e = let z : ◌≡◌ {A = ℕ} 0 1 = cc in absurd (omega arith)
+  ending_given m n (Some refusal) e = let z : ◌≡◌ {A = ℕ} 0 1 = cc in absurd (omega arith)
 
   pub parse_given : (m : List ℕ) (n : ℕ) → parse_told t ws tbl (node_room m) ≡ Ok n → Given (reading t ws tbl) m (parse_leaves t ws tbl m) n
   unfolding parse_told parse_leaves

@@ -43,8 +43,8 @@ fn is_whole(ending: Ending) -> bool
     ensures { result ≡ is_whole ending }
 {
     match ending {
-        Ending::None => true,
-        Ending::Refused(_, _) => false,
+        None => true,
+        Some(_) => false,
     }
 }
 

@@ -8,9 +8,8 @@ use lib.Dec.{leb, ltb}
 use lib.ListN.{length, length-append, length-drop, length-replicate}
 use borrow.Author.Tests.{leb-true, lt-ltb, le-ltb}
 use Rattle.rules.specs.declared.Cursor.{Cursor}
-use Rattle.rules.specs.declared.Ending.{Ending}
-use Rattle.rules.specs.declared.Ending.TheVariants as ending
-use Rattle.rules.specs.Outcomes.{Judged, Parsed, unparsed, Told, unread}
+use Rattle.rules.specs.Outcomes.{Ending, Judged, Parsed, unparsed, Told, unread}
+use Rattle.std.specs.declared.option.Option.TheVariants.{None, Some}
 use Rattle.std.specs.declared.result.Result.TheVariants.{Ok, Err}
 use Rattle.rules.specs.declared.Outer.{Outer}
 use Rattle.rules.specs.declared.Outer.TheVariants.{NoNodeRoom}
@@ -74,14 +73,14 @@ out_few ws (no why r) m n e l = let z : ◌≡◌ {A = ℕ} 0 1 = cc in absurd (
 module _ (t ws : List ℕ) (tbl : Table) (m : List ℕ) (n : ℕ) where
   ending_few : (e : Ending) → ending_told t ws tbl e (node_room m) ≡ Ok n → length (ending_leaves t ws tbl e m) ≡ length m → n * 8 ≤ length m
   unfolding ending_told ending_leaves
-  ending_few ending.None e l = by (ltb (node_room m) tbl.count) e l
+  ending_few None e l = by (ltb (node_room m) tbl.count) e l
     where
       by : (b : Bool) → cond b (Err (unparsed (reason.Outer NoNodeRoom) start_place 0)) (out_told ws (reading t ws tbl)) ≡ Ok n
           → length (cond b m (out_leaves (reading t ws tbl) m)) ≡ length m
           → n * 8 ≤ length m
       by true e l = let z : ◌≡◌ {A = ℕ} 0 1 = cc in absurd (omega arith)
       by false e l = out_few ws (reading t ws tbl) m n e l
-  ending_few (ending.Refused why p) e l = let z : ◌≡◌ {A = ℕ} 0 1 = cc in absurd (omega arith)
+  ending_few (Some refusal) e l = let z : ◌≡◌ {A = ℕ} 0 1 = cc in absurd (omega arith)
 
   pub parse_few : parse_told t ws tbl (node_room m) ≡ Ok n → length (parse_leaves t ws tbl m) ≡ length m → n * 8 ≤ length m
   unfolding parse_told parse_leaves

@@ -14,10 +14,10 @@ use Rattle.rules.specs.declared.Lexical.{Lexical}
 use Rattle.rules.specs.declared.Outer.{Outer}
 use Rattle.rules.specs.declared.Outer.TheVariants.{NoNodeRoom}
 use Rattle.rules.specs.declared.Cursor.{Cursor}
-use Rattle.rules.specs.declared.Ending.TheVariants as ending
+use Rattle.rules.specs.Outcomes.{halt, unfit, Parsed, unparsed}
+use Rattle.std.specs.declared.option.Option.TheVariants.{None, Some}
 use Rattle.rules.specs.declared.Table.{Table}
 use Rattle.rules.specs.declared.Unfit.{Unfit}
-use Rattle.rules.specs.Outcomes.{unfit, Parsed, unparsed}
 use Rattle.std.specs.declared.result.Result.TheVariants.{Ok, Err}
 use Rattle.rules.specs.declared.Reason.TheVariants as reason
 use Rattle.rules.specs.Text.{start_place}
@@ -170,11 +170,11 @@ module _ (t ws : List ℕ) (tbl : Table) (m : List ℕ) where
   whole_refused e = rw (parse_told, parse_leaves, e) (refl, refl)
 
   module _ (fine : judged t ws tbl ≡ Ok tt) where
-    pub whole_ending : (why : Lexical) (p : Cursor) → tbl.ending ≡ ending.Refused why p → Whole (Err (unparsed (reason.Lexical why) p 0)) m
+    pub whole_ending : (why : Lexical) (p : Cursor) → tbl.ending ≡ Some (halt why p) → Whole (Err (unparsed (reason.Lexical why) p 0)) m
     unfolding parse_told parse_leaves ending_told ending_leaves
     whole_ending why p e = rw (parse_told, parse_leaves, fine) (rw (ending_told, ending_leaves, e) (refl, refl))
 
-    module _ (e : tbl.ending ≡ ending.None) where
+    module _ (e : tbl.ending ≡ None) where
       pub whole_tight : node_room m < tbl.count → (r : Parsed) → r ≡ Err (unparsed (reason.Outer NoNodeRoom) start_place 0) → Whole r m
       unfolding parse_told parse_leaves ending_told ending_leaves
       whole_tight h r q =

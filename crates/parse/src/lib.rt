@@ -12,7 +12,7 @@ ghost use Rattle.parse.specs.Program.{TopMet, ProgramMet, AsksTable, AsksEnded, 
 use parse_nodes::{At, Got};
 use rows::shape;
 use rules::kind::{EOF, EVENT, MAP, UNIT};
-use rules::{Cursor, Ending, Outer, Parsed, Reason, Syntax, Table, Unparsed, fits, node, node_kind};
+use rules::{Cursor, Outer, Parsed, Reason, Syntax, Table, Unparsed, fits, node, node_kind};
 
 // A map, an event or a unit at the row.
 fn top(text: &[u8], rows: &[u32], count: u32, nodes: &mut [u32], row: u32, node: u32) -> Got
@@ -158,14 +158,14 @@ pub fn parse(text: &[u8], rows: &[u32], table: Table, nodes: &mut [u32]) -> Pars
     rows::judge(text, rows, table)?;
     let ending = table.ending;
     match ending {
-        Ending::Refused(why, at) => {
+        Some(e) => {
             return Err(Unparsed {
-                why: Reason::Lexical(why),
-                at,
+                why: Reason::Lexical(e.why),
+                at: e.at,
                 found: 0,
             });
         }
-        Ending::None => {}
+        None => {}
     }
     let count = table.count as usize;
     if nodes.len() / node::WORDS < count {

@@ -9,9 +9,8 @@ use lib.Dec.{ltb}
 use lib.ListN.{length, replicate, length-replicate}
 use borrow.Author.Tests.{le-ltb}
 use Rattle.rules.specs.declared.Cursor.{Cursor}
-use Rattle.rules.specs.declared.Ending.{Ending}
-use Rattle.rules.specs.declared.Ending.TheVariants as ending
-use Rattle.rules.specs.Outcomes.{Judged, unfit, Parsed, unparsed}
+use Rattle.rules.specs.Outcomes.{Ending, halt, Judged, unfit, Parsed, unparsed}
+use Rattle.std.specs.declared.option.Option.TheVariants.{None, Some}
 use Rattle.std.specs.declared.result.Result.TheVariants.{Ok, Err}
 use Rattle.rules.specs.declared.Lexical.{Lexical}
 use Rattle.rules.specs.declared.Outer.{Outer}
@@ -62,12 +61,12 @@ module _ (t ws : List ℕ) (tbl : Table) where
   told_refused why p e = rw (alone_told, parse_told, e)
 
   module _ (well : judged t ws tbl ≡ Ok tt) where
-    pub told_ending : (why : Lexical) (p : Cursor) → tbl.ending ≡ ending.Refused why p
+    pub told_ending : (why : Lexical) (p : Cursor) → tbl.ending ≡ Some (halt why p)
         → alone.Refused (reason.Lexical why) p 0 ≡ alone_told t ws tbl
     unfolding alone_told parse_told ending_told alone_of
     told_ending why p e = rw (alone_told, parse_told, well) (rw (ending_told, e))
 
-    module _ (e : tbl.ending ≡ ending.None) where
+    module _ (e : tbl.ending ≡ None) where
       enough : ltb tbl.count tbl.count ≡ false
       enough = le-ltb tbl.count tbl.count (le_refl tbl.count)
 
@@ -110,10 +109,10 @@ module _ (t ws : List ℕ) (tbl : Table) where
   told_program e = go (judged t ws tbl) refl
     where
       clean : (v : Ending) → judged t ws tbl ≡ Ok tt → tbl.ending ≡ v → IsProgram t ws tbl.count
-      clean ending.None w n =
+      clean None w n =
           let a = out_program ws (reading_of t ws tbl.count) (told_read t ws tbl w n ∙ e) in
           program_read t ws tbl w n a.tree a.behind a.is
-      clean (ending.Refused why p) w n = absurd (no_program (reason.Lexical why) p 0 (told_ending t ws tbl w why p n ∙ e))
+      clean (Some refusal) w n = absurd (no_program (reason.Lexical refusal.why) refusal.at 0 (told_ending t ws tbl w refusal.why refusal.at n ∙ e))
 
       go : (v : Judged) → judged t ws tbl ≡ v → IsProgram t ws tbl.count
       go (Ok _) w = clean tbl.ending w refl

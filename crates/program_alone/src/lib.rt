@@ -6,7 +6,7 @@ ghost use Rattle.program_alone.specs.Told.{alone_of, alone_told};
 
 use parse::Passed;
 use rows::shape;
-use rules::{Cursor, Ending, Reason, Table};
+use rules::{Cursor, Reason, Table};
 
 // The text is a program; or why not, where, and the kind that 21 found.
 #[derive(Clone, Copy)]
@@ -46,10 +46,10 @@ pub fn read(text: &[u8], rows: &[u32], table: Table) -> Alone
     }
     let ending = table.ending;
     match ending {
-        Ending::Refused(why, at) => {
-            return Alone::Refused(Reason::Lexical(why), at, 0);
+        Some(e) => {
+            return Alone::Refused(Reason::Lexical(e.why), e.at, 0);
         }
-        Ending::None => {}
+        None => {}
     }
     pass(text, rows, table.count)
 }

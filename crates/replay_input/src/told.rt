@@ -1,6 +1,6 @@
 // What a scan or an edit tells, as the words that a sample has of it.
 use refusals::{lexical_number, outer_number};
-use rules::{Cursor, Ending, Table, Told};
+use rules::{Cursor, Table, Told};
 
 // The table that is told; one that no text has where the call is refused.
 pub fn table_of(told: Told) -> Table {
@@ -9,7 +9,7 @@ pub fn table_of(told: Told) -> Table {
         Err(e) => Table {
             count: e.rows,
             length: 0,
-            ending: Ending::None,
+            ending: None,
         },
     }
 }
@@ -25,8 +25,8 @@ pub fn ending_words(told: Told) -> [u32; 4] {
         Ok(table) => {
             let ending = table.ending;
             match ending {
-                Ending::None => [0, 0, 0, 0],
-                Ending::Refused(why, place) => at_place(lexical_number(why), place),
+                None => [0, 0, 0, 0],
+                Some(e) => at_place(lexical_number(e.why), e.at),
             }
         }
         Err(e) => at_place(outer_number(e.why), e.at),

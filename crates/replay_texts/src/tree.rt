@@ -5,7 +5,7 @@ use refusals::{first_told, lexical_number, reason_number, second_told, syntax_nu
 use replay_input::input::{LOST, count, letter};
 use replay_input::more;
 use replay_input::tally::Tally;
-use rules::{Cursor, Ending, Parsed, Reason, Syntax, Table, node, node_kind};
+use rules::{Cursor, Parsed, Reason, Syntax, Table, node, node_kind};
 
 // What was counted, and the next of our own nodes.
 #[derive(Clone, Copy)]
@@ -168,13 +168,13 @@ fn refused_at(ours: [u32; 7], number: u32, place: Cursor) -> bool {
 fn uncompared_agrees(table: Table, ours: [u32; 7]) -> bool {
     let ending = table.ending;
     match ending {
-        Ending::None => {
+        None => {
             if ours[0] == syntax_number(Syntax::OutOfRange) {
                 return true;
             }
             ours[0] == syntax_number(Syntax::TooDeep)
         }
-        Ending::Refused(why, place) => refused_at(ours, lexical_number(why), place),
+        Some(e) => refused_at(ours, lexical_number(e.why), e.at),
     }
 }
 

@@ -8,7 +8,7 @@ ghost use Rattle.rules.specs.Calls.{judged, spelling_judged, spelling_part};
 ghost use Rattle.laws.specs.Tests.{all_below};
 ghost use Rattle.rows.specs.Shape.{LengthTable, as_row, row_before, stands, closes, breaks};
 
-use rules::{Cursor, Ending, Outer, Table, Unfit, kind, limit, row};
+use rules::{Cursor, Outer, Table, Unfit, kind, limit, row};
 use shape::Row;
 
 pub mod shape;
@@ -105,7 +105,7 @@ pub fn well_formed(rows: &[u32], table: Table) -> bool
     }
     let ending = table.ending;
     match ending {
-        Ending::None => {
+        None => {
             if count == 0 {
                 return false;
             }
@@ -114,11 +114,11 @@ pub fn well_formed(rows: &[u32], table: Table) -> bool
             }
             row_closes(&least, &span, rows, size, count - 1)
         }
-        Ending::Refused(_, p) => {
+        Some(e) => {
             if !rows_stand(&least, &span, rows, count) {
                 return false;
             }
-            place_breaks(rows, size, count, p)
+            place_breaks(rows, size, count, e.at)
         }
     }
 }

@@ -1,12 +1,10 @@
 -- What the calls over a lent table answer and leave in lent memory: the table test, spelling, the method sets, and the parse.
-use Rattle.std.specs.Prelude.{Result, Ok, Err, cond, ◌&&◌, List, [], ◌++◌, map, ℕ, ◌*◌, ◌/◌, length, drop, eqb, leb, ltb}
+use Rattle.std.specs.Prelude.{Result, Ok, Err, cond, ◌&&◌, List, [], ◌++◌, map, ℕ, ◌*◌, ◌/◌, length, drop, eqb, leb, ltb, None, Some}
 use Rattle.rules.specs.declared.Cursor.{Cursor}
-use Rattle.rules.specs.declared.Ending.{Ending}
-use Rattle.rules.specs.declared.Ending.TheVariants as ending
+use Rattle.rules.specs.Outcomes.{Ending, Judged, unfit, Parsed, unparsed}
 use Rattle.rules.specs.declared.Table.{Table}
 use Rattle.rules.specs.declared.Outer.{Outer}
 use Rattle.rules.specs.declared.Outer.TheVariants.{NotWellFormed, NoNodeRoom}
-use Rattle.rules.specs.Outcomes.{Judged, unfit, Parsed, unparsed}
 use Rattle.rules.specs.declared.Reason.TheVariants as reason
 use Rattle.rules.specs.Text.{start_place, text_judged}
 use Rattle.rules.specs.Refusals.{found_told}
@@ -77,13 +75,13 @@ reading t ws tbl = parse (tokens t (rows_in tbl.count ws))
 
 -- A refused ending is answered between 3 and 5. 5: node room below row count.
 unfoldable pub ending_told : List ℕ → List ℕ → Table → Ending → ℕ → Parsed
-ending_told t ws tbl ending.None room =
+ending_told t ws tbl None room =
     cond (ltb room tbl.count) (Err (unparsed (reason.Outer NoNodeRoom) start_place 0)) (out_told ws (reading t ws tbl))
-ending_told t ws tbl (ending.Refused why p) room = Err (unparsed (reason.Lexical why) p 0)
+ending_told t ws tbl (Some e) room = Err (unparsed (reason.Lexical e.why) e.at 0)
 
 unfoldable pub ending_leaves : List ℕ → List ℕ → Table → Ending → List ℕ → List ℕ
-ending_leaves t ws tbl ending.None new = cond (ltb (node_room new) tbl.count) new (out_leaves (reading t ws tbl) new)
-ending_leaves t ws tbl (ending.Refused why p) new = new
+ending_leaves t ws tbl None new = cond (ltb (node_room new) tbl.count) new (out_leaves (reading t ws tbl) new)
+ending_leaves t ws tbl (Some e) new = new
 
 -- Parse order: 1, 2, 3, the table's own refused ending, 5, then reading order.
 unfoldable pub parse_told : List ℕ → List ℕ → Table → ℕ → Parsed

@@ -1,6 +1,8 @@
 -- What calls tell, as results: what was asked for, or why not.
-use Rattle.std.specs.Prelude.{ℕ, Result}
+use Rattle.std.specs.Prelude.{ℕ, Option, Result}
 use Rattle.rules.specs.declared.Cursor.{Cursor}
+use Rattle.rules.specs.declared.Halt.{Halt}
+use Rattle.rules.specs.declared.Lexical.{Lexical}
 use Rattle.rules.specs.declared.Outer.{Outer}
 use Rattle.rules.specs.declared.Reason.{Reason}
 use Rattle.rules.specs.declared.Table.{Table}
@@ -28,3 +30,10 @@ Parsed = Result ℕ Unparsed
 
 abbrev pub unparsed : Reason → Cursor → ℕ → Unparsed
 unparsed why at found = record { why = why; at = at; found = found }
+
+-- how a table ends: at the text's end, or where it cannot be read on
+abbrev pub Ending : Type 0
+Ending = Option Halt
+
+abbrev pub halt : Lexical → Cursor → Halt
+halt why at = record { why = why; at = at }

@@ -1,11 +1,9 @@
 -- The scan of a text into rows and ending, and what a scan with so much room answers and leaves in lent memory.
-use Rattle.std.specs.Prelude.{cond, List, [], ◌∷◌, ◌++◌, ℕ, zero, suc, pred, ◌+◌, ◌*◌, ◌/◌, min, length, take, drop, leb, Ok, Err}
+use Rattle.std.specs.Prelude.{cond, List, [], ◌∷◌, ◌++◌, ℕ, zero, suc, pred, ◌+◌, ◌*◌, ◌/◌, min, length, take, drop, leb, Ok, Err, None, Some}
 use Rattle.rules.specs.declared.Cursor.{Cursor}
 use Rattle.rules.specs.declared.Lexical.{Lexical}
-use Rattle.rules.specs.declared.Ending.{Ending}
-use Rattle.rules.specs.declared.Ending.TheVariants as ending
+use Rattle.rules.specs.Outcomes.{Ending, halt, Told, unread}
 use Rattle.rules.specs.declared.Outer.TheVariants.{NoRowRoom}
-use Rattle.rules.specs.Outcomes.{Told, unread}
 use Rattle.rules.specs.Text.{place_at, start_place, text_judged}
 use Rattle.rules.specs.Rows.{Row, row_at, eof_row, words_of, words_per_row}
 use Rattle.rules.specs.Lex.{blank, comment, row, refused, piece}
@@ -23,8 +21,8 @@ read_rows (stops why p d) = []
 
 unfoldable pub read_ending : Reading → Ending
 read_ending (put r l) = read_ending l
-read_ending ends = ending.None
-read_ending (stops why p d) = ending.Refused why p
+read_ending ends = None
+read_ending (stops why p d) = Some (halt why p)
 
 -- The bytes from offset k on, of which the first n belong to the piece that was read last; c comments stand in the gap behind the last
 -- row so far. `pos` gives places.

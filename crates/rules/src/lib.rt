@@ -89,12 +89,15 @@ pub enum Lexical {
     NumberTooLarge,
 }
 
-// How a table ends.
+// Why a text cannot be read on, and where.
 #[derive(Clone, Copy)]
-pub enum Ending {
-    None,
-    Refused(Lexical, Cursor),
+pub struct Halt {
+    pub why: Lexical,
+    pub at: Cursor,
 }
+
+// How a table ends: at the text's end, or where the text cannot be read on.
+pub type Ending = Option<Halt>;
 
 // What stands beside a table's rows.
 #[derive(Clone, Copy)]

@@ -1,9 +1,8 @@
 -- Edits: the worked case of LANGUAGE.md 12, and for each easy misreading of "The edit" the smallest case that shows it. One table under one theorem.
-use Rattle.std.specs.Prelude.{◌≡◌, refl, Bool, true, false, cond, List, [], ◌∷◌, ◌++◌, map, ℕ, ◌+◌, ◌*◌, length, take, drop, Ok, Err}
-use Rattle.rules.specs.Outcomes.{Told, unread}
+use Rattle.std.specs.Prelude.{◌≡◌, refl, Bool, true, false, cond, List, [], ◌∷◌, ◌++◌, map, ℕ, ◌+◌, ◌*◌, length, take, drop, Ok, Err, Some}
+use Rattle.rules.specs.Outcomes.{Told, unread, halt}
 use Rattle.rules.specs.declared.Outer.TheVariants.{BadByte, WindowShort}
 use Rattle.rules.specs.declared.Lexical.TheVariants.{NoRowBegins}
-use Rattle.rules.specs.declared.Ending.TheVariants as ending
 use Rattle.rules.specs.declared.Table.{Table}
 use Rattle.rules.specs.Text
 use Rattle.rules.specs.Text.{place, start_place, bytes}
@@ -178,7 +177,7 @@ strange =
       a = 0;
       n = 0;
       window = 32 ∷ 32 ∷ 32 ∷ 0xE0 ∷ 0xA0 ∷ [];
-      told = Ok (record { count = 0; length = 7; ending = ending.Refused NoRowBegins (place 3 1 4) });
+      told = Ok (record { count = 0; length = 7; ending = Some (halt NoRowBegins (place 3 1 4)) });
     }
     -- E0 80 last begins no character: 2
     ∷ record { text = blanks; a = 0; n = 0; window = 32 ∷ 32 ∷ 32 ∷ 0xE0 ∷ 0x80 ∷ []; told = Err (unread BadByte (place 3 1 4) 0) }

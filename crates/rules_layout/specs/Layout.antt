@@ -1,8 +1,7 @@
 -- "Lay out a probe", the call: what it tells, and what it leaves in the lent room. Lent are a text, rows and their table, nodes and their
 -- count, and a room of bytes.
-use Rattle.std.specs.Prelude.{Bool, true, false, cond, ◌&&◌, List, [], ◌++◌, ℕ, ◌*◌, length, take, drop, eqb, leb, Ok, Err}
-use Rattle.rules.specs.declared.Ending.{Ending}
-use Rattle.rules.specs.declared.Ending.TheVariants as ending
+use Rattle.std.specs.Prelude.{Bool, true, false, cond, ◌&&◌, List, [], ◌++◌, ℕ, ◌*◌, length, take, drop, eqb, leb, Ok, Err, None, Some}
+use Rattle.rules.specs.Outcomes.{Ending}
 use Rattle.rules.specs.declared.Table.{Table}
 use Rattle.rules.specs.Text.{most_bytes, text_judged}
 use Rattle.rules.specs.Kinds.{same_bytes}
@@ -22,8 +21,8 @@ use Rattle.rules_layout.specs.Bytes.{layout}
 
 -- no refusal ends it
 unfoldable pub is_whole : Ending → Bool
-is_whole ending.None = true
-is_whole (ending.Refused why p) = false
+is_whole None = true
+is_whole (Some e) = false
 
 -- the words are those that are lent first
 abbrev pub begins : List ℕ → List ℕ → Bool

@@ -1,9 +1,8 @@
 -- Worked pairs of edits, through the calls as the rules define them: each call is lent what the one before left and told.
 -- Either order where the two are apart, and what comes of two that touch; in a row, and by one edit that covers both; and
 -- several on both sides. Three tables, and the cases that touch, under one theorem, `right`.
-use Rattle.std.specs.Prelude.{◌≡◌, refl, Bool, true, false, List, [], ◌∷◌, ◌++◌, map, ℕ, length, drop, Ok, Err}
+use Rattle.std.specs.Prelude.{◌≡◌, refl, Bool, true, false, List, [], ◌∷◌, ◌++◌, map, ℕ, length, drop, Ok, Err, None}
 use Rattle.rules.specs.Outcomes.{Told}
-use Rattle.rules.specs.declared.Ending.TheVariants as ending
 use Rattle.rules.specs.declared.Table.{Table}
 use Rattle.rules.specs.Text
 use Rattle.rules.specs.Text.{bytes, valid}
@@ -35,7 +34,7 @@ held_of o = by o.told
   where
     by : Told → Held
     by (Ok table) = record { words = o.words; table = table }
-    by (Err e) = record { words = []; table = record { count = 0; length = 0; ending = ending.None } }
+    by (Err e) = record { words = []; table = record { count = 0; length = 0; ending = None } }
 
 -- lent memory: room for six rows, every word 7
 abbrev sevens : List ℕ

@@ -8,9 +8,9 @@ use native.Mathlib.Omega.{arith}
 use lib.ListN.{length}
 use lib.Dec.{leb}
 use Rattle.rules.specs.declared.Cursor.{Cursor}
-use Rattle.rules.specs.declared.Ending.TheVariants as ending
 use Rattle.rules.specs.declared.Unfit.{Unfit}
-use Rattle.rules.specs.Outcomes.{unread, unfit}
+use Rattle.rules.specs.Outcomes.{halt, unread, unfit}
+use Rattle.std.specs.declared.option.Option.TheVariants.{None, Some}
 use Rattle.rules.specs.declared.Outer.{Outer}
 use Rattle.std.specs.declared.result.Result.TheVariants.{Ok, Err}
 use Rattle.rules.specs.Text.{most_bytes, place_at, start_place, text_judged}
@@ -31,8 +31,8 @@ use Rattle.scan_walk.specs.Walk.{place_in, rows_seen, stop_seen, seen_from, walk
 
 unfoldable as_seen : Reading → Seen
 as_seen (put r l) = sees r (as_seen l)
-as_seen ends = over' ending.None
-as_seen (stops why p d) = over' (ending.Refused why p)
+as_seen ends = over' None
+as_seen (stops why p d) = over' (Some (halt why p))
 
 rows_same : (l : Reading) → rows_seen (as_seen l) ≡ read_rows l
 unfolding rows_seen as_seen read_rows
@@ -65,7 +65,7 @@ module _ (t : List ℕ) (meet : ℕ → Bool) (never : (m : ℕ) → meet m ≡ 
         | blank ↦ seen c zero (suc k) s
         | comment n d ↦ seen (suc c) (pred n) (suc k) s
         | row kind n bits d ↦ sees (row_at (place_in start_place t k) c kind (k + n) bits) (seen zero (pred n) (suc k) s)
-        | refused why p d ↦ over' (ending.Refused why (place_in start_place t (k + p)))
+        | refused why p d ↦ over' (Some (halt why (place_in start_place t (k + p))))
       ]
       ≡ as_seen (elim x as (λ _. Reading) [
         | blank ↦ read (place_at t) c zero (suc k) s

@@ -1,6 +1,6 @@
 // The scan: the rows of a text, written into lent words as far as they go.
 ghost use Rattle.std.specs.Prelude.{◌≡◌, List, ◌<◌, ◌^◌, length};
-ghost use Rattle.rules.specs.declared.Ending.{Ending as Endings};
+ghost use Rattle.rules.specs.Outcomes.{Ending as Endings};
 ghost use Rattle.rules.specs.Rows.{Row};
 ghost use Rattle.rules.specs.Scan.{told as told_of, room_of, scan_told, scan_leaves};
 ghost use Rattle.scan_stop.specs.declared.Stop.TheVariants.{Over};
@@ -17,8 +17,8 @@ fn ending_of(stop: Stop) -> Ending
 {
     match stop {
         Stop::Over(ending) => ending,
-        Stop::Met(_, _, _) => Ending::None,
-        Stop::Short => Ending::None,
+        Stop::Met(_, _, _) => None,
+        Stop::Short => None,
     }
 }
 

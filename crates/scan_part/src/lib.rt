@@ -1,6 +1,6 @@
 // The rows of a text, so many at a time: a scan that stops behind so many rows and goes on later, so that its rows take room for one part.
 ghost use Rattle.std.specs.Prelude.{◌≡◌, ◌++◌, ◌*◌, ◌≤◌, length, drop};
-ghost use Rattle.rules.specs.declared.Ending.{Ending as Endings};
+ghost use Rattle.rules.specs.Outcomes.{Ending as Endings};
 ghost use Rattle.rules.specs.Rows.{words_of, words_per_row};
 ghost use Rattle.scan_stop.specs.declared.Stop.TheVariants as stops;
 ghost use Rattle.scan_part.specs.Part.{Begun, PartOf, part_rows};
@@ -33,8 +33,8 @@ fn over_at(stop: Stop) -> Next
 {
     match stop {
         Stop::Over(ending) => Next::Over(ending),
-        Stop::Met(_, _, _) => Next::Over(Ending::None),
-        Stop::Short => Next::Over(Ending::None),
+        Stop::Met(_, _, _) => Next::Over(None),
+        Stop::Short => Next::Over(None),
     }
 }
 

@@ -1,7 +1,6 @@
 -- A walk over bytes that begin at a place: the rows that it passes, and how it stops. It is what the rules' `look` sees.
 use Rattle.std.specs.Prelude.{◌≡◌, Bool, cond, List, [], ◌∷◌, ◌++◌, ℕ, ◌+◌, ◌-◌, ◌*◌, ◌^◌, ◌≤◌, ◌<◌, length, take, drop, get_or, ltb}
 use Rattle.rules.specs.declared.Cursor.{Cursor}
-use Rattle.rules.specs.declared.Ending.TheVariants as ending
 use Rattle.rules.specs.declared.Lexical.{Lexical}
 use Rattle.rules.specs.Text.{over, along, front, not_newline, is_blank, Roomy}
 use Rattle.rules.specs.Rows.{Row, row_at, eof_row, row_words, rows_in, words_per_row}

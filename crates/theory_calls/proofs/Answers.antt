@@ -12,13 +12,12 @@ use lib.ListN.{length}
 use borrow.Author.Tests.{lt-ltb, le-ltb}
 use Rattle.rules.specs.declared.Cursor.{Cursor}
 use Rattle.rules.specs.declared.Lexical.{Lexical}
-use Rattle.rules.specs.declared.Ending.{Ending}
-use Rattle.rules.specs.declared.Ending.TheVariants as ending
+use Rattle.rules.specs.Outcomes.{Ending, halt, unread, Parsed}
+use Rattle.std.specs.declared.option.Option.TheVariants.{None, Some}
 use Rattle.rules.specs.declared.Outer.TheVariants.{TextTooLong, BadByte, NoRowRoom}
 use Rattle.rules.specs.declared.Syntax.{Syntax}
 use Rattle.rules.specs.declared.Reason.{Reason}
 use Rattle.rules.specs.declared.Reason.TheVariants as reason
-use Rattle.rules.specs.Outcomes.{unread, Parsed}
 use Rattle.std.specs.declared.result.Result.TheVariants.{Ok, Err}
 use Rattle.rules.specs.Text.{most_bytes, valid_bytes, valid, place_at, start_place}
 use Rattle.rules.specs.Refusals.{found_told}
@@ -38,7 +37,7 @@ use Rattle.theory_calls.specs.Demand2.{rows_of, tokens_of, Readable, ScansFully,
 no_nodes : {new m : List ℕ} {r : Parsed} {why : Reason} {at : Cursor} {found n : ℕ} → Refused new r m why at found → r ≡ Ok n → ⊥
 no_nodes a e = let f = a.told in let z : ◌≡◌ {A = ℕ} 0 1 = cc in omega arith
 
-none_refused : {why : Lexical} {at : Cursor} → ending.None ≡ ending.Refused why at → ⊥
+none_refused : {why : Lexical} {at : Cursor} → None ≡ Some (halt why at) → ⊥
 none_refused e = let z : ◌≡◌ {A = ℕ} 0 1 = cc in omega arith
 
 module _ (t new : List ℕ) (r : Parsed) (m : List ℕ) where
@@ -99,8 +98,8 @@ module _ (t new : List ℕ) where
   by_reading (no why k) = 6
 
   by_ending : Ending → ℕ
-  by_ending ending.None = cond (ltb (node_room new) (length (rows_of t))) 4 (by_reading (parse (tokens_of t)))
-  by_ending (ending.Refused why at) = 3
+  by_ending None = cond (ltb (node_room new) (length (rows_of t))) 4 (by_reading (parse (tokens_of t)))
+  by_ending (Some e) = 3
 
   holds : ℕ
   holds = cond (ltb most_bytes (length t)) 1 (cond (not (valid t)) 2 (by_ending (read_ending (scan t))))

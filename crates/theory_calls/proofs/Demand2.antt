@@ -10,15 +10,14 @@ use lib.Seq.{drop-drop}
 use borrow.Author.Tests.{lt-ltb, le-ltb, ltb-true, ltb-false}
 use Rattle.rules.specs.declared.Cursor.{Cursor}
 use Rattle.rules.specs.declared.Lexical.{Lexical}
-use Rattle.rules.specs.declared.Ending.{Ending}
-use Rattle.rules.specs.declared.Ending.TheVariants as ending
+use Rattle.rules.specs.Outcomes.{Ending, halt, unfit, Parsed, unparsed}
+use Rattle.std.specs.declared.option.Option.TheVariants.{None, Some}
 use Rattle.rules.specs.declared.Outer.{Outer}
 use Rattle.rules.specs.declared.Outer.TheVariants.{TextTooLong, BadByte, NoNodeRoom}
 use Rattle.rules.specs.declared.Syntax.{Syntax}
 use Rattle.rules.specs.declared.Syntax.TheVariants.{Wanted, NotTopLevel, NotMapField, MapTypeUnknown, NotType, MaxNegative, OutOfRange, ShiftCount, MapLacks, NotEventType, CallOnOther, TooDeep}
 use Rattle.rules.specs.declared.Reason.{Reason}
 use Rattle.rules.specs.declared.Reason.TheVariants as reason
-use Rattle.rules.specs.Outcomes.{unfit, Parsed, unparsed}
 use Rattle.std.specs.declared.result.Result.TheVariants.{Ok, Err}
 use Rattle.rules.specs.declared.Table.{Table}
 use Rattle.rules.specs.Text.{most_bytes, valid_bytes, valid, place_at, start_place}
@@ -105,7 +104,7 @@ module _ (t ws : List ℕ) (table : Table) (new : List ℕ) where
     fine : judged t ws table ≡ Ok tt
     fine = judged_well t ws table (text_fine t k.fits k.good) (scanned_well_formed s) (ap (λ (x : Table). x.length) s.told)
 
-    stopped : (why : Lexical) (at : Cursor) → read_ending (scan t) ≡ ending.Refused why at
+    stopped : (why : Lexical) (at : Cursor) → read_ending (scan t) ≡ Some (halt why at)
         → Refused new tells leaves (reason.Lexical why) at 0
     unfolding parse_told parse_leaves ending_told ending_leaves
     stopped why at e = record { told = rw (parse_told, fine, s.told, e); left = rw (parse_leaves, fine, s.told, e) }
@@ -185,8 +184,8 @@ module _ (t ws : List ℕ) (table : Table) (new : List ℕ) where
     room_answers false q = reading_answers (ltb-false (node_room new) (length (rows_of t)) q) (parse (tokens_of t)) refl
 
   ending_answers : (k : Readable t) → Scanned t ws table → (x : Ending) → read_ending (scan t) ≡ x → Answers
-  ending_answers k s ending.None e = room_answers (record { readable = k; ends = e }) s (ltb (node_room new) (length (rows_of t))) refl
-  ending_answers k s (ending.Refused why at) e = ends_refused k why at e (stopped k s why at e)
+  ending_answers k s None e = room_answers (record { readable = k; ends = e }) s (ltb (node_room new) (length (rows_of t))) refl
+  ending_answers k s (Some refusal) e = ends_refused k refusal.why refusal.at e (stopped k s refusal.why refusal.at e)
 
 -- ---- the theorem
 

@@ -9,11 +9,10 @@ use lib.ListN.{length, drop, length-append}
 use borrow.Author.Tests.{eq-eqb, le-leb, leb-true}
 use Rattle.rules.specs.declared.Cursor.{Cursor}
 use Rattle.rules.specs.declared.Lexical.{Lexical}
-use Rattle.rules.specs.declared.Ending.{Ending}
-use Rattle.rules.specs.declared.Ending.TheVariants as ending
+use Rattle.rules.specs.Outcomes.{Ending, halt, Judged, Told, unread}
+use Rattle.std.specs.declared.option.Option.TheVariants.{None, Some}
 use Rattle.rules.specs.declared.Table.{Table}
 use Rattle.rules.specs.declared.Outer.TheVariants.{TextTooLong, BadByte, NoRowRoom}
-use Rattle.rules.specs.Outcomes.{Judged, Told, unread}
 use Rattle.std.specs.declared.result.Result.TheVariants.{Ok, Err}
 use Rattle.rules.specs.Kinds
 use Rattle.rules.specs.Kinds.{is_made}
@@ -94,7 +93,7 @@ module _ (T : List ℕ) where
   eof_put r n [] e h = absurd (true≢false (sym h))
   eof_put r n (q ∷ rs) e h = true_both e h
 
-  eof_last_lem : {lo : ℕ} {l : Reading} → Well T lo l → read_ending l ≡ ending.None → eof_last (length T) (read_rows l) ≡ true
+  eof_last_lem : {lo : ℕ} {l : Reading} → Well T lo l → read_ending l ≡ None → eof_last (length T) (read_rows l) ≡ true
   unfolding read_rows read_ending eof_last is_eof eof_row row_at place_at
   eof_last_lem (well_row {t = t} {k = k} {x = x} {l = l} c a h f w) e =
       eof_put (row_at (place_at T t) c x.kind (t + k) x.bits) (length T) (read_rows l) (not_eof c t (t + k) x f) (eof_last_lem w e)
@@ -129,7 +128,7 @@ module _ (T : List ℕ) where
             (true_both (le-leb (t + k) p.offset.0 g) (rw s.place (places_fit T t p.offset.0 (omega arith) s.inside))) s.last;
       }
 
-  stopped : {lo : ℕ} {l : Reading} → Well T lo l → (why : Lexical) (p : Cursor) → read_ending l ≡ ending.Refused why p → Stopped lo (read_rows l) p
+  stopped : {lo : ℕ} {l : Reading} → Well T lo l → (why : Lexical) (p : Cursor) → read_ending l ≡ Some (halt why p) → Stopped lo (read_rows l) p
   unfolding read_rows read_ending every last_row ends_behind place_at
   stopped {lo} (well_row {t = t} {k = k} {x = x} {l = l} c a h f w) why p e =
       stopped_row lo c t k x (read_rows l) p (omega arith) f (stopped w why p e)
@@ -140,10 +139,10 @@ module _ (T : List ℕ) where
 
   ending_fits_lem : {lo : ℕ} {l : Reading} → Well T lo l → (x : Ending) → read_ending l ≡ x → ending_fits (length T) (read_rows l) x ≡ true
   unfolding ending_fits
-  ending_fits_lem w ending.None e = eof_last_lem w e
-  ending_fits_lem w (ending.Refused why p) e =
-      let s : Stopped _ _ p = stopped w why p e in
-      true_both s.rows (true_both (true_both (le-leb p.offset.0 (length T) s.inside) (rw s.place (place_fits_lem T p.offset.0))) s.last)
+  ending_fits_lem w None e = eof_last_lem w e
+  ending_fits_lem w (Some refusal) e =
+      let s : Stopped _ _ refusal.at = stopped w refusal.why refusal.at e in
+      true_both s.rows (true_both (true_both (le-leb refusal.at.offset.0 (length T) s.inside) (rw s.place (place_fits_lem T refusal.at.offset.0))) s.last)
 
   pub scan_fits : rows_fit (length T) (read_rows (scan T)) (read_ending (scan T)) ≡ true
   unfolding rows_fit

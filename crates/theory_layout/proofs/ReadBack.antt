@@ -9,7 +9,7 @@ use lib.Dec.{eqb}
 use lib.ListN.{length, get_or, length-append, length-map}
 use borrow.Author.Tests.{eqb-true, eqb-false, eq-eqb}
 use Rattle.std.specs.declared.result.Result.TheVariants.{Ok}
-use Rattle.rules.specs.declared.Ending.TheVariants.{None}
+use Rattle.std.specs.declared.option.Option.TheVariants.{None}
 use Rattle.rules.specs.Text.{most_bytes, place_at, text_judged, valid}
 use Rattle.rules.specs.Kinds.{Eof}
 use Rattle.rules.specs.Scan.{scan, read, read_rows, read_ending}

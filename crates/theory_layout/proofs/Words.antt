@@ -7,7 +7,7 @@ use native.Mathlib.Omega.{arith}
 use lib.Dec.{eqb}
 use lib.ListN.{length, get_or, take, drop, take-append-drop}
 use Rattle.std.specs.declared.result.Result.TheVariants.{Ok}
-use Rattle.rules.specs.declared.Ending.TheVariants.{None}
+use Rattle.std.specs.declared.option.Option.TheVariants.{None}
 use Rattle.rules.specs.Text.{most_bytes, text_judged}
 use Rattle.rules.specs.Kinds.{Identifier, StringLiteral, Number, Eof}
 use Rattle.rules.specs.Rows.{Row, row_no, rows_in, words_of, spelling, value_bits}

@@ -1,6 +1,5 @@
 -- Reading back: "a tree with the same kinds, children, spellings and facts; only places, name rows and the licence's row number may differ".
-use Rattle.std.specs.Prelude.{◌≡◌, cond, List, [], ◌∷◌, map, ℕ, zero, suc, eqb, get_or, length, drop, Ok}
-use Rattle.rules.specs.declared.Ending.TheVariants.{None}
+use Rattle.std.specs.Prelude.{◌≡◌, cond, List, [], ◌∷◌, map, ℕ, zero, suc, eqb, get_or, length, drop, Ok, None}
 use Rattle.rules.specs.Text.{text_judged}
 use Rattle.rules.specs.Kinds.{Eof}
 use Rattle.rules.specs.Rows.{row_no, spelling}

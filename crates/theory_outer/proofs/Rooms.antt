@@ -7,10 +7,10 @@ use mathlib.Core.Path.{◌≡◌, refl, ap, sym, ◌∙◌}
 use lib.Dec.{eqb, ltb}
 use lib.ListN.{length, get_or}
 use borrow.Author.Tests.{le-ltb}
-use Rattle.rules.specs.declared.Ending.{Ending}
-use Rattle.rules.specs.declared.Ending.TheVariants as ending
-use Rattle.rules.specs.Outcomes.{Judged, unfit}
+use Rattle.rules.specs.Outcomes.{Ending, halt, Judged, unfit}
+use Rattle.std.specs.declared.option.Option.TheVariants.{None, Some}
 use Rattle.std.specs.declared.result.Result.TheVariants.{Ok, Err}
+use Rattle.rules.specs.declared.Lexical.{Lexical}
 use Rattle.rules.specs.declared.Lexical.TheVariants as lexical
 use Rattle.rules.specs.declared.Cursor.{Cursor}
 use Rattle.rules.specs.declared.Outer.{Outer}
@@ -53,14 +53,17 @@ out_5 ws (no syntax.TooDeep r) e = omega arith
 ending_5 : (t ws : List ℕ) (table : Table) (z : Ending) (room : ℕ) → table.count ≤ room
     → get_or (parsed_words (ending_told t ws table z room)) 0 0 ≡ 5 → ⊥
 unfolding ending_told
-ending_5 t ws table ending.None room h e = out_5 ws (reading t ws table) (rw (le-ltb room table.count h) at e)
-ending_5 t ws table (ending.Refused lexical.NoRowBegins p) room h e = omega arith
-ending_5 t ws table (ending.Refused lexical.LoneSign p) room h e = omega arith
-ending_5 t ws table (ending.Refused lexical.NoHexDigit p) room h e = omega arith
-ending_5 t ws table (ending.Refused lexical.OpenComment p) room h e = omega arith
-ending_5 t ws table (ending.Refused lexical.OpenString p) room h e = omega arith
-ending_5 t ws table (ending.Refused lexical.BadEscape p) room h e = omega arith
-ending_5 t ws table (ending.Refused lexical.NumberTooLarge p) room h e = omega arith
+ending_5 t ws table None room h e = out_5 ws (reading t ws table) (rw (le-ltb room table.count h) at e)
+ending_5 t ws table (Some z) room h e = case z.why z.at e
+  where
+    case : (why : Lexical) (p : Cursor) → get_or (parsed_words (ending_told t ws table (Some (halt why p)) room)) 0 0 ≡ 5 → ⊥
+    case lexical.NoRowBegins p e = omega arith
+    case lexical.LoneSign p e = omega arith
+    case lexical.NoHexDigit p e = omega arith
+    case lexical.OpenComment p e = omega arith
+    case lexical.OpenString p e = omega arith
+    case lexical.BadEscape p e = omega arith
+    case lexical.NumberTooLarge p e = omega arith
 
 -- a text and its table are refused with 1, 2 or 3
 module _ (t ws : List ℕ) (table : Table) (room : ℕ) where

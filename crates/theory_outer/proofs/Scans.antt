@@ -9,10 +9,11 @@ use mathlib.Core.Path.{◌≡◌, refl, ap, sym, ◌∙◌}
 use lib.Dec.{ltb}
 use lib.ListN.{length, take, drop, get_or}
 use borrow.Author.Tests.{ltb-true, ltb-false}
-use Rattle.rules.specs.declared.Ending.{Ending}
-use Rattle.rules.specs.declared.Ending.TheVariants as ending
-use Rattle.rules.specs.Outcomes.{Judged, Told, unread}
+use Rattle.rules.specs.Outcomes.{Ending, halt, Judged, Told, unread}
+use Rattle.std.specs.declared.option.Option.TheVariants.{None, Some}
 use Rattle.std.specs.declared.result.Result.TheVariants.{Ok, Err}
+use Rattle.rules.specs.declared.Lexical.{Lexical}
+use Rattle.rules.specs.declared.Cursor.{Cursor}
 use Rattle.rules.specs.declared.Lexical.TheVariants as lexical
 use Rattle.rules.specs.declared.Outer.TheVariants.{TextTooLong, BadByte, NoRowRoom}
 use Rattle.rules.specs.declared.Table.{Table}
@@ -60,14 +61,17 @@ tells t m = by (ltb most_bytes (length t)) refl (valid t) refl (ltb m (length (r
 
 -- a table's number is none of 1 to 7
 ending_number : (k n : ℕ) (e : Ending) → 0 < get_or (ending_words k n e) 0 0 → 7 < get_or (ending_words k n e) 0 0
-ending_number k n ending.None f = omega arith
-ending_number k n (ending.Refused lexical.NoRowBegins p) f = omega arith
-ending_number k n (ending.Refused lexical.LoneSign p) f = omega arith
-ending_number k n (ending.Refused lexical.NoHexDigit p) f = omega arith
-ending_number k n (ending.Refused lexical.OpenComment p) f = omega arith
-ending_number k n (ending.Refused lexical.OpenString p) f = omega arith
-ending_number k n (ending.Refused lexical.BadEscape p) f = omega arith
-ending_number k n (ending.Refused lexical.NumberTooLarge p) f = omega arith
+ending_number k n None f = omega arith
+ending_number k n (Some z) f = case z.why z.at f
+  where
+    case : (why : Lexical) (p : Cursor) → 0 < get_or (ending_words k n (Some (halt why p))) 0 0 → 7 < get_or (ending_words k n (Some (halt why p))) 0 0
+    case lexical.NoRowBegins p f = omega arith
+    case lexical.LoneSign p f = omega arith
+    case lexical.NoHexDigit p f = omega arith
+    case lexical.OpenComment p f = omega arith
+    case lexical.OpenString p f = omega arith
+    case lexical.BadEscape p f = omega arith
+    case lexical.NumberTooLarge p f = omega arith
 
 rows_number : (t : Table) → 0 < get_or (told_words (Ok t)) 0 0 → 7 < get_or (told_words (Ok t)) 0 0
 rows_number t h = ending_number t.count t.length t.ending h
@@ -104,15 +108,18 @@ at_2 (tells_4 l f) q e = absurd (omega arith)
 at_2 {t} tells_rows q e = let l = rows_number (scanned.table_of t) (omega (arith, e)) in absurd (omega (arith, e))
 
 -- a table whose number is 0 ends the text
-none_told : (k n : ℕ) (e : Ending) → get_or (ending_words k n e) 0 0 ≡ 0 → e ≡ ending.None
-none_told k n ending.None f = refl
-none_told k n (ending.Refused lexical.NoRowBegins p) f = absurd (omega arith)
-none_told k n (ending.Refused lexical.LoneSign p) f = absurd (omega arith)
-none_told k n (ending.Refused lexical.NoHexDigit p) f = absurd (omega arith)
-none_told k n (ending.Refused lexical.OpenComment p) f = absurd (omega arith)
-none_told k n (ending.Refused lexical.OpenString p) f = absurd (omega arith)
-none_told k n (ending.Refused lexical.BadEscape p) f = absurd (omega arith)
-none_told k n (ending.Refused lexical.NumberTooLarge p) f = absurd (omega arith)
+none_told : (k n : ℕ) (e : Ending) → get_or (ending_words k n e) 0 0 ≡ 0 → e ≡ None
+none_told k n None f = refl
+none_told k n (Some z) f = case z.why z.at f
+  where
+    case : (why : Lexical) (p : Cursor) → get_or (ending_words k n (Some (halt why p))) 0 0 ≡ 0 → Some (halt why p) ≡ None
+    case lexical.NoRowBegins p f = absurd (omega arith)
+    case lexical.LoneSign p f = absurd (omega arith)
+    case lexical.NoHexDigit p f = absurd (omega arith)
+    case lexical.OpenComment p f = absurd (omega arith)
+    case lexical.OpenString p f = absurd (omega arith)
+    case lexical.BadEscape p f = absurd (omega arith)
+    case lexical.NumberTooLarge p f = absurd (omega arith)
 
 -- each row of a reading whose rows start and end between characters
 part_at : (t : List ℕ) (v : valid t ≡ true) (d : Row) {l : Reading} → Parts t v l → (k : ℕ) → k < length (read_rows l)

@@ -1,7 +1,7 @@
 -- `ending_agrees` meets its contract, a law for each ending.
 use mathlib.Core.Path.{sym, subst, ◌∙◌}
 use borrow.Author.Rules.{rules}
-use Rattle.rules.specs.declared.Ending.{Ending}
+use Rattle.rules.specs.Outcomes.{Ending}
 use Rattle.file_beside.specs.Counting.{CountsTo}
 use Rattle.file_beside.proofs.Agreeing.{line_same, ending_none, ending_refused}
 use Rattle.file_beside.proofs.ending_agrees.Statement.{statement}

@@ -2,7 +2,8 @@
 use mathlib.Core.Path.{sym, ap, ◌∙◌}
 use borrow.Author.Rules.{rules}
 use Rattle.rules.specs.declared.Cursor.{Cursor}
-use Rattle.rules.specs.declared.Ending.TheVariants.{Refused}
+use Rattle.rules.specs.Outcomes.{halt}
+use Rattle.std.specs.declared.option.Option.TheVariants.{Some}
 use Rattle.file_beside.proofs.Known.{known}
 use Rattle.file_beside.proofs.Rows.{counts_refused}
 use Rattle.file_beside.proofs.Agreeing.{agrees_long}
@@ -64,7 +65,7 @@ returns_3 c =
     let a = (start f).args in
     let t = a.table in
     let g = sym f.form_of.ensures ∙ (at_refused r).in-Short.is in
-    ap (λ (q : Cursor). record { count = t.count; length = t.length; ending = Refused r.in-Refused.why q }) c.place_from.ensures
+    ap (λ (q : Cursor). record { count = t.count; length = t.length; ending = Some (halt r.in-Refused.why q) }) c.place_from.ensures
     ∙ sym (table_refused a.text.now a.file.now t g r.in-Refused.why r.in-Refused.p r.in-Refused.is)
 
 pub table_beside_spec : {M : Type 1} → statement M
