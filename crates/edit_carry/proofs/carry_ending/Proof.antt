@@ -12,15 +12,15 @@ enum_known_e : tie.Need-enum_known-e
 enum_known_e c = search rules
 
 carry_place_requires : tie.Need-carry_place-requires
-carry_place_requires c κs = refused_moves (rw c.in-Refused.is at c.before.requires)
+carry_place_requires c κs = refused_moves (rw c.in-Some.is at c.before.requires)
 
 returns : tie.Need-returns-in-None
 unfolding carry_ending
 returns c = rw c.in-None.is
 
-returns_2 : tie.Need-returns-in-Refused
+returns_2 : tie.Need-returns-in-Some
 unfolding carry_ending
-returns_2 c = rw (c.before.in-Refused.is, c.carry_place.ensures)
+returns_2 c = rw (c.before.in-Some.is, c.carry_place.ensures)
 
 pub carry_ending_spec : {M : Type 1} → statement M
 carry_ending_spec =

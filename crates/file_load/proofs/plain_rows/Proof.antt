@@ -21,7 +21,7 @@ returns c =
 sub_result : tie.Need-overflow_sub-result
 sub_result c = search rules
 
-enum_told_3 : tie.Need-enum_told-in-Refused
+enum_told_3 : tie.Need-enum_told-in-Some
 enum_told_3 c = search rules
 
 returns_2 : tie.Need-returns-in-Nothing
@@ -32,7 +32,7 @@ returns_3 c =
     let m = c.before in
     (rw (m.before.in-Ends.is, m.in-None.is), omega arith)
 
-returns_4 : tie.Need-returns-in-Refused
+returns_4 : tie.Need-returns-in-Some
 returns_4 c = search rules
 
 pub plain_rows_spec : {M : Type 1} → statement M

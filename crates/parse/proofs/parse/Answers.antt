@@ -15,10 +15,10 @@ returns-in_err-judge c =
     let p = err_from_is_err_and c.from_residual.result c.from_residual.ensures.1 in
     record { told = rw (p.1, p.2) w.0; left = w.1 }
 
-pub returns-in-Refused : goal.returns-in-Refused
-returns-in-Refused c =
+pub returns-in-Some : goal.returns-in-Some
+returns-in-Some c =
     let a = c.args in
-    let w = whole_ending a.text.now a.rows.now a.table a.nodes.now (sym c.judge.ensures ∙ c.in_ok-judge.was) c.in-Refused.why c.in-Refused.at c.in-Refused.is in
+    let w = whole_ending a.text.now a.rows.now a.table a.nodes.now (sym c.judge.ensures ∙ c.in_ok-judge.was) c.in-Some.e.why c.in-Some.e.at c.in-Some.is in
     record { told = w.0; left = w.1 }
 
 pub returns-then-nodes-count : goal.returns-then-nodes-count

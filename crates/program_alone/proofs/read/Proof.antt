@@ -40,11 +40,11 @@ enum_told c = search rules
 enum_known_ending : tie.Need-enum_known-ending
 enum_known_ending c = search rules
 
-returns_2 : tie.Need-returns-in-Refused
+returns_2 : tie.Need-returns-in-Some
 returns_2 c =
     let d = c.before in
     let a = (entry d).args in
-    told_ending a.text.now a.rows.now a.table (well d) c.in-Refused.why c.in-Refused.at c.in-Refused.is
+    told_ending a.text.now a.rows.now a.table (well d) c.in-Some.e.why c.in-Some.e.at c.in-Some.is
 
 enum_told_2 : tie.Need-enum_told-in-None
 enum_told_2 c = search rules
