@@ -13,6 +13,7 @@ use Rattle.rules.specs.Kinds.{Eof, is_made, signs, reserved, length_in}
 use Rattle.rules.specs.Rows.{Row, row_in, rows_in, row_place, every, chained, gap_fits, gaps_fit, rows_fit, well_formed, length_fits, spans_fit, value_fits, place_fits, lines_fit, row_fits, follows, last_row, ends_behind, is_eof, ending_fits}
 use Rattle.rows.specs.Shape.{row_no, behind}
 use Rattle.laws.specs.Tests.{all_below}
+use Rattle.laws.proofs.Outcomes.{halt_same}
 use Rattle.laws.proofs.Tests.{both_true, true_both, false_by, below}
 use Rattle.laws.proofs.Rows.{rows_length, rows_at}
 use Rattle.rows.proofs.Lists.{every_at, every_by, chained_at, chained_by, gap_first, gaps_chain, gaps_by, Closed, closed, closes, behind_at, behind_by}
@@ -322,7 +323,7 @@ module _ {ws : List ℕ} {t : Table} (f : Fine ws t) where
     where
       go : (x : Ending) → x ≡ Some (halt why p) → Ends ws t.count t.length x → Broken ws t.count t.length p
       go None q c = absurd (let z : ◌≡◌ {A = ℕ} 0 1 = cc in omega arith)
-      go (Some e) q (broken b) = let s : e.at ≡ p = cc in rw s at b
+      go (Some e) q (broken b) = rw (halt_same q).1 at b
 
   pub last_eof : t.ending ≡ None → (i : ℕ) → suc i ≡ t.count → (row_no ws i).kind ≡ Eof
   last_eof e i h = eof_kind (row_no ws i) ((clean_of e).last i h)

@@ -21,6 +21,7 @@ use Rattle.rules.specs.Rows.{Row, row_words, row_in, rows_in, words_of, row_at, 
 use Rattle.rules.specs.Scan.{Reading, put, read_rows, read_ending, scan, room_of, told, scan_told, scan_leaves}
 use Rattle.theory_machine.specs.Machine.{Token}
 use Rattle.theory_edits.specs.Scanned.{table_of, Scanned}
+use Rattle.laws.proofs.Outcomes.{halt_same}
 use Rattle.laws.proofs.Tests.{true_both}
 use Rattle.laws.proofs.Valid.{text_fine, TextJudged, long, bad, fine, text_judged_lem}
 use Rattle.laws.proofs.Rows.{words_length, laid_all, scan_told_refused, scan_told_lem, scan_leaves_lem}
@@ -134,7 +135,7 @@ module _ (T : List ℕ) where
       stopped_row lo c t k x (read_rows l) p (omega arith) f (stopped w why p e)
   stopped (well_eof c a h) why p e = absurd (let z : ◌≡◌ {A = ℕ} 0 1 = cc in let y : ⊥ = omega arith in y)
   stopped {lo} (well_stops {m = m} a h) why p e =
-      let c : place_at T m ≡ p = cc in
+      let c : place_at T m ≡ p = (halt_same e).1 in
       subst (λ (y : Cursor). Stopped lo [] y) c (record { far = a; inside = h; place = refl; rows = refl; last = refl })
 
   ending_fits_lem : {lo : ℕ} {l : Reading} → Well T lo l → (x : Ending) → read_ending l ≡ x → ending_fits (length T) (read_rows l) x ≡ true
