@@ -5,25 +5,25 @@ use mathlib.Core.List.{List}
 use mathlib.Core.Path.{◌≡◌, refl, ap, ◌∙◌}
 use lib.Dec.{leb}
 use lib.ListN.{length, get_or}
-use Rattle.rules.specs.declared.Ending.{Ending}
-use Rattle.rules.specs.declared.Ending.TheVariants.{None, Refused}
+use Rattle.rules.specs.Outcomes.{Ending}
+use Rattle.std.specs.declared.option.Option.TheVariants.{None, Some}
 use Rattle.rules.specs.declared.Table.{Table}
-use Rattle.rules.specs.declared.Told.TheVariants.{Rows}
+use Rattle.std.specs.declared.result.Result.TheVariants.{Ok}
 use Rattle.rules.specs.Rows.{well_formed}
 use Rattle.refusals.proofs.Back.{number_back, number_lexical, number_some}
 use Rattle.answers.specs.Layout.{ending_words, told_words, is_ending, length_of, table_of}
 
 -- The table read from a table's words is that table: each reason is read back from its number.
-pub told_table : (table : Table) → table_of (told_words (Rows table)) ≡ table
+pub told_table : (table : Table) → table_of (told_words (Ok table)) ≡ table
 unfolding is_ending length_of
 told_table table = by table.count table.length table.ending
   where
     by : (k n : ℕ) (e : Ending) → table_of (ending_words k n e) ≡ record { count = k; length = n; ending = e }
     by k n None = refl
-    by k n (Refused why p) = rw (number_some why, number_lexical why, number_back why)
+    by k n (Some e) = rw (number_some e.why, number_lexical e.why, number_back e.why)
 
 -- So it is for words that are known to be the table's.
-pub lent_table : (table : Table) {answer : List ℕ} → answer ≡ told_words (Rows table) → table_of answer ≡ table
+pub lent_table : (table : Table) {answer : List ℕ} → answer ≡ told_words (Ok table) → table_of answer ≡ table
 lent_table table e = ap (λ (ws : List ℕ). table_of ws) e ∙ told_table table
 
 -- The table read from words whose first is no ending is not well formed, whatever rows are lent: every call answers 3.

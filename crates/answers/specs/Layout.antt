@@ -1,25 +1,14 @@
 -- The one layout of eight words in which every answer of the outer face is given, and in which a table is lent:
 -- refusal number (0 if none), its offset, line and column, two words that it tells, a count, a length.
-use Rattle.std.specs.Prelude.{Bool, true, cond, List, [], ◌∷◌, ℕ, ◌+◌, ◌*◌, get_or, eqb}
+use Rattle.std.specs.Prelude.{Result, Ok, Err, Bool, true, cond, List, [], ◌∷◌, ℕ, ◌+◌, ◌*◌, get_or, eqb, None, Some}
 use Rattle.rules.specs.Rows.{at_end, at_start, words_per_row}
 use Rattle.rules.specs.declared.Cursor.{Cursor}
-use Rattle.rules.specs.declared.Ending.{Ending}
-use Rattle.rules.specs.declared.Ending.TheVariants as ending
+use Rattle.rules.specs.Outcomes.{Ending, halt, Told, Judged, Parsed}
 use Rattle.rules.specs.declared.Outer.{Outer}
 use Rattle.rules.specs.declared.Table.{Table}
-use Rattle.rules.specs.declared.Told.{Told}
-use Rattle.rules.specs.declared.Told.TheVariants as told
-use Rattle.rules.specs.declared.Judged.{Judged}
-use Rattle.rules.specs.declared.Judged.TheVariants as judged
-use Rattle.rules.specs.declared.Asked.{Asked}
-use Rattle.rules.specs.declared.Asked.TheVariants as asked
-use Rattle.rules.specs.declared.Restart.{Restart}
-use Rattle.rules.specs.declared.Restart.TheVariants as restarts
 use Rattle.rules.specs.declared.Syntax.{Syntax}
 use Rattle.rules.specs.declared.Reason.{Reason}
 use Rattle.rules.specs.declared.Reason.TheVariants as reason
-use Rattle.rules.specs.declared.Parsed.{Parsed}
-use Rattle.rules.specs.declared.Parsed.TheVariants as parsed
 use Rattle.rules.specs.Text.{place, start_place}
 use Rattle.rules.specs.Refusals.{outer_number, lexical_number, syntax_number, first_told, second_told}
 use Rattle.rules.specs.Calls.{spelling_judged}
@@ -36,29 +25,29 @@ nowhere = place 0 0 0
 -- ---- answers
 
 abbrev pub ending_words : ℕ → ℕ → Ending → List ℕ
-ending_words count length ending.None = words 0 nowhere 0 0 count length
-ending_words count length (ending.Refused why p) = words (lexical_number why) p 0 0 count length
+ending_words count length None = words 0 nowhere 0 0 count length
+ending_words count length (Some e) = words (lexical_number e.why) e.at 0 0 count length
 
 abbrev pub told_words : Told → List ℕ
-told_words (told.Rows t) = ending_words t.count t.length t.ending
-told_words (told.Refused why p n) = words (outer_number why) p 0 0 n 0
+told_words (Ok t) = ending_words t.count t.length t.ending
+told_words (Err e) = words (outer_number e.why) e.at 0 0 e.rows 0
 
 abbrev pub outer_words : Outer → List ℕ
 outer_words why = words (outer_number why) start_place 0 0 0 0
 
 -- the part from x to y
 abbrev pub judged_words : ℕ → ℕ → Judged → List ℕ
-judged_words x y judged.Fine = words 0 nowhere x y 0 0
-judged_words x y (judged.Refused why p) = words (outer_number why) p 0 0 0 0
+judged_words x y (Ok _) = words 0 nowhere x y 0 0
+judged_words x y (Err e) = words (outer_number e.why) e.at 0 0 0 0
 
-abbrev pub asked_words : Asked → List ℕ
-asked_words (asked.Is n) = words 0 nowhere n 0 0 0
-asked_words (asked.Refused why) = outer_words why
+abbrev pub asked_words : Result ℕ Outer → List ℕ
+asked_words (Ok n) = words 0 nowhere n 0 0 0
+asked_words (Err why) = outer_words why
 
 -- the place itself, with number 0
-abbrev pub restart_words : Restart → List ℕ
-restart_words (restarts.At p) = words 0 p 0 0 0 0
-restart_words (restarts.Refused why) = outer_words why
+abbrev pub restart_words : Result Cursor Outer → List ℕ
+restart_words (Ok p) = words 0 p 0 0 0 0
+restart_words (Err why) = outer_words why
 
 -- the kind that was found stands last
 abbrev pub syntax_words : Syntax → Cursor → ℕ → List ℕ
@@ -70,8 +59,8 @@ reason_words (reason.Lexical why) p found = words (lexical_number why) p 0 0 0 0
 reason_words (reason.Syntax why) p found = syntax_words why p found
 
 abbrev pub parsed_words : Parsed → List ℕ
-parsed_words (parsed.Nodes n) = words 0 nowhere 0 0 n 0
-parsed_words (parsed.Refused why p found) = reason_words why p found
+parsed_words (Ok n) = words 0 nowhere 0 0 n 0
+parsed_words (Err e) = reason_words e.why e.at e.found
 
 -- ---- a table that is lent in the words in which it was told
 
@@ -81,7 +70,7 @@ is_ending number = cond (eqb number 0) true (is_lexical number)
 
 abbrev pub ending_of : List ℕ → Ending
 ending_of ws =
-    cond (eqb (get_or ws 0 0) 0) ending.None (ending.Refused (lexical_of (get_or ws 0 0)) (place (get_or ws 1 0) (get_or ws 2 0) (get_or ws 3 0)))
+    cond (eqb (get_or ws 0 0) 0) None (Some (halt (lexical_of (get_or ws 0 0)) (place (get_or ws 1 0) (get_or ws 2 0) (get_or ws 3 0))))
 
 -- Words whose first is no ending tell no table: their length is one that no text has, so no call takes them for well formed.
 unfoldable pub length_of : List ℕ → ℕ

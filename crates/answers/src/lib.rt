@@ -6,8 +6,7 @@ use refusals::{
     first_told, is_lexical, lexical_number, lexical_of, outer_number, second_told, syntax_number,
 };
 use rules::{
-    Asked, Column, Cursor, Ending, Line, Offset, Outer, Parsed, Reason, Restart, Syntax, Table,
-    Told,
+    Column, Cursor, Halt, Line, Offset, Outer, Parsed, Reason, Syntax, Table, Told,
 };
 
 // ---- numbers
@@ -63,19 +62,19 @@ pub fn put_told(answer: &mut [u32; 8], told: Told)
     ensures { answer.new ≡ told_words told }
 {
     match told {
-        Told::Rows(t) => {
+        Ok(t) => {
             let ending = t.ending;
             match ending {
-                Ending::None => {
+                None => {
                     put(answer, 0, no_place(), 0, 0, t.count, t.length);
                 }
-                Ending::Refused(why, at) => {
-                    put(answer, lexical_number(why), at, 0, 0, t.count, t.length);
+                Some(e) => {
+                    put(answer, lexical_number(e.why), e.at, 0, 0, t.count, t.length);
                 }
             }
         }
-        Told::Refused(why, at, n) => {
-            put(answer, outer_number(why), at, 0, 0, n, 0);
+        Err(e) => {
+            put(answer, outer_number(e.why), e.at, 0, 0, e.rows, 0);
         }
     }
 }
@@ -100,46 +99,46 @@ pub fn put_parsed(answer: &mut [u32; 8], parsed: Parsed)
     ensures { answer.new ≡ parsed_words parsed }
 {
     match parsed {
-        Parsed::Nodes(n) => {
+        Ok(n) => {
             put(answer, 0, no_place(), 0, 0, n, 0);
         }
-        Parsed::Refused(why, at, found) => match why {
+        Err(e) => match e.why {
             Reason::Outer(x) => {
-                put(answer, outer_number(x), at, 0, 0, 0, 0);
+                put(answer, outer_number(x), e.at, 0, 0, 0, 0);
             }
             Reason::Lexical(x) => {
-                put(answer, lexical_number(x), at, 0, 0, 0, 0);
+                put(answer, lexical_number(x), e.at, 0, 0, 0, 0);
             }
             Reason::Syntax(x) => {
-                put_syntax(answer, x, at, found);
+                put_syntax(answer, x, e.at, e.found);
             }
         },
     }
 }
 
 // What a method set tells.
-pub fn put_asked(answer: &mut [u32; 8], asked: Asked)
+pub fn put_asked(answer: &mut [u32; 8], asked: Result<u32, Outer>)
     ensures { answer.new ≡ asked_words asked }
 {
     match asked {
-        Asked::Is(n) => {
+        Ok(n) => {
             put(answer, 0, no_place(), n, 0, 0, 0);
         }
-        Asked::Refused(why) => {
+        Err(why) => {
             put_outer(answer, why);
         }
     }
 }
 
 // Where a window must start, or why not.
-pub fn put_restart(answer: &mut [u32; 8], told: Restart)
+pub fn put_restart(answer: &mut [u32; 8], told: Result<Cursor, Outer>)
     ensures { answer.new ≡ restart_words told }
 {
     match told {
-        Restart::At(p) => {
+        Ok(p) => {
             put(answer, 0, p, 0, 0, 0, 0);
         }
-        Restart::Refused(why) => {
+        Err(why) => {
             put_outer(answer, why);
         }
     }
@@ -165,19 +164,19 @@ pub fn table_of(told: &[u32; 8]) -> Table
         return Table {
             count: told[6],
             length,
-            ending: Ending::None,
+            ending: None,
         };
     }
     Table {
         count: told[6],
         length,
-        ending: Ending::Refused(
-            lexical_of(number),
-            Cursor {
+        ending: Some(Halt {
+            why: lexical_of(number),
+            at: Cursor {
                 offset: Offset(told[1]),
                 line: Line(told[2]),
                 column: Column(told[3]),
             },
-        ),
+        }),
     }
 }

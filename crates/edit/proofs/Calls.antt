@@ -10,8 +10,8 @@ use borrow.Author.Tests.{lt-ltb, le-ltb, leb-true, eqb-true}
 use Rattle.rules.specs.declared.Cursor.{Cursor}
 use Rattle.rules.specs.declared.Outer.TheVariants.{TextTooLong, BadByte, NotWellFormed, EditNotSensible, WindowShort}
 use Rattle.rules.specs.declared.Table.{Table}
-use Rattle.rules.specs.declared.Told.{Told}
-use Rattle.rules.specs.declared.Told.TheVariants.{Refused}
+use Rattle.rules.specs.Outcomes.{Told, unread}
+use Rattle.std.specs.declared.result.Result.TheVariants.{Err}
 use Rattle.rules.specs.Text.{most_bytes, start_place, over}
 use Rattle.rules.specs.Rows.{rows_in, well_formed}
 use Rattle.rules.specs.Scan.{told, laid}
@@ -50,17 +50,17 @@ module _ {ws : List ℕ} {j : Job} {w : List ℕ} (r : Ready ws j w) where
     abbrev Reread : Told → List ℕ → Type 0
     Reread x ys = (x ≡ reread_told ws j w m) × (ys ≡ reread_leaves ws j w new)
 
-    pub reread_early : early ≡ true → Reread (Refused WindowShort start_place 0) new
+    pub reread_early : early ≡ true → Reread (Err (unread WindowShort start_place 0)) new
     unfolding reread_told reread_leaves
     reread_early e = rw e (refl, refl)
 
     module _ (late : early ≡ false) (whole : Bool) (e : whole ≡ whole_of) where
-      pub reread_bad : window_bytes whole w < length w → Reread (Refused BadByte (over j.begin (take (window_bytes whole w) w)) 0) new
+      pub reread_bad : window_bytes whole w < length w → Reread (Err (unread BadByte (over j.begin (take (window_bytes whole w) w)) 0)) new
       unfolding reread_told reread_leaves
       reread_bad h = rw (late, ← e, is_window_bad whole w h, r.begin) (refl, refl)
 
       module _ (good : length w ≤ window_bytes whole w) where
-        pub reread_short : is_short (job_seen ws j w whole) ≡ true → Reread (Refused WindowShort start_place 0) new
+        pub reread_short : is_short (job_seen ws j w whole) ≡ true → Reread (Err (unread WindowShort start_place 0)) new
         unfolding reread_told reread_leaves window_short job_seen
         reread_short f = rw (late, ← e, is_window_valid whole w good, f) (refl, refl)
 
@@ -113,7 +113,7 @@ module _ (ws : List ℕ) (t : Table) (a b n : ℕ) where
   job_by k e p f = rw (e, f)
 
   pub edit_3 : (start : ℕ) (w : List ℕ) (m : ℕ) (new : List ℕ) → well_formed ws t ≡ false
-      → Edited ws t a b n start w m new (Refused NotWellFormed start_place 0) new
+      → Edited ws t a b n start w m new (Err (unread NotWellFormed start_place 0)) new
   unfolding edit_told edit_leaves
   edit_3 start w m new e = rw e (refl, refl)
 
@@ -137,12 +137,12 @@ module _ {ws : List ℕ} {j : Job} (t : Tested ws j) (start : ℕ) (w : List ℕ
   unfolding sensible sensible_at
   senses_by = rw t.begin
 
-  pub edit_6 : (m : ℕ) (new : List ℕ) → senses ≡ false → JobEdited m new (Refused EditNotSensible start_place 0) new
+  pub edit_6 : (m : ℕ) (new : List ℕ) → senses ≡ false → JobEdited m new (Err (unread EditNotSensible start_place 0)) new
   unfolding edit_told edit_leaves
   edit_6 m new e = rw (t.fine, senses_by, e) (refl, refl)
 
   module _ (s : senses ≡ true) where
-    pub edit_1 : (m : ℕ) (new : List ℕ) → most_bytes < size_after j → JobEdited m new (Refused TextTooLong start_place 0) new
+    pub edit_1 : (m : ℕ) (new : List ℕ) → most_bytes < size_after j → JobEdited m new (Err (unread TextTooLong start_place 0)) new
     unfolding edit_told edit_leaves
     edit_1 m new h = rw (t.fine, senses_by, s, lt-ltb most_bytes (size_after j) h) (refl, refl)
 

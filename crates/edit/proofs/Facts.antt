@@ -9,8 +9,8 @@ use native.Mathlib.Omega.{arith}
 use lib.Dec.{eqb, leb}
 use borrow.Author.Tests.{eqb-true, eq-eqb, leb-true}
 use Rattle.rules.specs.declared.Cursor.{Cursor}
-use Rattle.rules.specs.declared.Ending.{Ending}
-use Rattle.rules.specs.declared.Ending.TheVariants.{None, Refused}
+use Rattle.rules.specs.Outcomes.{Ending}
+use Rattle.std.specs.declared.option.Option.TheVariants.{None, Some}
 use Rattle.rules.specs.declared.Table.{Table}
 use Rattle.rules.specs.Text.{most_bytes, Roomy}
 use Rattle.rules.specs.Rows.{row_place, lines_fit, follows, place_fits}
@@ -138,4 +138,4 @@ module _ {ws : List ℕ} {t : Table} (f : Fine ws t) where
       where
         go : (e : Ending) → Ends ws t.count t.length e → MovesEnding home p e
         go None (clean c) = none
-        go (Refused why q) (broken b) = refused (break_moves q b)
+        go (Some e) (broken b) = refused (break_moves e.at b)

@@ -7,7 +7,7 @@ use native.Mathlib.Omega.{arith}
 use lib.ListN.{length, take, drop}
 use lib.Seq.{drop-cons, length-take-le}
 use Rattle.rules.specs.declared.Cursor.{Cursor}
-use Rattle.rules.specs.declared.Ending.{Ending}
+use Rattle.rules.specs.Outcomes.{Ending}
 use Rattle.rules.specs.Text.{most_bytes, start_place, Roomy}
 use Rattle.rules.specs.Rows.{Row, row_in, rows_in, row_place, words_of}
 use Rattle.rules.specs.Scan.{room_of, laid}

@@ -9,12 +9,11 @@ use native.Mathlib.Omega.{arith}
 use lib.ListN.{length, drop, length-map}
 use lib.Dec.{eqb, leb, ltb}
 use Rattle.rules.specs.declared.Cursor.{Cursor}
-use Rattle.rules.specs.declared.Ending.{Ending}
-use Rattle.rules.specs.declared.Ending.TheVariants as ending
+use Rattle.rules.specs.Outcomes.{Ending, halt}
+use Rattle.std.specs.declared.option.Option.TheVariants.{None, Some}
 use Rattle.rules.specs.Rows.{Row, row_at, eof_row}
 use Rattle.rules.specs.Lex.{Item, item, piece, decided_at, known, blank, comment, row, refused, end, unknown}
-use Rattle.rules.specs.Edit.{Seen, sees, over', met, short, is_short, look, opens, from, some, first_place, carry_row, carry_ending, recounted}
-use Rattle.rules.specs.Edit.{old_offset, restart, window_place, seen_rows, seen_ending}
+use Rattle.rules.specs.Edit.{Seen, sees, over', met, short, is_short, look, opens, from, some, first_place, carry_row, carry_ending, recounted, old_offset, restart, window_place, seen_rows, seen_ending}
 use Rattle.laws.proofs.Tests.{both_true}
 use Rattle.scan_reader.specs.Read.{onward}
 use Rattle.scan_stop.specs.declared.Stop.{Stop}
@@ -106,7 +105,7 @@ module _ (pos : ℕ → Cursor) (meet : ℕ → Bool) (whole : Bool) where
   unfolding look Shown
   shown c n k [] = pick whole
     where
-      pick : (p : Bool) → Shown meet p k (k + 0) (cond p (sees (eof_row (pos k) c) (over' ending.None)) short)
+      pick : (p : Bool) → Shown meet p k (k + 0) (cond p (sees (eof_row (pos k) c) (over' None)) short)
       pick true = (omega arith, tt)
       pick false = refl
   shown c (suc n) k (b ∷ s) =
@@ -125,7 +124,7 @@ module _ (pos : ℕ → Cursor) (meet : ℕ → Bool) (whole : Bool) where
               | blank ↦ look pos meet whole c zero (suc k) s
               | comment n d ↦ look pos meet whole (suc c) (pred n) (suc k) s
               | row kind n bits d ↦ sees (row_at (pos k) c kind (k + n) bits) (look pos meet whole zero (pred n) (suc k) s)
-              | refused why p d ↦ over' (ending.Refused why (pos (k + p)))
+              | refused why p d ↦ over' (Some (halt why (pos (k + p))))
             ]
             | end ↦ short
             | unknown ↦ short

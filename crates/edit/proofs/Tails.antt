@@ -11,11 +11,10 @@ use borrow.Rule.Slice.PartMut.{put_mid}
 use borrow.Author.Tests.{le-leb, lt-leb, leb-false}
 use Rattle.edit_parts.proofs.Room.{leb_behind}
 use Rattle.rules.specs.declared.Cursor.{Cursor}
-use Rattle.rules.specs.declared.Ending.{Ending}
+use Rattle.rules.specs.Outcomes.{Ending, Told, unread}
 use Rattle.rules.specs.declared.Outer.TheVariants.{NoRowRoom}
 use Rattle.rules.specs.declared.Table.{Table}
-use Rattle.rules.specs.declared.Told.{Told}
-use Rattle.rules.specs.declared.Told.TheVariants as tells
+use Rattle.std.specs.declared.result.Result.TheVariants.{Ok, Err}
 use Rattle.rules.specs.Text.{start_place}
 use Rattle.rules.specs.Rows.{Row, rows_in, row_place, words_of}
 use Rattle.rules.specs.Scan.{room_of, laid, told}
@@ -61,7 +60,7 @@ unfolding tail_told told
 told_kept ys zs e ws size h = rw (room_behind (length ys) ws, leb_behind (length ys) (length zs) (room_of ws) h, length-append) (pick (leb (length ys + length zs) (room_of ws)))
   where
     pick : (p : Bool) → tell_of (length ys) (cond p (Some (record { count = length zs; ending = e })) None) size (room_of ws) ≡
-        cond p (tells.Rows (record { count = length ys + length zs; length = size; ending = e })) (tells.Refused NoRowRoom start_place (room_of ws))
+        cond p (Ok (record { count = length ys + length zs; length = size; ending = e })) (Err (unread NoRowRoom start_place (room_of ws)))
     pick true = refl
     pick false = refl
 

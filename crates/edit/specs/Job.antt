@@ -1,16 +1,14 @@
 -- What the parts of the edit call ask and give: an edit whose numbers are sensible, what is seen of its window, and what is written
 -- behind the kept rows.
-use Rattle.std.specs.Prelude.{◌≡◌, Bool, true, false, cond, not, Option, Some, None, List, map, ℕ, ◌+◌, ◌*◌, ◌≤◌, ◌<◌, length, take, drop, leb}
+use Rattle.std.specs.Prelude.{◌≡◌, Bool, true, false, cond, not, Option, Some, None, List, map, ℕ, ◌+◌, ◌*◌, ◌≤◌, ◌<◌, length, take, drop, leb, ◌&&◌, ◌^◌, eqb, Err}
 use Rattle.rules.specs.declared.Cursor.{Cursor}
-use Rattle.rules.specs.declared.Ending.{Ending}
+use Rattle.rules.specs.Outcomes.{Ending, Told, unread}
 use Rattle.rules.specs.declared.Table.{Table}
-use Rattle.rules.specs.declared.Outer.TheVariants.{BadByte, WindowShort}
-use Rattle.rules.specs.declared.Told.{Told}
-use Rattle.rules.specs.declared.Told.TheVariants as tells
+use Rattle.rules.specs.declared.Outer.TheVariants.{BadByte, WindowShort, NoRowRoom}
+use Rattle.rules.specs.Outcomes.{Told}
 use Rattle.rules.specs.Text.{most_bytes, start_place, over}
 use Rattle.rules.specs.Rows.{Row, rows_in, row_place, well_formed}
-use Rattle.rules.specs.Edit.{Seen, kept, restart, new_length, seen, is_short, seen_rows, seen_ending, carry_row, carry_ending, recounted}
-use Rattle.rules.specs.Edit.{ends, unjudged, window_bytes, window_valid, window_short, new_rows, new_ending}
+use Rattle.rules.specs.Edit.{Seen, kept, restart, new_length, seen, is_short, seen_rows, seen_ending, carry_row, carry_ending, recounted, ends, unjudged, window_bytes, window_valid, window_short, new_rows, new_ending}
 use Rattle.rules.specs.Scan.{told, laid}
 use Rattle.rows.specs.Shape.{row_no}
 use Rattle.edit_carry.specs.Moves.{MovesRow, MovesEnding}
@@ -93,9 +91,9 @@ unfoldable pub reread_told : List ℕ → Job → List ℕ → ℕ → Told
 reread_told ws j w m =
     let len : ℕ = j.table.length in
     let whole : Bool = ends (old_rows ws j) len j.a j.b j.n w in
-    cond (unjudged (old_rows ws j) len j.a j.b j.n w) (tells.Refused WindowShort start_place 0)
-    (cond (not (window_valid whole w)) (tells.Refused BadByte (over (restart (old_rows ws j) j.a) (take (window_bytes whole w) w)) 0)
-    (cond (window_short (old_rows ws j) j.table.ending len j.a j.b j.n w) (tells.Refused WindowShort start_place 0)
+    cond (unjudged (old_rows ws j) len j.a j.b j.n w) (Err (unread WindowShort start_place 0))
+    (cond (not (window_valid whole w)) (Err (unread BadByte (over (restart (old_rows ws j) j.a) (take (window_bytes whole w) w)) 0))
+    (cond (window_short (old_rows ws j) j.table.ending len j.a j.b j.n w) (Err (unread WindowShort start_place 0))
     (told (size_after j) m (new_rows (old_rows ws j) j.table.ending j.a j.b j.n w whole)
     (new_ending (old_rows ws j) j.table.ending j.a j.b j.n w whole))))
 

@@ -12,7 +12,7 @@ use edit_kept::{copy_rows, kept_rows, place_behind};
 use edit_parts::{Rest, new_length, refused, sensible, tell};
 use rows::shape::Row;
 use rows::well_formed;
-use rules::{Cursor, Outer, Restart, Table, Told, limit, row};
+use rules::{Cursor, Outer, Table, Told, Unread, limit, row};
 use scan_meet::Olds;
 use scan_place::{pass, window_bytes};
 use scan_stop::Stop;
@@ -155,7 +155,11 @@ fn reread(old: &[u32], job: Job, window: &[u8], new: &mut [u32]) -> Told
     }
     let valid = window_bytes(window, whole);
     if valid < window.len() {
-        return Told::Refused(Outer::BadByte, pass(window, begin, valid), 0);
+        return Err(Unread {
+            why: Outer::BadByte,
+            at: pass(window, begin, valid),
+            rows: 0,
+        });
     }
     if is_short(old, job, window, whole) {
         return refused(Outer::WindowShort);
@@ -249,15 +253,15 @@ pub fn edit(
 }
 
 // Where the window of an edit at a must start.
-pub fn restart(old: &[u32], table: Table, a: u32) -> Restart
+pub fn restart(old: &[u32], table: Table, a: u32) -> Result<Cursor, Outer>
     ensures { result ≡ restart_told old.now table a }
 {
     if !well_formed(old, table) {
-        return Restart::Refused(Outer::NotWellFormed);
+        return Err(Outer::NotWellFormed);
     }
     let length = table.length;
     if length < a {
-        return Restart::Refused(Outer::EditNotSensible);
+        return Err(Outer::EditNotSensible);
     }
-    Restart::At(place_behind(old, kept_rows(old, table.count as usize, a)))
+    Ok(place_behind(old, kept_rows(old, table.count as usize, a)))
 }

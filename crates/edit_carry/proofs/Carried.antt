@@ -12,7 +12,8 @@ use borrow.Author.Tests.{eq-eqb, ne_eqb}
 use borrow.Rule.Slice.PartMut.{put_mid}
 use Rattle.rules.specs.declared.Cursor.{Cursor}
 use Rattle.rules.specs.declared.Lexical.{Lexical}
-use Rattle.rules.specs.declared.Ending.TheVariants.{Refused}
+use Rattle.rules.specs.Outcomes.{halt}
+use Rattle.std.specs.declared.option.Option.TheVariants.{Some}
 use Rattle.rules.specs.Text.{place}
 use Rattle.rules.specs.Rows.{Row, rows_in, row_words, words_of}
 use Rattle.rules.specs.Edit.{carry, carry_row, with_comments, recounted}
@@ -34,7 +35,7 @@ module _ (o p q : Cursor) where
   unfolding carry
   carry_off e = rw (ne_eqb q.line.0 o.line.0 e)
 
-pub refused_moves : {o p q : Cursor} {why : Lexical} → MovesEnding o p (Refused why q) → MovesPlace o p q
+pub refused_moves : {o p q : Cursor} {why : Lexical} → MovesEnding o p (Some (halt why q)) → MovesPlace o p q
 refused_moves (refused m) = m
 
 -- ---- the loop over rows

@@ -1,9 +1,8 @@
 -- When a place, a row and an ending can be moved: what stood at o stands at p, and nothing wraps.
-use Rattle.std.specs.Prelude.{◌≡◌, ℕ, ◌+◌, ◌-◌, ◌^◌, ◌≤◌, ◌<◌}
+use Rattle.std.specs.Prelude.{◌≡◌, ℕ, ◌+◌, ◌-◌, ◌^◌, ◌≤◌, ◌<◌, None, Some}
 use Rattle.rules.specs.declared.Cursor.{Cursor}
 use Rattle.rules.specs.declared.Lexical.{Lexical}
-use Rattle.rules.specs.declared.Ending.{Ending}
-use Rattle.rules.specs.declared.Ending.TheVariants.{None, Refused}
+use Rattle.rules.specs.Outcomes.{Ending, halt}
 use Rattle.rules.specs.Rows.{Row, row_place}
 
 -- a counter x moves from o to p
@@ -22,4 +21,4 @@ pub record MovesRow (o p : Cursor) (r : Row) : Type 0 where
 
 pub data MovesEnding (o p : Cursor) : Ending → Type 0 where
   none : MovesEnding o p None
-  refused : {why : Lexical} {q : Cursor} → MovesPlace o p q → MovesEnding o p (Refused why q)
+  refused : {why : Lexical} {q : Cursor} → MovesPlace o p q → MovesEnding o p (Some (halt why q))

@@ -8,7 +8,7 @@ ghost use Rattle.rows.specs.Shape.{as_row, row_no};
 ghost use Rattle.edit_carry.specs.Moves.{Moves, MovesPlace, MovesRow, MovesEnding};
 
 use rows::shape::Row;
-use rules::{Column, Cursor, Ending, Line, Offset, row};
+use rules::{Column, Cursor, Ending, Halt, Line, Offset, row};
 
 // A counter moved.
 fn moved(x: u32, o: u32, p: u32) -> u32
@@ -58,8 +58,11 @@ impl Shift {
         ensures { result ≡ carry_ending self.from self.to e }
     {
         match e {
-            Ending::None => Ending::None,
-            Ending::Refused(why, q) => Ending::Refused(why, self.place(q)),
+            None => None,
+            Some(halt) => Some(Halt {
+                at: self.place(halt.at),
+                ..halt
+            }),
         }
     }
 

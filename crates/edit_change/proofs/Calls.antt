@@ -9,8 +9,8 @@ use lib.Dec.{eqb, leb}
 use borrow.Author.Tests.{leb-true, eqb-true, eq-eqb}
 use Rattle.rules.specs.declared.Outer.TheVariants.{NotWellFormed, EditNotSensible}
 use Rattle.rules.specs.declared.Table.{Table}
-use Rattle.rules.specs.declared.Told.{Told}
-use Rattle.rules.specs.declared.Told.TheVariants.{Refused}
+use Rattle.rules.specs.Outcomes.{Told, unread}
+use Rattle.std.specs.declared.result.Result.TheVariants.{Err}
 use Rattle.rules.specs.Text.{start_place}
 use Rattle.rules.specs.Rows.{rows_in, well_formed}
 use Rattle.rules.specs.Edit.{new_length, sensible, edit_told, edit_leaves}
@@ -52,25 +52,25 @@ module _ (ws : List ℕ) (t : Table) (a b n : ℕ) (text : List ℕ) (m : ℕ) (
   abbrev pub Changed : Told → List ℕ → Type 0
   Changed x ys = (x ≡ change_told ws t a b n text m) × (ys ≡ change_leaves ws t a b n text new)
 
-  pub change_3 : well_formed ws t ≡ false → Changed (Refused NotWellFormed start_place 0) new
+  pub change_3 : well_formed ws t ≡ false → Changed (Err (unread NotWellFormed start_place 0)) new
   unfolding change_told change_leaves
   change_3 e = rw e (refl, refl)
 
   module _ (f : well_formed ws t ≡ true) where
-    other_length : eqb (length text) (new_length t.length a b n) ≡ false → Changed (Refused EditNotSensible start_place 0) new
+    other_length : eqb (length text) (new_length t.length a b n) ≡ false → Changed (Err (unread EditNotSensible start_place 0)) new
     unfolding change_told change_leaves
     other_length e = rw (f, e) (refl, refl)
 
     outside : eqb (length text) (new_length t.length a b n) ≡ true → (leb a b && leb b t.length) ≡ false
-        → Changed (Refused EditNotSensible start_place 0) new
+        → Changed (Err (unread EditNotSensible start_place 0)) new
     unfolding change_told change_leaves edit_told edit_leaves sensible
     outside e h = rw (f, e, h) (refl, refl)
 
-    pub change_6 : fits_change t.length a b n (length text) ≡ false → Changed (Refused EditNotSensible start_place 0) new
+    pub change_6 : fits_change t.length a b n (length text) ≡ false → Changed (Err (unread EditNotSensible start_place 0)) new
     unfolding fits_change
     change_6 h = by (eqb (length text) (new_length t.length a b n)) refl
       where
-        by : (x : Bool) → eqb (length text) (new_length t.length a b n) ≡ x → Changed (Refused EditNotSensible start_place 0) new
+        by : (x : Bool) → eqb (length text) (new_length t.length a b n) ≡ x → Changed (Err (unread EditNotSensible start_place 0)) new
         by false e = other_length e
         by true e = outside e (not_first (leb a b && leb b t.length) _ h e)
 

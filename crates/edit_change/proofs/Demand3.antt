@@ -7,7 +7,7 @@ use lib.Dec.{eqb}
 use lib.ListN.{length, drop}
 use borrow.Author.Tests.{eq-eqb}
 use Rattle.rules.specs.declared.Table.{Table}
-use Rattle.rules.specs.declared.Told.TheVariants.{Rows}
+use Rattle.std.specs.declared.result.Result.TheVariants.{Ok}
 use Rattle.rules.specs.Text.{valid}
 use Rattle.rules.specs.Rows.{Row}
 use Rattle.rules.specs.Scan.{room_of, scan_told}
@@ -57,9 +57,9 @@ module _ (c : Change) (ws : List ℕ) (table : Table) (s : Scanned (old_text c) 
       record { told = λ m. told_is m ∙ f.told m; left = λ new. left_is new ∙ f.left new }
 
   -- So what it left and told serves the next change as a scan's does.
-  pub change_again : valid (old_text c) ≡ true → (new : List ℕ) (table' : Table) → tells c ws table (room_of new) ≡ Rows table'
+  pub change_again : valid (old_text c) ≡ true → (new : List ℕ) (table' : Table) → tells c ws table (room_of new) ≡ Ok table'
       → Scanned (new_text c) (leaves c ws table new) table' × (valid (new_text c) ≡ true)
   change_again v new table' e =
       let x : IsFresh c ws table = change_fresh v in
-      let f : scan_told (new_text c) (room_of new) ≡ Rows table' = sym (x.told (room_of new)) ∙ e in
+      let f : scan_told (new_text c) (room_of new) ≡ Ok table' = sym (x.told (room_of new)) ∙ e in
       (rw (x.left new) (scan_scanned (new_text c) new table' f), scan_valid (new_text c) (room_of new) table' f)

@@ -8,15 +8,15 @@ use lib.ListN.{length, take, drop, length-drop}
 use lib.Dec.{eqb, leb, ltb}
 use borrow.Author.Tests.{eq-eqb}
 use Rattle.rules.specs.declared.Cursor.{Cursor}
-use Rattle.rules.specs.declared.Ending.{Ending}
+use Rattle.rules.specs.Outcomes.{Ending, Told, unread}
 use Rattle.rules.specs.declared.Outer.TheVariants.{TextTooLong, BadByte, NotWellFormed, NoRowRoom, EditNotSensible, WindowShort}
 use Rattle.rules.specs.declared.Table.{Table}
-use Rattle.rules.specs.declared.Told.{Told}
-use Rattle.rules.specs.declared.Told.TheVariants.{Rows, Refused}
+use Rattle.std.specs.declared.result.Result.TheVariants.{Ok, Err}
 use Rattle.rules.specs.Text.{most_bytes, start_place, over}
 use Rattle.rules.specs.Rows.{Row, rows_in, well_formed}
 use Rattle.rules.specs.Scan.{told}
 use Rattle.rules.specs.Edit.{is_short, seen, restart, new_length, sensible, ends, judging, unjudged, window_bytes, window_valid, window_short, new_rows, new_ending, edit_told}
+use Rattle.laws.proofs.Outcomes.{unread_same}
 use Rattle.laws.proofs.Tests.{both_true, true_both}
 use Rattle.theory_edits.proofs.Kept.{restart_le}
 use Rattle.theory_edits.proofs.LookItem.{same_look}
@@ -27,29 +27,29 @@ use Rattle.edit_change.proofs.Calls.{Fits, fits_by, reaches}
 
 -- ---- what is told is no 7
 
-no_1 : {at : Cursor} {i : ℕ} → NotSeven (Refused TextTooLong at i)
-no_1 = record { never = λ p k e. let q : ◌≡◌ {A = ℕ} 0 1 = cc in omega arith }
+no_1 : {at : Cursor} {i : ℕ} → NotSeven (Err (unread TextTooLong at i))
+no_1 = record { never = λ p k e. let q : ◌≡◌ {A = ℕ} 0 1 = cc (unread_same e).0 in omega arith }
 
-no_2 : {at : Cursor} {i : ℕ} → NotSeven (Refused BadByte at i)
-no_2 = record { never = λ p k e. let q : ◌≡◌ {A = ℕ} 0 1 = cc in omega arith }
+no_2 : {at : Cursor} {i : ℕ} → NotSeven (Err (unread BadByte at i))
+no_2 = record { never = λ p k e. let q : ◌≡◌ {A = ℕ} 0 1 = cc (unread_same e).0 in omega arith }
 
-no_3 : {at : Cursor} {i : ℕ} → NotSeven (Refused NotWellFormed at i)
-no_3 = record { never = λ p k e. let q : ◌≡◌ {A = ℕ} 0 1 = cc in omega arith }
+no_3 : {at : Cursor} {i : ℕ} → NotSeven (Err (unread NotWellFormed at i))
+no_3 = record { never = λ p k e. let q : ◌≡◌ {A = ℕ} 0 1 = cc (unread_same e).0 in omega arith }
 
-no_4 : {at : Cursor} {i : ℕ} → NotSeven (Refused NoRowRoom at i)
-no_4 = record { never = λ p k e. let q : ◌≡◌ {A = ℕ} 0 1 = cc in omega arith }
+no_4 : {at : Cursor} {i : ℕ} → NotSeven (Err (unread NoRowRoom at i))
+no_4 = record { never = λ p k e. let q : ◌≡◌ {A = ℕ} 0 1 = cc (unread_same e).0 in omega arith }
 
-no_6 : {at : Cursor} {i : ℕ} → NotSeven (Refused EditNotSensible at i)
-no_6 = record { never = λ p k e. let q : ◌≡◌ {A = ℕ} 0 1 = cc in omega arith }
+no_6 : {at : Cursor} {i : ℕ} → NotSeven (Err (unread EditNotSensible at i))
+no_6 = record { never = λ p k e. let q : ◌≡◌ {A = ℕ} 0 1 = cc (unread_same e).0 in omega arith }
 
-no_rows : {t : Table} → NotSeven (Rows t)
+no_rows : {t : Table} → NotSeven (Ok t)
 no_rows = record { never = λ p k e. let q : ◌≡◌ {A = ℕ} 0 1 = cc in omega arith }
 
 told_no : (i m : ℕ) (rows : List Row) (e : Ending) → NotSeven (told i m rows e)
 unfolding told
 told_no i m rows e = by (leb (length rows) m)
   where
-    by : (q : Bool) → NotSeven (cond q (Rows (record { count = length rows; length = i; ending = e })) (Refused NoRowRoom start_place m))
+    by : (q : Bool) → NotSeven (cond q (Ok (record { count = length rows; length = i; ending = e })) (Err (unread NoRowRoom start_place m)))
     by true = no_rows
     by false = no_4
 
@@ -57,14 +57,14 @@ told_no i m rows e = by (leb (length rows) m)
 -- judged and is not short
 ordered : (formed same sense long early good short : Bool) → (same ≡ true → sense ≡ true → early ≡ false)
     → (same ≡ true → sense ≡ true → short ≡ false) → (bad : Cursor) {x : Told} → NotSeven x
-    → NotSeven (cond (not formed) (Refused NotWellFormed start_place 0)
-    (cond (not same) (Refused EditNotSensible start_place 0)
-    (cond (not formed) (Refused NotWellFormed start_place 0)
-    (cond (not sense) (Refused EditNotSensible start_place 0)
-    (cond long (Refused TextTooLong start_place 0)
-    (cond early (Refused WindowShort start_place 0)
-    (cond (not good) (Refused BadByte bad 0)
-    (cond short (Refused WindowShort start_place 0) x))))))))
+    → NotSeven (cond (not formed) (Err (unread NotWellFormed start_place 0))
+    (cond (not same) (Err (unread EditNotSensible start_place 0))
+    (cond (not formed) (Err (unread NotWellFormed start_place 0))
+    (cond (not sense) (Err (unread EditNotSensible start_place 0))
+    (cond long (Err (unread TextTooLong start_place 0))
+    (cond early (Err (unread WindowShort start_place 0))
+    (cond (not good) (Err (unread BadByte bad 0))
+    (cond short (Err (unread WindowShort start_place 0)) x))))))))
 ordered false same sense long early good short h k bad n = no_3
 ordered true false sense long early good short h k bad n = no_6
 ordered true true false long early good short h k bad n = no_6

@@ -11,10 +11,12 @@ use borrow.Author.Tests.{le-ltb}
 use contract.Lifetimes.{Lfts}
 use borrow.Fn.Kinds.{Dens, ended_of}
 use denote.Triple.Clauses.{AtExit}
-use Rattle.rules.specs.declared.Restart.{Restart}
-use Rattle.rules.specs.declared.Restart.TheVariants.{At}
+use Rattle.std.specs.declared.result.Result.{Result}
+use Rattle.std.specs.declared.result.Result.TheVariants.{Ok}
+use Rattle.rules.specs.declared.Cursor.{Cursor}
+use Rattle.rules.specs.declared.Outer.{Outer}
 use Rattle.rules.specs.declared.Table.{Table}
-use Rattle.rules.specs.declared.Told.{Told}
+use Rattle.rules.specs.Outcomes.{Told}
 use Rattle.rules.specs.Text.{valid}
 use Rattle.rules.specs.Scan.{read_rows, scan, room_of}
 use Rattle.rules.specs.Edit.{restart, restart_told}
@@ -64,16 +66,16 @@ module _ (κs : Lfts 3) (x : Dens κs of_edit.ps) (r : Told) (e : AtExit (ended_
 
 -- what is told of an edit at a place of a scanned text
 pub restarts : {t ws : List ℕ} {table : Table} {k : ℕ} → Scanned t ws table → k ≤ length t
-    → restart_told ws table k ≡ At (restart (read_rows (scan t)) k)
+    → restart_told ws table k ≡ Ok (restart (read_rows (scan t)) k)
 unfolding restart_told
 restarts {t} {table = table} {k = k} s h =
     let f : ltb table.length k ≡ false = rw s.told (le-ltb (length t) k h) in
     rw (scanned_well_formed s, scanned_rows s, f)
 
 -- The restart place of an edit at a place of a scanned text.
-module _ (κs : Lfts 1) (x : Dens κs of_restart.ps) (r : Restart) (e : AtExit (ended_of 1 of_restart.ps of_restart.r) κs) where
+module _ (κs : Lfts 1) (x : Dens κs of_restart.ps) (r : Result Cursor Outer) (e : AtExit (ended_of 1 of_restart.ps of_restart.r) κs) where
   pub restart_call : RestartPost κs x r e → (t : List ℕ) → Scanned t x.0.now x.1.0 → x.1.1.0 ≤ length t
-      → r ≡ At (restart (read_rows (scan t)) x.1.1.0)
+      → r ≡ Ok (restart (read_rows (scan t)) x.1.1.0)
   restart_call p t s h = p ∙ restarts s h
 
 -- The change, lent what a scan of the old text left and told, the change's three numbers and all of the new text. It

@@ -1,11 +1,10 @@
 -- The words of demand 3 for a change, what the call tells and leaves, lent the whole new text; and for a call that was
 -- made.
-use Rattle.std.specs.Prelude.{ℕ, List, ◌≡◌}
+use Rattle.std.specs.Prelude.{ℕ, List, ◌≡◌, Err}
 use Rattle.rules.specs.declared.Cursor.{Cursor}
 use Rattle.rules.specs.declared.Outer.TheVariants.{WindowShort}
 use Rattle.rules.specs.declared.Table.{Table}
-use Rattle.rules.specs.declared.Told.{Told}
-use Rattle.rules.specs.declared.Told.TheVariants.{Refused}
+use Rattle.rules.specs.Outcomes.{Told, unread}
 use Rattle.rules.specs.Text.{start_place}
 use Rattle.rules.specs.Scan.{room_of, scan_told, scan_leaves}
 use Rattle.theory_edits.specs.Change.{Change, new_text, a, b, n}
@@ -13,7 +12,7 @@ use Rattle.edit_change.specs.Change.{change_told, change_leaves}
 
 -- what is told is no 7, at whatever place
 pub record NotSeven (x : Told) : Type 0 where
-  pub never : (p : Cursor) (k : ℕ) → x ≡ Refused WindowShort p k → ⊥
+  pub never : (p : Cursor) (k : ℕ) → x ≡ Err (unread WindowShort p k) → ⊥
 
 -- the call, with room for m rows and with lent memory `new`
 module _ (c : Change) (ws : List ℕ) (table : Table) where
@@ -32,7 +31,7 @@ module _ (c : Change) (ws : List ℕ) (table : Table) where
 module _ (new : List ℕ) (r : Told) (m : List ℕ) where
   -- 7, and nothing touched
   pub record Says7 : Type 0 where
-    pub told : r ≡ Refused WindowShort start_place 0
+    pub told : r ≡ Err (unread WindowShort start_place 0)
     pub left : m ≡ new
 
   -- what a scan of a text tells and leaves

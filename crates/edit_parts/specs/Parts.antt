@@ -1,8 +1,7 @@
 -- Whether an edit is sensible, what stands behind more rows, and what is told.
-use Rattle.std.specs.Prelude.{Bool, ◌&&◌, Option, Some, None, ℕ, ◌+◌, ◌^◌, ◌<◌, eqb, leb}
+use Rattle.std.specs.Prelude.{Bool, ◌&&◌, Option, Some, None, ℕ, ◌+◌, ◌^◌, ◌<◌, eqb, leb, Ok, Err}
 use Rattle.rules.specs.declared.Outer.TheVariants.{NoRowRoom}
-use Rattle.rules.specs.declared.Told.{Told}
-use Rattle.rules.specs.declared.Told.TheVariants as tells
+use Rattle.rules.specs.Outcomes.{Told, unread}
 use Rattle.rules.specs.Text.{start_place}
 use Rattle.rules.specs.Edit.{new_length}
 use Rattle.edit_parts.specs.declared.Rest.{Rest}
@@ -20,8 +19,8 @@ behind_of n None = None
 
 -- so many kept rows, and the rest of them, if there was room
 abbrev pub tell_of : ℕ → Option Rest → ℕ → ℕ → Told
-tell_of k (Some x) size m = tells.Rows (record { count = k + x.count; length = size; ending = x.ending })
-tell_of k None size m = tells.Refused NoRowRoom start_place m
+tell_of k (Some x) size m = Ok (record { count = k + x.count; length = size; ending = x.ending })
+tell_of k None size m = Err (unread NoRowRoom start_place m)
 
 abbrev pub TellsFit : ℕ → Option Rest → ℕ → Type 0
 TellsFit k (Some x) m = k + x.count < 2 ^ 32

@@ -1,13 +1,13 @@
 // Parts of the edit call that look at no row: whether an edit is sensible, how long the new text is, and what is told.
 #![tactic(auto)]
 
-ghost use Rattle.std.specs.Prelude.{◌≡◌, ◌+◌, ◌^◌, ◌<◌, ◌≤◌};
+ghost use Rattle.std.specs.Prelude.{◌≡◌, ◌+◌, ◌^◌, ◌<◌, ◌≤◌, Err};
 ghost use Rattle.rules.specs.Text.{start_place};
-ghost use Rattle.rules.specs.declared.Told.TheVariants as tells;
+ghost use Rattle.rules.specs.Outcomes.{unread};
 ghost use Rattle.rules.specs.Edit.{new_length};
 ghost use Rattle.edit_parts.specs.Parts.{sensible_at, rest_behind, TellsFit, tell_of};
 
-use rules::{Cursor, Ending, Outer, Table, Told};
+use rules::{Cursor, Ending, Outer, Table, Told, Unread};
 
 // What stands behind the kept rows: so many rows and the ending.
 #[derive(Clone, Copy)]
@@ -31,9 +31,13 @@ impl Rest {
 
 // A refusal that wrote nothing.
 pub fn refused(why: Outer) -> Told
-    ensures { result ≡ tells.Refused why start_place 0 }
+    ensures { result ≡ Err (unread why start_place 0) }
 {
-    Told::Refused(why, Cursor::start(), 0)
+    Err(Unread {
+        why,
+        at: Cursor::start(),
+        rows: 0,
+    })
 }
 
 // How long the new text is.
@@ -68,11 +72,15 @@ pub fn tell(kept: usize, rest: Option<Rest>, size: u32, room: usize) -> Told
     ensures { result ≡ tell_of kept rest size room }
 {
     match rest {
-        Some(rest) => Told::Rows(Table {
+        Some(rest) => Ok(Table {
             count: (kept + rest.count) as u32,
             length: size,
             ending: rest.ending,
         }),
-        None => Told::Refused(Outer::NoRowRoom, Cursor::start(), room as u32),
+        None => Err(Unread {
+            why: Outer::NoRowRoom,
+            at: Cursor::start(),
+            rows: room as u32,
+        }),
     }
 }

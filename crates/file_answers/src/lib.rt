@@ -6,7 +6,7 @@ ghost use Rattle.file_answers.specs.Layout.{fault_words, stored_words, loaded_wo
 
 use answers::{no_place, put, put_told};
 use refusals::outer_number;
-use rules::{Cursor, Table, Told};
+use rules::{Cursor, Table};
 use rules_files::{Fault, form};
 use rules_forms::Apart;
 use rules_mend::{Mended, NotMended};
@@ -72,7 +72,7 @@ pub fn put_loaded(answer: &mut [u32; 8], told: Result<Table, Fault>)
     ensures { answer.new ≡ loaded_words told }
 {
     match told {
-        Ok(table) => put_told(answer, Told::Rows(table)),
+        Ok(table) => put_told(answer, Ok(table)),
         Err(why) => put_fault(answer, why),
     }
 }
@@ -119,7 +119,7 @@ pub fn put_beside(answer: &mut [u32; 8], told: Result<Table, Apart>)
     ensures { answer.new ≡ beside_words told }
 {
     match told {
-        Ok(table) => put_told(answer, Told::Rows(table)),
+        Ok(table) => put_told(answer, Ok(table)),
         Err(why) => put_apart(answer, why),
     }
 }

@@ -11,9 +11,9 @@ use Rattle.laws.specs.Tests.{all_below}
 use Rattle.laws.proofs.Tests.{false_by, both_true, true_both, below, below_by, below_one}
 use Rattle.laws.proofs.Rows.{rows_at, rows_length}
 use Rattle.rules.specs.declared.Cursor.{Cursor}
-use Rattle.rules.specs.declared.Ending.{Ending}
+use Rattle.rules.specs.Outcomes.{Ending, halt}
+use Rattle.std.specs.declared.option.Option.TheVariants.{None, Some}
 use Rattle.rules.specs.declared.Lexical.{Lexical}
-use Rattle.rules.specs.declared.Ending.TheVariants.{None, Refused}
 use Rattle.rules.specs.declared.Table.{Table}
 use Rattle.rules.specs.Text.{start_place, place_at}
 use Rattle.rules.specs.Rows.{Row, row_in, row_no, rows_in, row_place, every}
@@ -143,7 +143,7 @@ other_length text file t h = rw (ne_eqb (length text) t.length h)
 ending_placed : (text : List ℕ) (e : Ending) → ending_agrees text (placed_ending (place_at text) e) ≡ true
 unfolding ending_agrees
 ending_placed text None = refl
-ending_placed text (Refused why p) = place_agrees text p.offset.0
+ending_placed text (Some e) = place_agrees text e.at.offset.0
 
 rows_placed : (text file : List ℕ) (t : Table) → t.count ≡ count_said file → form_of file ≡ Short
     → every (in_place text) (rows_in t.count (rows_beside text file)) ≡ true
@@ -184,6 +184,6 @@ pub ending_none : (text : List ℕ) (e : Ending) → e ≡ None → ending_agree
 unfolding ending_agrees
 ending_none text e q = rw q
 
-pub ending_refused : (text : List ℕ) (e : Ending) (why : Lexical) (p : Cursor) → e ≡ Refused why p → ending_agrees text e ≡ is_place_in text p
+pub ending_refused : (text : List ℕ) (e : Ending) (why : Lexical) (p : Cursor) → e ≡ Some (halt why p) → ending_agrees text e ≡ is_place_in text p
 unfolding ending_agrees
 ending_refused text e why p q = rw q

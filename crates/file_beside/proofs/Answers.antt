@@ -8,8 +8,8 @@ use lib.ListN.{length, take}
 use lib.Seq.{take_all}
 use borrow.Author.Tests.{lt-ltb, le-ltb}
 use Rattle.rules.specs.declared.Cursor.{Cursor}
-use Rattle.rules.specs.declared.Ending.{Ending}
-use Rattle.rules.specs.declared.Ending.TheVariants as ending
+use Rattle.rules.specs.Outcomes.{Ending, halt}
+use Rattle.std.specs.declared.option.Option.TheVariants.{None, Some}
 use Rattle.rules.specs.declared.Lexical.{Lexical}
 use Rattle.rules.specs.declared.Outer.TheVariants.{NoRowRoom}
 use Rattle.rules.specs.declared.Table.{Table}
@@ -39,14 +39,14 @@ module _ (text file : List ℕ) (t : Table) where
   unfolding rows_beside
   rows_full e = rw (is_full file e)
 
-  pub table_none : form_of file ≡ Short → t.ending ≡ ending.None → table_beside text file t ≡ t
+  pub table_none : form_of file ≡ Short → t.ending ≡ None → table_beside text file t ≡ t
   unfolding table_beside
   table_none e q =
-      let x : table_beside text file t ≡ record { count = t.count; length = t.length; ending = ending.None } = rw (is_short_lem file e, q) in
+      let x : table_beside text file t ≡ record { count = t.count; length = t.length; ending = None } = rw (is_short_lem file e, q) in
       x ∙ ap (λ (w : Ending). record { count = t.count; length = t.length; ending = w }) (sym q)
 
-  pub table_refused : form_of file ≡ Short → (why : Lexical) (p : Cursor) → t.ending ≡ ending.Refused why p
-      → table_beside text file t ≡ record { count = t.count; length = t.length; ending = ending.Refused why (place_at text p.offset.0) }
+  pub table_refused : form_of file ≡ Short → (why : Lexical) (p : Cursor) → t.ending ≡ Some (halt why p)
+      → table_beside text file t ≡ record { count = t.count; length = t.length; ending = Some (halt why (place_at text p.offset.0)) }
   unfolding table_beside
   table_refused e why p q = rw (is_short_lem file e, q)
 

@@ -11,8 +11,8 @@ use borrow.Author.Tests.{leb-true}
 use Rattle.laws.proofs.Tests.{both_true}
 use Rattle.laws.proofs.Places.{over_start}
 use Rattle.rules.specs.declared.Cursor.{Cursor}
-use Rattle.rules.specs.declared.Ending.{Ending}
-use Rattle.rules.specs.declared.Ending.TheVariants.{None, Refused}
+use Rattle.rules.specs.Outcomes.{Ending, halt}
+use Rattle.std.specs.declared.option.Option.TheVariants.{None, Some}
 use Rattle.rules.specs.declared.Lexical.{Lexical}
 use Rattle.rules.specs.declared.Table.{Table}
 use Rattle.rules.specs.Text.{most_bytes, start_place, place_at, over}
@@ -160,12 +160,12 @@ module _ (text file : List ℕ) (t : Table) (held : judged file ≡ Ok t) (long 
     where
       go : (e : Ending) → t.ending ≡ e → CountsTo text (last_place text file t.count) e
       go None q = tt
-      go (Refused why p) q =
-          let b = broken_of are_fine {why = why} {p = p} q in
-          let f = before_below t.count p.offset.0 (omega arith) (λ j e. behind_ends (judged_row file j) p (b.last j e)) in
-          counts_from t.count p.offset.0 f (omega (arith, b.within))
+      go (Some refusal) q =
+          let b = broken_of are_fine {why = refusal.why} {p = refusal.at} q in
+          let f = before_below t.count refusal.at.offset.0 (omega arith) (λ j e. behind_ends (judged_row file j) refusal.at (b.last j e)) in
+          counts_from t.count refusal.at.offset.0 f (omega (arith, b.within))
 
   -- the same, of a refused ending
-  pub counts_refused : (here : Cursor) → here ≡ last_place text file t.count → (why : Lexical) (p : Cursor) → t.ending ≡ Refused why p
+  pub counts_refused : (here : Cursor) → here ≡ last_place text file t.count → (why : Lexical) (p : Cursor) → t.ending ≡ Some (halt why p)
       → Counts text here p.offset.0
   counts_refused here e why p q = rw e (subst (λ (w : Ending). CountsTo text (last_place text file t.count) w) q counts_ending)

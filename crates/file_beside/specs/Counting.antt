@@ -1,8 +1,7 @@
 -- What is known of a file that holds a table, beside a text, and how far lines and columns are counted.
-use Rattle.std.specs.Prelude.{◌≡◌, Bool, true, List, ◌++◌, ℕ, ◌*◌, ◌≤◌, length, drop, Result, Ok, Err}
+use Rattle.std.specs.Prelude.{◌≡◌, Bool, true, List, ◌++◌, ℕ, ◌*◌, ◌≤◌, length, drop, Result, Ok, Err, None, Some}
 use Rattle.rules.specs.declared.Cursor.{Cursor}
-use Rattle.rules.specs.declared.Ending.{Ending}
-use Rattle.rules.specs.declared.Ending.TheVariants as ending
+use Rattle.rules.specs.Outcomes.{Ending, halt}
 use Rattle.rules.specs.declared.Table.{Table}
 use Rattle.rules.specs.Text.{most_bytes, place_at}
 use Rattle.rules.specs.Rows.{Row, row_place, rows_in, words_per_row, every}
@@ -23,8 +22,8 @@ pub record Counts (text : List ℕ) (here : Cursor) (offset : ℕ) : Type 0 wher
 
 -- an ending's place, if it has one
 abbrev pub CountsTo : List ℕ → Cursor → Ending → Type 0
-CountsTo text here ending.None = Unit {0}
-CountsTo text here (ending.Refused why p) = Counts text here p.offset.0
+CountsTo text here None = Unit {0}
+CountsTo text here (Some e) = Counts text here e.at.offset.0
 
 -- a file of a form holds a table of a text's length
 pub record Holds (form : Form) (text file : List ℕ) (t : Table) : Type 0 where

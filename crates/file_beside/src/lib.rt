@@ -11,7 +11,7 @@ ghost use Rattle.file_beside.specs.Counting.{Counts, CountsTo, Holds, Agrees, la
 
 use file_load::{form_of, judge, row_of, take_rows};
 use rows::shape::Row;
-use rules::{Cursor, Ending, Outer, Table, row};
+use rules::{Cursor, Ending, Halt, Outer, Table, row};
 use rules_files::Fault;
 use rules_forms::{Apart, Form};
 use scan_place::pass;
@@ -57,8 +57,8 @@ fn ending_agrees(text: &[u8], here: Cursor, ending: Ending) -> bool
     ensures { result ≡ ending_agrees text.now ending }
 {
     match ending {
-        Ending::None => true,
-        Ending::Refused(_, p) => same_line(p, place_from(text, here, p.offset.0)),
+        None => true,
+        Some(e) => same_line(e.at, place_from(text, here, e.at.offset.0)),
     }
 }
 
@@ -166,11 +166,14 @@ pub fn table_beside(text: &[u8], file: &[u8], table: Table, last: Cursor) -> Tab
         Form::Short => {
             let ending = table.ending;
             match ending {
-                Ending::None => table,
-                Ending::Refused(why, p) => Table {
+                None => table,
+                Some(e) => Table {
                     count: table.count,
                     length: table.length,
-                    ending: Ending::Refused(why, place_from(text, last, p.offset.0)),
+                    ending: Some(Halt {
+                        why: e.why,
+                        at: place_from(text, last, e.at.offset.0),
+                    }),
                 },
             }
         }

@@ -7,7 +7,7 @@ use native.Mathlib.Omega.{arith}
 use lib.ListN.{length, take}
 use lib.Dec.{eqb, ltb}
 use borrow.Author.Tests.{ltb-false, lt-ltb, le-ltb, eq-eqb, ne_eqb}
-use Rattle.rules.specs.declared.Ending.{Ending}
+use Rattle.rules.specs.Outcomes.{Ending}
 use Rattle.rules.specs.declared.Table.{Table}
 use Rattle.rules.specs.Scan.{room_of}
 use Rattle.rules_files.specs.declared.Fault.{Fault}

@@ -9,8 +9,8 @@ use lib.Seq.{drop-drop}
 use borrow.Author.Tests.{eq-eqb, ne_eqb}
 use Rattle.rules.specs.declared.Cursor.{Cursor}
 use Rattle.rules.specs.declared.Lexical.{Lexical}
-use Rattle.rules.specs.declared.Ending.{Ending}
-use Rattle.rules.specs.declared.Ending.TheVariants.{None, Refused}
+use Rattle.rules.specs.Outcomes.{Ending, halt}
+use Rattle.std.specs.declared.option.Option.TheVariants.{None, Some}
 use Rattle.rules.specs.declared.Table.{Table}
 use Rattle.rules.specs.Text.{most_bytes, place}
 use Rattle.rules.specs.Rows.{row_no, well_formed}
@@ -135,7 +135,7 @@ module _ (form : Form) (file : List ℕ) (t : Table) (frame : Framed form t.coun
 
     unfit_by : (e : Ending) → t.ending ≡ e → standing form e file ≡ false → well_formed (row_words_of form file) t ≡ false
     unfit_by None e f = unfit_none e f t.count refl
-    unfit_by (Refused why p) e f = well_refused (row_words_of form file) t lent short why p e ∙ rw (sym (all_stand (Refused why p)) ∙ f)
+    unfit_by (Some refusal) e f = well_refused (row_words_of form file) t lent short refusal.why refusal.at e ∙ rw (sym (all_stand (Some (halt refusal.why refusal.at))) ∙ f)
 
     pub unfit : standing form t.ending file ≡ false → well_formed (row_words_of form file) t ≡ false
     unfit f = unfit_by t.ending refl f
@@ -146,8 +146,8 @@ module _ (form : Form) (file : List ℕ) (t : Table) (frame : Framed form t.coun
         let g = sym (all_stand None) ∙ rw e at f in
         well_none (row_words_of form file) t lent short e (t.count - 1) (omega arith) ∙ rw g
 
-    pub fits_refused : (why : Lexical) (p : Cursor) → t.ending ≡ Refused why p → standing form t.ending file ≡ true
+    pub fits_refused : (why : Lexical) (p : Cursor) → t.ending ≡ Some (halt why p) → standing form t.ending file ≡ true
         → well_formed (row_words_of form file) t ≡ breaks (row_words_of form file) t.length t.count p
     fits_refused why p e f =
-        let g = sym (all_stand (Refused why p)) ∙ rw e at f in
+        let g = sym (all_stand (Some (halt why p))) ∙ rw e at f in
         well_refused (row_words_of form file) t lent short why p e ∙ rw g

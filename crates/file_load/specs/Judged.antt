@@ -1,7 +1,6 @@
 -- What is known of a file whose blocks are judged, and what the judging of them tells.
 use Rattle.std.specs.Prelude.{◌≡◌, Bool, true, cond, List, [], ◌∷◌, ℕ, ◌+◌, ◌-◌, length, ltb, Result, Ok, Err, Option, Some, None}
-use Rattle.rules.specs.declared.Ending.{Ending}
-use Rattle.rules.specs.declared.Ending.TheVariants as ending
+use Rattle.rules.specs.Outcomes.{Ending}
 use Rattle.rules.specs.Rows.{Row, row_in, rows_in}
 use Rattle.rules_files.specs.declared.Fault.{Fault}
 use Rattle.rules_files.specs.declared.Fault.TheVariants.{BadBlock}
@@ -23,8 +22,8 @@ last_of r (q ∷ qs) = last_of q qs
 
 -- all rows must stand one behind the other, but the last where the ending is none
 abbrev pub plain_by : Ending → ℕ → ℕ
-plain_by ending.None count = count - 1
-plain_by (ending.Refused why p) count = count
+plain_by None count = count - 1
+plain_by (Some e) count = count
 
 abbrev pub plain_rows : Option Ending → ℕ → ℕ
 plain_rows None count = 0

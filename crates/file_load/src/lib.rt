@@ -17,7 +17,7 @@ use file_sizes::{block_rows, length_for, row_bytes, rows_here};
 use refusals::{is_lexical, lexical_of};
 use rows::shape;
 use rows::shape::Row;
-use rules::{Column, Cursor, Ending, Line, Offset, Outer, Table, kind, limit, row};
+use rules::{Column, Cursor, Ending, Halt, Line, Offset, Outer, Table, kind, limit, row};
 use rules_files::{Fault, form};
 use rules_forms::{Form, short};
 
@@ -43,7 +43,10 @@ fn read_refused(number: u32, p: Cursor) -> Option<Ending>
     ensures { result ≡ read_refused number p }
 {
     if is_lexical(number) {
-        return Some(Ending::Refused(lexical_of(number), p));
+        return Some(Some(Halt {
+            why: lexical_of(number),
+            at: p,
+        }));
     }
     None
 }
@@ -64,7 +67,7 @@ fn read_ending(number: u32, p: Cursor) -> Option<Ending>
     if p.column.0 != 0 {
         return None;
     }
-    Some(Ending::None)
+    Some(None)
 }
 
 // The ending that block 0 of form 1 tells.
@@ -106,7 +109,7 @@ fn short_ending(file: &[u8]) -> Option<Ending>
     if offset != 0 {
         return None;
     }
-    Some(Ending::None)
+    Some(None)
 }
 
 // The ending that block 0 of a form tells.
@@ -128,8 +131,8 @@ fn plain_rows(read: Option<Ending>, count: u32) -> u32
 {
     match read {
         None => 0,
-        Some(Ending::None) => count.saturating_sub(1),
-        Some(Ending::Refused(_, _)) => count,
+        Some(None) => count.saturating_sub(1),
+        Some(Some(_)) => count,
     }
 }
 
@@ -246,13 +249,13 @@ fn table_fits(form: Form, file: &[u8], table: Table, stand: bool) -> bool
     }
     let ending = table.ending;
     match ending {
-        Ending::None => {
+        None => {
             if count == 0 {
                 return false;
             }
             last_closes(form, file, count, size, count as usize - 1)
         }
-        Ending::Refused(_, p) => place_breaks(form, file, count, size, p),
+        Some(e) => place_breaks(form, file, count, size, e.at),
     }
 }
 

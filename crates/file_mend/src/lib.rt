@@ -1,7 +1,6 @@
 // A file mended in place: the text is read in the order of blocks, once to hold each block against what it should be,
 // and once more, where one differs, to write.
-ghost use Rattle.std.specs.Prelude.{◌≡◌};
-ghost use Rattle.rules.specs.declared.Judged.TheVariants.{Fine};
+ghost use Rattle.std.specs.Prelude.{◌≡◌, Ok};
 ghost use Rattle.rules.specs.Text.{text_judged};
 ghost use Rattle.rules_forms.specs.Shapes.{number_of};
 ghost use Rattle.rules_mend.specs.Mend.{mend_told, mend_leaves, list_leaves};
@@ -9,7 +8,7 @@ ghost use Rattle.rules_mend.specs.Mend.{mend_told, mend_leaves, list_leaves};
 use file_rewrite::mend_blocks;
 use file_sizes::length_for;
 use file_survey::survey;
-use rules::{Cursor, Judged, Outer};
+use rules::{Cursor, Outer};
 use rules_files::{Fault, form};
 use rules_forms::{Form, short};
 use rules_mend::{Mended, NotMended};
@@ -23,7 +22,7 @@ fn mend_text(
     n: usize,
     list: &mut [u32],
 ) -> Result<Mended, NotMended>
-    requires { text_judged text.now ≡ Fine }
+    requires { text_judged text.now ≡ Ok tt }
     ensures { (result ≡ mend_told text.now (number_of form) file.old n list.old)
         × ((file.new
         ≡ mend_leaves text.now (number_of form) file.old n list.old)
@@ -76,11 +75,11 @@ fn mend_in(
         ≡ list_leaves text.now (number_of form) file.old n list.old)) }
 {
     match judge_text(text) {
-        Judged::Refused(why, at) => Err(NotMended {
-            why: Fault::Outer(why),
-            at,
+        Err(e) => Err(NotMended {
+            why: Fault::Outer(e.why),
+            at: e.at,
         }),
-        Judged::Fine => mend_text(form, text, file, n, list),
+        Ok(()) => mend_text(form, text, file, n, list),
     }
 }
 

@@ -9,7 +9,7 @@ ghost use Rattle.rules_forms.specs.Shapes.{row_bytes_of, said_in, body_of};
 
 use file_blocks::{put_block, put_word, seal};
 use refusals::lexical_number;
-use rules::{Ending, Table, row};
+use rules::{Table, row};
 use rules_files::form;
 use rules_forms::{Form, short};
 
@@ -19,15 +19,15 @@ fn words_of(table: Table) -> [u32; 7]
 {
     let ending = table.ending;
     match ending {
-        Ending::None => [form::NUMBER, table.length, table.count, 0, 0, 0, 0],
-        Ending::Refused(why, p) => [
+        None => [form::NUMBER, table.length, table.count, 0, 0, 0, 0],
+        Some(e) => [
             form::NUMBER,
             table.length,
             table.count,
-            lexical_number(why),
-            p.offset.0,
-            p.line.0,
-            p.column.0,
+            lexical_number(e.why),
+            e.at.offset.0,
+            e.at.line.0,
+            e.at.column.0,
         ],
     }
 }
@@ -38,13 +38,13 @@ fn short_words_of(table: Table) -> [u32; 5]
 {
     let ending = table.ending;
     match ending {
-        Ending::None => [short::NUMBER, table.length, table.count, 0, 0],
-        Ending::Refused(why, p) => [
+        None => [short::NUMBER, table.length, table.count, 0, 0],
+        Some(e) => [
             short::NUMBER,
             table.length,
             table.count,
-            lexical_number(why),
-            p.offset.0,
+            lexical_number(e.why),
+            e.at.offset.0,
         ],
     }
 }

@@ -5,7 +5,7 @@ use Prim.Native.Nat.{ℕ, suc, ◌+◌, ◌-◌, ◌*◌, ◌/◌, ◌≤◌, �
 use native.Mathlib.Omega.{arith}
 use lib.ListN.{length, take, drop, set, get_or, length-append, length-drop}
 use lib.Seq.{take_at, drop_at, drop-drop, drop-cons, set_at, length-take-le}
-use Rattle.rules.specs.declared.Judged.TheVariants.{Fine}
+use Rattle.std.specs.declared.result.Result.TheVariants.{Ok}
 use Rattle.rules.specs.Text.{text_judged}
 use Rattle.rules_forms.specs.declared.Form.{Form}
 use Rattle.rules_forms.specs.Shapes.{number_of}
@@ -94,7 +94,7 @@ module _ (form : Form) (text : List ℕ) (n : ℕ) (memory list : List ℕ) (roo
     alike = differing_behind form 1 (rows_of text) n memory₁ memory memory_behind
 
     -- and for the blocks of the rows and theirs
-    pub rows_fit : text_judged text ≡ Fine → Fresh form text n memory₁ first list₁
+    pub rows_fit : text_judged text ≡ Ok tt → Fresh form text n memory₁ first list₁
     rows_fit fine = record {
       fine = fine;
       inside = omega (arith, memory_size);
@@ -137,7 +137,7 @@ module _ (form : Form) (text : List ℕ) (n : ℕ) (memory list : List ℕ) (roo
           (sym (append_assoc (entry_here n 0 b memory) (rows_differing form 1 (rows_of text) (take n memory)) (drop last list)))
 
       -- it has few entries so far
-      last_small : text_judged text ≡ Fine → last ≤ 65538
+      last_small : text_judged text ≡ Ok tt → last ≤ 65538
       last_small fine =
           omega (
             arith,
@@ -193,7 +193,7 @@ module _ (form : Form) (text : List ℕ) (n : ℕ) (memory list : List ℕ) (roo
             w ∙ sym (rw (size, all) (append_assoc front (m ∷ []) (drop (suc last) list)))
 
       -- all of it
-      pub rows_left : text_judged text ≡ Fine → Left form text n memory list last memory₂ list₂
+      pub rows_left : text_judged text ≡ Ok tt → Left form text n memory list last memory₂ list₂
       rows_left fine = record {
         small = last_small fine;
         file = file_done;

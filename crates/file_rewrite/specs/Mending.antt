@@ -1,6 +1,5 @@
 -- What is known where the blocks of a text's rows are mended, and what is left.
-use Rattle.std.specs.Prelude.{◌≡◌, List, ◌++◌, ℕ, ◌+◌, ◌*◌, ◌≤◌, length, take, drop}
-use Rattle.rules.specs.declared.Judged.TheVariants.{Fine}
+use Rattle.std.specs.Prelude.{◌≡◌, List, ◌++◌, ℕ, ◌+◌, ◌*◌, ◌≤◌, length, take, drop, Ok}
 use Rattle.rules.specs.Text.{text_judged}
 use Rattle.rules_files.specs.Blocks.{block_bytes, per_block}
 use Rattle.rules_forms.specs.declared.Form.{Form}
@@ -31,7 +30,7 @@ pub record PartMended (form : Form) (text : List ℕ) (at k n listed : ℕ) (r :
 -- the blocks of a text's rows can be mended: n bytes are the file, and there is room for its blocks, and behind first
 -- entries for theirs
 pub record Fresh (form : Form) (text : List ℕ) (n : ℕ) (memory : List ℕ) (first : ℕ) (list : List ℕ) : Type 0 where
-  pub fine : text_judged text ≡ Fine
+  pub fine : text_judged text ≡ Ok tt
   pub inside : n ≤ length memory
   pub room : length (fresh_file (number_of form) text) ≤ length memory
   pub list_room : first + length (rows_differing form 1 (rows_of text) (take n memory)) ≤ length list

@@ -1,7 +1,6 @@
 // The second reading of a mending: the rows of a text, a block at a time, each of which is written and listed where it
 // differs.
-ghost use Rattle.std.specs.Prelude.{◌≡◌, ◌≤◌, length, take};
-ghost use Rattle.rules.specs.declared.Judged.TheVariants.{Fine};
+ghost use Rattle.std.specs.Prelude.{◌≡◌, ◌≤◌, length, take, Ok};
 ghost use Rattle.rules.specs.Text.{text_judged};
 ghost use Rattle.rules_forms.specs.Shapes.{number_of};
 ghost use Rattle.scan_part.specs.Part.{Begun};
@@ -87,7 +86,7 @@ pub fn mend_blocks(
     n: usize,
     list: &mut [u32],
 )
-    requires { ((text_judged text.now ≡ Fine) × (table ≡ fresh_table text.now))
+    requires { ((text_judged text.now ≡ Ok tt) × (table ≡ fresh_table text.now))
         × (((length (fresh_file (number_of form) text.now) ≤ length file.old) × (n ≤ length file.old))
         × (length (listed (fresh_file (number_of form) text.now) (take n file.old)) ≤ length list.old)) }
     ensures { (file.new ≡ file_left form text.now file.old)

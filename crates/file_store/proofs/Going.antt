@@ -12,7 +12,6 @@ use borrow.Rule.Slice.PartMut.{put_mid}
 use Rattle.rules.specs.declared.Table.{Table}
 use Rattle.rules_files.specs.Bytes.{bytes_of}
 use Rattle.rules_files.specs.Blocks.{block, blocks_for, blocks_from, file_length, file_of}
-use Rattle.rules.specs.declared.Ending.TheVariants.{Refused}
 use Rattle.rules.specs.declared.Outer.TheVariants.{NotWellFormed, NoRowRoom}
 use Rattle.rules.specs.Rows.{well_formed}
 use Rattle.rules_files.specs.declared.Fault.TheVariants.{Outer, TooManyRows}

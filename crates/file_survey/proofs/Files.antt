@@ -10,8 +10,8 @@ use lib.Seq.{take_at, drop_at, take_all}
 use lib.Dec.{ltb}
 use borrow.Author.Tests.{lt-ltb, le-ltb}
 use Rattle.laws.proofs.Rows.{words_length}
-use Rattle.rules.specs.declared.Ending.{Ending}
-use Rattle.rules.specs.declared.Ending.TheVariants.{None, Refused}
+use Rattle.rules.specs.Outcomes.{Ending, halt}
+use Rattle.std.specs.declared.option.Option.TheVariants.{None, Some}
 use Rattle.rules.specs.declared.Table.{Table}
 use Rattle.rules.specs.Kinds.{same_bytes}
 use Rattle.rules.specs.Rows.{Row, words_of}
@@ -45,12 +45,12 @@ said_few Full t = go t.ending
   where
     go : (e : Ending) → length (bytes_of (1 ∷ t.length ∷ t.count ∷ ending_said e)) ≤ 504
     go None = omega (arith, bytes_length (1 ∷ t.length ∷ t.count ∷ ending_said None))
-    go (Refused why p) = omega (arith, bytes_length (1 ∷ t.length ∷ t.count ∷ ending_said (Refused why p)))
+    go (Some e) = omega (arith, bytes_length (1 ∷ t.length ∷ t.count ∷ ending_said (Some (halt e.why e.at))))
 said_few Short t = go t.ending
   where
     go : (e : Ending) → length (bytes_of (2 ∷ t.length ∷ t.count ∷ short_ending_said e)) ≤ 504
     go None = omega (arith, bytes_length (2 ∷ t.length ∷ t.count ∷ short_ending_said None))
-    go (Refused why p) = omega (arith, bytes_length (2 ∷ t.length ∷ t.count ∷ short_ending_said (Refused why p)))
+    go (Some e) = omega (arith, bytes_length (2 ∷ t.length ∷ t.count ∷ short_ending_said (Some (halt e.why e.at))))
 
 -- Block 0 has 512 bytes.
 pub said_length : (form : Form) (t : Table) → length (said_block form t) ≡ 512

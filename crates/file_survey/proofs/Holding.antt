@@ -7,8 +7,8 @@ use native.Mathlib.Omega.{arith}
 use lib.ListN.{length, drop, length-append, length-take, length-drop}
 use Rattle.laws.proofs.Valid.{fine_text}
 use Rattle.laws.proofs.Rows.{few_rows}
-use Rattle.rules.specs.declared.Ending.{Ending}
-use Rattle.rules.specs.declared.Judged.TheVariants.{Fine}
+use Rattle.rules.specs.Outcomes.{Ending}
+use Rattle.std.specs.declared.result.Result.TheVariants.{Ok}
 use Rattle.rules.specs.declared.Table.{Table}
 use Rattle.rules.specs.Text.{start_place, place_at, text_judged}
 use Rattle.rules.specs.Rows.{Row}
@@ -61,7 +61,7 @@ module _ (form : Form) {text : List ℕ} {at : ℕ} {r : Part} (p : PartOf text 
   on_full {s} e = sym p.counted ∙ (p.on s e).0.1
 
 -- a reading begins at the text's start
-pub begins : (text : List ℕ) (s : Spot) → text_judged text ≡ Fine → s.at ≡ 0 → s.cursor ≡ start_place → Begun text s
+pub begins : (text : List ℕ) (s : Spot) → text_judged text ≡ Ok tt → s.at ≡ 0 → s.cursor ≡ start_place → Begun text s
 begins text s fine e f =
     let b = begun_start text (fine_text text fine).0 in
     record { inside = omega arith; cursor = rw (f, e) b.cursor; few = b.few }
@@ -79,7 +79,7 @@ pub record Holding (form : Form) (text file : List ℕ) (spot : Spot) (count lis
   pub near : k ≤ 1 + spot.at
 
 -- It holds at the text's start.
-pub holding_start : (form : Form) (text file : List ℕ) (s : Spot) → text_judged text ≡ Fine → s.at ≡ 0 → s.cursor ≡ start_place
+pub holding_start : (form : Form) (text file : List ℕ) (s : Spot) → text_judged text ≡ Ok tt → s.at ≡ 0 → s.cursor ≡ start_place
     → Holding form text file s 0 0 1
 holding_start form text file s fine e f =
     let same : read_from text s.at ≡ scan text = ap (read_from text) e ∙ from_start text in

@@ -5,7 +5,7 @@ use Prim.Native.Nat.{ℕ, ◌+◌, ◌*◌, ◌≤◌, ◌<◌}
 use native.Mathlib.Omega.{arith}
 use lib.ListN.{length, length-append}
 use Rattle.laws.proofs.Valid.{fine_text}
-use Rattle.rules.specs.declared.Judged.TheVariants.{Fine}
+use Rattle.std.specs.declared.result.Result.TheVariants.{Ok}
 use Rattle.rules.specs.declared.Table.{Table}
 use Rattle.rules.specs.Text.{text_judged}
 use Rattle.rules.specs.Scan.{read_rows}
@@ -29,11 +29,11 @@ pub length_is : (form : Form) (text : List ℕ) (t : Table) (n : ℕ) → t ≡ 
     → n ≡ length (fresh_file (number_of form) text)
 length_is form text t n e f = f ∙ ap (λ (x : Table). file_length (row_bytes_of form) x.count) e ∙ sym (fresh_length form text)
 
-pub rows_small : (text : List ℕ) → text_judged text ≡ Fine → length (rows_of text) ≤ 65537
+pub rows_small : (text : List ℕ) → text_judged text ≡ Ok tt → length (rows_of text) ≤ 65537
 rows_small text fine = omega (arith, few_from text 0, ap length (ap read_rows (from_start text)), (fine_text text fine).0)
 
 -- it is no longer than block 0 and a block for each row
-pub length_small : (form : Form) (text : List ℕ) → text_judged text ≡ Fine → length (fresh_file (number_of form) text) ≤ 512 * 65538
+pub length_small : (form : Form) (text : List ℕ) → text_judged text ≡ Ok tt → length (fresh_file (number_of form) text) ≤ 512 * 65538
 length_small form text fine = omega (arith, fresh_blocks form text, few_blocks form (length (rows_of text)), rows_small text fine)
 
 -- ---- the first reading
@@ -49,7 +49,7 @@ module _ (form : Form) (text file : List ℕ) (t : Table) (b : List ℕ) (h m : 
       ap length (listed_parts form text file) ∙ length-append e (d ++ s) ∙ omega (arith, length-append d s)
 
   -- The sum of both counts is small.
-  pub survey_few : text_judged text ≡ Fine → h + m ≤ 65538
+  pub survey_few : text_judged text ≡ Ok tt → h + m ≤ 65538
   survey_few fine = omega (arith, rows_most form 1 (rows_of text) file, rows_small text fine, entry_most b file 0)
 
   -- With a tail's entry it is how many are listed,
@@ -62,7 +62,7 @@ module _ (form : Form) (text file : List ℕ) (t : Table) (b : List ℕ) (h m : 
   survey_all l = omega (arith, parts, ap length (no_tail_lem form text file l))
 
 -- how many are listed at most
-pub listed_small : (form : Form) (text file : List ℕ) → text_judged text ≡ Fine
+pub listed_small : (form : Form) (text file : List ℕ) → text_judged text ≡ Ok tt
     → length (listed (fresh_file (number_of form) text) file) ≤ 65539
 listed_small form text file fine =
     let b = said_block form (fresh_table text) in

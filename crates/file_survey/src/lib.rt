@@ -1,7 +1,6 @@
 // The first reading of a mending: the rows of a text, a block at a time, held against those of a file. Its table is
 // told, and how many blocks are to be listed.
-ghost use Rattle.std.specs.Prelude.{◌≡◌, length};
-ghost use Rattle.rules.specs.declared.Judged.TheVariants.{Fine};
+ghost use Rattle.std.specs.Prelude.{◌≡◌, length, Ok};
 ghost use Rattle.rules.specs.Text.{start_place, text_judged};
 ghost use Rattle.rules_files.specs.Blocks.{per_block, block_bytes};
 ghost use Rattle.rules_forms.specs.Shapes.{number_of, row_bytes_of};
@@ -81,7 +80,7 @@ fn hold_part(form: Form, text: &[u8], spot: Spot, k: u32, file: &[u8]) -> Step
 // The rows of a text, block by block, held against those of a file. Its table is told, and how many blocks behind block
 // 0 differ.
 fn survey_rows(form: Form, text: &[u8], file: &[u8]) -> Seen
-    requires { text_judged text.now ≡ Fine }
+    requires { text_judged text.now ≡ Ok tt }
     ensures { RowsHeld form text.now file.now result }
 {
     let mut spot = begin();
@@ -116,7 +115,7 @@ fn survey_rows(form: Form, text: &[u8], file: &[u8]) -> Seen
 // The table of a text, and how many blocks of a file are to be listed: those that differ, and the first of a surplus
 // tail.
 pub fn survey(form: Form, text: &[u8], file: &[u8]) -> Seen
-    requires { text_judged text.now ≡ Fine }
+    requires { text_judged text.now ≡ Ok tt }
     ensures { (result.table ≡ fresh_table text.now)
         × (result.listed ≡ length (listed (fresh_file (number_of form) text.now) file.now)) }
 {

@@ -8,11 +8,11 @@ use lib.ListN.{length, take, drop, get_or, length-append, length-take, length-dr
 use lib.Seq.{take-add, take_all, take-append-le, take-append-add, get_or-take, get_or-drop, drop-drop}
 use borrow.Author.Tests.{le-leb, lt-leb}
 use Rattle.rules.specs.declared.Cursor.{Cursor}
-use Rattle.rules.specs.declared.Ending.{Ending}
+use Rattle.rules.specs.Outcomes.{Ending, unfit, unread}
 use Rattle.rules.specs.declared.Outer.{Outer}
 use Rattle.rules.specs.declared.Outer.TheVariants.{NoRowRoom}
-use Rattle.rules.specs.declared.Judged.TheVariants as verdict
-use Rattle.rules.specs.declared.Told.TheVariants.{Rows, Refused}
+use Rattle.rules.specs.declared.Unfit.{Unfit}
+use Rattle.std.specs.declared.result.Result.TheVariants.{Ok, Err}
 use Rattle.rules.specs.Text.{start_place, text_judged}
 use Rattle.rules.specs.Rows.{Row, row_words, row_in, row_at, row_no, rows_in, words_of}
 use Rattle.rules.specs.Lex.{Piece, blank, comment, row, refused, piece}
@@ -209,27 +209,27 @@ few_rows pos c zero k (b ∷ s) = pick (piece (b ∷ s)) (λ d m. few_rows pos d
     pick (refused why p d) h = omega arith
 
 module _ (t : List ℕ) where
-  pub scan_told_refused : {why : Outer} {p : Cursor} → text_judged t ≡ verdict.Refused why p → (m : ℕ) → scan_told t m ≡ Refused why p 0
+  pub scan_told_refused : {e : Unfit} → text_judged t ≡ Err e → (m : ℕ) → scan_told t m ≡ Err (unread e.why e.at 0)
   unfolding scan_told
   scan_told_refused e m = rw (scan_told, e)
 
-  pub scan_leaves_refused : {why : Outer} {p : Cursor} → text_judged t ≡ verdict.Refused why p → (ws : List ℕ) → scan_leaves t ws ≡ ws
+  pub scan_leaves_refused : {e : Unfit} → text_judged t ≡ Err e → (ws : List ℕ) → scan_leaves t ws ≡ ws
   unfolding scan_leaves
   scan_leaves_refused e ws = rw (scan_leaves, e)
 
-  pub scan_told_lem : text_judged t ≡ verdict.Fine → (m : ℕ) → scan_told t m ≡ told (length t) m (read_rows (scan t)) (read_ending (scan t))
+  pub scan_told_lem : text_judged t ≡ Ok tt → (m : ℕ) → scan_told t m ≡ told (length t) m (read_rows (scan t)) (read_ending (scan t))
   unfolding scan_told
   scan_told_lem e m = rw (scan_told, e)
 
-  pub scan_leaves_lem : text_judged t ≡ verdict.Fine → (ws : List ℕ) → scan_leaves t ws ≡ laid (read_rows (scan t)) ws
+  pub scan_leaves_lem : text_judged t ≡ Ok tt → (ws : List ℕ) → scan_leaves t ws ≡ laid (read_rows (scan t)) ws
   unfolding scan_leaves
   scan_leaves_lem e ws = rw (scan_leaves, e)
 
 module _ (n m : ℕ) (rows : List Row) (e : Ending) where
-  pub told_all : length rows ≤ m → told n m rows e ≡ Rows (record { count = length rows; length = n; ending = e })
+  pub told_all : length rows ≤ m → told n m rows e ≡ Ok (record { count = length rows; length = n; ending = e })
   unfolding told
   told_all h = rw (le-leb (length rows) m h)
 
-  pub told_full : m < length rows → told n m rows e ≡ Refused NoRowRoom start_place m
+  pub told_full : m < length rows → told n m rows e ≡ Err (unread NoRowRoom start_place m)
   unfolding told
   told_full h = rw (lt-leb (length rows) m h)

@@ -11,8 +11,8 @@ use lib.ListN.{length, drop, take, get_or, length-append, take-append-drop, drop
 use lib.Seq.{drop-cons, drop-drop, length-take-le}
 use borrow.Author.Tests.{eqb-true, eqb-false, eq-eqb, ne_eqb, lt-ltb, le-ltb, ltb-true, ltb-false}
 use Rattle.rules.specs.declared.Outer.TheVariants.{TextTooLong, BadByte}
-use Rattle.rules.specs.declared.Judged.{Judged}
-use Rattle.rules.specs.declared.Judged.TheVariants.{Fine, Refused}
+use Rattle.rules.specs.Outcomes.{Judged, unfit}
+use Rattle.std.specs.declared.result.Result.TheVariants.{Ok, Err}
 use Rattle.rules.specs.Text.{most_bytes, front, is_tail, char_at, is_cut, valid_from, valid_bytes, valid, cut_bytes, place_at, start_place, text_judged}
 use Rattle.rules.specs.Edit.{window_bytes, window_valid}
 use Rattle.laws.proofs.Fronts.{front_out, front_rest}
@@ -86,23 +86,23 @@ is_bad t h = ne_eqb (valid_bytes t) (length t) (λ e. omega arith)
 -- ---- 1 and 2
 
 module _ (t : List ℕ) where
-  pub text_long : most_bytes < length t → text_judged t ≡ Refused TextTooLong start_place
+  pub text_long : most_bytes < length t → text_judged t ≡ Err (unfit TextTooLong start_place)
   unfolding text_judged
   text_long h = rw (lt-ltb most_bytes (length t) h)
 
-  pub text_bad : length t ≤ most_bytes → valid t ≡ false → text_judged t ≡ Refused BadByte (place_at t (valid_bytes t))
+  pub text_bad : length t ≤ most_bytes → valid t ≡ false → text_judged t ≡ Err (unfit BadByte (place_at t (valid_bytes t)))
   unfolding text_judged
   text_bad h v = rw (le-ltb most_bytes (length t) h, v)
 
-  pub text_fine : length t ≤ most_bytes → valid t ≡ true → text_judged t ≡ Fine
+  pub text_fine : length t ≤ most_bytes → valid t ≡ true → text_judged t ≡ Ok tt
   unfolding text_judged
   text_fine h v = rw (le-ltb most_bytes (length t) h, v)
 
   -- the only ways to judge a text
   pub data TextJudged : Judged → Type 0 where
-    long : most_bytes < length t → TextJudged (Refused TextTooLong start_place)
-    bad : length t ≤ most_bytes → valid t ≡ false → TextJudged (Refused BadByte (place_at t (valid_bytes t)))
-    fine : length t ≤ most_bytes → valid t ≡ true → TextJudged Fine
+    long : most_bytes < length t → TextJudged (Err (unfit TextTooLong start_place))
+    bad : length t ≤ most_bytes → valid t ≡ false → TextJudged (Err (unfit BadByte (place_at t (valid_bytes t))))
+    fine : length t ≤ most_bytes → valid t ≡ true → TextJudged (Ok tt)
 
   pub text_judged_lem : TextJudged (text_judged t)
   text_judged_lem = by (ltb most_bytes (length t)) refl (valid t) refl
@@ -112,10 +112,10 @@ module _ (t : List ℕ) where
       by false x false v = let l : length t ≤ most_bytes = ltb-false _ _ x in rw (text_bad l v) (bad l v)
       by false x true v = let l : length t ≤ most_bytes = ltb-false _ _ x in rw (text_fine l v) (fine l v)
 
-  pub fine_text : text_judged t ≡ Fine → (length t ≤ most_bytes) × (valid t ≡ true)
+  pub fine_text : text_judged t ≡ Ok tt → (length t ≤ most_bytes) × (valid t ≡ true)
   fine_text e = by text_judged_lem e
     where
-      by : {x : Judged} → TextJudged x → x ≡ Fine → (length t ≤ most_bytes) × (valid t ≡ true)
+      by : {x : Judged} → TextJudged x → x ≡ Ok tt → (length t ≤ most_bytes) × (valid t ≡ true)
       by (long h) e = absurd (let z : ◌≡◌ {A = ℕ} 0 1 = cc in let y : ⊥ = omega arith in y)
       by (bad h v) e = absurd (let z : ◌≡◌ {A = ℕ} 0 1 = cc in let y : ⊥ = omega arith in y)
       by (fine h v) e = (h, v)

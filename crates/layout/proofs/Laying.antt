@@ -7,10 +7,9 @@ use native.Mathlib.Omega.{arith}
 use lib.Dec.{eqb, ltb}
 use lib.ListN.{length, take, drop, take-append-drop}
 use borrow.Author.Tests.{eqb-true, le-ltb}
-use Rattle.rules.specs.declared.Ending.{Ending}
-use Rattle.rules.specs.declared.Ending.TheVariants as ending
-use Rattle.rules.specs.declared.Judged.{Judged}
-use Rattle.rules.specs.declared.Judged.TheVariants as verdict
+use Rattle.rules.specs.Outcomes.{Ending, Judged}
+use Rattle.std.specs.declared.option.Option.TheVariants.{None, Some}
+use Rattle.std.specs.declared.result.Result.TheVariants.{Ok, Err}
 use Rattle.rules.specs.declared.Table.{Table}
 use Rattle.rules.specs.Text.{place_at, text_judged}
 use Rattle.rules.specs.Rows.{Row, rows_in, words_of}
@@ -44,10 +43,10 @@ use Rattle.layout_judge.proofs.Read.{by_refused, by_nodes}
 use Rattle.layout.specs.Laying.{room_leaves}
 use Rattle.layout.proofs.Rooms.{fits, room_yes, room_no}
 
-whole_none : (e : Ending) → is_whole e ≡ true → e ≡ ending.None
+whole_none : (e : Ending) → is_whole e ≡ true → e ≡ None
 unfolding is_whole
-whole_none ending.None h = refl
-whole_none (ending.Refused why p) h = absurd (true≢false (sym h))
+whole_none None h = refl
+whole_none (Some e) h = absurd (true≢false (sym h))
 
 -- words that begin as those do, and the rest
 begun : (xs ws : List ℕ) → begins xs ws ≡ true → ws ≡ xs ++ drop (length xs) ws
@@ -57,21 +56,21 @@ begun xs ws e = sym (take-append-drop (length xs) ws) ∙ ap (λ (l : List ℕ).
 
 -- A text, to its end, and its scan.
 record Own (t ws : List ℕ) (tbl : Table) : Type 0 where
-  judged_fine : text_judged t ≡ verdict.Fine
+  judged_fine : text_judged t ≡ Ok tt
   scanned : Scanned t ws tbl
-  ends : tbl.ending ≡ ending.None
+  ends : tbl.ending ≡ None
 
 module _ (t ws : List ℕ) (tbl : Table) where
-  fine_scan : is_scanned t ws tbl ≡ true → (text_judged t ≡ verdict.Fine) × (is_scan t ws tbl ≡ true)
+  fine_scan : is_scanned t ws tbl ≡ true → (text_judged t ≡ Ok tt) × (is_scan t ws tbl ≡ true)
   unfolding is_scanned
   fine_scan e = by (text_judged t) refl e
     where
-      by : (j : Judged) → text_judged t ≡ j → elim j as (λ _. Bool) [ verdict.Fine ↦ is_scan t ws tbl | verdict.Refused why p ↦ false ] ≡ true
-          → (text_judged t ≡ verdict.Fine) × (is_scan t ws tbl ≡ true)
-      by verdict.Fine q h = (q, h)
-      by (verdict.Refused why p) q h = absurd (true≢false (sym h))
+      by : (j : Judged) → text_judged t ≡ j → elim j as (λ _. Bool) [ Ok _ ↦ is_scan t ws tbl | Err e ↦ false ] ≡ true
+          → (text_judged t ≡ Ok tt) × (is_scan t ws tbl ≡ true)
+      by (Ok _) q h = (q, h)
+      by (Err e) q h = absurd (true≢false (sym h))
 
-  own_of : text_judged t ≡ verdict.Fine → is_scan t ws tbl ≡ true → Own t ws tbl
+  own_of : text_judged t ≡ Ok tt → is_scan t ws tbl ≡ true → Own t ws tbl
   unfolding is_scan
   own_of q e =
       let xs : List ℕ = words_of (read_rows (scan t)) in
@@ -81,8 +80,8 @@ module _ (t ws : List ℕ) (tbl : Table) where
       let w = both_true (is_whole (read_ending (scan t))) (is_whole tbl.ending) a.0 in
       let b = both_true (many && long) (begins xs ws) a.1 in
       let c = both_true many long b.0 in
-      let n : tbl.ending ≡ ending.None = whole_none tbl.ending w.1 in
-      let m : read_ending (scan t) ≡ ending.None = whole_none (read_ending (scan t)) w.0 in
+      let n : tbl.ending ≡ None = whole_none tbl.ending w.1 in
+      let m : read_ending (scan t) ≡ None = whole_none (read_ending (scan t)) w.0 in
       let f : tbl.count ≡ length (read_rows (scan t)) = eqb-true tbl.count (length (read_rows (scan t))) c.0 in
       let g : tbl.length ≡ length t = eqb-true tbl.length (length t) c.1 in
       let s : tbl.ending ≡ read_ending (scan t) = n ∙ sym m in
@@ -98,7 +97,7 @@ module _ (t ws : List ℕ) (tbl : Table) where
       }
 
 module _ {t ws : List ℕ} {tbl : Table} (o : Own t ws tbl) where
-  well : judged t ws tbl ≡ verdict.Fine
+  well : judged t ws tbl ≡ Ok tt
   well = judged_well t ws tbl o.judged_fine (scanned_well_formed o.scanned) (ap (λ (x : Table). x.length) o.scanned.told)
 
   -- its nodes have room

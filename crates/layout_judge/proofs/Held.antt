@@ -8,12 +8,11 @@ use lib.Dec.{eqb}
 use lib.ListN.{length, take, length-append}
 use lib.Seq.{take-append_seam}
 use Rattle.rules.specs.declared.Cursor.{Cursor}
-use Rattle.rules.specs.declared.Judged.{Judged}
-use Rattle.rules.specs.declared.Judged.TheVariants as verdict
+use Rattle.rules.specs.Outcomes.{Judged, unfit, Told, unread}
+use Rattle.std.specs.declared.result.Result.TheVariants.{Ok, Err}
 use Rattle.rules.specs.declared.Outer.{Outer}
 use Rattle.rules.specs.declared.Table.{Table}
-use Rattle.rules.specs.declared.Told.TheVariants.{Rows, Refused}
-use Rattle.rules.specs.Text.{place_at, text_judged}
+use Rattle.rules.specs.Text.{place_at, text_judged, most_bytes}
 use Rattle.rules.specs.Kinds.{same_bytes}
 use Rattle.rules.specs.Rows.{words_of}
 use Rattle.rules.specs.Scan.{scan, read_rows, read_ending, room_of, scan_told, scan_leaves}
@@ -29,17 +28,17 @@ both_both true y z = refl
 both_both false y z = refl
 
 -- a text's rows always have room
-enough : (t m : List ℕ) → length m ≡ 524296 → text_judged t ≡ verdict.Fine → length (read_rows (scan t)) ≤ room_of m
+enough : (t m : List ℕ) → length m ≡ 524296 → text_judged t ≡ Ok tt → length (read_rows (scan t)) ≤ room_of m
 unfolding room_of scan
 enough t m h e = omega (arith, few_rows (place_at t) 0 0 0 t, (fine_text t e).0)
 
 module _ (t ws : List ℕ) (tbl : Table) where
   -- what is no text has no table
-  no_text : (why : Outer) (p : Cursor) → text_judged t ≡ verdict.Refused why p → false ≡ is_scanned t ws tbl
+  no_text : (why : Outer) (p : Cursor) → text_judged t ≡ Err (unfit why p) → false ≡ is_scanned t ws tbl
   unfolding is_scanned
   no_text why p e = rw (is_scanned, e)
 
-  pub of_text : text_judged t ≡ verdict.Fine → is_scanned t ws tbl ≡ is_scan t ws tbl
+  pub of_text : text_judged t ≡ Ok tt → is_scanned t ws tbl ≡ is_scan t ws tbl
   unfolding is_scanned
   of_text e = rw (is_scanned, e)
 
@@ -48,18 +47,18 @@ module _ (t ws : List ℕ) (tbl : Table) where
   tests = both_both (is_whole (read_ending (scan t)) && is_whole tbl.ending) (eqb tbl.count (length (read_rows (scan t))) && eqb tbl.length (length t)) (begins (words_of (read_rows (scan t))) ws)
 
   -- a refusal is told of what is no text
-  pub scan_refused : (m : List ℕ) → length m ≡ 524296 → {why : Outer} {p : Cursor} {n : ℕ} → scan_told t (room_of m) ≡ Refused why p n → false ≡ is_scanned t ws tbl
+  pub scan_refused : (m : List ℕ) → length m ≡ 524296 → {why : Outer} {p : Cursor} {n : ℕ} → scan_told t (room_of m) ≡ Err (unread why p n) → false ≡ is_scanned t ws tbl
   scan_refused m h {why} {p} {n} e = by (text_judged t) refl
     where
       by : (j : Judged) → text_judged t ≡ j → false ≡ is_scanned t ws tbl
-      by verdict.Fine d =
+      by (Ok _) d =
           let r = scan_told_lem t d (room_of m) ∙ told_all (length t) (room_of m) (read_rows (scan t)) (read_ending (scan t)) (enough t m h d) in
           let z : ◌≡◌ {A = ℕ} 0 1 = cc (sym r ∙ e) in
           absurd (let y : ⊥ = omega arith in y)
-      by (verdict.Refused w q) d = no_text w q d
+      by (Err e) d = no_text e.why e.at d
 
   -- rows are told of a text
-  module _ (m : List ℕ) (f : Table) (e : scan_told t (room_of m) ≡ Rows f) where
+  module _ (m : List ℕ) (f : Table) (e : scan_told t (room_of m) ≡ Ok f) where
     held : Scanned t (scan_leaves t m) f
     held = scan_scanned t m f e
 

@@ -9,12 +9,10 @@ use lib.ListN.{length, take, drop, length-append}
 use lib.Seq.{take-append_seam}
 use borrow.Author.Tests.{eq-eqb, ne_eqb}
 use Rattle.rules.specs.declared.Cursor.{Cursor}
-use Rattle.rules.specs.declared.Ending.{Ending}
-use Rattle.rules.specs.declared.Ending.TheVariants as ending
-use Rattle.rules.specs.declared.Judged.{Judged}
-use Rattle.rules.specs.declared.Judged.TheVariants as verdict
+use Rattle.rules.specs.Outcomes.{Ending, Judged, Parsed, unparsed}
+use Rattle.std.specs.declared.option.Option.TheVariants.{None, Some}
+use Rattle.std.specs.declared.result.Result.TheVariants.{Ok, Err}
 use Rattle.rules.specs.declared.Outer.TheVariants.{NoNodeRoom}
-use Rattle.rules.specs.declared.Parsed.TheVariants as parsed
 use Rattle.rules.specs.declared.Reason.{Reason}
 use Rattle.rules.specs.declared.Reason.TheVariants as reason
 use Rattle.rules.specs.declared.Table.{Table}
@@ -36,51 +34,51 @@ pub record Given (o : Out) (m left : List ℕ) (n : ℕ) : Type 0 where
   pub many : size tree ≡ n
   pub words : left ≡ tree_words 0 tree ++ drop (8 * size tree) m
 
-out_given : (ws : List ℕ) (o : Out) (m : List ℕ) (n : ℕ) → out_told ws o ≡ parsed.Nodes n → Given o m (out_leaves o m) n
+out_given : (ws : List ℕ) (o : Out) (m : List ℕ) (n : ℕ) → out_told ws o ≡ Ok n → Given o m (out_leaves o m) n
 unfolding out_told out_leaves
 out_given ws (ok u j) m n e = record { tree = u; last = j; reads = refl; many = cc; words = refl }
 out_given ws (no why r) m n e = let z : ◌≡◌ {A = ℕ} 0 1 = cc in absurd (omega arith)
 
 module _ (t ws : List ℕ) (tbl : Table) where
-  ending_given : (m : List ℕ) (n : ℕ) (e : Ending) → ending_told t ws tbl e (node_room m) ≡ parsed.Nodes n → Given (reading t ws tbl) m (ending_leaves t ws tbl e m) n
+  ending_given : (m : List ℕ) (n : ℕ) (e : Ending) → ending_told t ws tbl e (node_room m) ≡ Ok n → Given (reading t ws tbl) m (ending_leaves t ws tbl e m) n
   unfolding ending_told ending_leaves
-  ending_given m n ending.None e = by (ltb (node_room m) tbl.count) e
+  ending_given m n None e = by (ltb (node_room m) tbl.count) e
     where
-      by : (b : Bool) → cond b (parsed.Refused (reason.Outer NoNodeRoom) start_place 0) (out_told ws (reading t ws tbl)) ≡ parsed.Nodes n
+      by : (b : Bool) → cond b (Err (unparsed (reason.Outer NoNodeRoom) start_place 0)) (out_told ws (reading t ws tbl)) ≡ Ok n
           → Given (reading t ws tbl) m (cond b m (out_leaves (reading t ws tbl) m)) n
       by true e = let z : ◌≡◌ {A = ℕ} 0 1 = cc in absurd (omega arith)
       by false e = out_given ws (reading t ws tbl) m n e
-  ending_given m n (ending.Refused why p) e = let z : ◌≡◌ {A = ℕ} 0 1 = cc in absurd (omega arith)
+  ending_given m n (Some refusal) e = let z : ◌≡◌ {A = ℕ} 0 1 = cc in absurd (omega arith)
 
-  pub parse_given : (m : List ℕ) (n : ℕ) → parse_told t ws tbl (node_room m) ≡ parsed.Nodes n → Given (reading t ws tbl) m (parse_leaves t ws tbl m) n
+  pub parse_given : (m : List ℕ) (n : ℕ) → parse_told t ws tbl (node_room m) ≡ Ok n → Given (reading t ws tbl) m (parse_leaves t ws tbl m) n
   unfolding parse_told parse_leaves
   parse_given m n e = by (judged t ws tbl) e
     where
       by : (v : Judged)
-          → elim v [ verdict.Fine ↦ ending_told t ws tbl tbl.ending (node_room m) | verdict.Refused why p ↦ parsed.Refused (reason.Outer why) p 0 ]
-          ≡ parsed.Nodes n
-          → Given (reading t ws tbl) m (elim v [ verdict.Fine ↦ ending_leaves t ws tbl tbl.ending m | verdict.Refused why p ↦ m ]) n
-      by verdict.Fine e = ending_given m n tbl.ending e
-      by (verdict.Refused why p) e = let z : ◌≡◌ {A = ℕ} 0 1 = cc in absurd (omega arith)
+          → elim v [ Ok _ ↦ ending_told t ws tbl tbl.ending (node_room m) | Err e ↦ Err (unparsed (reason.Outer e.why) e.at 0) ]
+          ≡ Ok n
+          → Given (reading t ws tbl) m (elim v [ Ok _ ↦ ending_leaves t ws tbl tbl.ending m | Err e ↦ m ]) n
+      by (Ok _) e = ending_given m n tbl.ending e
+      by (Err refusal) e = let z : ◌≡◌ {A = ℕ} 0 1 = cc in absurd (omega arith)
 
   room_is : (m : List ℕ) → length m ≡ 524296 → node_room m ≡ 65537
   unfolding node_room
   room_is m h = omega arith
 
   module _ (nodes : List ℕ) (count : ℕ) where
-    pub by_refused : {why : Reason} {p : Cursor} {k : ℕ} → parse_told t ws tbl 65537 ≡ parsed.Refused why p k → false ≡ is_parsed t ws tbl nodes count
+    pub by_refused : {why : Reason} {p : Cursor} {k : ℕ} → parse_told t ws tbl 65537 ≡ Err (unparsed why p k) → false ≡ is_parsed t ws tbl nodes count
     unfolding is_parsed
     by_refused e = rw (is_parsed, e)
 
-    pub by_nodes : {n : ℕ} → parse_told t ws tbl 65537 ≡ parsed.Nodes n → is_parsed t ws tbl nodes count ≡ is_read (reading t ws tbl) nodes count
+    pub by_nodes : {n : ℕ} → parse_told t ws tbl 65537 ≡ Ok n → is_parsed t ws tbl nodes count ≡ is_read (reading t ws tbl) nodes count
     unfolding is_parsed
     by_nodes e = rw (is_parsed, e)
 
     module _ (m : List ℕ) (h : length m ≡ 524296) where
-      pub parse_refused : {why : Reason} {p : Cursor} {k : ℕ} → parse_told t ws tbl (node_room m) ≡ parsed.Refused why p k → false ≡ is_parsed t ws tbl nodes count
+      pub parse_refused : {why : Reason} {p : Cursor} {k : ℕ} → parse_told t ws tbl (node_room m) ≡ Err (unparsed why p k) → false ≡ is_parsed t ws tbl nodes count
       parse_refused e = by_refused (ap (parse_told t ws tbl) (sym (room_is m h)) ∙ e)
 
-      module _ (n : ℕ) (e : parse_told t ws tbl (node_room m) ≡ parsed.Nodes n) where
+      module _ (n : ℕ) (e : parse_told t ws tbl (node_room m) ≡ Ok n) where
         given : Given (reading t ws tbl) m (parse_leaves t ws tbl m) n
         given = parse_given m n e
 

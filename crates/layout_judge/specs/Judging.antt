@@ -1,6 +1,5 @@
 -- Whether two tables are the same, and whether nodes are a table's, as the call asks it.
-use Rattle.std.specs.Prelude.{Bool, false, ◌&&◌, List, ℕ, eqb}
-use Rattle.rules.specs.declared.Parsed.TheVariants as parsed
+use Rattle.std.specs.Prelude.{Bool, false, ◌&&◌, List, ℕ, eqb, Ok, Err}
 use Rattle.rules.specs.declared.Table.{Table}
 use Rattle.rules.specs.Calls.{parse_told, reading}
 use Rattle.rules_layout.specs.Layout.{is_whole}
@@ -14,4 +13,4 @@ same_table fresh tbl =
 -- the nodes that a parse gives in room for all
 unfoldable pub is_parsed : List ℕ → List ℕ → Table → List ℕ → ℕ → Bool
 is_parsed t ws tbl nodes count =
-    elim (parse_told t ws tbl 65537) [ parsed.Nodes n ↦ is_read (reading t ws tbl) nodes count | parsed.Refused why p found ↦ false ]
+    elim (parse_told t ws tbl 65537) [ Ok n ↦ is_read (reading t ws tbl) nodes count | Err e ↦ false ]

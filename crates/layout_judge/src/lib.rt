@@ -9,7 +9,7 @@ ghost use Rattle.rules.specs.Calls.{parse_leaves};
 ghost use Rattle.rules_layout.specs.Layout.{is_whole, is_scanned};
 ghost use Rattle.layout_judge.specs.Judging.{same_table, is_parsed};
 
-use rules::{Ending, Parsed, Table, Told, node, row};
+use rules::{Ending, Table, node, row};
 
 // The words of a scratch: room for the rows, or the nodes, of the longest text.
 pub const SCRATCH: usize = 524296;
@@ -27,8 +27,8 @@ fn is_whole(ending: Ending) -> bool
     ensures { result ≡ is_whole ending }
 {
     match ending {
-        Ending::None => true,
-        Ending::Refused(_, _) => false,
+        None => true,
+        Some(_) => false,
     }
 }
 
@@ -48,7 +48,7 @@ pub fn is_scan(text: &[u8], rows: &[u32], table: Table, scratch: &mut [u32; SCRA
     ensures told { result ≡ is_scanned text.now rows.now table }
     ensures left { scratch.new ≡ scan_leaves text.now scratch.old }
 {
-    let Told::Rows(fresh) = scan::scan(text, scratch) else {
+    let Ok(fresh) = scan::scan(text, scratch) else {
         return false;
     };
     if !same_table(fresh, table) {
@@ -69,7 +69,7 @@ pub fn is_parse(
     ensures told { result ≡ is_parsed text.now rows.now table nodes.now count }
     ensures left { scratch.new ≡ parse_leaves text.now rows.now table scratch.old }
 {
-    let Parsed::Nodes(made) = parse::parse(text, rows, table, scratch) else {
+    let Ok(made) = parse::parse(text, rows, table, scratch) else {
         return false;
     };
     if made != count {

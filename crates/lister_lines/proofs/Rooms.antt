@@ -8,19 +8,14 @@ use lib.Dec.{leb, ltb}
 use lib.ListN.{length, length-append, length-drop, length-replicate}
 use borrow.Author.Tests.{leb-true, lt-ltb, le-ltb}
 use Rattle.rules.specs.declared.Cursor.{Cursor}
-use Rattle.rules.specs.declared.Ending.{Ending}
-use Rattle.rules.specs.declared.Ending.TheVariants as ending
-use Rattle.rules.specs.declared.Judged.{Judged}
-use Rattle.rules.specs.declared.Judged.TheVariants as verdict
+use Rattle.rules.specs.Outcomes.{Ending, Judged, Parsed, unparsed, Told, unread}
+use Rattle.std.specs.declared.option.Option.TheVariants.{None, Some}
+use Rattle.std.specs.declared.result.Result.TheVariants.{Ok, Err}
 use Rattle.rules.specs.declared.Outer.{Outer}
 use Rattle.rules.specs.declared.Outer.TheVariants.{NoNodeRoom}
-use Rattle.rules.specs.declared.Parsed.{Parsed}
-use Rattle.rules.specs.declared.Parsed.TheVariants as parsed
 use Rattle.rules.specs.declared.Reason.{Reason}
 use Rattle.rules.specs.declared.Reason.TheVariants as reason
 use Rattle.rules.specs.declared.Table.{Table}
-use Rattle.rules.specs.declared.Told.{Told}
-use Rattle.rules.specs.declared.Told.TheVariants as tells
 use Rattle.rules.specs.Text.{start_place, text_judged}
 use Rattle.rules.specs.Nodes.{size}
 use Rattle.rules.specs.Parse.{Out, ok, no}
@@ -47,8 +42,8 @@ nodes_room = rw room_length
 -- ---- no more rows are told than there is room for
 
 unfoldable pub count_of : Told → ℕ
-count_of (tells.Rows tbl) = tbl.count
-count_of (tells.Refused why p n) = n
+count_of (Ok tbl) = tbl.count
+count_of (Err e) = e.rows
 
 told_few : (n m : ℕ) (rows : List Row) (e : Ending) → count_of (told n m rows e) ≤ m
 unfolding told count_of
@@ -63,12 +58,12 @@ unfolding scan_told count_of
 scan_few t m = by (text_judged t) refl
   where
     by : (v : Judged) → text_judged t ≡ v → count_of (scan_told t m) ≤ m
-    by verdict.Fine q = rw (scan_told, q) (told_few (length t) m (read_rows (scan t)) (read_ending (scan t)))
-    by (verdict.Refused why p) q = rw (scan_told, q) (omega arith)
+    by (Ok _) q = rw (scan_told, q) (told_few (length t) m (read_rows (scan t)) (read_ending (scan t)))
+    by (Err e) q = rw (scan_told, q) (omega arith)
 
 -- ---- no more nodes
 
-out_few : (ws : List ℕ) (o : Out) (m : List ℕ) (n : ℕ) → out_told ws o ≡ parsed.Nodes n → length (out_leaves o m) ≡ length m → n * 8 ≤ length m
+out_few : (ws : List ℕ) (o : Out) (m : List ℕ) (n : ℕ) → out_told ws o ≡ Ok n → length (out_leaves o m) ≡ length m → n * 8 ≤ length m
 unfolding out_told out_leaves
 out_few ws (ok t j) m n e l =
     let q : size t ≡ n = cc in
@@ -76,28 +71,28 @@ out_few ws (ok t j) m n e l =
 out_few ws (no why r) m n e l = let z : ◌≡◌ {A = ℕ} 0 1 = cc in absurd (omega arith)
 
 module _ (t ws : List ℕ) (tbl : Table) (m : List ℕ) (n : ℕ) where
-  ending_few : (e : Ending) → ending_told t ws tbl e (node_room m) ≡ parsed.Nodes n → length (ending_leaves t ws tbl e m) ≡ length m → n * 8 ≤ length m
+  ending_few : (e : Ending) → ending_told t ws tbl e (node_room m) ≡ Ok n → length (ending_leaves t ws tbl e m) ≡ length m → n * 8 ≤ length m
   unfolding ending_told ending_leaves
-  ending_few ending.None e l = by (ltb (node_room m) tbl.count) e l
+  ending_few None e l = by (ltb (node_room m) tbl.count) e l
     where
-      by : (b : Bool) → cond b (parsed.Refused (reason.Outer NoNodeRoom) start_place 0) (out_told ws (reading t ws tbl)) ≡ parsed.Nodes n
+      by : (b : Bool) → cond b (Err (unparsed (reason.Outer NoNodeRoom) start_place 0)) (out_told ws (reading t ws tbl)) ≡ Ok n
           → length (cond b m (out_leaves (reading t ws tbl) m)) ≡ length m
           → n * 8 ≤ length m
       by true e l = let z : ◌≡◌ {A = ℕ} 0 1 = cc in absurd (omega arith)
       by false e l = out_few ws (reading t ws tbl) m n e l
-  ending_few (ending.Refused why p) e l = let z : ◌≡◌ {A = ℕ} 0 1 = cc in absurd (omega arith)
+  ending_few (Some refusal) e l = let z : ◌≡◌ {A = ℕ} 0 1 = cc in absurd (omega arith)
 
-  pub parse_few : parse_told t ws tbl (node_room m) ≡ parsed.Nodes n → length (parse_leaves t ws tbl m) ≡ length m → n * 8 ≤ length m
+  pub parse_few : parse_told t ws tbl (node_room m) ≡ Ok n → length (parse_leaves t ws tbl m) ≡ length m → n * 8 ≤ length m
   unfolding parse_told parse_leaves
   parse_few e l = by (judged t ws tbl) e l
     where
       by : (v : Judged)
-          → elim v [ verdict.Fine ↦ ending_told t ws tbl tbl.ending (node_room m) | verdict.Refused why p ↦ parsed.Refused (reason.Outer why) p 0 ]
-          ≡ parsed.Nodes n
-          → length {A = ℕ} (elim v [ verdict.Fine ↦ ending_leaves t ws tbl tbl.ending m | verdict.Refused why p ↦ m ]) ≡ length m
+          → elim v [ Ok _ ↦ ending_told t ws tbl tbl.ending (node_room m) | Err e ↦ Err (unparsed (reason.Outer e.why) e.at 0) ]
+          ≡ Ok n
+          → length {A = ℕ} (elim v [ Ok _ ↦ ending_leaves t ws tbl tbl.ending m | Err e ↦ m ]) ≡ length m
           → n * 8 ≤ length m
-      by verdict.Fine e l = ending_few tbl.ending e l
-      by (verdict.Refused why p) e l = let z : ◌≡◌ {A = ℕ} 0 1 = cc in absurd (omega arith)
+      by (Ok _) e l = ending_few tbl.ending e l
+      by (Err refusal) e l = let z : ◌≡◌ {A = ℕ} 0 1 = cc in absurd (omega arith)
 
 -- ---- what is listed
 
@@ -106,15 +101,15 @@ module _ (t ws : List ℕ) (tbl : Table) (r : Parsed) (ns : List ℕ) (e : r ≡
   unfolding listed_tree
   tree_is = rw (e, l, nodes_room)
 
-  pub tree_nodes : (n : ℕ) → r ≡ parsed.Nodes n → listed_tree t ws tbl ≡ listed_nodes n ns
+  pub tree_nodes : (n : ℕ) → r ≡ Ok n → listed_tree t ws tbl ≡ listed_nodes n ns
   unfolding listed_parse
   tree_nodes n q = tree_is ∙ ap (λ (x : Parsed). listed_parse x ns) q
 
-  pub tree_refused : (why : Reason) (p : Cursor) (found : ℕ) → r ≡ parsed.Refused why p found → listed_tree t ws tbl ≡ refusal_line (reason_number why) p
+  pub tree_refused : (why : Reason) (p : Cursor) (found : ℕ) → r ≡ Err (unparsed why p found) → listed_tree t ws tbl ≡ refusal_line (reason_number why) p
   unfolding listed_parse
   tree_refused why p found q = tree_is ∙ ap (λ (x : Parsed). listed_parse x ns) q
 
-  pub tree_few : (n : ℕ) → r ≡ parsed.Nodes n → length ns ≡ length room → n * 8 ≤ most_lines * 8
+  pub tree_few : (n : ℕ) → r ≡ Ok n → length ns ≡ length room → n * 8 ≤ most_lines * 8
   tree_few n q k = omega (arith, parse_few t ws tbl room n (sym e ∙ q) (ap length (sym l) ∙ k), room_length)
 
 module _ (t : List ℕ) (r : Told) (ws : List ℕ) (e : r ≡ scan_told t (room_of room)) (l : ws ≡ scan_leaves t room) where
@@ -125,11 +120,11 @@ module _ (t : List ℕ) (r : Told) (ws : List ℕ) (e : r ≡ scan_told t (room_
   few : count_of r ≤ most_lines
   few = rw (e, rows_room) (scan_few t most_lines)
 
-  pub text_rows : (tbl : Table) → r ≡ tells.Rows tbl → (listed_text t ≡ listed_rows tbl.count ws ++ listed_tree t ws tbl) × (tbl.count ≤ most_lines)
+  pub text_rows : (tbl : Table) → r ≡ Ok tbl → (listed_text t ≡ listed_rows tbl.count ws ++ listed_tree t ws tbl) × (tbl.count ≤ most_lines)
   unfolding listed_scan count_of
   text_rows tbl q = (text_is ∙ ap (λ (x : Told). listed_scan t x ws) q, rw q at few)
 
-  pub text_refused : (why : Outer) (p : Cursor) (n : ℕ) → r ≡ tells.Refused why p n
+  pub text_refused : (why : Outer) (p : Cursor) (n : ℕ) → r ≡ Err (unread why p n)
       → (listed_text t ≡ listed_rows n ws ++ refusal_line (outer_number why) p) × (n ≤ most_lines)
   unfolding listed_scan count_of
   text_refused why p n q = (text_is ∙ ap (λ (x : Told). listed_scan t x ws) q, rw q at few)

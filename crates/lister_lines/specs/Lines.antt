@@ -1,10 +1,7 @@
 -- "The lister": what it writes of a text, byte for byte.
-use Rattle.std.specs.Prelude.{cond, List, ◌++◌, ℕ, ◌*◌, ltb, length, replicate}
-use Rattle.rules.specs.declared.Told.{Told}
-use Rattle.rules.specs.declared.Told.TheVariants as told
+use Rattle.std.specs.Prelude.{cond, List, ◌++◌, ℕ, ◌*◌, ltb, length, replicate, Ok, Err}
+use Rattle.rules.specs.Outcomes.{Told, Parsed}
 use Rattle.rules.specs.declared.Table.{Table}
-use Rattle.rules.specs.declared.Parsed.{Parsed}
-use Rattle.rules.specs.declared.Parsed.TheVariants as parsed
 use Rattle.rules.specs.Text.{start_place}
 use Rattle.rules.specs.Scan.{scan_told, scan_leaves}
 use Rattle.rules.specs.Refusals.{outer_number, reason_number}
@@ -19,8 +16,8 @@ room = replicate (most_lines * 8) 0
 
 -- what is written of a parse that tells so and leaves such nodes
 unfoldable pub listed_parse : Parsed → List ℕ → List ℕ
-listed_parse (parsed.Nodes n) ns = listed_nodes n ns
-listed_parse (parsed.Refused why p found) ns = refusal_line (reason_number why) p
+listed_parse (Ok n) ns = listed_nodes n ns
+listed_parse (Err e) ns = refusal_line (reason_number e.why) e.at
 
 -- what is written of a text's rows and their table, behind the rows
 unfoldable pub listed_tree : List ℕ → List ℕ → Table → List ℕ
@@ -28,8 +25,8 @@ listed_tree t ws tbl = listed_parse (parse_told t ws tbl most_lines) (parse_leav
 
 -- what is written of a text whose scan tells so and leaves such rows
 unfoldable pub listed_scan : List ℕ → Told → List ℕ → List ℕ
-listed_scan t (told.Rows tbl) ws = listed_rows tbl.count ws ++ listed_tree t ws tbl
-listed_scan t (told.Refused why p n) ws = listed_rows n ws ++ refusal_line (outer_number why) p
+listed_scan t (Ok tbl) ws = listed_rows tbl.count ws ++ listed_tree t ws tbl
+listed_scan t (Err e) ws = listed_rows e.rows ws ++ refusal_line (outer_number e.why) e.at
 
 -- what is written of a text that is short enough
 unfoldable pub listed_text : List ℕ → List ℕ

@@ -7,7 +7,7 @@ ghost use Rattle.lister_lines.specs.Lines.{listed_tree, listed_text, listed};
 
 use lister_parts::{list_nodes, list_rows, refusal_line};
 use refusals::{outer_number, reason_number};
-use rules::{Cursor, Parsed, Table, Told};
+use rules::{Cursor, Table};
 
 // The longest text that is listed.
 const MOST_TEXT: usize = 16384;
@@ -22,8 +22,8 @@ fn list_tree(out: &mut [u8], at: usize, text: &[u8], rows: &[u32], table: Table)
 {
     let mut nodes = [0u32; 16000];
     match parse::parse(text, rows, table, &mut nodes) {
-        Parsed::Nodes(count) => list_nodes(out, at, &nodes, count),
-        Parsed::Refused(why, place, _) => refusal_line(out, at, reason_number(why), place),
+        Ok(count) => list_nodes(out, at, &nodes, count),
+        Err(e) => refusal_line(out, at, reason_number(e.why), e.at),
     }
 }
 
@@ -34,13 +34,13 @@ fn list_text(out: &mut [u8], text: &[u8]) -> usize
 {
     let mut rows = [0u32; 16000];
     match scan::scan(text, &mut rows) {
-        Told::Rows(table) => {
+        Ok(table) => {
             let listed = list_rows(out, 0, &rows, table.count);
             list_tree(out, listed, text, &rows, table)
         }
-        Told::Refused(why, place, count) => {
-            let listed = list_rows(out, 0, &rows, count);
-            refusal_line(out, listed, outer_number(why), place)
+        Err(e) => {
+            let listed = list_rows(out, 0, &rows, e.rows);
+            refusal_line(out, listed, outer_number(e.why), e.at)
         }
     }
 }

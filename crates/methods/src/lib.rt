@@ -5,7 +5,7 @@ ghost use Rattle.std.specs.Prelude.{◌≡◌};
 ghost use Rattle.rules.specs.Sets.{from_section};
 ghost use Rattle.rules.specs.Calls.{member_asked, size_asked};
 
-use rules::{Asked, Outer, fact};
+use rules::{Outer, fact};
 
 // The methods that each kind allows: a bit for each method.
 const MASKS: [u16; 11] = [
@@ -51,26 +51,26 @@ pub fn section_kind(text: &[u8]) -> u32
 }
 
 // Whether a kind allows a method: 1 or 0.
-pub fn allows(kind: u32, method: u32) -> Asked
+pub fn allows(kind: u32, method: u32) -> Result<u32, Outer>
     ensures { result ≡ member_asked kind method }
 {
     if LAST_KIND < kind {
-        return Asked::Refused(Outer::NotWellFormed);
+        return Err(Outer::NotWellFormed);
     }
     if LAST_METHOD < method {
-        return Asked::Refused(Outer::NotWellFormed);
+        return Err(Outer::NotWellFormed);
     }
     let mask = MASKS[kind as usize];
-    Asked::Is((mask >> method) as u32 % 2)
+    Ok((mask >> method) as u32 % 2)
 }
 
 // How many methods a kind allows.
-pub fn set_size(kind: u32) -> Asked
+pub fn set_size(kind: u32) -> Result<u32, Outer>
     ensures { result ≡ size_asked kind }
 {
     if LAST_KIND < kind {
-        return Asked::Refused(Outer::NotWellFormed);
+        return Err(Outer::NotWellFormed);
     }
     let mask = MASKS[kind as usize];
-    Asked::Is(u16::count_ones(mask))
+    Ok(u16::count_ones(mask))
 }

@@ -8,7 +8,7 @@ use native.Mathlib.Omega.{arith}
 use lib.Dec.{leb}
 use lib.ListN.{length}
 use borrow.Author.Tests.{leb-true}
-use Rattle.rules.specs.declared.Ending.TheVariants.{None}
+use Rattle.std.specs.declared.option.Option.TheVariants.{None}
 use Rattle.rules.specs.declared.Table.{Table}
 use Rattle.rules.specs.Kinds.{StringLiteral}
 use Rattle.rules.specs.Rows.{row_no, length_fits}

@@ -14,12 +14,12 @@ use Rattle.rules.specs.declared.Lexical.{Lexical}
 use Rattle.rules.specs.declared.Outer.{Outer}
 use Rattle.rules.specs.declared.Outer.TheVariants.{NoNodeRoom}
 use Rattle.rules.specs.declared.Cursor.{Cursor}
-use Rattle.rules.specs.declared.Ending.TheVariants as ending
+use Rattle.rules.specs.Outcomes.{halt, unfit, Parsed, unparsed}
+use Rattle.std.specs.declared.option.Option.TheVariants.{None, Some}
 use Rattle.rules.specs.declared.Table.{Table}
-use Rattle.rules.specs.declared.Judged.TheVariants as verdict
+use Rattle.rules.specs.declared.Unfit.{Unfit}
+use Rattle.std.specs.declared.result.Result.TheVariants.{Ok, Err}
 use Rattle.rules.specs.declared.Reason.TheVariants as reason
-use Rattle.rules.specs.declared.Parsed.{Parsed}
-use Rattle.rules.specs.declared.Parsed.TheVariants as parsed
 use Rattle.rules.specs.Text.{start_place}
 use Rattle.rules.specs.Kinds.{Eof}
 use Rattle.rules.specs.Refusals.{found_told}
@@ -29,8 +29,7 @@ use Rattle.rules.specs.Nodes.{node, missing, node_words, width, size, place_of, 
 use Rattle.rules.specs.Parse
 use Rattle.rules.specs.Parse.{Out, ok, no, kind_at}
 use Rattle.rules.specs.Grammar.{Decl, Is, i_unit, i_map, i_event}
-use Rattle.rules.specs.Calls.{judged, tokens, node_room, place_of_row, out_told, out_leaves, reading}
-use Rattle.rules.specs.Calls.{ending_told, ending_leaves, parse_told, parse_leaves}
+use Rattle.rules.specs.Calls.{judged, tokens, node_room, place_of_row, out_told, out_leaves, reading, ending_told, ending_leaves, parse_told, parse_leaves}
 use Rattle.theory_grammar.proofs.Laws.{nodes_within_rows, tree_length, words_program}
 use Rattle.theory_grammar.proofs.Runs.{All, all_ok, all_both, map_all}
 use Rattle.theory_grammar.proofs.Sound.{Reads, top_sound}
@@ -119,17 +118,17 @@ written m t h =
 
 module _ (ws : List ℕ) (o : Out) (m m' : List ℕ) where
   pub final_ok : (t : Tree) (j x : ℕ) (r : Result At Refusal) → o ≡ ok t j → x ≡ size t → 8 * size t ≤ length m → Met o 0 0 m m' r
-      → Final ws o m m' (parsed.Nodes x)
+      → Final ws o m m' (Ok x)
   unfolding out_told out_leaves
   final_ok t j x r e q h met =
       let w : Met (ok t j) 0 0 m m' r = subst (λ (y : Out). Met y 0 0 m m' r) e met in
-      rw e (ap parsed.Nodes q, w.1 ∙ written m t h)
+      rw e (ap Ok q, w.1 ∙ written m t h)
 
   pub final_no : (why : Syntax) (p : ℕ) (x : Cursor) (k : ℕ) → o ≡ no why p → x ≡ place_of_row ws p
       → k ≡ found_told why (row_no ws p).kind → m' ≡ m
-      → Final ws o m m' (parsed.Refused (reason.Syntax why) x k)
+      → Final ws o m m' (Err (unparsed (reason.Syntax why) x k))
   unfolding out_told out_leaves
-  final_no why p x k e q f s = rw e ((λ j. parsed.Refused (reason.Syntax why) (q j) (f j)), s)
+  final_no why p x k e q f s = rw e ((λ j. (Err (unparsed (reason.Syntax why) (q j) (f j)))), s)
 
 -- ---- a whole table
 
@@ -166,17 +165,17 @@ module _ (t ws : List ℕ) (tbl : Table) (m : List ℕ) where
   abbrev pub Whole : Parsed → List ℕ → Type 0
   Whole r m' = (r ≡ parse_told t ws tbl (node_room m)) × (m' ≡ parse_leaves t ws tbl m)
 
-  pub whole_refused : (why : Outer) (p : Cursor) → judged t ws tbl ≡ verdict.Refused why p → Whole (parsed.Refused (reason.Outer why) p 0) m
+  pub whole_refused : {e : Unfit} → judged t ws tbl ≡ Err e → Whole (Err (unparsed (reason.Outer e.why) e.at 0)) m
   unfolding parse_told parse_leaves
-  whole_refused why p e = rw (parse_told, parse_leaves, e) (refl, refl)
+  whole_refused e = rw (parse_told, parse_leaves, e) (refl, refl)
 
-  module _ (fine : judged t ws tbl ≡ verdict.Fine) where
-    pub whole_ending : (why : Lexical) (p : Cursor) → tbl.ending ≡ ending.Refused why p → Whole (parsed.Refused (reason.Lexical why) p 0) m
+  module _ (fine : judged t ws tbl ≡ Ok tt) where
+    pub whole_ending : (why : Lexical) (p : Cursor) → tbl.ending ≡ Some (halt why p) → Whole (Err (unparsed (reason.Lexical why) p 0)) m
     unfolding parse_told parse_leaves ending_told ending_leaves
     whole_ending why p e = rw (parse_told, parse_leaves, fine) (rw (ending_told, ending_leaves, e) (refl, refl))
 
-    module _ (e : tbl.ending ≡ ending.None) where
-      pub whole_tight : node_room m < tbl.count → (r : Parsed) → r ≡ parsed.Refused (reason.Outer NoNodeRoom) start_place 0 → Whole r m
+    module _ (e : tbl.ending ≡ None) where
+      pub whole_tight : node_room m < tbl.count → (r : Parsed) → r ≡ Err (unparsed (reason.Outer NoNodeRoom) start_place 0) → Whole r m
       unfolding parse_told parse_leaves ending_told ending_leaves
       whole_tight h r q =
           rw (parse_told, parse_leaves, fine) (rw (ending_told, ending_leaves, e) (rw (lt-ltb (node_room m) tbl.count h) (q, refl)))

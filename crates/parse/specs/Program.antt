@@ -1,6 +1,6 @@
 -- What the functions over a program ask and promise.
 use Rattle.std.specs.Prelude.{◌≡◌, List, ℕ, suc, ◌*◌, ◌≤◌, ◌<◌, length, get_or, Result, Ok}
-use Rattle.rules.specs.declared.Parsed.{Parsed}
+use Rattle.rules.specs.Outcomes.{Parsed}
 use Rattle.rules.specs.Kinds.{Eof}
 use Rattle.rules.specs.Rows.{rows_in, words_per_row}
 use Rattle.rules.specs.Tree.{Tok, Tree}

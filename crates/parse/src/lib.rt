@@ -2,10 +2,10 @@
 // parse leaves node memory as it was.
 #![tactic(auto)]
 
-ghost use Rattle.std.specs.Prelude.{◌≡◌, ◌+◌, ◌*◌, ◌≤◌, ◌<◌, length};
+ghost use Rattle.std.specs.Prelude.{◌≡◌, ◌+◌, ◌*◌, ◌≤◌, ◌<◌, length, Err};
 ghost use Rattle.rules.specs.Text.{start_place};
 ghost use Rattle.rules.specs.Calls.{parse_told, parse_leaves, node_room};
-ghost use Rattle.rules.specs.declared.Parsed.TheVariants as parsed;
+ghost use Rattle.rules.specs.Outcomes.{unparsed};
 ghost use Rattle.rules.specs.declared.Reason.TheVariants as reason;
 ghost use Rattle.parse_nodes.specs.Post.{AsksOpen};
 ghost use Rattle.parse_nodes.specs.Names.{Spans};
@@ -14,7 +14,7 @@ ghost use Rattle.parse.specs.Program.{TopMet, ProgramMet, AsksTable, AsksEnded, 
 use parse_nodes::{At, Refusal};
 use rows::shape::Row;
 use rules::kind::{EOF, EVENT, MAP, UNIT};
-use rules::{Cursor, Ending, Judged, Outer, Parsed, Reason, Syntax, Table, fits, node, node_kind};
+use rules::{Cursor, Outer, Parsed, Reason, Syntax, Table, Unparsed, fits, node, node_kind};
 
 // A map, an event or a unit at the row.
 fn top(
@@ -99,9 +99,13 @@ pub fn program_passed(
 
 // A refusal of the call itself.
 fn outer(why: Outer) -> Parsed
-    ensures { result ≡ parsed.Refused (reason.Outer why) start_place 0 }
+    ensures { result ≡ Err (unparsed (reason.Outer why) start_place 0) }
 {
-    Parsed::Refused(Reason::Outer(why), Cursor::start(), 0)
+    Err(Unparsed {
+        why: Reason::Outer(why),
+        at: Cursor::start(),
+        found: 0,
+    })
 }
 
 // The nodes of a program that the first pass has come to the end of, into enough room. It is not refused.
@@ -111,8 +115,8 @@ pub fn written(text: &[u8], rows: &[u32], count: u32, nodes: &mut [u32]) -> Pars
         nodes.new result }
 {
     match program(text, rows, count, nodes) {
-        Ok(t) => Parsed::Nodes(t.node),
-        Err(_) => Parsed::Nodes(0),
+        Ok(t) => Ok(t.node),
+        Err(_) => Ok(0),
     }
 }
 
@@ -126,11 +130,11 @@ fn twice(text: &[u8], rows: &[u32], count: u32, nodes: &mut [u32]) -> Parsed
         Ok(_) => written(text, rows, count, nodes),
         Err(e) => {
             let row = Row::at(rows, e.row);
-            Parsed::Refused(
-                Reason::Syntax(e.why),
-                row.place(),
-                refusals::found_told(e.why, row.kind),
-            )
+            Err(Unparsed {
+                why: Reason::Syntax(e.why),
+                at: row.place(),
+                found: refusals::found_told(e.why, row.kind),
+            })
         }
     }
 }
@@ -140,18 +144,17 @@ pub fn parse(text: &[u8], rows: &[u32], table: Table, nodes: &mut [u32]) -> Pars
     ensures told { result ≡ parse_told text.now rows.now table (node_room nodes.old) }
     ensures left { nodes.new ≡ parse_leaves text.now rows.now table nodes.old }
 {
-    match rows::judge(text, rows, table) {
-        Judged::Refused(why, at) => {
-            return Parsed::Refused(Reason::Outer(why), at, 0);
-        }
-        Judged::Fine => {}
-    }
+    rows::judge(text, rows, table)?;
     let ending = table.ending;
     match ending {
-        Ending::Refused(why, at) => {
-            return Parsed::Refused(Reason::Lexical(why), at, 0);
+        Some(e) => {
+            return Err(Unparsed {
+                why: Reason::Lexical(e.why),
+                at: e.at,
+                found: 0,
+            });
         }
-        Ending::None => {}
+        None => {}
     }
     let count = table.count as usize;
     if nodes.len() / node::WORDS < count {

@@ -1,11 +1,9 @@
 -- What a parse of a text alone tells in enough room, but for the number of nodes; and what holds of a text that is a
 -- program.
 use Rattle.std.specs.Prelude.{◌≡◌, true, List, ℕ, Result, Ok, Err}
-use Rattle.rules.specs.declared.Cursor.{Cursor}
-use Rattle.rules.specs.declared.Reason.{Reason}
+use Rattle.rules.specs.declared.Unparsed.{Unparsed}
 use Rattle.rules.specs.declared.Table.{Table}
-use Rattle.rules.specs.declared.Parsed.{Parsed}
-use Rattle.rules.specs.declared.Parsed.TheVariants as parsed
+use Rattle.rules.specs.Outcomes.{Parsed}
 use Rattle.rules.specs.Rows.{rows_in}
 use Rattle.rules.specs.Tree.{Tree}
 use Rattle.rules.specs.Nodes.{width}
@@ -14,18 +12,13 @@ use Rattle.rules.specs.Grammar.{Program, Is}
 use Rattle.rules.specs.Calls.{tokens, parse_told}
 use Rattle.theory_grammar.specs.Tokens.{Whole}
 use Rattle.parse.specs.Program.{AsksEnded, reading_of}
-use Rattle.program_alone.specs.declared.Refused.{Refused}
 
--- the refusal for a reason at a place
-abbrev pub refused : Reason → Cursor → ℕ → Refused
-refused why at found = record { why = why; at = at; found = found }
-
-unfoldable pub alone_of : Parsed → Result (Unit {0}) Refused
-alone_of (parsed.Nodes n) = Ok tt
-alone_of (parsed.Refused why at found) = Err (refused why at found)
+unfoldable pub alone_of : Parsed → Result (Unit {0}) Unparsed
+alone_of (Ok n) = Ok tt
+alone_of (Err e) = Err e
 
 -- Room for a node for each row is enough.
-unfoldable pub alone_told : List ℕ → List ℕ → Table → Result (Unit {0}) Refused
+unfoldable pub alone_told : List ℕ → List ℕ → Table → Result (Unit {0}) Unparsed
 alone_told t ws tbl = alone_of (parse_told t ws tbl tbl.count)
 
 -- A text that is a program: its table of n rows is sound, and what is read of all of them is a program of the grammar.

@@ -8,8 +8,8 @@ use lib.ListN.{length, get_or, take, drop, length-append, length-drop}
 use lib.Seq.{drop-append-add, drop-drop}
 use borrow.Rule.Slice.PartMut.{put_mid}
 use Rattle.rules.specs.declared.Cursor.{Cursor}
-use Rattle.rules.specs.declared.Parsed.{Parsed}
-use Rattle.rules.specs.declared.Parsed.TheVariants as parsed
+use Rattle.rules.specs.Outcomes.{Parsed, unparsed}
+use Rattle.std.specs.declared.result.Result.TheVariants.{Ok, Err}
 use Rattle.rules.specs.declared.Reason.{Reason}
 use Rattle.rules.specs.Tree.{Tree}
 use Rattle.rules.specs.Nodes.{Node, NodeProgram, missing, node, width, size, nodes_of, node_words, words_of_nodes, tree_words}
@@ -36,7 +36,7 @@ module _ {t ws : List ℕ} {n : ℕ} (a : IsProgram t ws n) (m m' : List ℕ) (r
   final : Final ws (ok a.tree n) m m' r
   final = subst (λ (o : Out). Final ws o m m' r) a.reads f
 
-  pub one_written : (x : ℕ) → r ≡ parsed.Nodes x → Written (nodes_of 0 (tree_of t ws n)) m m' x
+  pub one_written : (x : ℕ) → r ≡ Ok x → Written (nodes_of 0 (tree_of t ws n)) m m' x
   unfolding out_told out_leaves tree_words
   one_written x e =
       let s : x ≡ size a.tree = cc (final.0, e) in
@@ -44,7 +44,7 @@ module _ {t ws : List ℕ} {n : ℕ} (a : IsProgram t ws n) (m m' : List ℕ) (r
       record { many = s ∙ sym (nodes_size 0 a.tree); words = rw s final.1 } in
       subst (λ (p : Tree). Written (nodes_of 0 p) m m' x) (tree_is a) w
 
-  pub one_refused : (why : Reason) (at : Cursor) (k : ℕ) → r ≡ parsed.Refused why at k → ⊥
+  pub one_refused : (why : Reason) (at : Cursor) (k : ℕ) → r ≡ Err (unparsed why at k) → ⊥
   unfolding out_told
   one_refused why at k e = let z : ◌≡◌ {A = ℕ} 0 1 = cc (final.0, e) in omega arith
 

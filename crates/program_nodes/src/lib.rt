@@ -7,7 +7,7 @@ ghost use Rattle.rules.specs.Nodes.{nodes_of};
 ghost use Rattle.program_nodes.specs.Write.{Reads, tree_read, Written, nodes_after, nodes_of_pair, AsksAfter, AsksPair};
 
 use program_names::{Both, Scanned};
-use rules::{Parsed, node};
+use rules::node;
 
 // The nodes of one text.
 fn write_one(source: &Scanned<'_>, nodes: &mut [u32]) -> u32
@@ -15,8 +15,8 @@ fn write_one(source: &Scanned<'_>, nodes: &mut [u32]) -> u32
     ensures { Written (nodes_of 0 (tree_read source.now)) nodes.old nodes.new result }
 {
     match parse::written(source.text, source.rows, source.count, nodes) {
-        Parsed::Nodes(n) => n,
-        Parsed::Refused(_, _, _) => 0,
+        Ok(n) => n,
+        Err(_) => 0,
     }
 }
 

@@ -1,7 +1,7 @@
 // What the calls tell, as the six words that the sample expects of them: number, offset, line, column, row count, text length.
 use refusals::outer_number;
 use replay_input::told::{at_place, ending_words, table_of};
-use rules::{Cursor, Restart, Told};
+use rules::{Cursor, Outer, Told};
 
 // A number and a place, a count and a length.
 fn joined(at: [u32; 4], count: u32, length: u32) -> [u32; 6] {
@@ -15,9 +15,9 @@ pub fn told_words(told: Told) -> [u32; 6] {
 }
 
 // Where a window starts; there is no count and no length.
-pub fn restart_words(restart: Restart) -> [u32; 6] {
+pub fn restart_words(restart: Result<Cursor, Outer>) -> [u32; 6] {
     match restart {
-        Restart::At(place) => joined(at_place(0, place), 0, 0),
-        Restart::Refused(why) => joined(at_place(outer_number(why), Cursor::start()), 0, 0),
+        Ok(place) => joined(at_place(0, place), 0, 0),
+        Err(why) => joined(at_place(outer_number(why), Cursor::start()), 0, 0),
     }
 }

@@ -1,15 +1,15 @@
 // What a scan or an edit tells, as the words that a sample has of it.
 use refusals::{lexical_number, outer_number};
-use rules::{Cursor, Ending, Table, Told};
+use rules::{Cursor, Table, Told};
 
 // The table that is told; one that no text has where the call is refused.
 pub fn table_of(told: Told) -> Table {
     match told {
-        Told::Rows(table) => table,
-        Told::Refused(_, _, count) => Table {
-            count,
+        Ok(table) => table,
+        Err(e) => Table {
+            count: e.rows,
             length: 0,
-            ending: Ending::None,
+            ending: None,
         },
     }
 }
@@ -22,13 +22,13 @@ pub fn at_place(number: u32, place: Cursor) -> [u32; 4] {
 // The number and place of what ended the reading, zeros where it is the text's end.
 pub fn ending_words(told: Told) -> [u32; 4] {
     match told {
-        Told::Rows(table) => {
+        Ok(table) => {
             let ending = table.ending;
             match ending {
-                Ending::None => [0, 0, 0, 0],
-                Ending::Refused(why, place) => at_place(lexical_number(why), place),
+                None => [0, 0, 0, 0],
+                Some(e) => at_place(lexical_number(e.why), e.at),
             }
         }
-        Told::Refused(why, place, _) => at_place(outer_number(why), place),
+        Err(e) => at_place(outer_number(e.why), e.at),
     }
 }

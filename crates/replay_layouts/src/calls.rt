@@ -53,8 +53,8 @@ fn counted(parsed: Parsed, call: &[u32; CALL]) -> u32 {
         return call[WORD];
     }
     match parsed {
-        Parsed::Nodes(n) => n,
-        Parsed::Refused(_, _, _) => 0,
+        Ok(n) => n,
+        Err(_) => 0,
     }
 }
 

@@ -4,7 +4,7 @@ use crate::report::{DECLARATIONS, NODES, PROGRAMS, REFUSALS, UNCOMPARED};
 use refusals::{first_told, lexical_number, reason_number, second_told, syntax_number};
 use replay_input::reader::{Lost, Reader};
 use replay_input::tally::Tally;
-use rules::{Ending, Parsed, Reason, Syntax, Table, node, node_kind};
+use rules::{Parsed, Reason, Syntax, Table, node, node_kind};
 
 // The nodes that a parse wrote, so many of them, and the next that is held against the sample.
 #[derive(Clone, Copy)]
@@ -17,14 +17,15 @@ struct Nodes<'a> {
 // The number of a refused parse, its place, the two words that it tells, and that the place is known. Zeros where it is not refused.
 fn refusal_words(parsed: Parsed) -> [u32; 7] {
     match parsed {
-        Parsed::Nodes(_) => [0; 7],
-        Parsed::Refused(why, place, _) => {
-            let (first, second) = match why {
+        Ok(_) => [0; 7],
+        Err(e) => {
+            let place = e.at;
+            let (first, second) = match e.why {
                 Reason::Syntax(x) => (first_told(x), second_told(x)),
                 _ => (0, 0),
             };
             [
-                reason_number(why),
+                reason_number(e.why),
                 place.offset.0,
                 place.line.0,
                 place.column.0,
@@ -39,8 +40,8 @@ fn refusal_words(parsed: Parsed) -> [u32; 7] {
 // How many nodes a parse gave; none where it is refused.
 fn node_count(parsed: Parsed) -> usize {
     match parsed {
-        Parsed::Nodes(n) => n as usize,
-        Parsed::Refused(_, _, _) => 0,
+        Ok(n) => n as usize,
+        Err(_) => 0,
     }
 }
 
@@ -113,15 +114,15 @@ fn program_compared(
 // A parse that the sample has no answer for: it is the table's refused ending, or the language alone says 27 or 32.
 fn uncompared_agrees(table: Table, ours: [u32; 7]) -> bool {
     match table.ending {
-        Ending::None => {
+        None => {
             ours[0] == syntax_number(Syntax::OutOfRange)
                 || ours[0] == syntax_number(Syntax::TooDeep)
         }
-        Ending::Refused(why, place) => {
-            ours[0] == lexical_number(why)
-                && ours[1] == place.offset.0
-                && ours[2] == place.line.0
-                && ours[3] == place.column.0
+        Some(e) => {
+            ours[0] == lexical_number(e.why)
+                && ours[1] == e.at.offset.0
+                && ours[2] == e.at.line.0
+                && ours[3] == e.at.column.0
         }
     }
 }

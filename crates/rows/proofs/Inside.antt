@@ -4,20 +4,19 @@ use native.Mathlib.Decide.{dec_le}
 use borrow.Author.Tests.{not-true}
 use Rattle.rules.specs.declared.Cursor.{Cursor}
 use Rattle.rules.specs.declared.Lexical.{Lexical}
-use Rattle.rules.specs.declared.Ending.{Ending}
-use Rattle.rules.specs.declared.Ending.TheVariants.{None, Refused}
+use Rattle.rules.specs.Outcomes.{Ending, halt}
+use Rattle.std.specs.declared.option.Option.TheVariants.{None, Some}
 use Rattle.rules.specs.declared.Table.{Table}
 use Rattle.rules.specs.Text
 use Rattle.rules.specs.Text.{most_bytes}
 use Rattle.rules.specs.Kinds.{Eof, is_made, signs, reserved, length_in}
-use Rattle.rules.specs.Rows.{Row, row_in, rows_in, row_place, every, chained, gap_fits, gaps_fit, rows_fit, well_formed}
-use Rattle.rules.specs.Rows.{length_fits, spans_fit, value_fits, place_fits, lines_fit, row_fits, follows, last_row, ends_behind, is_eof, ending_fits}
+use Rattle.rules.specs.Rows.{Row, row_in, rows_in, row_place, every, chained, gap_fits, gaps_fit, rows_fit, well_formed, length_fits, spans_fit, value_fits, place_fits, lines_fit, row_fits, follows, last_row, ends_behind, is_eof, ending_fits}
 use Rattle.rows.specs.Shape.{row_no, behind}
 use Rattle.laws.specs.Tests.{all_below}
+use Rattle.laws.proofs.Outcomes.{halt_same}
 use Rattle.laws.proofs.Tests.{both_true, true_both, false_by, below}
 use Rattle.laws.proofs.Rows.{rows_length, rows_at}
-use Rattle.rows.proofs.Lists.{every_at, every_by, chained_at, chained_by, gap_first, gaps_chain, gaps_by}
-use Rattle.rows.proofs.Lists.{Closed, closed, closes, behind_at, behind_by}
+use Rattle.rows.proofs.Lists.{every_at, every_by, chained_at, chained_by, gap_first, gaps_chain, gaps_by, Closed, closed, closes, behind_at, behind_by}
 
 -- ---- a row and its kind
 
@@ -47,7 +46,7 @@ pub record Broken (ws : List ℕ) (count n : ℕ) (p : Cursor) : Type 0 where
 
 pub data Ends (ws : List ℕ) (count n : ℕ) : Ending → Type 0 where
   clean : Clean ws count n → Ends ws count n None
-  broken : {why : Lexical} {p : Cursor} → Broken ws count n p → Ends ws count n (Refused why p)
+  broken : {why : Lexical} {p : Cursor} → Broken ws count n p → Ends ws count n (Some (halt why p))
 
 pub record Fine (ws : List ℕ) (t : Table) : Type 0 where
   pub lent : t.count * 8 ≤ length ws
@@ -126,24 +125,24 @@ module _ (ws : List ℕ) (count : ℕ) where
   ends_of : (n : ℕ) (e : Ending) → ending_fits n (rows_in count ws) e ≡ true → Ends ws count n e
   unfolding ending_fits
   ends_of n None e = clean (closed_no n (closed n no_row (rows_in count ws) e))
-  ends_of n (Refused why p) e =
-      let a = both_true (every (λ r. not (is_eof r)) (rows_in count ws)) ((leb p.offset.0 n && place_fits p) && ends_behind (last_row (rows_in count ws)) p) e in
-      let b = both_true (leb p.offset.0 n && place_fits p) (ends_behind (last_row (rows_in count ws)) p) a.1 in
-      let d = both_true (leb p.offset.0 n) (place_fits p) b.0 in
+  ends_of n (Some refusal) e =
+      let a = both_true (every (λ r. not (is_eof r)) (rows_in count ws)) ((leb refusal.at.offset.0 n && place_fits refusal.at) && ends_behind (last_row (rows_in count ws)) refusal.at) e in
+      let b = both_true (leb refusal.at.offset.0 n && place_fits refusal.at) (ends_behind (last_row (rows_in count ws)) refusal.at) a.1 in
+      let d = both_true (leb refusal.at.offset.0 n) (place_fits refusal.at) b.0 in
       broken (record {
         plain = λ i h. not-true (is_eof (row_no ws i)) (every_no (λ r. not (is_eof r)) a.0 i h);
-        within = leb-true p.offset.0 n d.0;
+        within = leb-true refusal.at.offset.0 n d.0;
         place = d.1;
-        last = λ i h. rw (at_list i (omega arith)) at (behind_at p no_row (rows_in count ws) b.1 i (last_list h));
+        last = λ i h. rw (at_list i (omega arith)) at (behind_at refusal.at no_row (rows_in count ws) b.1 i (last_list h));
       })
 
   of_ends : (n : ℕ) (e : Ending) → Ends ws count n e → ending_fits n (rows_in count ws) e ≡ true
   unfolding ending_fits
   of_ends n None (clean c) = closes n no_row (rows_in count ws) (no_closed n c)
-  of_ends n (Refused why p) (broken b) =
+  of_ends n (Some e) (broken b) =
       true_both (no_every (λ r. not (is_eof r)) (λ i h. ap not (b.plain i h)))
-      (true_both (true_both (le-leb p.offset.0 n b.within) b.place)
-      (behind_by p no_row (rows_in count ws) (λ i h.
+      (true_both (true_both (le-leb e.at.offset.0 n b.within) b.place)
+      (behind_by e.at no_row (rows_in count ws) (λ i h.
       let l = list_last h in
       rw (at_list i (omega arith)) (b.last i l))))
 
@@ -277,7 +276,7 @@ module _ {ws : List ℕ} {t : Table} (f : Fine ws t) where
       go : (e : Ending) → Ends ws t.count t.length e → (row_no ws i).end ≤ t.length
       go None (clean c) =
           omega (arith, eof_empty (row_no ws i) (row_sound i (omega arith)) (eof_kind (row_no ws i) (c.last i h)), c.start i h)
-      go (Refused why p) (broken b) = omega (arith, b.within, behind_ends (row_no ws i) p (b.last i h))
+      go (Some e) (broken b) = omega (arith, b.within, behind_ends (row_no ws i) e.at (b.last i h))
 
   -- every row ends within the length
   pub within : (i : ℕ) → i < t.count → (row_no ws i).end ≤ t.length
@@ -294,7 +293,7 @@ module _ {ws : List ℕ} {t : Table} (f : Fine ws t) where
     where
       go : (e : Ending) → Ends ws t.count t.length e → (row_no ws i).kind ≡ Eof → ⊥
       go None (clean c) = plain_kind (row_no ws i) (c.middle i h)
-      go (Refused why p) (broken b) = plain_kind (row_no ws i) (b.plain i (omega arith))
+      go (Some e) (broken b) = plain_kind (row_no ws i) (b.plain i (omega arith))
 
   -- each row but the last has a byte, so row i starts at i or later
   start_least : (i : ℕ) → i < t.count → i ≤ (row_no ws i).start
@@ -316,15 +315,15 @@ module _ {ws : List ℕ} {t : Table} (f : Fine ws t) where
     where
       go : (x : Ending) → x ≡ None → Ends ws t.count t.length x → Clean ws t.count t.length
       go None q (clean c) = c
-      go (Refused why p) q b = absurd (let z : ◌≡◌ {A = ℕ} 0 1 = cc in omega arith)
+      go (Some e) q b = absurd (let z : ◌≡◌ {A = ℕ} 0 1 = cc in omega arith)
 
   -- where the ending is refused at p: no row is Eof, and p stands behind the rows
-  pub broken_of : {why : Lexical} {p : Cursor} → t.ending ≡ Refused why p → Broken ws t.count t.length p
+  pub broken_of : {why : Lexical} {p : Cursor} → t.ending ≡ Some (halt why p) → Broken ws t.count t.length p
   broken_of {why} {p} e = go t.ending e f.ends
     where
-      go : (x : Ending) → x ≡ Refused why p → Ends ws t.count t.length x → Broken ws t.count t.length p
+      go : (x : Ending) → x ≡ Some (halt why p) → Ends ws t.count t.length x → Broken ws t.count t.length p
       go None q c = absurd (let z : ◌≡◌ {A = ℕ} 0 1 = cc in omega arith)
-      go (Refused y r) q (broken b) = let s : r ≡ p = cc in rw s at b
+      go (Some e) q (broken b) = rw (halt_same q).1 at b
 
   pub last_eof : t.ending ≡ None → (i : ℕ) → suc i ≡ t.count → (row_no ws i).kind ≡ Eof
   last_eof e i h = eof_kind (row_no ws i) ((clean_of e).last i h)

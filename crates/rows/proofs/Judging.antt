@@ -2,10 +2,11 @@
 use Rattle.std.proofs.Common.{◌≡◌, ℕ, ◌+◌, ◌-◌, ◌*◌, ◌<◌, ◌≤◌, cond, ltb, List, [], length, take, drop, refl, arith, ltb-true, le-ltb, lt-ltb}
 use Rattle.rules.specs.declared.Cursor.{Cursor}
 use Rattle.rules.specs.declared.Table.{Table}
+use Rattle.rules.specs.declared.Unfit.{Unfit}
 use Rattle.rules.specs.declared.Outer.{Outer}
 use Rattle.rules.specs.declared.Outer.TheVariants.{NotWellFormed}
-use Rattle.rules.specs.declared.Judged.{Judged}
-use Rattle.rules.specs.declared.Judged.TheVariants as verdict
+use Rattle.rules.specs.Outcomes.{Judged, unfit}
+use Rattle.std.specs.declared.result.Result.TheVariants.{Ok, Err}
 use Rattle.rules.specs.Text.{start_place}
 use Rattle.rules.specs.Rows.{spelling}
 use Rattle.rules.specs.Calls.{judged, spelling_judged, spelling_part}
@@ -15,15 +16,15 @@ use Rattle.rows.proofs.Inside.{fine, row_sound, within}
 
 module _ (t ws : List ℕ) (tbl : Table) where
   module _ (row : ℕ) where
-    pub told_refused : (why : Outer) (p : Cursor) → judged t ws tbl ≡ verdict.Refused why p → spelling_judged t ws tbl row ≡ verdict.Refused why p
+    pub told_refused : {e : Unfit} → judged t ws tbl ≡ Err e → spelling_judged t ws tbl row ≡ Err e
     unfolding spelling_judged
-    told_refused why p e = rw (spelling_judged, e)
+    told_refused e = rw (spelling_judged, e)
 
-    pub told_row : judged t ws tbl ≡ verdict.Fine → row < tbl.count → spelling_judged t ws tbl row ≡ verdict.Fine
+    pub told_row : judged t ws tbl ≡ Ok tt → row < tbl.count → spelling_judged t ws tbl row ≡ Ok tt
     unfolding spelling_judged
     told_row e h = rw (spelling_judged, e) (rw (lt-ltb row tbl.count h))
 
-    pub told_past : judged t ws tbl ≡ verdict.Fine → tbl.count ≤ row → spelling_judged t ws tbl row ≡ verdict.Refused NotWellFormed start_place
+    pub told_past : judged t ws tbl ≡ Ok tt → tbl.count ≤ row → spelling_judged t ws tbl row ≡ Err (unfit NotWellFormed start_place)
     unfolding spelling_judged
     told_past e h = rw (spelling_judged, e) (rw (le-ltb row tbl.count h))
 
@@ -33,26 +34,26 @@ module _ (t ws : List ℕ) (tbl : Table) where
       pub ordered : (row_no ws row).start ≤ (row_no ws row).end
       pub within : (row_no ws row).end ≤ length t
 
-    pub told : spelling_judged t ws tbl row ≡ verdict.Fine → Told
+    pub told : spelling_judged t ws tbl row ≡ Ok tt → Told
     unfolding spelling_judged
     told e = go (judged t ws tbl) refl e
       where
-        inside : judged t ws tbl ≡ verdict.Fine → row < tbl.count → Told
+        inside : judged t ws tbl ≡ Ok tt → row < tbl.count → Told
         inside j h =
             let w = judged_fine t ws tbl j in
             let f = fine ws tbl w.0 in
             record { lent = omega (arith, f.lent); ordered = (row_sound f row h).ordered; within = omega (arith, within f row h, w.1) }
 
         go : (v : Judged) → judged t ws tbl ≡ v →
-            elim v as (λ _. Judged) [ verdict.Fine ↦ cond (ltb row tbl.count) verdict.Fine (verdict.Refused NotWellFormed start_place) | verdict.Refused why p ↦ verdict.Refused why p ] ≡ verdict.Fine
+            elim v as (λ _. Judged) [ Ok _ ↦ cond (ltb row tbl.count) (Ok tt) (Err (unfit NotWellFormed start_place)) | Err e ↦ Err e ] ≡ Ok tt
             → Told
-        go verdict.Fine j e = inside j (ltb-true row tbl.count (test_fine (ltb row tbl.count) start_place e))
-        go (verdict.Refused why p) j e = absurd (let z : ◌≡◌ {A = ℕ} 0 1 = cc in omega arith)
+        go (Ok _) j e = inside j (ltb-true row tbl.count (test_fine (ltb row tbl.count) start_place e))
+        go (Err refusal) j e = absurd (let z : ◌≡◌ {A = ℕ} 0 1 = cc in omega arith)
 
-    pub part_fine : spelling_judged t ws tbl row ≡ verdict.Fine → spelling_part t ws tbl row ≡ take ((row_no ws row).end - (row_no ws row).start) (drop (row_no ws row).start t)
+    pub part_fine : spelling_judged t ws tbl row ≡ Ok tt → spelling_part t ws tbl row ≡ take ((row_no ws row).end - (row_no ws row).start) (drop (row_no ws row).start t)
     unfolding spelling_part spelling
     part_fine e = rw (spelling_part, e)
 
-    pub part_refused : (why : Outer) (p : Cursor) → spelling_judged t ws tbl row ≡ verdict.Refused why p → spelling_part t ws tbl row ≡ []
+    pub part_refused : {e : Unfit} → spelling_judged t ws tbl row ≡ Err e → spelling_part t ws tbl row ≡ []
     unfolding spelling_part
-    part_refused why p e = rw (spelling_part, e)
+    part_refused e = rw (spelling_part, e)

@@ -4,7 +4,8 @@ use mathlib.Core.Bool.{and_assoc}
 use borrow.Author.Tests.{lt-leb, not-true}
 use Rattle.rules.specs.declared.Cursor.{Cursor}
 use Rattle.rules.specs.declared.Lexical.{Lexical}
-use Rattle.rules.specs.declared.Ending.TheVariants.{None, Refused}
+use Rattle.rules.specs.Outcomes.{halt}
+use Rattle.std.specs.declared.option.Option.TheVariants.{None, Some}
 use Rattle.rules.specs.declared.Table.{Table}
 use Rattle.rules.specs.Text.{most_bytes}
 use Rattle.rules.specs.Kinds.{Eof}
@@ -225,7 +226,7 @@ module _ (ws : List ℕ) (t : Table) where
           same_bool (well_formed ws t) (all_below (stands ws) i && closes ws t.length i) (λ w. none_to (fine ws t w)) (λ b. well ws t (none_from b))
 
     -- the ending is refused at p
-    module _ (why : Lexical) (p : Cursor) (e : t.ending ≡ Refused why p) where
+    module _ (why : Lexical) (p : Cursor) (e : t.ending ≡ Some (halt why p)) where
       refused_to : Fine ws t → (all_below (stands ws) t.count && breaks ws t.length t.count p) ≡ true
       refused_to f =
           let b = broken_of f e in

@@ -3,11 +3,14 @@
 
 ghost use Rattle.std.specs.Prelude.{◌≡◌, ◌+◌, ◌*◌, ◌≤◌, length};
 ghost use Rattle.rules.specs.Rows.{well_formed};
+ghost use Rattle.rules.specs.declared.Outer.TheVariants.{NotWellFormed};
+ghost use Rattle.rules.specs.Outcomes.{unfit};
+ghost use Rattle.rules.specs.Text.{start_place};
 ghost use Rattle.rules.specs.Calls.{judged, spelling_judged, spelling_part};
 ghost use Rattle.laws.specs.Tests.{all_below};
 ghost use Rattle.rows.specs.Shape.{LengthTable, as_row, row_before, stands, closes, breaks};
 
-use rules::{Cursor, Ending, Judged, Outer, Table, kind, limit, row};
+use rules::{Cursor, Outer, Table, Unfit, kind, limit, row};
 use shape::Row;
 
 pub mod shape;
@@ -85,7 +88,7 @@ pub fn well_formed(rows: &[u32], table: Table) -> bool
     }
     let ending = table.ending;
     match ending {
-        Ending::None => {
+        None => {
             if count == 0 {
                 return false;
             }
@@ -94,63 +97,62 @@ pub fn well_formed(rows: &[u32], table: Table) -> bool
             }
             row_closes(&least, &span, rows, size, count - 1)
         }
-        Ending::Refused(_, p) => {
+        Some(e) => {
             if !rows_stand(&least, &span, rows, count) {
                 return false;
             }
-            place_breaks(rows, size, count, p)
+            place_breaks(rows, size, count, e.at)
         }
+    }
+}
+
+// Refusal 3, which is of the whole call.
+fn unformed() -> Unfit
+    ensures { result ≡ unfit NotWellFormed start_place }
+{
+    Unfit {
+        why: Outer::NotWellFormed,
+        at: Cursor::start(),
     }
 }
 
 // What a call over a text and its table is told before anything else: 1, 2 or 3, or that all is well.
-pub fn judge(text: &[u8], rows: &[u32], table: Table) -> Judged
+pub fn judge(text: &[u8], rows: &[u32], table: Table) -> Result<(), Unfit>
     ensures { result ≡ judged text.now rows.now table }
 {
-    match scan_place::judge_text(text) {
-        Judged::Refused(why, at) => {
-            return Judged::Refused(why, at);
-        }
-        Judged::Fine => {}
-    }
+    scan_place::judge_text(text)?;
     let size = table.length as usize;
     if size != text.len() {
-        return Judged::Refused(Outer::NotWellFormed, Cursor::start());
+        return Err(unformed());
     }
     if well_formed(rows, table) {
-        return Judged::Fine;
+        return Ok(());
     }
-    Judged::Refused(Outer::NotWellFormed, Cursor::start())
+    Err(unformed())
 }
 
 // What a call for a row's spelling is told: a row number from the count on is refused.
-pub fn spelling_judge(text: &[u8], rows: &[u32], table: Table, row: u32) -> Judged
+pub fn spelling_judge(text: &[u8], rows: &[u32], table: Table, row: u32) -> Result<(), Unfit>
     ensures { result ≡ spelling_judged text.now rows.now table row }
 {
-    let verdict = judge(text, rows, table);
-    match verdict {
-        Judged::Refused(why, at) => Judged::Refused(why, at),
-        Judged::Fine => {
-            if row < table.count {
-                return Judged::Fine;
-            }
-            Judged::Refused(Outer::NotWellFormed, Cursor::start())
-        }
+    judge(text, rows, table)?;
+    if row < table.count {
+        return Ok(());
     }
+    Err(unformed())
 }
 
 // A row's spelling: the text's part from the row's start to its end, and the empty part at 0 where the call is refused.
 pub fn spelling<'a>(text: &'a [u8], rows: &[u32], table: Table, row: u32) -> &'a [u8]
     ensures { result.now ≡ spelling_part text.now rows.now table row }
 {
-    let verdict = spelling_judge(text, rows, table, row);
-    match verdict {
-        Judged::Fine => {
+    match spelling_judge(text, rows, table, row) {
+        Ok(()) => {
             let r = Row::at(rows, row as usize);
             let start = r.start as usize;
             let end = r.end as usize;
             &text[start..end]
         }
-        Judged::Refused(_, _) => &text[0..0],
+        Err(_) => &text[0..0],
     }
 }

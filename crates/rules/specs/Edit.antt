@@ -1,15 +1,11 @@
 -- "The edit": from the old table, the places and a window of the new text, the new table.
 -- Old bytes a to b (b not included) become n new bytes.
-use Rattle.std.specs.Prelude.{Bool, true, false, cond, not, ◌&&◌, ◌||◌, List, [], ◌∷◌, ◌++◌, map, ℕ, zero, suc, pred, ◌+◌, ◌-◌, length, take, eqb, leb, ltb}
+use Rattle.std.specs.Prelude.{Result, Ok, Err, Bool, true, false, cond, not, ◌&&◌, ◌||◌, List, [], ◌∷◌, ◌++◌, map, ℕ, zero, suc, pred, ◌+◌, ◌-◌, length, take, eqb, leb, ltb, None, Some}
 use Rattle.rules.specs.declared.Cursor.{Cursor}
-use Rattle.rules.specs.declared.Ending.{Ending}
-use Rattle.rules.specs.declared.Ending.TheVariants as ending
+use Rattle.rules.specs.Outcomes.{Ending, halt, Told, unread}
 use Rattle.rules.specs.declared.Table.{Table}
+use Rattle.rules.specs.declared.Outer.{Outer}
 use Rattle.rules.specs.declared.Outer.TheVariants.{TextTooLong, BadByte, NotWellFormed, EditNotSensible, WindowShort}
-use Rattle.rules.specs.declared.Told.{Told}
-use Rattle.rules.specs.declared.Told.TheVariants.{Refused}
-use Rattle.rules.specs.declared.Restart.{Restart}
-use Rattle.rules.specs.declared.Restart.TheVariants as starts
 use Rattle.rules.specs.Text.{byte, most_bytes, valid_bytes, cut_bytes, is_blank, place, start_place, over}
 use Rattle.rules.specs.Rows.{Row, row_at, eof_row, row_place, rows_in, well_formed}
 use Rattle.rules.specs.Lex.{blank, comment, row, refused, known, end, unknown, item}
@@ -58,7 +54,7 @@ pub data Seen : Type 0 where
 -- at which offsets an old row starts, moved; whole: the window ends the text.
 module _ (pos : ℕ → Cursor) (meet : ℕ → Bool) (whole : Bool) where
   unfoldable pub look : (c n k : ℕ) → List ℕ → Seen
-  look c n k [] = cond whole (sees (eof_row (pos k) c) (over' ending.None)) short
+  look c n k [] = cond whole (sees (eof_row (pos k) c) (over' None)) short
   look c (suc n) k (b ∷ s) = look c n (suc k) s
   look c zero k (b ∷ s) =
       elim (meet k && not (opens (b ∷ s))) [
@@ -68,7 +64,7 @@ module _ (pos : ℕ → Cursor) (meet : ℕ → Bool) (whole : Bool) where
             | blank ↦ look c zero (suc k) s
             | comment n d ↦ look (suc c) (pred n) (suc k) s
             | row kind n bits d ↦ sees (row_at (pos k) c kind (k + n) bits) (look zero (pred n) (suc k) s)
-            | refused why p d ↦ over' (ending.Refused why (pos (k + p)))
+            | refused why p d ↦ over' (Some (halt why (pos (k + p))))
           ]
           | end ↦ short
           | unknown ↦ short
@@ -133,8 +129,8 @@ recounted c [] = []
 recounted c (r ∷ rs) = with_comments c r ∷ rs
 
 unfoldable pub carry_ending : Cursor → Cursor → Ending → Ending
-carry_ending o p ending.None = ending.None
-carry_ending o p (ending.Refused why q) = ending.Refused why (carry o p q)
+carry_ending o p None = None
+carry_ending o p (Some e) = Some (halt e.why (carry o p e.at))
 
 -- ---- the new table
 
@@ -166,7 +162,7 @@ module _ (rows : List Row) (e : Ending) (a b n : ℕ) (w : List ℕ) where
   seen_ending (sees r s) = seen_ending s
   seen_ending (over' x) = x
   seen_ending (met m c) = carry_ending (first_place (from (old_offset m) rows)) (window_place m) e
-  seen_ending short = ending.None
+  seen_ending short = None
 
   -- whole: the window ends the text
   unfoldable pub seen : Bool → Seen
@@ -217,13 +213,13 @@ window_short rows e len a b n w = is_short (seen rows e a b n w (ends rows len a
 unfoldable pub edit_told : List ℕ → Table → (a b n start : ℕ) → List ℕ → ℕ → Told
 edit_told ws t a b n start w m =
     let rows : List Row = rows_in t.count ws in
-    cond (not (well_formed ws t)) (Refused NotWellFormed start_place 0)
-    (cond (not (sensible rows t.length a b n start w)) (Refused EditNotSensible start_place 0)
-    (cond (ltb most_bytes (new_length t.length a b n)) (Refused TextTooLong start_place 0)
-    (cond (unjudged rows t.length a b n w) (Refused WindowShort start_place 0)
+    cond (not (well_formed ws t)) (Err (unread NotWellFormed start_place 0))
+    (cond (not (sensible rows t.length a b n start w)) (Err (unread EditNotSensible start_place 0))
+    (cond (ltb most_bytes (new_length t.length a b n)) (Err (unread TextTooLong start_place 0))
+    (cond (unjudged rows t.length a b n w) (Err (unread WindowShort start_place 0))
     (cond (not (window_valid (ends rows t.length a b n w) w))
-    (Refused BadByte (over (restart rows a) (take (window_bytes (ends rows t.length a b n w) w) w)) 0)
-    (cond (window_short rows t.ending t.length a b n w) (Refused WindowShort start_place 0)
+    (Err (unread BadByte (over (restart rows a) (take (window_bytes (ends rows t.length a b n w) w) w)) 0))
+    (cond (window_short rows t.ending t.length a b n w) (Err (unread WindowShort start_place 0))
     (told (new_length t.length a b n) m (new_rows rows t.ending a b n w (ends rows t.length a b n w))
     (new_ending rows t.ending a b n w (ends rows t.length a b n w))))))))
 
@@ -240,7 +236,7 @@ edit_leaves ws t a b n start w new =
     (laid (new_rows rows t.ending a b n w (ends rows t.length a b n w)) new))))))
 
 -- where the window of an edit at a must start: 3, then 6 where a is over the old length
-unfoldable pub restart_told : List ℕ → Table → ℕ → Restart
+unfoldable pub restart_told : List ℕ → Table → ℕ → Result Cursor Outer
 restart_told ws t a =
-    cond (not (well_formed ws t)) (starts.Refused NotWellFormed)
-    (cond (ltb t.length a) (starts.Refused EditNotSensible) (starts.At (restart (rows_in t.count ws) a)))
+    cond (not (well_formed ws t)) (Err NotWellFormed)
+    (cond (ltb t.length a) (Err EditNotSensible) (Ok (restart (rows_in t.count ws) a)))

@@ -1,4 +1,5 @@
 -- docs/LANGUAGE.md as definitions, a module for each of its parts.
+pub mod Outcomes
 pub mod Text
 pub mod Kinds
 pub mod Fits

@@ -1,8 +1,7 @@
 -- "Text and rows": a row's eight words, tables, and when a table is well formed. Spelling.
-use Rattle.std.specs.Prelude.{Bool, true, false, cond, not, ◌&&◌, ◌||◌, List, [], ◌∷◌, ◌++◌, ℕ, zero, suc, ◌+◌, ◌-◌, ◌*◌, ◌/◌, ◌%◌, ◌^◌, length, take, drop, get_or, eqb, leb}
+use Rattle.std.specs.Prelude.{Bool, true, false, cond, not, ◌&&◌, ◌||◌, List, [], ◌∷◌, ◌++◌, ℕ, zero, suc, ◌+◌, ◌-◌, ◌*◌, ◌/◌, ◌%◌, ◌^◌, length, take, drop, get_or, eqb, leb, None, Some}
 use Rattle.rules.specs.declared.Cursor.{Cursor}
-use Rattle.rules.specs.declared.Ending.{Ending}
-use Rattle.rules.specs.declared.Ending.TheVariants.{None, Refused}
+use Rattle.rules.specs.Outcomes.{Ending}
 use Rattle.rules.specs.declared.Table.{Table}
 use Rattle.rules.specs.Text.{most_bytes, place}
 use Rattle.rules.specs.Kinds.{Identifier, StringLiteral, Number, Eof, is_made, signs, reserved, length_in}
@@ -177,8 +176,8 @@ eof_last n (r ∷ q ∷ rs) = not (is_eof r) && eof_last n (q ∷ rs)
 
 unfoldable pub ending_fits : ℕ → List Row → Ending → Bool
 ending_fits n rows None = eof_last n rows
-ending_fits n rows (Refused why p) =
-    every (λ r. not (is_eof r)) rows && ((leb p.offset.0 n && place_fits p) && ends_behind (last_row rows) p)
+ending_fits n rows (Some e) =
+    every (λ r. not (is_eof r)) rows && ((leb e.at.offset.0 n && place_fits e.at) && ends_behind (last_row rows) e.at)
 
 -- the rows and ending of a table over so many bytes
 unfoldable pub rows_fit : ℕ → List Row → Ending → Bool

@@ -1,13 +1,9 @@
 -- The scan of a text into rows and ending, and what a scan with so much room answers and leaves in lent memory.
-use Rattle.std.specs.Prelude.{cond, List, [], ◌∷◌, ◌++◌, ℕ, zero, suc, pred, ◌+◌, ◌*◌, ◌/◌, min, length, take, drop, leb}
+use Rattle.std.specs.Prelude.{cond, List, [], ◌∷◌, ◌++◌, ℕ, zero, suc, pred, ◌+◌, ◌*◌, ◌/◌, min, length, take, drop, leb, Ok, Err, None, Some}
 use Rattle.rules.specs.declared.Cursor.{Cursor}
 use Rattle.rules.specs.declared.Lexical.{Lexical}
-use Rattle.rules.specs.declared.Ending.{Ending}
-use Rattle.rules.specs.declared.Ending.TheVariants as ending
+use Rattle.rules.specs.Outcomes.{Ending, halt, Told, unread}
 use Rattle.rules.specs.declared.Outer.TheVariants.{NoRowRoom}
-use Rattle.rules.specs.declared.Judged.TheVariants as verdict
-use Rattle.rules.specs.declared.Told.{Told}
-use Rattle.rules.specs.declared.Told.TheVariants.{Rows, Refused}
 use Rattle.rules.specs.Text.{place_at, start_place, text_judged}
 use Rattle.rules.specs.Rows.{Row, row_at, eof_row, words_of, words_per_row}
 use Rattle.rules.specs.Lex.{blank, comment, row, refused, piece}
@@ -25,8 +21,8 @@ read_rows (stops why p d) = []
 
 unfoldable pub read_ending : Reading → Ending
 read_ending (put r l) = read_ending l
-read_ending ends = ending.None
-read_ending (stops why p d) = ending.Refused why p
+read_ending ends = None
+read_ending (stops why p d) = Some (halt why p)
 
 -- The bytes from offset k on, of which the first n belong to the piece that was read last; c comments stand in the gap behind the last
 -- row so far. `pos` gives places.
@@ -54,7 +50,7 @@ room_of ws = length ws / words_per_row
 -- "4 standing where the row that finds no room is complete": the rows of a text of n bytes, into room for m
 unfoldable pub told : ℕ → ℕ → List Row → Ending → Told
 told n m rows e =
-    cond (leb (length rows) m) (Rows (record { count = length rows; length = n; ending = e })) (Refused NoRowRoom start_place m)
+    cond (leb (length rows) m) (Ok (record { count = length rows; length = n; ending = e })) (Err (unread NoRowRoom start_place m))
 
 -- as many rows as there is room for, and then what was there
 unfoldable pub laid : List Row → List ℕ → List ℕ
@@ -64,10 +60,10 @@ laid rows ws = words_of (take (room_of ws) rows) ++ drop (words_per_row * min (r
 unfoldable pub scan_told : List ℕ → ℕ → Told
 scan_told t m =
     elim (text_judged t) [
-      | verdict.Fine ↦ told (length t) m (read_rows (scan t)) (read_ending (scan t))
-      | verdict.Refused why p ↦ Refused why p 0
+      | Ok _ ↦ told (length t) m (read_rows (scan t)) (read_ending (scan t))
+      | Err e ↦ Err (unread e.why e.at 0)
     ]
 
 -- 1, 2: rows untouched
 unfoldable pub scan_leaves : List ℕ → List ℕ → List ℕ
-scan_leaves t ws = elim (text_judged t) [ verdict.Fine ↦ laid (read_rows (scan t)) ws | verdict.Refused why p ↦ ws ]
+scan_leaves t ws = elim (text_judged t) [ Ok _ ↦ laid (read_rows (scan t)) ws | Err e ↦ ws ]

@@ -1,11 +1,10 @@
 -- "Text and rows": how long a text may be, which bytes it may hold, blanks, and the position before a byte.
-use Rattle.std.specs.Prelude.{Bool, true, false, cond, not, ◌&&◌, ◌||◌, List, [], ◌∷◌, reverse, ℕ, zero, suc, ◌+◌, ◌^◌, ◌<◌, length, take, drop, eqb, leb, ltb}
+use Rattle.std.specs.Prelude.{Bool, true, false, cond, not, ◌&&◌, ◌||◌, List, [], ◌∷◌, reverse, ℕ, zero, suc, ◌+◌, ◌^◌, ◌<◌, length, take, drop, eqb, leb, ltb, Ok, Err}
 use Prim.Native.Char.{Char, code}
 use Prim.Native.String.{String, [] as []ˢ, ◌∷◌ as ◌∷ˢ◌}
 use Rattle.rules.specs.declared.Cursor.{Cursor}
 use Rattle.rules.specs.declared.Outer.TheVariants.{TextTooLong, BadByte}
-use Rattle.rules.specs.declared.Judged.{Judged}
-use Rattle.rules.specs.declared.Judged.TheVariants.{Fine, Refused}
+use Rattle.rules.specs.Outcomes.{Judged, unfit}
 
 -- the byte of a character, and the bytes of a spelling
 abbrev pub byte : Char → ℕ
@@ -130,7 +129,7 @@ start_place = place 0 1 1
 -- 1, then 2 where the longest valid beginning ends
 unfoldable pub text_judged : List ℕ → Judged
 text_judged t =
-    cond (ltb most_bytes (length t)) (Refused TextTooLong start_place) (cond (not (valid t)) (Refused BadByte (place_at t (valid_bytes t))) Fine)
+    cond (ltb most_bytes (length t)) (Err (unfit TextTooLong start_place)) (cond (not (valid t)) (Err (unfit BadByte (place_at t (valid_bytes t)))) (Ok tt))
 
 -- The cursor behind byte b, and behind a list of bytes.
 unfoldable pub moved : Cursor → ℕ → Cursor

@@ -8,6 +8,8 @@ pub mod node_kind;
 pub mod row;
 
 ghost use Rattle.std.specs.Prelude.{◌≡◌};
+ghost use Rattle.rules.specs.declared.Reason.TheVariants as reason;
+ghost use Rattle.rules.specs.Outcomes.{unread, unparsed};
 ghost use Rattle.rules.specs.Text.{start_place, moved, along, Roomy};
 
 // Line, column and offset are three counters and never stand in for one another.
@@ -87,12 +89,15 @@ pub enum Lexical {
     NumberTooLarge,
 }
 
-// How a table ends.
+// Why a text cannot be read on, and where.
 #[derive(Clone, Copy)]
-pub enum Ending {
-    None,
-    Refused(Lexical, Cursor),
+pub struct Halt {
+    pub why: Lexical,
+    pub at: Cursor,
 }
+
+// How a table ends: at the text's end, or where the text cannot be read on.
+pub type Ending = Option<Halt>;
 
 // What stands beside a table's rows.
 #[derive(Clone, Copy)]
@@ -114,32 +119,34 @@ pub enum Outer {
     WindowShort,
 }
 
-// What a scan or an edit tells: the rows are written and this stands beside them, or the call is refused and so many rows are written.
+// Why a call has not what it asks for, and where.
 #[derive(Clone, Copy)]
-pub enum Told {
-    Rows(Table),
-    Refused(Outer, Cursor, u32),
+pub struct Unfit {
+    pub why: Outer,
+    pub at: Cursor,
 }
 
-// Whether a call has what it asks for, or why it is refused and where.
+// Why a scan or an edit is refused and where, and how many rows are written.
 #[derive(Clone, Copy)]
-pub enum Judged {
-    Fine,
-    Refused(Outer, Cursor),
+pub struct Unread {
+    pub why: Outer,
+    pub at: Cursor,
+    pub rows: u32,
 }
 
-// Where the window of an edit starts.
-#[derive(Clone, Copy)]
-pub enum Restart {
-    At(Cursor),
-    Refused(Outer),
-}
+// What a scan or an edit tells: what stands beside the rows that are written, or why the call is refused.
+pub type Told = Result<Table, Unread>;
 
-// A number that was asked for: a set's size, or 1 for a member and 0 for none.
-#[derive(Clone, Copy)]
-pub enum Asked {
-    Is(u32),
-    Refused(Outer),
+impl From<Unfit> for Unread {
+    ghost from_gives = { λ e told. told ≡ unread e.why e.at 0 };
+
+    fn from(e: Unfit) -> Unread {
+        Unread {
+            why: e.why,
+            at: e.at,
+            rows: 0,
+        }
+    }
 }
 
 // Why rows are no program. The kinds that would have fitted, a bit for each: 0 to 31, and from 32 on; a map's field, 1 to 4.
@@ -167,9 +174,25 @@ pub enum Reason {
     Syntax(Syntax),
 }
 
-// What a parse tells: so many nodes are written, or why not and where, and for 21 the kind that was found (else 0).
+// Why a parse is refused and where, and for 21 the kind that was found (else 0).
 #[derive(Clone, Copy)]
-pub enum Parsed {
-    Nodes(u32),
-    Refused(Reason, Cursor, u32),
+pub struct Unparsed {
+    pub why: Reason,
+    pub at: Cursor,
+    pub found: u32,
+}
+
+// What a parse tells: how many nodes are written, or why none is.
+pub type Parsed = Result<u32, Unparsed>;
+
+impl From<Unfit> for Unparsed {
+    ghost from_gives = { λ e told. told ≡ unparsed (reason.Outer e.why) e.at 0 };
+
+    fn from(e: Unfit) -> Unparsed {
+        Unparsed {
+            why: Reason::Outer(e.why),
+            at: e.at,
+            found: 0,
+        }
+    }
 }

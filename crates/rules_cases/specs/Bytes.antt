@@ -1,10 +1,8 @@
 -- Which bytes a text may hold: both sides of each edge of RFC 3629's table, and what a scan tells of such texts. Each table under one theorem.
-use Rattle.std.specs.Prelude.{◌≡◌, refl, List, [], ◌∷◌, ◌++◌, map, ℕ}
-use Rattle.rules.specs.declared.Told.{Told}
-use Rattle.rules.specs.declared.Told.TheVariants.{Rows, Refused}
+use Rattle.std.specs.Prelude.{◌≡◌, refl, List, [], ◌∷◌, ◌++◌, map, ℕ, Ok, Err, None, Some}
+use Rattle.rules.specs.Outcomes.{Told, unread, halt}
 use Rattle.rules.specs.declared.Outer.TheVariants.{BadByte}
 use Rattle.rules.specs.declared.Lexical.TheVariants.{NoRowBegins}
-use Rattle.rules.specs.declared.Ending.TheVariants as ending
 use Rattle.rules.specs.Text
 use Rattle.rules.specs.Text.{bytes, valid_bytes, cut_bytes, place}
 use Rattle.rules.specs.Kinds
@@ -97,15 +95,15 @@ scanned t = record { text = t; told = scan_told t 10 }
 abbrev pub tellings : List Scanned
 tellings =
     -- FF is 2, é is 11, and `@` before FF is 2
-    record { text = 0xFF ∷ []; told = Refused BadByte (place 0 1 1) 0 }
-    ∷ record { text = 0xC3 ∷ 0xA9 ∷ []; told = Rows (record { count = 0; length = 2; ending = ending.Refused NoRowBegins (place 0 1 1) }) }
-    ∷ record { text = bytes "@" ++ (0xFF ∷ []); told = Refused BadByte (place 1 1 2) 0 }
+    record { text = 0xFF ∷ []; told = Err (unread BadByte (place 0 1 1) 0) }
+    ∷ record { text = 0xC3 ∷ 0xA9 ∷ []; told = Ok (record { count = 0; length = 2; ending = Some (halt NoRowBegins (place 0 1 1)) }) }
+    ∷ record { text = bytes "@" ++ (0xFF ∷ []); told = Err (unread BadByte (place 1 1 2) 0) }
     -- a text that ends inside a character
-    ∷ record { text = bytes "\"" ++ (0xC3 ∷ []); told = Refused BadByte (place 1 1 2) 0 }
+    ∷ record { text = bytes "\"" ++ (0xC3 ∷ []); told = Err (unread BadByte (place 1 1 2) 0) }
     -- behind `/*°*/`, a newline, and é in a string
-    ∷ record { text = bytes "/*" ++ (0xC2 ∷ 0xB0 ∷ bytes "*/" ++ (0xFF ∷ [])); told = Refused BadByte (place 6 1 7) 0 }
-    ∷ record { text = bytes "/*" ++ (0xC2 ∷ 0xB0 ∷ bytes "*/\n" ++ (0xFF ∷ [])); told = Refused BadByte (place 7 2 1) 0 }
-    ∷ record { text = bytes "\"" ++ (0xC3 ∷ 0xA9 ∷ bytes "\""); told = Rows (record { count = 2; length = 4; ending = ending.None }) }
+    ∷ record { text = bytes "/*" ++ (0xC2 ∷ 0xB0 ∷ bytes "*/" ++ (0xFF ∷ [])); told = Err (unread BadByte (place 6 1 7) 0) }
+    ∷ record { text = bytes "/*" ++ (0xC2 ∷ 0xB0 ∷ bytes "*/\n" ++ (0xFF ∷ [])); told = Err (unread BadByte (place 7 2 1) 0) }
+    ∷ record { text = bytes "\"" ++ (0xC3 ∷ 0xA9 ∷ bytes "\""); told = Ok (record { count = 2; length = 4; ending = None }) }
     ∷ []
 
 pub told_right : map (λ (c : Scanned). scanned c.text) tellings ≡ tellings

@@ -1,9 +1,8 @@
 -- "Both sides of each edge": the worked cases as one table under one theorem, which the checker computes from the rules.
 -- [P]: a case that LANGUAGE.md 12 lists as proved.
-use Rattle.std.specs.Prelude.{◌≡◌, refl, List, [], ◌∷◌, ◌++◌, map, ℕ}
+use Rattle.std.specs.Prelude.{◌≡◌, refl, List, [], ◌∷◌, ◌++◌, map, ℕ, None, Some}
 use Rattle.rules.specs.declared.Cursor.{Cursor}
-use Rattle.rules.specs.declared.Ending.{Ending}
-use Rattle.rules.specs.declared.Ending.TheVariants as ending
+use Rattle.rules.specs.Outcomes.{Ending}
 use Rattle.rules.specs.Text
 use Rattle.rules.specs.Text.{bytes}
 use Rattle.rules.specs.Kinds
@@ -34,15 +33,15 @@ pub place_words : Cursor → List ℕ → List ℕ
 place_words p more = p.offset.0 ∷ p.line.0 ∷ p.column.0 ∷ more
 
 pub refusal_of : List ℕ → Ending → Out → List ℕ
-refusal_of ws (ending.Refused why p) o = lexical_number why ∷ place_words p []
-refusal_of ws ending.None (ok t j) = []
-refusal_of ws ending.None (no why r) =
+refusal_of ws (Some e) o = lexical_number e.why ∷ place_words e.at []
+refusal_of ws None (ok t j) = []
+refusal_of ws None (no why r) =
     syntax_number why ∷ place_words (place_of_row ws r) (first_told why ∷ second_told why ∷ found_told why (row_no ws r).kind ∷ [])
 
 pub tree_of : Ending → Out → List (List ℕ)
-tree_of (ending.Refused why p) o = []
-tree_of ending.None (ok t j) = map node_words (nodes_of 0 t)
-tree_of ending.None (no why r) = []
+tree_of (Some e) o = []
+tree_of None (ok t j) = map node_words (nodes_of 0 t)
+tree_of None (no why r) = []
 
 pub answer : List ℕ → Case
 answer t =

@@ -1,10 +1,8 @@
 -- Edits: the worked case of LANGUAGE.md 12, and for each easy misreading of "The edit" the smallest case that shows it. One table under one theorem.
-use Rattle.std.specs.Prelude.{◌≡◌, refl, Bool, true, false, cond, List, [], ◌∷◌, ◌++◌, map, ℕ, ◌+◌, ◌*◌, length, take, drop}
-use Rattle.rules.specs.declared.Told.{Told}
-use Rattle.rules.specs.declared.Told.TheVariants.{Rows, Refused}
+use Rattle.std.specs.Prelude.{◌≡◌, refl, Bool, true, false, cond, List, [], ◌∷◌, ◌++◌, map, ℕ, ◌+◌, ◌*◌, length, take, drop, Ok, Err, Some}
+use Rattle.rules.specs.Outcomes.{Told, unread, halt}
 use Rattle.rules.specs.declared.Outer.TheVariants.{BadByte, WindowShort}
 use Rattle.rules.specs.declared.Lexical.TheVariants.{NoRowBegins}
-use Rattle.rules.specs.declared.Ending.TheVariants as ending
 use Rattle.rules.specs.declared.Table.{Table}
 use Rattle.rules.specs.Text
 use Rattle.rules.specs.Text.{place, start_place, bytes}
@@ -56,7 +54,7 @@ told c =
 
 pub means : Case → Outcome
 means c = record {
-  told = cond c.short (Refused WindowShort start_place 0) (scan_told (new_text c) (room_of (memory c)));
+  told = cond c.short (Err (unread WindowShort start_place 0)) (scan_told (new_text c) (room_of (memory c)));
   words = cond c.short (memory c) (scan_leaves (new_text c) (memory c));
 }
 
@@ -179,14 +177,14 @@ strange =
       a = 0;
       n = 0;
       window = 32 ∷ 32 ∷ 32 ∷ 0xE0 ∷ 0xA0 ∷ [];
-      told = Rows (record { count = 0; length = 7; ending = ending.Refused NoRowBegins (place 3 1 4) });
+      told = Ok (record { count = 0; length = 7; ending = Some (halt NoRowBegins (place 3 1 4)) });
     }
     -- E0 80 last begins no character: 2
-    ∷ record { text = blanks; a = 0; n = 0; window = 32 ∷ 32 ∷ 32 ∷ 0xE0 ∷ 0x80 ∷ []; told = Refused BadByte (place 3 1 4) 0 }
+    ∷ record { text = blanks; a = 0; n = 0; window = 32 ∷ 32 ∷ 32 ∷ 0xE0 ∷ 0x80 ∷ []; told = Err (unread BadByte (place 3 1 4) 0) }
     -- E0 A0 last in the text is 2
-    ∷ record { text = blanks; a = 0; n = 0; window = 32 ∷ 32 ∷ 32 ∷ 32 ∷ 32 ∷ 0xE0 ∷ 0xA0 ∷ []; told = Refused BadByte (place 5 1 6) 0 }
+    ∷ record { text = blanks; a = 0; n = 0; window = 32 ∷ 32 ∷ 32 ∷ 32 ∷ 32 ∷ 0xE0 ∷ 0xA0 ∷ []; told = Err (unread BadByte (place 5 1 6) 0) }
     -- a restart place inside a character: 2 there
-    ∷ record { text = bytes "a     "; a = 2; n = 0; window = 0xA9 ∷ 32 ∷ 32 ∷ 32 ∷ 32 ∷ []; told = Refused BadByte (place 1 1 2) 0 }
+    ∷ record { text = bytes "a     "; a = 2; n = 0; window = 0xA9 ∷ 32 ∷ 32 ∷ 32 ∷ 32 ∷ []; told = Err (unread BadByte (place 1 1 2) 0) }
     ∷ []
 
 pub strange_right : map strangely strange ≡ strange

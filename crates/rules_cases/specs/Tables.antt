@@ -1,6 +1,5 @@
 -- Well-formed tables: both sides of the bound on a row's comments, which is half of its gap's length. One table under one theorem.
-use Rattle.std.specs.Prelude.{◌≡◌, refl, Bool, true, false, List, [], ◌∷◌, ◌++◌, map, ℕ}
-use Rattle.rules.specs.declared.Ending.TheVariants as ending
+use Rattle.std.specs.Prelude.{◌≡◌, refl, Bool, true, false, List, [], ◌∷◌, ◌++◌, map, ℕ, None}
 use Rattle.rules.specs.Kinds
 use Rattle.rules.specs.Rows
 use Rattle.rules.specs.Rows.{well_formed}
@@ -17,7 +16,7 @@ judged c = record {
   words = c.words;
   count = c.count;
   length = c.length;
-  fits = well_formed c.words (record { count = c.count; length = c.length; ending = ending.None });
+  fits = well_formed c.words (record { count = c.count; length = c.length; ending = None });
 }
 
 abbrev pub cases : List Case

@@ -1,8 +1,7 @@
 -- Worked cases: the files of two small tables byte by byte, and what is read of the second where some of its bytes are changed. Each table is under one theorem
 -- that the checker computes.
-use Rattle.std.specs.Prelude.{◌≡◌, refl, Bool, true, false, cond, List, [], ◌∷◌, ◌++◌, map, ℕ, ◌+◌, ◌*◌, length, take, drop, set, replicate, Result, Ok, Err}
-use Rattle.rules.specs.declared.Ending.{Ending}
-use Rattle.rules.specs.declared.Ending.TheVariants as ending
+use Rattle.std.specs.Prelude.{◌≡◌, refl, Bool, true, false, cond, List, [], ◌∷◌, ◌++◌, map, ℕ, ◌+◌, ◌*◌, length, take, drop, set, replicate, Result, Ok, Err, None, Some}
+use Rattle.rules.specs.Outcomes.{Ending, halt}
 use Rattle.rules.specs.declared.Lexical.TheVariants.{NoRowBegins}
 use Rattle.rules.specs.declared.Outer.TheVariants.{NotWellFormed, NoRowRoom}
 use Rattle.rules.specs.declared.Table.{Table}
@@ -33,11 +32,11 @@ changed (b ∷ bs) s = changed bs (set s b.at b.to)
 
 -- the table of a lone at-sign, which is refused at 0 and has no row
 abbrev pub bare : Table
-bare = record { count = 0; length = 1; ending = ending.Refused NoRowBegins (place 0 1 1) }
+bare = record { count = 0; length = 1; ending = Some (halt NoRowBegins (place 0 1 1)) }
 
 -- the table of the text "a": an identifier and Eof
 abbrev pub letter : Table
-letter = record { count = 2; length = 1; ending = ending.None }
+letter = record { count = 2; length = 1; ending = None }
 
 abbrev pub letter_words : List ℕ
 letter_words = 48 ∷ 0 ∷ 1 ∷ 1 ∷ 1 ∷ 0 ∷ 0 ∷ 0 ∷ 52 ∷ 1 ∷ 1 ∷ 1 ∷ 2 ∷ 0 ∷ 0 ∷ 0 ∷ []

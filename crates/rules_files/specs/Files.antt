@@ -1,8 +1,7 @@
 -- Files of form 1: what block 0 says, a table into a file, the order in which a file is judged, and what the two calls tell and leave.
 use Rattle.std.specs.Prelude.{Bool, true, false, cond, not, ◌&&◌, List, [], ◌∷◌, ◌++◌, ℕ, ◌+◌, ◌*◌, ◌/◌, length, take, drop, eqb, leb, ltb, Result, Ok, Err, Option, Some, None}
 use Rattle.rules.specs.declared.Cursor.{Cursor}
-use Rattle.rules.specs.declared.Ending.{Ending}
-use Rattle.rules.specs.declared.Ending.TheVariants as ending
+use Rattle.rules.specs.Outcomes.{Ending, halt}
 use Rattle.rules.specs.declared.Outer.TheVariants.{NotWellFormed, NoRowRoom}
 use Rattle.rules.specs.declared.Table.{Table}
 use Rattle.rules.specs.Text.{place}
@@ -58,8 +57,8 @@ block_told OtherForm = 0
 
 -- "all four zero if none"
 abbrev pub ending_said : Ending → List ℕ
-ending_said ending.None = 0 ∷ 0 ∷ 0 ∷ 0 ∷ []
-ending_said (ending.Refused why p) = lexical_number why ∷ p.offset.0 ∷ p.line.0 ∷ p.column.0 ∷ []
+ending_said None = 0 ∷ 0 ∷ 0 ∷ 0 ∷ []
+ending_said (Some e) = lexical_number e.why ∷ e.at.offset.0 ∷ e.at.line.0 ∷ e.at.column.0 ∷ []
 
 abbrev pub said : Table → List ℕ
 said t = form_number ∷ t.length ∷ t.count ∷ ending_said t.ending
@@ -85,13 +84,13 @@ store_leaves ws t file =
 
 -- the ending of a lexical refusal's number
 unfoldable pub read_refused : ℕ → Cursor → Option Ending
-read_refused number p = cond (is_lexical number) (Some (ending.Refused (lexical_of number) p)) None
+read_refused number p = cond (is_lexical number) (Some (Some (halt (lexical_of number) p))) None
 
 -- none has number 0, and then offset, line and column are 0
 unfoldable pub read_ending : ℕ → Cursor → Option Ending
 read_ending number p =
     cond (eqb number 0)
-    (cond (eqb p.offset.0 0 && (eqb p.line.0 0 && eqb p.column.0 0)) (Some ending.None) None)
+    (cond (eqb p.offset.0 0 && (eqb p.line.0 0 && eqb p.column.0 0)) (Some None) None)
     (read_refused number p)
 
 -- word i of what block 0 says

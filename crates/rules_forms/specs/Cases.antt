@@ -1,8 +1,8 @@
 -- Worked cases: a small table in both forms byte by byte, how long files of form 2 are, and what a reading beside the text and a move
 -- tell and leave where
 -- an easy misreading would tell another thing. Each table is under one theorem that the checker computes.
-use Rattle.std.specs.Prelude.{◌≡◌, refl, Bool, true, false, cond, List, [], ◌∷◌, ◌++◌, map, ℕ, ◌+◌, length, take, drop, set, replicate, Result, Ok, Err}
-use Rattle.rules.specs.declared.Ending.TheVariants as ending
+use Rattle.std.specs.Prelude.{◌≡◌, refl, Bool, true, false, cond, List, [], ◌∷◌, ◌++◌, map, ℕ, ◌+◌, length, take, drop, set, replicate, Result, Ok, Err, Some}
+use Rattle.rules.specs.Outcomes.{halt}
 use Rattle.rules.specs.declared.Lexical.TheVariants.{NoRowBegins}
 use Rattle.rules.specs.declared.Outer.TheVariants.{NoRowRoom}
 use Rattle.rules.specs.declared.Table.{Table}
@@ -42,7 +42,7 @@ abbrev pub text : List ℕ
 text = bytes "\na@"
 
 abbrev pub table : Table
-table = record { count = 1; length = 3; ending = ending.Refused NoRowBegins (place 2 2 2) }
+table = record { count = 1; length = 3; ending = Some (halt NoRowBegins (place 2 2 2)) }
 
 abbrev pub words : List ℕ
 words = 48 ∷ 1 ∷ 2 ∷ 2 ∷ 1 ∷ 0 ∷ 0 ∷ 0 ∷ []
@@ -167,7 +167,7 @@ right = refl
 pub readings : (beside_told text long_file 1 ∷ beside_told text short_file 1 ∷ beside_told text short_file 0 ∷ beside_told other_text short_file 1
     ∷ beside_told other_text long_file 1 ∷ beside_told (text ++ text) short_file 1 ∷ beside_told (text ++ text) short_file 0 ∷ [])
     ≡ (Ok table ∷ Ok table ∷ Err (File (Outer NoRowRoom))
-    ∷ Ok (record { count = 1; length = 3; ending = ending.Refused NoRowBegins (place 2 2 1) })
+    ∷ Ok (record { count = 1; length = 3; ending = Some (halt NoRowBegins (place 2 2 1)) })
     ∷ Err OtherText ∷ Err OtherText ∷ Err (File (Outer NoRowRoom)) ∷ [])
 unfolding Cases.sealed Bytes.little Bytes.number Bytes.number_at Bytes.bytes_of Bytes.words_in Blocks.sum_from Blocks.check Blocks.checked Blocks.block Blocks.content_of Blocks.zeros Blocks.sound Blocks.blocks_for Blocks.blocks_from Blocks.file_of Blocks.file_length Blocks.sound_from Blocks.body_from Files.encode Back.lexical_of Files.read_refused Files.read_ending Files.ending_in Files.row_words_in Files.sound_in Files.rows_told Files.read_told Files.blocks_told Files.said_told Files.load_told Text.front Text.newlines Text.line_at Text.column_at Text.place_at Rows.row_in Rows.rows_in Rows.value_bits Rows.row_place Rows.every Rows.chained Rows.length_fits Rows.spans_fit Rows.value_fits Rows.place_fits Rows.lines_fit Rows.row_fits Rows.follows Rows.gap_fits Rows.gaps_fit Rows.last_row Rows.ends_behind Rows.is_eof Rows.eof_last Rows.ending_fits Rows.rows_fit Rows.well_formed Kinds.is_made Kinds.length_in Short.short_row Short.shortened Short.placed_row Short.placed Short.on_one_line Short.short_encode Short.short_ending Short.short_words_in Short.short_sound_in Short.short_table Short.short_blocks Short.short_judged Forms.judged Forms.rows_beside Forms.table_beside Forms.is_place_in Forms.ending_agrees Forms.agrees Forms.beside_judged Forms.beside_told Forms.encode_in Forms.move_judged Forms.move_told Forms.moved_from
 readings = refl

@@ -1,8 +1,7 @@
 -- Files of either form with the text at hand: judged, read beside the text, and moved from one form to the other.
-use Rattle.std.specs.Prelude.{Bool, true, false, cond, not, ◌&&◌, ◌||◌, List, [], ◌∷◌, ◌++◌, ℕ, ◌*◌, length, drop, eqb, ltb, Result, Ok, Err}
+use Rattle.std.specs.Prelude.{Bool, true, false, cond, not, ◌&&◌, ◌||◌, List, [], ◌∷◌, ◌++◌, ℕ, ◌*◌, length, drop, eqb, ltb, Result, Ok, Err, None, Some}
 use Rattle.rules.specs.declared.Cursor.{Cursor}
-use Rattle.rules.specs.declared.Ending.{Ending}
-use Rattle.rules.specs.declared.Ending.TheVariants as ending
+use Rattle.rules.specs.Outcomes.{Ending}
 use Rattle.rules.specs.declared.Outer.TheVariants.{NoRowRoom}
 use Rattle.rules.specs.declared.Table.{Table}
 use Rattle.rules.specs.Text.{line_at, column_at, place_at}
@@ -49,8 +48,8 @@ unfoldable pub is_place_in : List ℕ → Cursor → Bool
 is_place_in text p = eqb p.line.0 (line_at text p.offset.0) && eqb p.column.0 (column_at text p.offset.0)
 
 unfoldable pub ending_agrees : List ℕ → Ending → Bool
-ending_agrees text ending.None = true
-ending_agrees text (ending.Refused why p) = is_place_in text p
+ending_agrees text None = true
+ending_agrees text (Some e) = is_place_in text e.at
 
 -- "text length or a line or column doesn't agree with the text"
 unfoldable pub agrees : List ℕ → List ℕ → Table → Bool

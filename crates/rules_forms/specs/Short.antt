@@ -1,8 +1,7 @@
 -- Files of form 2: what block 0 says, rows without line and column, a table into such a file, and the order in which such a file is judged.
-use Rattle.std.specs.Prelude.{Bool, cond, not, List, [], ◌∷◌, ◌++◌, ℕ, zero, suc, ◌+◌, ◌*◌, ◌/◌, min, length, take, drop, get_or, eqb, ltb, Result, Err, Option}
+use Rattle.std.specs.Prelude.{Bool, cond, not, List, [], ◌∷◌, ◌++◌, ℕ, zero, suc, ◌+◌, ◌*◌, ◌/◌, min, length, take, drop, get_or, eqb, ltb, Result, Err, Option, None, Some}
 use Rattle.rules.specs.declared.Cursor.{Cursor}
-use Rattle.rules.specs.declared.Ending.{Ending}
-use Rattle.rules.specs.declared.Ending.TheVariants as ending
+use Rattle.rules.specs.Outcomes.{Ending, halt}
 use Rattle.rules.specs.declared.Table.{Table}
 use Rattle.rules.specs.Text.{most_bytes, place}
 use Rattle.rules.specs.Rows.{Row, words_per_row, row_in}
@@ -56,8 +55,8 @@ placed at zero ws = []
 placed at (suc n) ws = placed_row at ws ++ placed at n (drop short_words ws)
 
 abbrev pub placed_ending : (ℕ → Cursor) → Ending → Ending
-placed_ending at ending.None = ending.None
-placed_ending at (ending.Refused why p) = ending.Refused why (at p.offset.0)
+placed_ending at None = None
+placed_ending at (Some e) = Some (halt e.why (at e.at.offset.0))
 
 -- Where an offset lies in a text of one line, as long as a text may be. Lines and columns of such a text keep every rule of a well-formed table.
 unfoldable pub on_one_line : ℕ → Cursor
@@ -66,8 +65,8 @@ on_one_line k = place k 1 (1 + min k most_bytes)
 -- ---- a table into a file
 
 abbrev pub short_ending_said : Ending → List ℕ
-short_ending_said ending.None = 0 ∷ 0 ∷ []
-short_ending_said (ending.Refused why p) = lexical_number why ∷ p.offset.0 ∷ []
+short_ending_said None = 0 ∷ 0 ∷ []
+short_ending_said (Some e) = lexical_number e.why ∷ e.at.offset.0 ∷ []
 
 abbrev pub short_said : Table → List ℕ
 short_said t = short_number ∷ t.length ∷ t.count ∷ short_ending_said t.ending

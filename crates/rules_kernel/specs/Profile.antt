@@ -1,9 +1,10 @@
 -- "The kernel's own map rules", the calls: "With the profile off nothing changes; on, it only ever turns an accepted program into a refused
 -- one", "after a full parse, node memory untouched".
-use Rattle.std.specs.Prelude.{Bool, cond, List, [], ◌∷◌, ℕ, eqb, Result, Ok, Err}
+use Rattle.std.specs.Prelude.{Bool, cond, List, [], ◌∷◌, ℕ, eqb, Result, Ok, Err, true, false}
 use Rattle.rules.specs.declared.Cursor.{Cursor}
 use Rattle.rules.specs.declared.Table.{Table}
-use Rattle.rules.specs.declared.Parsed.TheVariants as parsed
+use Rattle.rules.specs.Outcomes.{Parsed}
+use Rattle.rules.specs.Tree.{Tree}
 use Rattle.rules.specs.Calls.{place_of_row, node_room, reading, parse_told, parse_leaves}
 use Rattle.rules_program.specs.Both.{declarations}
 use Rattle.rules_program.specs.Program.{tree_in}
@@ -36,8 +37,8 @@ broken_of t ws tbl = broken_in (maps_in 0 (declarations (tree_in (reading t ws t
 unfoldable pub profile_told : List ℕ → List ℕ → Table → (kernel room : ℕ) → Profiled
 profile_told t ws tbl kernel room =
     elim (parse_told t ws tbl room) [
-      | parsed.Nodes n ↦ rules_told ws n (cond (is_off kernel) [] (broken_of t ws tbl))
-      | parsed.Refused own at found ↦ refused (why.Unread own) at found
+      | Ok n ↦ rules_told ws n (cond (is_off kernel) [] (broken_of t ws tbl))
+      | Err e ↦ refused (why.Unread e.why) e.at e.found
     ]
 
 -- a refusal leaves node memory untouched

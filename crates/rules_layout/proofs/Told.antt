@@ -3,8 +3,8 @@ use mathlib.Core.Path.{◌≡◌, refl}
 use mathlib.Core.Bool.{Bool, true, false, cond, ◌&&◌}
 use mathlib.Core.List.{List}
 use Prim.Native.Nat.{ℕ}
-use Rattle.rules.specs.declared.Judged.{Judged}
-use Rattle.rules.specs.declared.Judged.TheVariants as verdict
+use Rattle.rules.specs.Outcomes.{Judged}
+use Rattle.std.specs.declared.result.Result.TheVariants.{Ok, Err}
 use Rattle.rules.specs.declared.Table.{Table}
 use Rattle.rules.specs.Text.{text_judged}
 use Rattle.rules.specs.Parse.{Out, ok, no}
@@ -32,9 +32,9 @@ unfolding layout_told is_scanned
 layout_told_by t ws tbl nodes count room = go (text_judged t)
   where
     go : (j : Judged) → elim j [
-      | verdict.Fine ↦ cond (is_scan t ws tbl) (tree_told (reading t) nodes count room) (Err NotItsTree)
-      | verdict.Refused why p ↦ Err NotItsTree
-    ] ≡ cond (elim j [ verdict.Fine ↦ is_scan t ws tbl | verdict.Refused why p ↦ false ] && is_read (reading t) nodes count)
+      | Ok _ ↦ cond (is_scan t ws tbl) (tree_told (reading t) nodes count room) (Err NotItsTree)
+      | Err e ↦ Err NotItsTree
+    ] ≡ cond (elim j [ Ok _ ↦ is_scan t ws tbl | Err e ↦ false ] && is_read (reading t) nodes count)
         (room_told (laid_of (reading t)) room) (Err NotItsTree)
-    go verdict.Fine = scanned_told (is_scan t ws tbl) (reading t) nodes count room
-    go (verdict.Refused why p) = refl
+    go (Ok _) = scanned_told (is_scan t ws tbl) (reading t) nodes count room
+    go (Err e) = refl

@@ -1,8 +1,7 @@
 -- Worked cases: the layouts of small texts byte by byte, and what the call tells and leaves where an easy misreading would do another
 -- thing. Each table is under one theorem that the checker computes.
-use Rattle.std.specs.Prelude.{◌≡◌, refl, List, [], ◌∷◌, ◌++◌, map, ℕ, length, set, replicate}
+use Rattle.std.specs.Prelude.{◌≡◌, refl, List, [], ◌∷◌, ◌++◌, map, ℕ, length, set, replicate, None}
 use Rattle.rules.specs.declared.Table.{Table}
-use Rattle.rules.specs.declared.Ending.TheVariants as ending
 use Rattle.rules.specs.Text
 use Rattle.rules.specs.Text.{bytes}
 use Rattle.rules.specs.Kinds
@@ -106,7 +105,7 @@ pub record Does : Type 0 where
 
 -- the table of a text, and its nodes
 abbrev pub table_of : List ℕ → Table
-table_of t = record { count = length (read_rows (scan t)); length = length t; ending = ending.None }
+table_of t = record { count = length (read_rows (scan t)); length = length t; ending = None }
 
 abbrev pub nodes_in : Out → List ℕ
 nodes_in (ok u j) = tree_words 0 u
@@ -165,7 +164,7 @@ calls =
     ∷ does_with (rows_of probe ++ (9 ∷ [])) (table_of probe) (nodes_of probe ++ (9 ∷ [])) 4
     -- another line, another count, another place of a node, a node less, a node more
     ∷ does_with (set (rows_of probe) 3 2) (table_of probe) (nodes_of probe) 4
-    ∷ does_with (rows_of probe) (record { count = 6; length = 10; ending = ending.None }) (nodes_of probe) 4
+    ∷ does_with (rows_of probe) (record { count = 6; length = 10; ending = None }) (nodes_of probe) 4
     ∷ does_with (rows_of probe) (table_of probe) (set (nodes_of probe) 1 2) 4
     ∷ does_with (rows_of probe) (table_of probe) (nodes_of probe) 3
     ∷ does_with (rows_of probe) (table_of probe) (nodes_of probe ++ replicate 8 0) 5

@@ -1,9 +1,7 @@
 -- "Lay out a probe", the call: what it tells, and what it leaves in the lent room. Lent are a text, rows and their table, nodes and their
 -- count, and a room of bytes.
-use Rattle.std.specs.Prelude.{Bool, true, false, cond, ◌&&◌, List, [], ◌++◌, ℕ, length, take, drop, eqb, leb}
-use Rattle.rules.specs.declared.Judged.TheVariants as verdict
-use Rattle.rules.specs.declared.Ending.{Ending}
-use Rattle.rules.specs.declared.Ending.TheVariants as ending
+use Rattle.std.specs.Prelude.{Bool, true, false, cond, ◌&&◌, List, [], ◌++◌, ℕ, length, take, drop, eqb, leb, ◌*◌, Ok, Err, None, Some}
+use Rattle.rules.specs.Outcomes.{Ending}
 use Rattle.rules.specs.declared.Table.{Table}
 use Rattle.rules.specs.Text.{most_bytes, text_judged}
 use Rattle.rules.specs.Kinds.{same_bytes}
@@ -22,8 +20,8 @@ use Rattle.rules_layout.specs.Bytes.{layout}
 
 -- no refusal ends it
 unfoldable pub is_whole : Ending → Bool
-is_whole ending.None = true
-is_whole (ending.Refused why p) = false
+is_whole None = true
+is_whole (Some e) = false
 
 -- the words are those that are lent first
 abbrev pub begins : List ℕ → List ℕ → Bool
@@ -37,7 +35,7 @@ is_scan t ws tbl =
 
 -- the table of a text that is one
 unfoldable pub is_scanned : List ℕ → List ℕ → Table → Bool
-is_scanned t ws tbl = elim (text_judged t) [ verdict.Fine ↦ is_scan t ws tbl | verdict.Refused why p ↦ false ]
+is_scanned t ws tbl = elim (text_judged t) [ Ok _ ↦ is_scan t ws tbl | Err e ↦ false ]
 
 -- the nodes are a tree's, as many and every word
 unfoldable pub is_tree : Tree → List ℕ → ℕ → Bool
@@ -70,8 +68,8 @@ tree_told (no why r) nodes count room = Err NotItsTree
 unfoldable pub layout_told : List ℕ → List ℕ → Table → List ℕ → ℕ → ℕ → Result ℕ Unlaid
 layout_told t ws tbl nodes count room =
     elim (text_judged t) [
-      | verdict.Fine ↦ cond (is_scan t ws tbl) (tree_told (reading t) nodes count room) (Err NotItsTree)
-      | verdict.Refused why p ↦ Err NotItsTree
+      | Ok _ ↦ cond (is_scan t ws tbl) (tree_told (reading t) nodes count room) (Err NotItsTree)
+      | Err e ↦ Err NotItsTree
     ]
 
 -- ---- what it leaves: the layout, and then what was there; "the room is then untouched"

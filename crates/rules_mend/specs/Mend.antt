@@ -1,6 +1,5 @@
 -- Mending: what a fresh scan stores, which blocks differ from it, what the call tells, and what it leaves in lent memory and the lent list.
 use Rattle.std.specs.Prelude.{Bool, cond, not, ◌||◌, List, [], ◌∷◌, ◌++◌, ℕ, zero, suc, ◌/◌, length, take, drop, ltb, Result, Ok, Err}
-use Rattle.rules.specs.declared.Judged.TheVariants as verdict
 use Rattle.rules.specs.declared.Outer.TheVariants.{NoRowRoom}
 use Rattle.rules.specs.declared.Table.{Table}
 use Rattle.rules.specs.Text.{start_place, text_judged}
@@ -63,8 +62,8 @@ unfoldable pub mend_told : List ℕ → ℕ → List ℕ → ℕ → List ℕ �
 mend_told text form memory n list =
     cond (not (is_form form)) (Err (record { why = OtherForm; at = start_place }))
     (elim (text_judged text) [
-      | verdict.Fine ↦ fresh_told (fresh_file form text) (fresh_table text).count memory n list
-      | verdict.Refused why p ↦ Err (record { why = Outer why; at = p })
+      | Ok _ ↦ fresh_told (fresh_file form text) (fresh_table text).count memory n list
+      | Err e ↦ Err (record { why = Outer e.why; at = e.at })
     ])
 
 -- ---- what it leaves

@@ -1,10 +1,8 @@
 -- Worked pairs of edits, through the calls as the rules define them: each call is lent what the one before left and told.
 -- Either order where the two are apart, and what comes of two that touch; in a row, and by one edit that covers both; and
 -- several on both sides. Three tables, and the cases that touch, under one theorem, `right`.
-use Rattle.std.specs.Prelude.{◌≡◌, refl, Bool, true, false, List, [], ◌∷◌, ◌++◌, map, ℕ, length, drop}
-use Rattle.rules.specs.declared.Told.{Told}
-use Rattle.rules.specs.declared.Told.TheVariants.{Rows, Refused}
-use Rattle.rules.specs.declared.Ending.TheVariants as ending
+use Rattle.std.specs.Prelude.{◌≡◌, refl, Bool, true, false, List, [], ◌∷◌, ◌++◌, map, ℕ, length, drop, Ok, Err, None}
+use Rattle.rules.specs.Outcomes.{Told}
 use Rattle.rules.specs.declared.Table.{Table}
 use Rattle.rules.specs.Text
 use Rattle.rules.specs.Text.{bytes, valid}
@@ -16,8 +14,7 @@ use Rattle.rules.specs.Scan
 use Rattle.rules.specs.Scan.{scan, read_rows, read_ending, room_of, scan_told, scan_leaves}
 use Rattle.rules.specs.Edit as edits
 use Rattle.rules.specs.Edit.{restart, edit_told, edit_leaves}
-use Rattle.rules_pairs.specs.Pairs.{Edit, after, put, before, apart, shift, adjusted, both}
-use Rattle.rules_pairs.specs.Pairs.{cover_from, cover_to, cover_size, covering}
+use Rattle.rules_pairs.specs.Pairs.{Edit, after, put, before, apart, shift, adjusted, both, cover_from, cover_to, cover_size, covering}
 use Rattle.rules_pairs.specs.Merges.{after_all, across_all}
 
 -- ---- what a console holds of a text: rows in words, and a table
@@ -36,8 +33,8 @@ pub held_of : Outcome → Held
 held_of o = by o.told
   where
     by : Told → Held
-    by (Rows table) = record { words = o.words; table = table }
-    by (Refused why at m) = record { words = []; table = record { count = 0; length = 0; ending = ending.None } }
+    by (Ok table) = record { words = o.words; table = table }
+    by (Err e) = record { words = []; table = record { count = 0; length = 0; ending = None } }
 
 -- lent memory: room for six rows, every word 7
 abbrev sevens : List ℕ

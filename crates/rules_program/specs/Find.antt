@@ -4,7 +4,6 @@ use Rattle.rules.specs.declared.Cursor.{Cursor}
 use Rattle.rules.specs.declared.Table.{Table}
 use Rattle.rules.specs.declared.Outer.{Outer}
 use Rattle.rules.specs.declared.Outer.TheVariants.{NotWellFormed}
-use Rattle.rules.specs.declared.Judged.TheVariants as verdict
 use Rattle.rules.specs.Text.{start_place}
 use Rattle.rules.specs.Kinds.{same_bytes}
 use Rattle.rules.specs.Rows.{row_no, spelling}
@@ -54,10 +53,10 @@ module _ (prelude pws : List ℕ) (ptable : Table) (text ws : List ℕ) (table :
   unfoldable pub name_told : ℕ → Named
   name_told row =
       elim (judged prelude pws ptable) [
-        | verdict.Refused why at ↦ untold why at Prelude
-        | verdict.Fine ↦ elim (judged text ws table) [
-          | verdict.Refused why at ↦ untold why at Probe
-          | verdict.Fine ↦ part_told row
+        | Err e ↦ untold e.why e.at Prelude
+        | Ok _ ↦ elim (judged text ws table) [
+          | Err e ↦ untold e.why e.at Probe
+          | Ok _ ↦ part_told row
         ]
       ]
 
@@ -96,9 +95,9 @@ module _ (prelude pws : List ℕ) (ptable : Table) (text ws : List ℕ) (table :
   unfoldable pub find_told : List ℕ → ℕ → List ℕ → Found
   find_told index entries name =
       elim (judged prelude pws ptable) [
-        | verdict.Refused why at ↦ untold why at Prelude
-        | verdict.Fine ↦ elim (judged text ws table) [
-          | verdict.Refused why at ↦ untold why at Probe
-          | verdict.Fine ↦ cond (is_index index entries) (entry_told index entries name) (untold NotWellFormed start_place Prelude)
+        | Err e ↦ untold e.why e.at Prelude
+        | Ok _ ↦ elim (judged text ws table) [
+          | Err e ↦ untold e.why e.at Probe
+          | Ok _ ↦ cond (is_index index entries) (entry_told index entries name) (untold NotWellFormed start_place Prelude)
         ]
       ]

@@ -4,7 +4,6 @@ use Rattle.std.specs.Prelude.{cond, List, [], ◌∷◌, ◌++◌, ℕ, ◌+◌,
 use Rattle.rules.specs.declared.Cursor.{Cursor}
 use Rattle.rules.specs.declared.Table.{Table}
 use Rattle.rules.specs.declared.Outer.TheVariants.{NoNodeRoom}
-use Rattle.rules.specs.declared.Parsed.TheVariants as parsed
 use Rattle.rules.specs.declared.Reason.TheVariants as reason
 use Rattle.rules.specs.Text.{start_place}
 use Rattle.rules.specs.Tree.{Tree, none}
@@ -90,10 +89,10 @@ module _ (prelude pws : List ℕ) (ptable : Table) (text ws : List ℕ) (table :
   unfoldable pub program_told : (nodes entries : ℕ) → Told
   program_told nodes entries =
       elim (parse_told prelude pws ptable ptable.count) [
-        | parsed.Refused own at found ↦ refused (why.Own own) at found Prelude
-        | parsed.Nodes n ↦ elim (parse_told text ws table table.count) [
-          | parsed.Refused own at found ↦ refused (why.Own own) at found Probe
-          | parsed.Nodes m ↦ room_told nodes entries
+        | Err e ↦ refused (why.Own e.why) e.at e.found Prelude
+        | Ok n ↦ elim (parse_told text ws table table.count) [
+          | Err e ↦ refused (why.Own e.why) e.at e.found Probe
+          | Ok m ↦ room_told nodes entries
         ]
       ]
 

@@ -8,10 +8,11 @@ use native.Mathlib.Omega.{arith}
 use lib.ListN.{length}
 use lib.Dec.{leb}
 use Rattle.rules.specs.declared.Cursor.{Cursor}
-use Rattle.rules.specs.declared.Ending.TheVariants as ending
-use Rattle.rules.specs.declared.Told.TheVariants as tells
+use Rattle.rules.specs.declared.Unfit.{Unfit}
+use Rattle.rules.specs.Outcomes.{halt, unread, unfit}
+use Rattle.std.specs.declared.option.Option.TheVariants.{None, Some}
 use Rattle.rules.specs.declared.Outer.{Outer}
-use Rattle.rules.specs.declared.Judged.TheVariants as verdict
+use Rattle.std.specs.declared.result.Result.TheVariants.{Ok, Err}
 use Rattle.rules.specs.Text.{most_bytes, place_at, start_place, text_judged}
 use Rattle.rules.specs.Rows.{Row, row_at, rows_in}
 use Rattle.rules.specs.Lex.{Piece, blank, comment, row, refused, known, piece, item}
@@ -30,8 +31,8 @@ use Rattle.scan_walk.specs.Walk.{place_in, rows_seen, stop_seen, seen_from, walk
 
 unfoldable as_seen : Reading → Seen
 as_seen (put r l) = sees r (as_seen l)
-as_seen ends = over' ending.None
-as_seen (stops why p d) = over' (ending.Refused why p)
+as_seen ends = over' None
+as_seen (stops why p d) = over' (Some (halt why p))
 
 rows_same : (l : Reading) → rows_seen (as_seen l) ≡ read_rows l
 unfolding rows_seen as_seen read_rows
@@ -64,7 +65,7 @@ module _ (t : List ℕ) (meet : ℕ → Bool) (never : (m : ℕ) → meet m ≡ 
         | blank ↦ seen c zero (suc k) s
         | comment n d ↦ seen (suc c) (pred n) (suc k) s
         | row kind n bits d ↦ sees (row_at (place_in start_place t k) c kind (k + n) bits) (seen zero (pred n) (suc k) s)
-        | refused why p d ↦ over' (ending.Refused why (place_in start_place t (k + p)))
+        | refused why p d ↦ over' (Some (halt why (place_in start_place t (k + p))))
       ]
       ≡ as_seen (elim x as (λ _. Reading) [
         | blank ↦ read (place_at t) c zero (suc k) s
@@ -130,11 +131,11 @@ module _ (ws : List ℕ) (least : ℕ) (t : List ℕ) where
 -- ---- the answer
 
 module _ (t ws : List ℕ) where
-  pub refused_text : {why : Outer} {p : Cursor} → text_judged t ≡ verdict.Refused why p →
-      (tells.Refused why p 0 ≡ scan_told t (room_of ws)) × (ws ≡ scan_leaves t ws)
+  pub refused_text : {e : Unfit} → text_judged t ≡ Err e →
+      (Err (unread e.why e.at 0) ≡ scan_told t (room_of ws)) × (ws ≡ scan_leaves t ws)
   refused_text e = (sym (scan_told_refused t e (room_of ws)), sym (scan_leaves_refused t e ws))
 
-  pub all_rows : text_judged t ≡ verdict.Fine →
+  pub all_rows : text_judged t ≡ Ok tt →
       (told (length t) (room_of ws) (read_rows (scan t)) (read_ending (scan t)) ≡ scan_told t (room_of ws))
       × (laid (read_rows (scan t)) ws ≡ scan_leaves t ws)
   all_rows e = (sym (scan_told_lem t e (room_of ws)), sym (scan_leaves_lem t e ws))

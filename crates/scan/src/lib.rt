@@ -2,13 +2,13 @@
 #![tactic(auto)]
 
 ghost use Rattle.std.specs.Prelude.{◌≡◌, List, ◌<◌, ◌^◌, length};
-ghost use Rattle.rules.specs.declared.Ending.{Ending as Endings};
+ghost use Rattle.rules.specs.Outcomes.{Ending as Endings};
 ghost use Rattle.rules.specs.Rows.{Row};
 ghost use Rattle.rules.specs.Scan.{told as told_of, room_of, scan_told, scan_leaves};
 ghost use Rattle.scan_stop.specs.declared.Stop.TheVariants.{Over};
 ghost use Rattle.scan_stop.specs.Stop.{IsOver};
 
-use rules::{Cursor, Judged, Outer, Table, Told, limit, row};
+use rules::{Cursor, Outer, Table, Told, Unread, limit, row};
 use scan_meet::Olds;
 use scan_place::judge_text;
 use scan_stop::Walked;
@@ -23,9 +23,13 @@ fn told(bytes: usize, room: usize, walked: Walked) -> Told
 {
     let count = walked.count;
     if room < count {
-        return Told::Refused(Outer::NoRowRoom, Cursor::start(), room as u32);
+        return Err(Unread {
+            why: Outer::NoRowRoom,
+            at: Cursor::start(),
+            rows: room as u32,
+        });
     }
-    Told::Rows(Table {
+    Ok(Table {
         count: count as u32,
         length: bytes as u32,
         ending: walked.stop.ending(),
@@ -37,12 +41,7 @@ pub fn scan(text: &[u8], rows: &mut [u32]) -> Told
     ensures told { result ≡ scan_told text.now (room_of rows.old) }
     ensures left { rows.new ≡ scan_leaves text.now rows.old }
 {
-    match judge_text(text) {
-        Judged::Refused(why, at) => {
-            return Told::Refused(why, at, 0);
-        }
-        Judged::Fine => {}
-    }
+    judge_text(text)?;
     let none: [u32; 1] = [0];
     let olds = Olds {
         count: 0,

@@ -4,7 +4,7 @@ use mathlib.Core.List.{List, ◌++◌}
 use Prim.Native.Nat.{ℕ, ◌≤◌}
 use native.Mathlib.Omega.{arith}
 use lib.ListN.{length-take}
-use Rattle.rules.specs.declared.Ending.{Ending}
+use Rattle.rules.specs.Outcomes.{Ending}
 use Rattle.rules.specs.Rows.{Row}
 use Rattle.rules.specs.Scan.{Reading, read_rows, read_ending}
 use Rattle.scan_reader.specs.declared.Spot.{Spot}

@@ -9,8 +9,8 @@ use native.Mathlib.Omega.{arith}
 use lib.ListN.{length, take, drop, length-append, length-take, length-drop}
 use lib.Seq.{drop-drop, length-take-le, take_all, take_at}
 use Rattle.rules.specs.declared.Cursor.{Cursor}
-use Rattle.rules.specs.declared.Ending.{Ending}
-use Rattle.rules.specs.declared.Ending.TheVariants as ending
+use Rattle.rules.specs.Outcomes.{Ending, halt}
+use Rattle.std.specs.declared.option.Option.TheVariants.{None, Some}
 use Rattle.rules.specs.Text.{front, is_blank, place_at, start_place, over, along, Roomy}
 use Rattle.rules.specs.Rows.{Row, row_at, eof_row, words_of, words_per_row}
 use Rattle.rules.specs.Lex.{Item, comment, row, refused, known, end, unknown, item}
@@ -268,8 +268,8 @@ module _ {t : List ℕ} {k most : ℕ} {lent us : List ℕ} {here : Spot} {n c :
         by (yes e) =
             let s = read_here end (by_end true (drop i t) r q e) in
             let z = f.end e in
-            rw (o ending.None (rw z.0), z.0)
-            (over_with (eof_row here.cursor c ∷ []) ending.None vs (omega arith) room
+            rw (o None (rw z.0), z.0)
+            (over_with (eof_row here.cursor c ∷ []) None vs (omega arith) room
             (ap read_rows s ∙ rw g.begun.cursor) (ap read_ending s)
             (z.1 ∙ rw g.words (laid_more g.done (eof_row here.cursor c) lent n g.counted)))
         by (no e) =
@@ -280,8 +280,8 @@ module _ {t : List ℕ} {k most : ℕ} {lent us : List ℕ} {here : Spot} {n c :
             sym (place_on t i r.size (omega (arith, b.inside, length-drop i t, g.begun.inside)))
             ∙ rw (← g.begun.cursor) (over_front here.cursor (drop i t) r.size b.line) in
             let u : x.count ≡ n + 0 = rw (z.0, add-zero) in
-            rw (o (ending.Refused b.why (along here.cursor r.size)) (rw z.0), u)
-            (over_with [] (ending.Refused b.why (along here.cursor r.size)) vs (omega arith) room
+            rw (o (Some (halt b.why (along here.cursor r.size))) (rw z.0), u)
+            (over_with [] (Some (halt b.why (along here.cursor r.size))) vs (omega arith) room
             (ap read_rows s) (ap read_ending s ∙ rw p) (z.1 ∙ g.words ∙ rw append-nil))
 
     -- the walk is over there

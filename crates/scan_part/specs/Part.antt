@@ -1,6 +1,6 @@
 -- The rows of a text, so many at a time: where a part begins, its rows, and what comes behind them.
 use Rattle.std.specs.Prelude.{◌≡◌, List, [], ◌∷◌, ℕ, ◌≤◌, ◌<◌, length, take, drop}
-use Rattle.rules.specs.declared.Ending.{Ending}
+use Rattle.rules.specs.Outcomes.{Ending}
 use Rattle.rules.specs.Text.{most_bytes, place_at}
 use Rattle.rules.specs.Rows.{Row}
 use Rattle.rules.specs.Scan.{Reading, put, read, read_rows, read_ending}

@@ -6,7 +6,7 @@ ghost use Rattle.rules.specs.Text.{valid_bytes, over, text_judged, Roomy};
 ghost use Rattle.rules.specs.Edit.{window_bytes};
 ghost use Rattle.scan_place.specs.Passed.{Passed};
 
-use rules::{Cursor, Judged, Outer, limit};
+use rules::{Cursor, Outer, Unfit, limit};
 use scan_chars::{FIRST_HIGH, char_at, is_cut};
 
 // A number that no byte is above.
@@ -94,16 +94,22 @@ pub fn pass(text: &[u8], from: Cursor, n: usize) -> Cursor
 }
 
 // What every call over a text is told first: 1, then 2 at its place, or that all is well.
-pub fn judge_text(text: &[u8]) -> Judged
+pub fn judge_text(text: &[u8]) -> Result<(), Unfit>
     ensures { result ≡ text_judged text.now }
 {
     let start = Cursor::start();
     if limit::MOST_BYTES < text.len() {
-        return Judged::Refused(Outer::TextTooLong, start);
+        return Err(Unfit {
+            why: Outer::TextTooLong,
+            at: start,
+        });
     }
     let valid = valid_bytes(text);
     if valid < text.len() {
-        return Judged::Refused(Outer::BadByte, pass(text, start, valid));
+        return Err(Unfit {
+            why: Outer::BadByte,
+            at: pass(text, start, valid),
+        });
     }
-    Judged::Fine
+    Ok(())
 }

@@ -1,7 +1,7 @@
 -- How a walk stops.
-use Rattle.std.specs.Prelude.{◌≡◌, Bool, true, false, List, ℕ, ◌+◌, ◌^◌, ◌<◌}
+use Rattle.std.specs.Prelude.{◌≡◌, Bool, true, false, List, ℕ, ◌+◌, ◌^◌, ◌<◌, None, Some}
 use Rattle.rules.specs.declared.Cursor.{Cursor}
-use Rattle.rules.specs.declared.Ending.TheVariants as ending
+use Rattle.rules.specs.Outcomes.{halt}
 use Rattle.rules.specs.declared.Lexical.{Lexical}
 use Rattle.rules.specs.Text.{along, Roomy}
 use Rattle.rules.specs.Rows.{eof_row}
@@ -31,6 +31,6 @@ pub record Last (n : ℕ) (at : Cursor) (r : Brief) : Type 0 where
 
 -- and what is then answered, behind c comments: ws are the lent words, us what stands in them afterwards
 pub record Finished (n : ℕ) (at : Cursor) (c : ℕ) (r : Brief) (x : Walked) (ws us : List ℕ) : Type 0 where
-  pub end : r.kind ≡ End → (x ≡ record { count = n + 1; stop = Over ending.None }) × (us ≡ placed n (eof_row at c) ws)
+  pub end : r.kind ≡ End → (x ≡ record { count = n + 1; stop = Over None }) × (us ≡ placed n (eof_row at c) ws)
   pub unknown : r.kind ≡ Unknown → (x ≡ record { count = n; stop = Short }) × (us ≡ ws)
-  pub refused : (why : Lexical) → r.kind ≡ refusal_code why → (x ≡ record { count = n; stop = Over (ending.Refused why (along at r.size)) }) × (us ≡ ws)
+  pub refused : (why : Lexical) → r.kind ≡ refusal_code why → (x ≡ record { count = n; stop = Over (Some (halt why (along at r.size))) }) × (us ≡ ws)

@@ -5,7 +5,7 @@ ghost use Rattle.std.specs.Prelude.{◌≡◌};
 ghost use Rattle.scan_stop.specs.declared.Stop.TheVariants.{Over};
 ghost use Rattle.scan_stop.specs.Stop.{Last, Finished, IsOver, is_lacking};
 
-use rules::{Cursor, Ending, kind};
+use rules::{Cursor, Ending, Halt, kind};
 use scan_puts::put_behind;
 use scan_reader::front::reason;
 use scan_reader::{Brief, codes};
@@ -62,7 +62,7 @@ pub fn finish(rows: &mut [u32], n: usize, at: Cursor, comments: u32, told: Brief
         put_behind(rows, n, at, comments, end);
         return Walked {
             count: n + 1,
-            stop: Stop::Over(Ending::None),
+            stop: Stop::Over(None),
         };
     }
     if kind == codes::UNKNOWN {
@@ -74,6 +74,9 @@ pub fn finish(rows: &mut [u32], n: usize, at: Cursor, comments: u32, told: Brief
     let place = at.onward(told.size as u32);
     Walked {
         count: n,
-        stop: Stop::Over(Ending::Refused(reason(kind), place)),
+        stop: Stop::Over(Some(Halt {
+            why: reason(kind),
+            at: place,
+        })),
     }
 }

@@ -11,7 +11,8 @@ use lib.Dec.{ltb}
 use borrow.Author.Tests.{lt-ltb}
 use Rattle.rules.specs.Text.{front, is_blank}
 use Rattle.rules.specs.declared.Cursor.{Cursor}
-use Rattle.rules.specs.declared.Ending.TheVariants as ending
+use Rattle.rules.specs.Outcomes.{halt}
+use Rattle.std.specs.declared.option.Option.TheVariants.{None, Some}
 use Rattle.rules.specs.Rows.{row_at, eof_row}
 use Rattle.rules.specs.Lex.{blank, comment, row, refused, Item, known, end, unknown, item, piece, beginning, decided_at}
 use Rattle.rules.specs.Edit.{Seen, sees, over', met, short, look, opens}
@@ -42,8 +43,8 @@ module _ (pos : ℕ → Cursor) (meet : ℕ → Bool) (whole : Bool) where
   look_by (known blank) c k s = look pos meet whole c 0 (k + 1) (drop 1 s)
   look_by (known (comment n d)) c k s = look pos meet whole (c + 1) 0 (k + n) (drop n s)
   look_by (known (row kind n bits d)) c k s = sees (row_at (pos k) c kind (k + n) bits) (look pos meet whole 0 0 (k + n) (drop n s))
-  look_by (known (refused why p d)) c k s = over' (ending.Refused why (pos (k + p)))
-  look_by end c k s = sees (eof_row (pos k) c) (over' ending.None)
+  look_by (known (refused why p d)) c k s = over' (Some (halt why (pos (k + p))))
+  look_by end c k s = sees (eof_row (pos k) c) (over' None)
   look_by unknown c k s = short
 
   -- behind the first byte n bytes are left of a piece
@@ -79,7 +80,7 @@ module _ (pos : ℕ → Cursor) (meet : ℕ → Bool) (whole : Bool) where
   unfolding look look_by item
   look_none c k = pick whole
     where
-      pick : (q : Bool) → cond q (sees (eof_row (pos k) c) (over' ending.None)) short ≡ look_by (cond q end unknown) c k []
+      pick : (q : Bool) → cond q (sees (eof_row (pos k) c) (over' None)) short ≡ look_by (cond q end unknown) c k []
       pick true = refl
       pick false = refl
 

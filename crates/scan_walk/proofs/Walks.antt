@@ -9,7 +9,8 @@ use native.Mathlib.Omega.{arith}
 use lib.ListN.{length, take, drop, length-append, length-drop}
 use lib.Seq.{drop-drop, length-take-le}
 use Rattle.rules.specs.declared.Cursor.{Cursor}
-use Rattle.rules.specs.declared.Ending.TheVariants as ending
+use Rattle.rules.specs.Outcomes.{halt}
+use Rattle.std.specs.declared.option.Option.TheVariants.{None, Some}
 use Rattle.rules.specs.Text.{front, is_blank, not_newline, over, along, Roomy}
 use Rattle.rules.specs.Rows.{Row, row_at, eof_row, rows_in}
 use Rattle.rules.specs.Lex.{Item, Piece, comment, row as row₀, refused, known, end, unknown, item}
@@ -286,7 +287,7 @@ module _ {ws : List ℕ} {o : Olds} {t : List ℕ} {p : Cursor} {whole : Bool} {
         by (yes e) d =
             let s = seen_by end (by_end whole (drop i t) r told_here e) in
             rw ((f.end e).0, (f.end e).1)
-            (over_behind (eof_row here.cursor c) (Over ending.None) (ap rows_seen s ∙ rw place_here) (ap stop_of s))
+            (over_behind (eof_row here.cursor c) (Over None) (ap rows_seen s ∙ rw place_here) (ap stop_of s))
         by (no e) (yes d) =
             let s = seen_by unknown (by_unknown whole (drop i t) r told_here d) in
             rw ((f.unknown d).0, (f.unknown d).1) (over_with Short (ap rows_seen s) (ap stop_of s))
@@ -295,7 +296,7 @@ module _ {ws : List ℕ} {o : Olds} {t : List ℕ} {p : Cursor} {whole : Bool} {
             let s = seen_by (known (refused b.why r.size b.decided)) b.item_is in
             let z = f.refused b.why b.code in
             rw (z.0, z.1)
-            (over_with (Over (ending.Refused b.why (along here.cursor r.size))) (ap rows_seen s)
+            (over_with (Over (Some (halt b.why (along here.cursor r.size)))) (ap rows_seen s)
             (ap stop_of s ∙ rw (place_on r.size, over_front here.cursor (drop i t) r.size b.line)))
 
     -- ---- it is passed

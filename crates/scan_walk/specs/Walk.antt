@@ -1,8 +1,10 @@
 -- A walk over bytes that begin at a place: the rows that it passes, and how it stops. It is what the rules' `look` sees.
 use Rattle.std.specs.Prelude.{Bool, List, [], ◌∷◌, ℕ, ◌+◌, ◌-◌, ◌*◌, ◌≤◌, ◌<◌, length, take, drop}
 use Rattle.rules.specs.declared.Cursor.{Cursor}
-use Rattle.rules.specs.Text.{over, front, not_newline, Roomy}
-use Rattle.rules.specs.Rows.{Row, rows_in}
+use Rattle.rules.specs.Text.{over, front, not_newline, Roomy, along, is_blank}
+use Rattle.rules.specs.Rows.{Row, rows_in, row_at, eof_row, row_words, words_per_row}
+use Rattle.rules.specs.declared.Lexical.{Lexical}
+use Rattle.rules.specs.Scan.{room_of}
 use Rattle.rules.specs.Edit.{Seen, sees, over', met, short, look, from}
 use Rattle.scan_reader.specs.declared.Spot.{Spot}
 use Rattle.scan_reader.specs.Read.{onward, Ahead}

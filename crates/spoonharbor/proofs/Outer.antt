@@ -13,8 +13,8 @@ use contract.Lifetimes.{Lfts}
 use borrow.Fn.Kinds.{Dens, ended_of}
 use denote.Triple.Clauses.{AtExit}
 use Rattle.rules.specs.declared.Table.{Table}
-use Rattle.rules.specs.declared.Told.{Told}
-use Rattle.rules.specs.declared.Told.TheVariants.{Rows}
+use Rattle.rules.specs.Outcomes.{Told}
+use Rattle.std.specs.declared.result.Result.TheVariants.{Ok}
 use Rattle.rules.specs.Text.{start_place}
 use Rattle.rules.specs.Scan.{room_of, scan_told}
 use Rattle.rules.specs.Edit.{restart, edit_told, edit_leaves, restart_told}
@@ -34,7 +34,7 @@ use Rattle.spoonharbor.proofs.spoonharbor_restart.Reads.{Post as RestartPost}
 
 -- ---- the theorem
 
-module _ (c : Change) (ws : List ℕ) (table : Table) (answer w : List ℕ) (e : answer ≡ told_words (Rows table)) where
+module _ (c : Change) (ws : List ℕ) (table : Table) (answer w : List ℕ) (e : answer ≡ told_words (Ok table)) where
   tells_words : (new : List ℕ) {x : Told} → tells c ws table w (room_of new) ≡ x → outer_tells c ws answer w new ≡ told_words x
   tells_words new h =
       ap (λ (t : Table). told_words (edit_told ws t (a c) (b c) (n c) (starts c) w (room_of new))) (lent_table table e)
@@ -54,7 +54,7 @@ module _ (c : Change) (ws : List ℕ) (table : Table) (answer w : List ℕ) (e :
 --
 -- 1. 7 is due. The answer's words are 7's, at 0, line 1, column 1, and no lent word changes.
 -- 2. 7 is not due. The answer's words and every lent word are those that `spoonharbor_scan` of the whole new text promises.
-pub outer_demand_3 : (c : Change) (ws : List ℕ) (table : Table) (answer w : List ℕ) → Given c ws table w → answer ≡ told_words (Rows table)
+pub outer_demand_3 : (c : Change) (ws : List ℕ) (table : Table) (answer w : List ℕ) → Given c ws table w → answer ≡ told_words (Ok table)
     → (Due c w × OuterSeven c ws answer w) ⊎ ((Due c w → ⊥) × OuterFresh c ws answer w)
 outer_demand_3 c ws table answer w g e = by (demand_3 c ws table w g)
   where
@@ -66,18 +66,18 @@ outer_demand_3 c ws table answer w g e = by (demand_3 c ws table w g)
 -- ---- the theorem in the outer face's own words
 
 -- a scan whose answer's words are a table's tells its rows
-pub rows_told : (t : List ℕ) (m : ℕ) → is_ending (get_or (told_words (scan_told t m)) 0 0) ≡ true → scan_told t m ≡ Rows (scanned.table_of t)
+pub rows_told : (t : List ℕ) (m : ℕ) → is_ending (get_or (told_words (scan_told t m)) 0 0) ≡ true → scan_told t m ≡ Ok (scanned.table_of t)
 unfolding is_ending
 rows_told t m h = by (scan_says t m) h
   where
-    by : {x : Told} → Scans t m x → is_ending (get_or (told_words x) 0 0) ≡ true → x ≡ Rows (scanned.table_of t)
+    by : {x : Told} → Scans t m x → is_ending (get_or (told_words x) 0 0) ≡ true → x ≡ Ok (scanned.table_of t)
     by says_1 k = absurd (true≢false (sym k))
     by says_2 k = absurd (true≢false (sym k))
     by says_4 k = absurd (true≢false (sym k))
     by (says_rows l v r) k = refl
 
 module _ (c : Change) (ws answer w : List ℕ) (g : OuterGiven c ws answer w) where
-  tells_rows : scan_told (old_text c) (room_of g.lent) ≡ Rows (scanned.table_of (old_text c))
+  tells_rows : scan_told (old_text c) (room_of g.lent) ≡ Ok (scanned.table_of (old_text c))
   tells_rows = rows_told (old_text c) (room_of g.lent) (rw g.told at g.table)
 
   given : Given c ws (scanned.table_of (old_text c)) w
@@ -87,7 +87,7 @@ module _ (c : Change) (ws answer w : List ℕ) (g : OuterGiven c ws answer w) wh
     window = g.window;
   }
 
-  table_words : answer ≡ told_words (Rows (scanned.table_of (old_text c)))
+  table_words : answer ≡ told_words (Ok (scanned.table_of (old_text c)))
   table_words = g.told ∙ ap (λ (x : Told). told_words x) tells_rows
 
   -- `spoonharbor_restart` for the change's place answers the restart place, where the window starts.

@@ -8,13 +8,14 @@ use lib.ListN.{get_or}
 use contract.Lifetimes.{Lfts}
 use borrow.Fn.Kinds.{Dens, ended_of}
 use denote.Triple.Clauses.{AtExit}
-use Rattle.rules.specs.declared.Ending.{Ending}
-use Rattle.rules.specs.declared.Ending.TheVariants as ending
+use Rattle.rules.specs.Outcomes.{Ending, halt, Told, unread}
+use Rattle.std.specs.declared.option.Option.TheVariants.{None, Some}
+use Rattle.rules.specs.declared.Lexical.{Lexical}
+use Rattle.rules.specs.declared.Cursor.{Cursor}
 use Rattle.rules.specs.declared.Lexical.TheVariants as lexical
 use Rattle.rules.specs.declared.Outer.TheVariants as outer
 use Rattle.rules.specs.declared.Table.{Table}
-use Rattle.rules.specs.declared.Told.{Told}
-use Rattle.rules.specs.declared.Told.TheVariants.{Rows, Refused}
+use Rattle.std.specs.declared.result.Result.TheVariants.{Ok, Err}
 use Rattle.rules.specs.Scan.{room_of, scan_told}
 use Rattle.theory_edits.specs.Scanned as scanned
 use Rattle.theory_edits.specs.Change.{Change, old_text, new_text, a, b, n}
@@ -34,7 +35,7 @@ use Rattle.spoonharbor.proofs.change.spoonharbor_change.Reads.{Post as ChangePos
 -- ---- the theorems
 
 module _ (c : Change) (ws answer : List ℕ) (g : OuterTable (old_text c) ws answer) where
-  tells_rows : scan_told (old_text c) (room_of g.lent) ≡ Rows (scanned.table_of (old_text c))
+  tells_rows : scan_told (old_text c) (room_of g.lent) ≡ Ok (scanned.table_of (old_text c))
   tells_rows = rows_told (old_text c) (room_of g.lent) (rw g.scanned.told at g.table)
 
   table_is : table_of answer ≡ scanned.table_of (old_text c)
@@ -62,24 +63,27 @@ module _ (c : Change) (ws answer : List ℕ) (g : OuterTable (old_text c) ws ans
 
 -- what is no 7 does not have its number
 no_number : (x : Told) → NotSeven x → get_or (told_words x) 0 0 ≡ 7 → ⊥
-no_number (Rows t) h e = by t.ending e
+no_number (Ok t) h e = by t.ending e
   where
     by : (z : Ending) → get_or (ending_words t.count t.length z) 0 0 ≡ 7 → ⊥
-    by ending.None f = omega arith
-    by (ending.Refused lexical.NoRowBegins p) f = omega arith
-    by (ending.Refused lexical.LoneSign p) f = omega arith
-    by (ending.Refused lexical.NoHexDigit p) f = omega arith
-    by (ending.Refused lexical.OpenComment p) f = omega arith
-    by (ending.Refused lexical.OpenString p) f = omega arith
-    by (ending.Refused lexical.BadEscape p) f = omega arith
-    by (ending.Refused lexical.NumberTooLarge p) f = omega arith
-no_number (Refused outer.TextTooLong p k) h e = omega arith
-no_number (Refused outer.BadByte p k) h e = omega arith
-no_number (Refused outer.NotWellFormed p k) h e = omega arith
-no_number (Refused outer.NoRowRoom p k) h e = omega arith
-no_number (Refused outer.NoNodeRoom p k) h e = omega arith
-no_number (Refused outer.EditNotSensible p k) h e = omega arith
-no_number (Refused outer.WindowShort p k) h e = h.never p k refl
+    by None f = omega arith
+    by (Some z) f = case z.why z.at f
+      where
+        case : (why : Lexical) (p : Cursor) → get_or (ending_words t.count t.length (Some (halt why p))) 0 0 ≡ 7 → ⊥
+        case lexical.NoRowBegins p f = omega arith
+        case lexical.LoneSign p f = omega arith
+        case lexical.NoHexDigit p f = omega arith
+        case lexical.OpenComment p f = omega arith
+        case lexical.OpenString p f = omega arith
+        case lexical.BadEscape p f = omega arith
+        case lexical.NumberTooLarge p f = omega arith
+no_number (Err (unread outer.TextTooLong p k)) h e = omega arith
+no_number (Err (unread outer.BadByte p k)) h e = omega arith
+no_number (Err (unread outer.NotWellFormed p k)) h e = omega arith
+no_number (Err (unread outer.NoRowRoom p k)) h e = omega arith
+no_number (Err (unread outer.NoNodeRoom p k)) h e = omega arith
+no_number (Err (unread outer.EditNotSensible p k)) h e = omega arith
+no_number (Err (unread outer.WindowShort p k)) h e = h.never p k refl
 
 -- ---- the call's own contract: `Post` is what it promises of the arguments x, the answer r and the lent memory at exit e
 

@@ -10,7 +10,7 @@ use borrow.Fn.Kinds.{Dens, ended_of}
 use denote.Triple.Clauses.{AtExit}
 use Rattle.rules.specs.declared.Outer.TheVariants as outer
 use Rattle.rules.specs.declared.Table.{Table}
-use Rattle.rules.specs.declared.Told.TheVariants.{Rows}
+use Rattle.std.specs.declared.result.Result.TheVariants.{Ok}
 use Rattle.rules.specs.Scan.{room_of}
 use Rattle.rules_files.specs.declared.Fault.{Fault}
 use Rattle.rules_files.specs.declared.Fault.TheVariants as fault
@@ -80,14 +80,14 @@ module _ (ws table lent answer m : List ℕ) (g : OuterStored ws table lent answ
     is_read : load_told (file_of answer m) (room_of new) ≡ Ok (table_of table)
     is_read = rw g.left (stored_loaded ws (table_of table) lent (get_or answer 7 0) is_file words (room_of new) room)
 
-    says : loaded_words (load_told (file_of answer m) (room_of new)) ≡ told_words (Rows (table_of table))
+    says : loaded_words (load_told (file_of answer m) (room_of new)) ≡ told_words (Ok (table_of table))
     says = ap (λ (x : Result Table Fault). loaded_words x) is_read
 
     pub outer_stored_loaded :
         OuterBack ws table new (loaded_words (load_told (file_of answer m) (room_of new))) (load_leaves (file_of answer m) new)
     outer_stored_loaded = record {
       told = lent_table (table_of table) says;
-      words = λ t e. says ∙ ap (λ (u : Table). told_words (Rows u)) (lent_table t e) ∙ sym e;
+      words = λ t e. says ∙ ap (λ (u : Table). told_words (Ok u)) (lent_table t e) ∙ sym e;
       left = rw g.left (stored_left ws (table_of table) lent (get_or answer 7 0) is_file words new room);
     }
 

@@ -10,10 +10,8 @@ use contract.Lifetimes.{Lfts}
 use borrow.Fn.Kinds.{Dens, ended_of}
 use denote.Triple.Clauses.{AtExit}
 use Rattle.rules.specs.declared.Outer.TheVariants.{NotWellFormed}
-use Rattle.rules.specs.declared.Judged.TheVariants as verdict
-use Rattle.rules.specs.declared.Parsed.{Parsed}
-use Rattle.rules.specs.declared.Told.{Told}
-use Rattle.rules.specs.declared.Told.TheVariants as told
+use Rattle.rules.specs.Outcomes.{unfit, Parsed, Told}
+use Rattle.std.specs.declared.result.Result.TheVariants.{Err, Ok}
 use Rattle.rules.specs.Text.{most_bytes, valid, start_place}
 use Rattle.rules.specs.Scan.{room_of, scan_told}
 use Rattle.rules.specs.Calls.{judged, node_room, parse_told, parse_leaves}
@@ -65,7 +63,7 @@ module _ (t lent ws table new : List ℕ) (g : OuterLent t lent ws table) where
 
   module _ (k : Readable t) where
     -- the scan's 4: its words tell no table
-    no_room : room_of lent < length (rows_of t) → judged t ws (table_of table) ≡ verdict.Refused NotWellFormed start_place
+    no_room : room_of lent < length (rows_of t) → judged t ws (table_of table) ≡ Err (unfit NotWellFormed start_place)
     unfolding is_ending
     no_room h =
         let f : is_ending (get_or table 0 0) ≡ false = rw (g.told, scan_few_rows t (room_of lent) k h) in
@@ -78,8 +76,8 @@ module _ (t lent ws table new : List ℕ) (g : OuterLent t lent ws table) where
     -- its rows
     has_rows : length (rows_of t) ≤ room_of lent → Answers
     has_rows h =
-        let e : scan_told t (room_of lent) ≡ told.Rows (scanned.table_of t) = scan_rows t (room_of lent) k h in
-        let f : table ≡ told_words (told.Rows (scanned.table_of t)) = g.told ∙ ap (λ (x : Told). told_words x) e in
+        let e : scan_told t (room_of lent) ≡ Ok (scanned.table_of t) = scan_rows t (room_of lent) k h in
+        let f : table ≡ told_words (Ok (scanned.table_of t)) = g.told ∙ ap (λ (x : Told). told_words x) e in
         let a : Lent t ws (scanned.table_of t) = record { scanned = λ _. rw g.left (scan_scanned t lent (scanned.table_of t) e) } in
         rw (lent_table (scanned.table_of t) f) (in_words t lent new _ _ (λ _. h) (demand_2 t ws (scanned.table_of t) new a))
 
@@ -127,7 +125,7 @@ module _ (κs : Lfts 3) (a : Dens κs of_parse.ps) (r : Parsed) (e : AtExit (end
   -- So it does where the library's scan call was made before, of the same text, and the rows that it left and the table that it told are lent.
   module _ (λs : Lfts 2) (b : Dens λs of_scan.ps) (q : Told) (f : AtExit (ended_of 2 of_scan.ps of_scan.r) λs) where
     pub scan_then_parse : ScanPost λs b q f → ParsePost κs a r e
-        → a.0.now ≡ b.0.now → a.1.0.now ≡ f.1.0.now → q ≡ told.Rows a.1.1.0
+        → a.0.now ≡ b.0.now → a.1.0.now ≡ f.1.0.now → q ≡ Ok a.1.1.0
         → Answer a.0.now a.1.1.1.0.now r e.1.1.1.0.now
     scan_then_parse s p x y z =
         parse_call p (record { scanned = λ k. rw (x, y, s.1) (scan_scanned b.0.now b.1.0.now a.1.1.0 (sym s.0 ∙ z)) })

@@ -1,7 +1,6 @@
 -- Stored tables in words: what the outer face's load gives back of what its store wrote, and what a load lends on.
 use Rattle.std.specs.Prelude.{ℕ, ◌*◌, ◌/◌, true, List, ◌++◌, ◌≡◌, length, take, drop, get_or, Ok}
 use Rattle.rules.specs.declared.Table.{Table}
-use Rattle.rules.specs.declared.Told.TheVariants.{Rows}
 use Rattle.rules.specs.Rows.{well_formed}
 use Rattle.rules.specs.Scan.{room_of}
 use Rattle.rules_files.specs.Blocks.{block_bytes}
@@ -29,7 +28,7 @@ pub record OuterFile (file lent answer m : List ℕ) : Type 0 where
 -- it in them, and the words of its rows as they stand in ws, with no word behind them touched.
 pub record OuterBack (ws table new answer rows : List ℕ) : Type 0 where
   pub told : table_of answer ≡ table_of table
-  pub words : (t : Table) → table ≡ told_words (Rows t) → answer ≡ table
+  pub words : (t : Table) → table ≡ told_words (Ok t) → answer ≡ table
   pub left : rows ≡ take (8 * (table_of table).count) ws ++ drop (8 * (table_of table).count) new
 
 -- `spoonharbor_load` of a file, lent the words `new`, told `answer` and left `rows`: lent on as the table, the answer's words are the

@@ -1,6 +1,5 @@
 -- How many blocks a mending lists, in words: what the outer face's call asks of the list that it is lent.
-use Rattle.std.specs.Prelude.{ℕ, ◌+◌, ◌/◌, ◌≤◌, List, ◌≡◌, true, get_or}
-use Rattle.rules.specs.declared.Judged.TheVariants.{Fine}
+use Rattle.std.specs.Prelude.{ℕ, ◌+◌, ◌/◌, ◌≤◌, List, ◌≡◌, true, get_or, Ok}
 use Rattle.rules.specs.Text.{text_judged}
 use Rattle.rules_files.specs.Blocks.{block_bytes}
 use Rattle.rules_files.specs.Files.{most_rows}
@@ -15,6 +14,6 @@ pub record OuterListed (answer : List ℕ) : Type 0 where
 -- A form that there is, a text that can be scanned and stored, memory for both files, and so many words for the list.
 pub record OuterRoom (text : List ℕ) (form : ℕ) (memory : List ℕ) (n : ℕ) (list : List ℕ) : Type 0 where
   pub known : is_form form ≡ true
-  pub fine : text_judged text ≡ Fine
+  pub fine : text_judged text ≡ Ok tt
   pub few : (fresh_table text).count ≤ most_rows
   pub room : HasRoom text form memory n list

@@ -1,8 +1,8 @@
 -- Demand 2 in words: what the outer face's parse answers and leaves, lent what its scan left and told.
-use Rattle.std.specs.Prelude.{ℕ, ◌*◌, ◌≤◌, ◌<◌, false, List, ◌++◌, ◌≡◌, length, drop}
+use Rattle.std.specs.Prelude.{ℕ, ◌*◌, ◌≤◌, ◌<◌, false, List, ◌++◌, ◌≡◌, length, drop, Some}
 use Rattle.rules.specs.declared.Cursor.{Cursor}
 use Rattle.rules.specs.declared.Lexical.{Lexical}
-use Rattle.rules.specs.declared.Ending.TheVariants as ending
+use Rattle.rules.specs.Outcomes.{halt}
 use Rattle.rules.specs.declared.Syntax.{Syntax}
 use Rattle.rules.specs.Text.{most_bytes, valid_bytes, valid, place_at, start_place}
 use Rattle.rules.specs.Refusals.{lexical_number, syntax_number, first_told, second_told, found_told}
@@ -39,7 +39,7 @@ module _ (t lent new answer m : List ℕ) where
     -- the scan said 4, so that its words tell no table
     outer_3 : Readable t → room_of lent < length (rows_of t) → OuterRefused new answer m 3 start_place 0 0 0 → OuterAnswer
     -- 11 to 17, with which the scan ended
-    outer_ending : Readable t → length (rows_of t) ≤ room_of lent → (why : Lexical) (at : Cursor) → read_ending (scan t) ≡ ending.Refused why at
+    outer_ending : Readable t → length (rows_of t) ≤ room_of lent → (why : Lexical) (at : Cursor) → read_ending (scan t) ≡ Some (halt why at)
         → OuterRefused new answer m (lexical_number why) at 0 0 0
         → OuterAnswer
     outer_5 : ScansFully t → length (rows_of t) ≤ room_of lent → node_room new < length (rows_of t)

@@ -20,7 +20,7 @@ ghost use Rattle.spoonharbor.specs.Version.{version};
 use answers::{no_place, put, put_asked, put_parsed, put_restart, put_told, table_of};
 use file_answers::{put_beside, put_loaded, put_mended, put_moved, put_stored};
 use refusals::outer_number;
-use rules::{Judged, row};
+use rules::row;
 
 // The library's version: major, minor and patch in a byte each.
 #[unsafe(no_mangle)]
@@ -64,7 +64,7 @@ pub extern "C" fn spoonharbor_spelling(
         ≡ spelling_words text.now rows.now (table_of table.now) row }
 {
     match rows::spelling_judge(text, rows, table_of(table), row) {
-        Judged::Fine => {
+        Ok(()) => {
             let at = (row as usize) * row::WORDS;
             put(
                 answer,
@@ -76,8 +76,8 @@ pub extern "C" fn spoonharbor_spelling(
                 0,
             );
         }
-        Judged::Refused(why, at) => {
-            put(answer, outer_number(why), at, 0, 0, 0, 0);
+        Err(e) => {
+            put(answer, outer_number(e.why), e.at, 0, 0, 0, 0);
         }
     }
 }

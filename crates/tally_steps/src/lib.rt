@@ -8,7 +8,7 @@ ghost use Rattle.rules_tally.specs.Tally.{empty, is_statement};
 ghost use Rattle.rules_tally.specs.Calls.{is_countable};
 ghost use Rattle.tally_steps.specs.Steps.{with_unit, UnitFits, with_map, MapFits};
 
-use rules::{Asked, fact, node_kind};
+use rules::{fact, node_kind};
 use rules_tally::Tally;
 
 // Whether a node's kind is one, and so a unit's kind or a map's type, which is the node's first fact.
@@ -42,8 +42,8 @@ pub fn methods_in(kind: u32) -> u64
     ensures { result ≡ set_size kind }
 {
     match methods::set_size(kind) {
-        Asked::Is(n) => n as u64,
-        Asked::Refused(_) => 0,
+        Ok(n) => n as u64,
+        Err(_) => 0,
     }
 }
 

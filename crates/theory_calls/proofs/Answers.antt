@@ -12,15 +12,13 @@ use lib.ListN.{length}
 use borrow.Author.Tests.{lt-ltb, le-ltb}
 use Rattle.rules.specs.declared.Cursor.{Cursor}
 use Rattle.rules.specs.declared.Lexical.{Lexical}
-use Rattle.rules.specs.declared.Ending.{Ending}
-use Rattle.rules.specs.declared.Ending.TheVariants as ending
+use Rattle.rules.specs.Outcomes.{Ending, halt, unread, Parsed}
+use Rattle.std.specs.declared.option.Option.TheVariants.{None, Some}
 use Rattle.rules.specs.declared.Outer.TheVariants.{TextTooLong, BadByte, NoRowRoom}
 use Rattle.rules.specs.declared.Syntax.{Syntax}
 use Rattle.rules.specs.declared.Reason.{Reason}
 use Rattle.rules.specs.declared.Reason.TheVariants as reason
-use Rattle.rules.specs.declared.Told.TheVariants as of_scan
-use Rattle.rules.specs.declared.Parsed.{Parsed}
-use Rattle.rules.specs.declared.Parsed.TheVariants as parsed
+use Rattle.std.specs.declared.result.Result.TheVariants.{Ok, Err}
 use Rattle.rules.specs.Text.{most_bytes, valid_bytes, valid, place_at, start_place}
 use Rattle.rules.specs.Refusals.{found_told}
 use Rattle.rules.specs.Rows.{Row, row_place}
@@ -36,10 +34,10 @@ use Rattle.theory_grammar.proofs.Complete.{program_complete}
 use Rattle.theory_calls.specs.Demand2.{rows_of, tokens_of, Readable, ScansFully, ProgramOf, RefusedRow, Written, Refused, Answer, too_long, bad_byte, ends_refused, few_nodes, accepted, no_program}
 
 -- a refusal tells no nodes
-no_nodes : {new m : List ℕ} {r : Parsed} {why : Reason} {at : Cursor} {found n : ℕ} → Refused new r m why at found → r ≡ parsed.Nodes n → ⊥
+no_nodes : {new m : List ℕ} {r : Parsed} {why : Reason} {at : Cursor} {found n : ℕ} → Refused new r m why at found → r ≡ Ok n → ⊥
 no_nodes a e = let f = a.told in let z : ◌≡◌ {A = ℕ} 0 1 = cc in omega arith
 
-none_refused : {why : Lexical} {at : Cursor} → ending.None ≡ ending.Refused why at → ⊥
+none_refused : {why : Lexical} {at : Cursor} → None ≡ Some (halt why at) → ⊥
 none_refused e = let z : ◌≡◌ {A = ℕ} 0 1 = cc in omega arith
 
 module _ (t new : List ℕ) (r : Parsed) (m : List ℕ) where
@@ -72,10 +70,10 @@ module _ (t new : List ℕ) (r : Parsed) (m : List ℕ) where
   -- Nodes are told exactly if the text scans fully, there is room, and the text has a program. (Which one it is the text says and not the nodes,
   -- which hold rows and no names.)
   pub nodes_exactly : Answer t new r m
-      → ((n : ℕ) × (r ≡ parsed.Nodes n)) ↔ (ScansFully t × (length (rows_of t) ≤ node_room new) × ((p : Tree) × ProgramOf t p))
+      → ((n : ℕ) × (r ≡ Ok n)) ↔ (ScansFully t × (length (rows_of t) ≤ node_room new) × ((p : Tree) × ProgramOf t p))
   nodes_exactly x = (λ e. to x e.0 e.1, λ g. (size g.2.0, (program_written x g.0 g.1 g.2.0 g.2.1).told))
     where
-      to : Answer t new r m → (n : ℕ) → r ≡ parsed.Nodes n → ScansFully t × (length (rows_of t) ≤ node_room new) × ((p : Tree) × ProgramOf t p)
+      to : Answer t new r m → (n : ℕ) → r ≡ Ok n → ScansFully t × (length (rows_of t) ≤ node_room new) × ((p : Tree) × ProgramOf t p)
       to (too_long h a) n e = absurd (no_nodes a e)
       to (bad_byte h v a) n e = absurd (no_nodes a e)
       to (ends_refused k why at q a) n e = absurd (no_nodes a e)
@@ -100,8 +98,8 @@ module _ (t new : List ℕ) where
   by_reading (no why k) = 6
 
   by_ending : Ending → ℕ
-  by_ending ending.None = cond (ltb (node_room new) (length (rows_of t))) 4 (by_reading (parse (tokens_of t)))
-  by_ending (ending.Refused why at) = 3
+  by_ending None = cond (ltb (node_room new) (length (rows_of t))) 4 (by_reading (parse (tokens_of t)))
+  by_ending (Some e) = 3
 
   holds : ℕ
   holds = cond (ltb most_bytes (length t)) 1 (cond (not (valid t)) 2 (by_ending (read_ending (scan t))))
@@ -128,14 +126,14 @@ module _ (t new : List ℕ) where
 -- ---- what the scan tells of the same text, in any room: the same 1 and 2, and else its rows and the ending that the parse tells
 
 module _ (t : List ℕ) (room : ℕ) where
-  pub scan_too_long : most_bytes < length t → scan_told t room ≡ of_scan.Refused TextTooLong start_place 0
+  pub scan_too_long : most_bytes < length t → scan_told t room ≡ Err (unread TextTooLong start_place 0)
   scan_too_long h = scan_told_refused t (text_long t h) room
 
-  pub scan_bad_byte : length t ≤ most_bytes → valid t ≡ false → scan_told t room ≡ of_scan.Refused BadByte (place_at t (valid_bytes t)) 0
+  pub scan_bad_byte : length t ≤ most_bytes → valid t ≡ false → scan_told t room ≡ Err (unread BadByte (place_at t (valid_bytes t)) 0)
   scan_bad_byte h v = scan_told_refused t (text_bad t h v) room
 
-  pub scan_rows : Readable t → length (rows_of t) ≤ room → scan_told t room ≡ of_scan.Rows (table_of t)
+  pub scan_rows : Readable t → length (rows_of t) ≤ room → scan_told t room ≡ Ok (table_of t)
   scan_rows k h = scan_told_lem t (text_fine t k.fits k.good) room ∙ told_all (length t) room (rows_of t) (read_ending (scan t)) h
 
-  pub scan_few_rows : Readable t → room < length (rows_of t) → scan_told t room ≡ of_scan.Refused NoRowRoom start_place room
+  pub scan_few_rows : Readable t → room < length (rows_of t) → scan_told t room ≡ Err (unread NoRowRoom start_place room)
   scan_few_rows k h = scan_told_lem t (text_fine t k.fits k.good) room ∙ told_full (length t) room (rows_of t) (read_ending (scan t)) h

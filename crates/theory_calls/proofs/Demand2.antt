@@ -10,18 +10,16 @@ use lib.Seq.{drop-drop}
 use borrow.Author.Tests.{lt-ltb, le-ltb, ltb-true, ltb-false}
 use Rattle.rules.specs.declared.Cursor.{Cursor}
 use Rattle.rules.specs.declared.Lexical.{Lexical}
-use Rattle.rules.specs.declared.Ending.{Ending}
-use Rattle.rules.specs.declared.Ending.TheVariants as ending
+use Rattle.rules.specs.Outcomes.{Ending, halt, unfit, Parsed, unparsed}
+use Rattle.std.specs.declared.option.Option.TheVariants.{None, Some}
 use Rattle.rules.specs.declared.Outer.{Outer}
 use Rattle.rules.specs.declared.Outer.TheVariants.{TextTooLong, BadByte, NoNodeRoom}
 use Rattle.rules.specs.declared.Syntax.{Syntax}
 use Rattle.rules.specs.declared.Syntax.TheVariants.{Wanted, NotTopLevel, NotMapField, MapTypeUnknown, NotType, MaxNegative, OutOfRange, ShiftCount, MapLacks, NotEventType, CallOnOther, TooDeep}
 use Rattle.rules.specs.declared.Reason.{Reason}
 use Rattle.rules.specs.declared.Reason.TheVariants as reason
-use Rattle.rules.specs.declared.Judged.TheVariants as verdict
+use Rattle.std.specs.declared.result.Result.TheVariants.{Ok, Err}
 use Rattle.rules.specs.declared.Table.{Table}
-use Rattle.rules.specs.declared.Parsed.{Parsed}
-use Rattle.rules.specs.declared.Parsed.TheVariants as parsed
 use Rattle.rules.specs.Text.{most_bytes, valid_bytes, valid, place_at, start_place}
 use Rattle.rules.specs.Refusals.{syntax_number, found_told}
 use Rattle.rules.specs.Rows.{Row, row_words, row_in, rows_in, words_of, row_place}
@@ -91,7 +89,7 @@ module _ (t ws : List ℕ) (table : Table) (new : List ℕ) where
   Answers = Answer t new tells leaves
 
   -- 1 and 2
-  text_refused : (why : Outer) (at : Cursor) → judged t ws table ≡ verdict.Refused why at → Refused new tells leaves (reason.Outer why) at 0
+  text_refused : (why : Outer) (at : Cursor) → judged t ws table ≡ Err (unfit why at) → Refused new tells leaves (reason.Outer why) at 0
   unfolding parse_told parse_leaves
   text_refused why at e = record { told = rw (parse_told, e); left = rw (parse_leaves, e) }
 
@@ -103,10 +101,10 @@ module _ (t ws : List ℕ) (table : Table) (new : List ℕ) where
 
   -- a scanned table: not 3, and then its refused ending
   module _ (k : Readable t) (s : Scanned t ws table) where
-    fine : judged t ws table ≡ verdict.Fine
+    fine : judged t ws table ≡ Ok tt
     fine = judged_well t ws table (text_fine t k.fits k.good) (scanned_well_formed s) (ap (λ (x : Table). x.length) s.told)
 
-    stopped : (why : Lexical) (at : Cursor) → read_ending (scan t) ≡ ending.Refused why at
+    stopped : (why : Lexical) (at : Cursor) → read_ending (scan t) ≡ Some (halt why at)
         → Refused new tells leaves (reason.Lexical why) at 0
     unfolding parse_told parse_leaves ending_told ending_leaves
     stopped why at e = record { told = rw (parse_told, fine, s.told, e); left = rw (parse_leaves, fine, s.told, e) }
@@ -158,7 +156,7 @@ module _ (t ws : List ℕ) (table : Table) (new : List ℕ) where
       unfolding out_told out_leaves place_of_row
       refused why k q = record {
         told =
-            told_is (no why k) q ∙ ap (λ (y : Row). parsed.Refused (reason.Syntax why) (row_place y) (found_told why y.kind))
+            told_is (no why k) q ∙ ap (λ (y : Row). (Err (unparsed (reason.Syntax why) (row_place y) (found_told why y.kind))))
             (row_of why k q).same;
         left = left_is (no why k) q;
       }
@@ -186,8 +184,8 @@ module _ (t ws : List ℕ) (table : Table) (new : List ℕ) where
     room_answers false q = reading_answers (ltb-false (node_room new) (length (rows_of t)) q) (parse (tokens_of t)) refl
 
   ending_answers : (k : Readable t) → Scanned t ws table → (x : Ending) → read_ending (scan t) ≡ x → Answers
-  ending_answers k s ending.None e = room_answers (record { readable = k; ends = e }) s (ltb (node_room new) (length (rows_of t))) refl
-  ending_answers k s (ending.Refused why at) e = ends_refused k why at e (stopped k s why at e)
+  ending_answers k s None e = room_answers (record { readable = k; ends = e }) s (ltb (node_room new) (length (rows_of t))) refl
+  ending_answers k s (Some refusal) e = ends_refused k refusal.why refusal.at e (stopped k s refusal.why refusal.at e)
 
 -- ---- the theorem
 

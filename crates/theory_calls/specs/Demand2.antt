@@ -1,15 +1,13 @@
 -- The words of demand 2: which trees are programs of a text, what a parse call is lent, and what it tells and leaves.
-use Rattle.std.specs.Prelude.{ℕ, ◌*◌, ◌≤◌, ◌<◌, true, false, List, ◌∷◌, ◌++◌, ◌≡◌, length, drop}
+use Rattle.std.specs.Prelude.{ℕ, ◌*◌, ◌≤◌, ◌<◌, true, false, List, ◌∷◌, ◌++◌, ◌≡◌, length, drop, Ok, Err, None, Some}
 use Rattle.rules.specs.declared.Cursor.{Cursor}
 use Rattle.rules.specs.declared.Lexical.{Lexical}
-use Rattle.rules.specs.declared.Ending.TheVariants as ending
+use Rattle.rules.specs.Outcomes.{halt, Parsed, unparsed}
 use Rattle.rules.specs.declared.Outer.TheVariants.{TextTooLong, BadByte, NoNodeRoom}
 use Rattle.rules.specs.declared.Syntax.{Syntax}
 use Rattle.rules.specs.declared.Reason.{Reason}
 use Rattle.rules.specs.declared.Reason.TheVariants as reason
 use Rattle.rules.specs.declared.Table.{Table}
-use Rattle.rules.specs.declared.Parsed.{Parsed}
-use Rattle.rules.specs.declared.Parsed.TheVariants as parsed
 use Rattle.rules.specs.Text.{most_bytes, valid_bytes, valid, place_at, start_place}
 use Rattle.rules.specs.Refusals.{syntax_number, found_told}
 use Rattle.rules.specs.Rows.{Row, row_place}
@@ -43,7 +41,7 @@ pub record Readable (t : List ℕ) : Type 0 where
 pub record ScansFully (t : List ℕ) : Type 0 where
   pub readable : Readable t
   -- no lexical refusal ends its rows
-  pub ends : read_ending (scan t) ≡ ending.None
+  pub ends : read_ending (scan t) ≡ None
 
 -- a program of a text
 pub record ProgramOf (t : List ℕ) (p : Tree) : Type 0 where
@@ -81,12 +79,12 @@ pub record Lent (t ws : List ℕ) (table : Table) : Type 0 where
 module _ (new : List ℕ) (r : Parsed) (m : List ℕ) where
   -- the tree's nodes are told and written, and no word behind them is touched
   pub record Written (p : Tree) : Type 0 where
-    pub told : r ≡ parsed.Nodes (size p)
+    pub told : r ≡ Ok (size p)
     pub left : m ≡ tree_words 0 p ++ drop (8 * size p) new
 
   -- why and where is told, and the kind that was found (0 but for 21), and no word is touched
   pub record Refused (why : Reason) (at : Cursor) (found : ℕ) : Type 0 where
-    pub told : r ≡ parsed.Refused why at found
+    pub told : r ≡ Err (unparsed why at found)
     pub left : m ≡ new
 
 -- The text was t. One of six answers, each with the case in which it is given: no two of these cases hold together.
@@ -96,7 +94,7 @@ module _ (t new : List ℕ) (r : Parsed) (m : List ℕ) where
     too_long : most_bytes < length t → Refused new r m (reason.Outer TextTooLong) start_place 0 → Answer
     bad_byte : length t ≤ most_bytes → valid t ≡ false → Refused new r m (reason.Outer BadByte) (place_at t (valid_bytes t)) 0 → Answer
     -- 11 to 17, with which the scan ended
-    ends_refused : Readable t → (why : Lexical) (at : Cursor) → read_ending (scan t) ≡ ending.Refused why at
+    ends_refused : Readable t → (why : Lexical) (at : Cursor) → read_ending (scan t) ≡ Some (halt why at)
         → Refused new r m (reason.Lexical why) at 0
         → Answer
     -- 5

@@ -6,7 +6,7 @@ use mathlib.Core.List.{List, [], ◌∷◌}
 use mathlib.Core.Path.{◌≡◌, refl, ap}
 use Rattle.rules.specs.declared.Cursor.{Cursor}
 use Rattle.rules.specs.declared.Lexical.{Lexical}
-use Rattle.rules.specs.declared.Ending.TheVariants as ending
+use Rattle.std.specs.declared.option.Option.TheVariants.{None}
 use Rattle.rules.specs.Text.{place_at}
 use Rattle.rules.specs.Rows.{Row, row_at, eof_row}
 use Rattle.rules.specs.Scan.{Reading, put, ends, stops, read_rows, read_ending, scan}
@@ -17,7 +17,7 @@ use Rattle.theory_comments.proofs.States.{ahead, Takes, takes_go, takes_clear, t
 
 -- a reading that ends with the text tells of n comments
 pub record Tells (l : Reading) (n : ℕ) : Type 0 where
-  pub sum : read_ending l ≡ ending.None → counted (read_rows l) ≡ n
+  pub sum : read_ending l ≡ None → counted (read_rows l) ≡ n
 
 tells_put : (r : Row) (l : Reading) (n : ℕ) → Tells l n → Tells (put r l) (r.comments + n)
 unfolding read_ending read_rows counted
@@ -79,7 +79,7 @@ module _ (pos : ℕ → Cursor) where
   run_tells [] c t k st h = close_tells c t k (finish_closes h)
   run_tells (b ∷ s) c t k st h = move_tells s (run_tells s) b c t k (step_moves b s h)
 
-pub counts_add_up : (t : List ℕ) → read_ending (scan t) ≡ ending.None → counted (read_rows (scan t)) ≡ comments_in t
+pub counts_add_up : (t : List ℕ) → read_ending (scan t) ≡ None → counted (read_rows (scan t)) ≡ comments_in t
 unfolding scan_bytes comments_in ahead passed
 counts_add_up t e =
     let h : Tells (scan_bytes t) (0 + comments code t) = run_tells (place_at t) t 0 0 0 gap stands_gap in

@@ -10,7 +10,7 @@ use lib.Dec.{ltb}
 use lib.ListN.{length}
 use borrow.Author.Tests.{lt-leb, ltb-true}
 use Rattle.rules.specs.declared.Cursor.{Cursor}
-use Rattle.rules.specs.declared.Ending.{Ending}
+use Rattle.rules.specs.Outcomes.{Ending}
 use Rattle.rules.specs.Text.{place_at}
 use Rattle.rules.specs.Rows.{Row}
 use Rattle.rules.specs.Scan.{Reading, put, read_rows, read_ending, scan}

@@ -9,7 +9,8 @@ use lib.Dec.{ltb}
 use lib.ListN.{length, take, length-append}
 use borrow.Author.Tests.{le-leb, lt-ltb, le-ltb, ltb-true, ltb-false, eq-eqb}
 use Rattle.rules.specs.declared.Table.{Table}
-use Rattle.rules.specs.declared.Told.TheVariants.{Refused}
+use Rattle.rules.specs.Outcomes.{unread}
+use Rattle.std.specs.declared.result.Result.TheVariants.{Err}
 use Rattle.rules.specs.declared.Outer.TheVariants.{TextTooLong, BadByte, WindowShort}
 use Rattle.rules.specs.Text.{most_bytes, valid, start_place, over}
 use Rattle.rules.specs.Scan.{told, laid}
@@ -40,11 +41,11 @@ module _ (c : Change) (w : List ℕ) (v : Window c w) where
   -- the call on a scanned table: what is left of its order
   module _ (ws : List ℕ) (table : Table) (s : Scanned (old_text c) ws table) where
     told_is : (m : ℕ) → tells c ws table w m
-        ≡ cond (ltb most_bytes (length (new_text c))) (Refused TextTooLong start_place 0)
-        (cond (is_unjudged c w) (Refused WindowShort start_place 0)
+        ≡ cond (ltb most_bytes (length (new_text c))) (Err (unread TextTooLong start_place 0))
+        (cond (is_unjudged c w) (Err (unread WindowShort start_place 0))
         (cond (not (window_valid (ends_text c w) w))
-        (Refused BadByte (over (restart (old_rows c) (a c)) (take (window_bytes (ends_text c w) w) w)) 0)
-        (cond (is_short c w) (Refused WindowShort start_place 0) (told (length (new_text c)) m (edit_rows c w) (edit_ending c w)))))
+        (Err (unread BadByte (over (restart (old_rows c) (a c)) (take (window_bytes (ends_text c w) w) w)) 0))
+        (cond (is_short c w) (Err (unread WindowShort start_place 0)) (told (length (new_text c)) m (edit_rows c w) (edit_ending c w)))))
     unfolding edit_told
     told_is m = rw (scanned_well_formed s, scanned_rows s, s.told, is_sensible, new_length_lem c)
 

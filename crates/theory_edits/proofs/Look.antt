@@ -8,8 +8,8 @@ use mathlib.Core.Path.{◌≡◌, refl, ap, sym, ◌∙◌}
 use lib.ListN.{length}
 use Rattle.rules.specs.declared.Cursor.{Cursor}
 use Rattle.rules.specs.declared.Lexical.{Lexical}
-use Rattle.rules.specs.declared.Ending.{Ending}
-use Rattle.rules.specs.declared.Ending.TheVariants as ending
+use Rattle.rules.specs.Outcomes.{Ending, halt}
+use Rattle.std.specs.declared.option.Option.TheVariants.{None, Some}
 use Rattle.rules.specs.Text.{place_at}
 use Rattle.rules.specs.Rows.{Row, row_at}
 use Rattle.rules.specs.Scan.{Reading, put, ends, stops, read_rows, read_ending}
@@ -22,15 +22,15 @@ use Rattle.theory_edits.proofs.Stand.{At, at_next, at_same, rest, rest_begin}
 -- a reading to the text's end, as the window's scan tells it
 unfoldable pub listed : Reading → Seen
 listed (put r l) = sees r (listed l)
-listed ends = over' ending.None
-listed (stops why p d) = over' (ending.Refused why p)
+listed ends = over' None
+listed (stops why p d) = over' (Some (halt why p))
 
 module _ (pos : ℕ → Cursor) (meet : ℕ → Bool) where
   unfoldable pub see_after : ((c t k : ℕ) → St → Seen) → (c t k : ℕ) → First → Seen
   see_after r c t k (go st) = r c t (suc k) st
   see_after r c t k clear = r (passed c k) (t + suc k) 0 gap
   see_after r c t k (over x) = sees (row_at (pos t) c x.kind (t + suc k) x.bits) (r 0 (t + suc k) 0 gap)
-  see_after r c t k (bad why x) = over' (ending.Refused why (pos (t + spot x k)))
+  see_after r c t k (bad why x) = over' (Some (halt why (pos (t + spot x k))))
 
   -- byte b, with w behind it, stands at n, where a row may begin: old rows follow if one starts there and no gap goes on
   unfoldable pub see_at : List ℕ → ((c t k : ℕ) → St → Seen) → (b c n : ℕ) → Seen
@@ -56,7 +56,7 @@ unfoldable pub fill_ending : (ℕ → Ending) → Seen → Ending
 fill_ending h (sees r s) = fill_ending h s
 fill_ending h (over' e) = e
 fill_ending h (met m c) = h m
-fill_ending h short = ending.None
+fill_ending h short = None
 
 -- l is what s says, unless s is short
 pub record Says (g : (m c : ℕ) → List Row) (h : ℕ → Ending) (s : Seen) (l : Reading) : Type 0 where
@@ -68,7 +68,7 @@ module _ {g : (m c : ℕ) → List Row} {h : ℕ → Ending} where
   unfolding is_short fill_rows fill_ending read_rows read_ending
   says_put r x = record { rows = λ n. ap (λ (rs : List Row). r ∷ rs) (x.rows n); ending = x.ending }
 
-  says_stops : (why : Lexical) (p : Cursor) (d : ℕ) → Says g h (over' (ending.Refused why p)) (stops why p d)
+  says_stops : (why : Lexical) (p : Cursor) (d : ℕ) → Says g h (over' (Some (halt why p))) (stops why p d)
   unfolding fill_rows fill_ending read_rows read_ending
   says_stops why p d = record { rows = λ n. refl; ending = λ n. refl }
 

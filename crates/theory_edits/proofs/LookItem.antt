@@ -8,7 +8,8 @@ use mathlib.Core.Path.{◌≡◌, refl, ap, sym, ◌∙◌}
 use lib.Dec.{ltb}
 use lib.ListN.{length}
 use Rattle.rules.specs.declared.Cursor.{Cursor}
-use Rattle.rules.specs.declared.Ending.TheVariants as ending
+use Rattle.rules.specs.Outcomes.{halt}
+use Rattle.std.specs.declared.option.Option.TheVariants.{None, Some}
 use Rattle.rules.specs.Rows.{Row, row_at, eof_row}
 use Rattle.rules.specs.Lex.{blank, comment, row, refused, Item, known, end, unknown, piece, decided_at, item}
 use Rattle.rules.specs.Edit.{opens, Seen, sees, over', short, look}
@@ -28,7 +29,7 @@ module _ (pos : ℕ → Cursor) (meet : ℕ → Bool) (whole : Bool) where
   looks c t k s (known blank) = look pos meet whole c (1 - k) (t + k) s
   looks c t k s (known (comment n d)) = look pos meet whole (suc c) (n - k) (t + k) s
   looks c t k s (known (row kind n bits d)) = sees (row_at (pos t) c kind (t + n) bits) (look pos meet whole 0 (n - k) (t + k) s)
-  looks c t k s (known (refused why p d)) = over' (ending.Refused why (pos (t + p)))
+  looks c t k s (known (refused why p d)) = over' (Some (halt why (pos (t + p))))
   looks c t k s end = short
   looks c t k s unknown = short
 
@@ -120,7 +121,7 @@ module _ (pos : ℕ → Cursor) (meet : ℕ → Bool) (whole : Bool) where
         begins = λ c t. rw (look_bytes, step_gap, see_move, add-zero) (at_looks c t);
       }
 
-  look_end : (c t : ℕ) → look pos meet whole c 0 t [] ≡ cond whole (sees (eof_row (pos t) c) (over' ending.None)) short
+  look_end : (c t : ℕ) → look pos meet whole c 0 t [] ≡ cond whole (sees (eof_row (pos t) c) (over' None)) short
   unfolding look
   look_end c t = refl
 

@@ -11,7 +11,7 @@ use lib.ListN.{length, drop}
 use lib.Seq.{drop-append-add}
 use borrow.Author.Tests.{leb-true, le-leb, ltb-true, eqb-true, eq-eqb}
 use Rattle.rules.specs.declared.Cursor.{Cursor}
-use Rattle.rules.specs.declared.Ending.{Ending}
+use Rattle.rules.specs.Outcomes.{Ending}
 use Rattle.rules.specs.Text.{front, newlines, line_at, column_at, place_at, start_place}
 use Rattle.rules.specs.Rows.{Row, row_place}
 use Rattle.rules.specs.Scan.{Reading, put, read_rows, read_ending, scan}

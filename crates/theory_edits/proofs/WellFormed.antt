@@ -9,13 +9,11 @@ use lib.ListN.{length, drop, length-append}
 use borrow.Author.Tests.{eq-eqb, le-leb, leb-true}
 use Rattle.rules.specs.declared.Cursor.{Cursor}
 use Rattle.rules.specs.declared.Lexical.{Lexical}
-use Rattle.rules.specs.declared.Ending.{Ending}
-use Rattle.rules.specs.declared.Ending.TheVariants as ending
+use Rattle.rules.specs.Outcomes.{Ending, halt, Judged, Told, unread}
+use Rattle.std.specs.declared.option.Option.TheVariants.{None, Some}
 use Rattle.rules.specs.declared.Table.{Table}
 use Rattle.rules.specs.declared.Outer.TheVariants.{TextTooLong, BadByte, NoRowRoom}
-use Rattle.rules.specs.declared.Judged.{Judged}
-use Rattle.rules.specs.declared.Told.{Told}
-use Rattle.rules.specs.declared.Told.TheVariants.{Rows, Refused}
+use Rattle.std.specs.declared.result.Result.TheVariants.{Ok, Err}
 use Rattle.rules.specs.Kinds
 use Rattle.rules.specs.Kinds.{is_made}
 use Rattle.rules.specs.Text.{most_bytes, valid_bytes, valid, place_at, start_place, text_judged}
@@ -23,6 +21,7 @@ use Rattle.rules.specs.Rows.{Row, row_words, row_in, rows_in, words_of, row_at, 
 use Rattle.rules.specs.Scan.{Reading, put, read_rows, read_ending, scan, room_of, told, scan_told, scan_leaves}
 use Rattle.theory_machine.specs.Machine.{Token}
 use Rattle.theory_edits.specs.Scanned.{table_of, Scanned}
+use Rattle.laws.proofs.Outcomes.{halt_same}
 use Rattle.laws.proofs.Tests.{true_both}
 use Rattle.laws.proofs.Valid.{text_fine, TextJudged, long, bad, fine, text_judged_lem}
 use Rattle.laws.proofs.Rows.{words_length, laid_all, scan_told_refused, scan_told_lem, scan_leaves_lem}
@@ -95,7 +94,7 @@ module _ (T : List ℕ) where
   eof_put r n [] e h = absurd (true≢false (sym h))
   eof_put r n (q ∷ rs) e h = true_both e h
 
-  eof_last_lem : {lo : ℕ} {l : Reading} → Well T lo l → read_ending l ≡ ending.None → eof_last (length T) (read_rows l) ≡ true
+  eof_last_lem : {lo : ℕ} {l : Reading} → Well T lo l → read_ending l ≡ None → eof_last (length T) (read_rows l) ≡ true
   unfolding read_rows read_ending eof_last is_eof eof_row row_at place_at
   eof_last_lem (well_row {t = t} {k = k} {x = x} {l = l} c a h f w) e =
       eof_put (row_at (place_at T t) c x.kind (t + k) x.bits) (length T) (read_rows l) (not_eof c t (t + k) x f) (eof_last_lem w e)
@@ -130,21 +129,21 @@ module _ (T : List ℕ) where
             (true_both (le-leb (t + k) p.offset.0 g) (rw s.place (places_fit T t p.offset.0 (omega arith) s.inside))) s.last;
       }
 
-  stopped : {lo : ℕ} {l : Reading} → Well T lo l → (why : Lexical) (p : Cursor) → read_ending l ≡ ending.Refused why p → Stopped lo (read_rows l) p
+  stopped : {lo : ℕ} {l : Reading} → Well T lo l → (why : Lexical) (p : Cursor) → read_ending l ≡ Some (halt why p) → Stopped lo (read_rows l) p
   unfolding read_rows read_ending every last_row ends_behind place_at
   stopped {lo} (well_row {t = t} {k = k} {x = x} {l = l} c a h f w) why p e =
       stopped_row lo c t k x (read_rows l) p (omega arith) f (stopped w why p e)
   stopped (well_eof c a h) why p e = absurd (let z : ◌≡◌ {A = ℕ} 0 1 = cc in let y : ⊥ = omega arith in y)
   stopped {lo} (well_stops {m = m} a h) why p e =
-      let c : place_at T m ≡ p = cc in
+      let c : place_at T m ≡ p = (halt_same e).1 in
       subst (λ (y : Cursor). Stopped lo [] y) c (record { far = a; inside = h; place = refl; rows = refl; last = refl })
 
   ending_fits_lem : {lo : ℕ} {l : Reading} → Well T lo l → (x : Ending) → read_ending l ≡ x → ending_fits (length T) (read_rows l) x ≡ true
   unfolding ending_fits
-  ending_fits_lem w ending.None e = eof_last_lem w e
-  ending_fits_lem w (ending.Refused why p) e =
-      let s : Stopped _ _ p = stopped w why p e in
-      true_both s.rows (true_both (true_both (le-leb p.offset.0 (length T) s.inside) (rw s.place (place_fits_lem T p.offset.0))) s.last)
+  ending_fits_lem w None e = eof_last_lem w e
+  ending_fits_lem w (Some refusal) e =
+      let s : Stopped _ _ refusal.at = stopped w refusal.why refusal.at e in
+      true_both s.rows (true_both (true_both (le-leb refusal.at.offset.0 (length T) s.inside) (rw s.place (place_fits_lem T refusal.at.offset.0))) s.last)
 
   pub scan_fits : rows_fit (length T) (read_rows (scan T)) (read_ending (scan T)) ≡ true
   unfolding rows_fit
@@ -178,10 +177,10 @@ scanned_well_formed {t} {ws} {table} s =
 
 -- What a scan says, with room for m rows: 1, 2, 4, or its table.
 pub data Scans (t : List ℕ) (m : ℕ) : Told → Type 0 where
-  says_1 : Scans t m (Refused TextTooLong start_place 0)
-  says_2 : Scans t m (Refused BadByte (place_at t (valid_bytes t)) 0)
-  says_4 : Scans t m (Refused NoRowRoom start_place m)
-  says_rows : length t ≤ most_bytes → valid t ≡ true → length (read_rows (scan t)) ≤ m → Scans t m (Rows (table_of t))
+  says_1 : Scans t m (Err (unread TextTooLong start_place 0))
+  says_2 : Scans t m (Err (unread BadByte (place_at t (valid_bytes t)) 0))
+  says_4 : Scans t m (Err (unread NoRowRoom start_place m))
+  says_rows : length t ≤ most_bytes → valid t ≡ true → length (read_rows (scan t)) ≤ m → Scans t m (Ok (table_of t))
 
 pub scan_says : (t : List ℕ) (m : ℕ) → Scans t m (scan_told t m)
 unfolding told
@@ -194,20 +193,20 @@ scan_says t m = by (text_judged_lem t) refl (leb (length (read_rows (scan t))) m
     by (fine l v) e true g = rw (scan_told_lem t e m, g) (says_rows l v (leb-true _ m g))
 
 -- a text whose scan tells rows is valid
-pub scan_valid : (t : List ℕ) (m : ℕ) (table : Table) → scan_told t m ≡ Rows table → valid t ≡ true
+pub scan_valid : (t : List ℕ) (m : ℕ) (table : Table) → scan_told t m ≡ Ok table → valid t ≡ true
 scan_valid t m table e = by (scan_says t m) e
   where
-    by : {x : Told} → Scans t m x → x ≡ Rows table → valid t ≡ true
+    by : {x : Told} → Scans t m x → x ≡ Ok table → valid t ≡ true
     by says_1 f = absurd (let z : ◌≡◌ {A = ℕ} 0 1 = cc in let y : ⊥ = omega arith in y)
     by says_2 f = absurd (let z : ◌≡◌ {A = ℕ} 0 1 = cc in let y : ⊥ = omega arith in y)
     by says_4 f = absurd (let z : ◌≡◌ {A = ℕ} 0 1 = cc in let y : ⊥ = omega arith in y)
     by (says_rows l v r) f = v
 
 -- where it tells rows, it leaves them
-pub scan_scanned : (t new : List ℕ) (table : Table) → scan_told t (room_of new) ≡ Rows table → Scanned t (scan_leaves t new) table
+pub scan_scanned : (t new : List ℕ) (table : Table) → scan_told t (room_of new) ≡ Ok table → Scanned t (scan_leaves t new) table
 scan_scanned t new table e = by (scan_says t (room_of new)) e
   where
-    by : {x : Told} → Scans t (room_of new) x → x ≡ Rows table → Scanned t (scan_leaves t new) table
+    by : {x : Told} → Scans t (room_of new) x → x ≡ Ok table → Scanned t (scan_leaves t new) table
     by says_1 f = absurd (let z : ◌≡◌ {A = ℕ} 0 1 = cc in let y : ⊥ = omega arith in y)
     by says_2 f = absurd (let z : ◌≡◌ {A = ℕ} 0 1 = cc in let y : ⊥ = omega arith in y)
     by says_4 f = absurd (let z : ◌≡◌ {A = ℕ} 0 1 = cc in let y : ⊥ = omega arith in y)

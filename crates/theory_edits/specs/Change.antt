@@ -1,6 +1,6 @@
 -- A change of a text, a window of the new text, and the edit of what a scan of the old text gave.
 use Rattle.std.specs.Prelude.{ℕ, ◌+◌, ◌<◌, Bool, List, ◌++◌, ◌⊎◌, ◌≡◌, length, drop}
-use Rattle.rules.specs.declared.Ending.{Ending}
+use Rattle.rules.specs.Outcomes.{Ending}
 use Rattle.rules.specs.Rows.{Row}
 use Rattle.rules.specs.Scan.{read_rows, read_ending, scan}
 use Rattle.rules.specs.Edit

@@ -1,8 +1,7 @@
 -- The words of demand 3: what an edit call is given, what it tells and leaves, and when it must say 7.
-use Rattle.std.specs.Prelude.{ℕ, ◌≤◌, true, List, ◌⊎◌, ◌≡◌, length}
+use Rattle.std.specs.Prelude.{ℕ, ◌≤◌, true, List, ◌⊎◌, ◌≡◌, length, Err}
 use Rattle.rules.specs.declared.Table.{Table}
-use Rattle.rules.specs.declared.Told.{Told}
-use Rattle.rules.specs.declared.Told.TheVariants.{Refused}
+use Rattle.rules.specs.Outcomes.{Told, unread}
 use Rattle.rules.specs.declared.Outer.TheVariants.{WindowShort}
 use Rattle.rules.specs.Text.{most_bytes, valid, start_place}
 use Rattle.rules.specs.Scan.{scan_told, scan_leaves}
@@ -33,7 +32,7 @@ module _ (c : Change) (ws : List ℕ) (table : Table) (w : List ℕ) where
 
   -- it says 7 and touches nothing
   pub record SaysSeven : Type 0 where
-    pub told : (m : ℕ) → tells m ≡ Refused WindowShort start_place 0
+    pub told : (m : ℕ) → tells m ≡ Err (unread WindowShort start_place 0)
     pub left : (new : List ℕ) → leaves new ≡ new
 
   -- it tells and leaves what a scan of the new text does

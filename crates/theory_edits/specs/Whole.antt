@@ -1,6 +1,6 @@
 -- Edits with whole windows, told by texts: the window is all of the new text from the restart place on.
 use Rattle.std.specs.Prelude.{ℕ, ◌-◌, List, ◌++◌, length, drop, take}
-use Rattle.rules.specs.declared.Ending.{Ending}
+use Rattle.rules.specs.Outcomes.{Ending}
 use Rattle.rules.specs.Rows.{Row}
 use Rattle.rules.specs.Scan.{read_rows, read_ending, scan}
 use Rattle.rules.specs.Edit

@@ -12,12 +12,11 @@ use lib.Dec.{eqb, leb, ltb}
 use borrow.Author.Tests.{leb-true, le-leb, ltb-false, not-false}
 use Rattle.laws.proofs.Tests.{both_true}
 use Rattle.rules.specs.declared.Cursor.{Cursor}
-use Rattle.rules.specs.declared.Ending.{Ending}
-use Rattle.rules.specs.declared.Ending.TheVariants.{None, Refused}
+use Rattle.rules.specs.Outcomes.{Ending}
+use Rattle.std.specs.declared.option.Option.TheVariants.{None, Some}
 use Rattle.rules.specs.declared.Table.{Table}
 use Rattle.rules.specs.Text.{place, most_bytes}
-use Rattle.rules.specs.Rows.{Row, rows_in, every, is_eof, place_fits, ends_behind, last_row, ending_fits, rows_fit, chained, follows}
-use Rattle.rules.specs.Rows.{gaps_fit, row_fits, well_formed, words_per_row}
+use Rattle.rules.specs.Rows.{Row, rows_in, every, is_eof, place_fits, ends_behind, last_row, ending_fits, rows_fit, chained, follows, gaps_fit, row_fits, well_formed, words_per_row}
 use Rattle.rules.specs.Scan.{room_of}
 use Rattle.rules.specs.Refusals.{lexical_number}
 use Rattle.refusals.proofs.Back.{number_some, number_most}
@@ -25,16 +24,15 @@ use Rattle.rules_files.specs.declared.Fault.{Fault}
 use Rattle.rules_files.specs.declared.Fault.TheVariants.{Outer, TooManyRows, BadBlock}
 use Rattle.rules.specs.declared.Outer.TheVariants.{NotWellFormed, NoRowRoom}
 use Rattle.rules_files.specs.Blocks.{file_length, block_bytes}
-use Rattle.rules_files.specs.Files.{most_rows, row_bytes, form_number, said_at, said, ending_said, read_ending, ending_in, count_said}
-use Rattle.rules_files.specs.Files.{length_said, form_said, row_words_in, rows_told, load_told, load_leaves, store_told, store_leaves, encode}
+use Rattle.rules_files.specs.Files.{most_rows, row_bytes, form_number, said_at, said, ending_said, read_ending, ending_in, count_said, length_said, form_said, row_words_in, rows_told, load_told, load_leaves, store_told, store_leaves, encode}
+use Rattle.rules_files.specs.declared.EndingRead.TheVariants.{Ends}
 use Rattle.rules_files.specs.Bytes.{bytes_of}
 use Rattle.laws.specs.Bounds.{none, some, Bytes, Words}
 use Rattle.laws.proofs.Rows.{row_take}
 use Rattle.theory_files.specs.Whole.{Holds, said_from, words_of}
 use Rattle.theory_files.proofs.Whole.{words_size, held_bytes, held_said, held_whole, held_words, whole_file, file_length_lem}
 use Rattle.theory_files.proofs.Told.{told_rows, told_table, told_full, changed_bad}
-use Rattle.theory_files.proofs.Said.{long_fits, Framed, framed_whole, whole_framed, framed_told, load_tests, Reads, reads_of}
-use Rattle.theory_files.proofs.Said.{said_words, said_front, refused_back, ending_said_lem}
+use Rattle.theory_files.proofs.Said.{long_fits, Framed, framed_whole, whole_framed, framed_told, load_tests, Reads, reads_of, said_words, said_front, refused_back, ending_said_lem}
 use Rattle.theory_files.proofs.Numbers.{bytes_length}
 use Rattle.std.specs.Prelude as option
 use Rattle.std.specs.Prelude.{Result, Ok, Err}
@@ -95,27 +93,27 @@ well_front ws more t l e =
 ending_words : (n : ℕ) (rs : List Row) (e : Ending) → n ≤ most_bytes → ending_fits n rs e ≡ true → Words (ending_said e)
 unfolding ending_fits place_fits
 ending_words n rs None h f = let z : 0 < 2 ^ 32 = omega arith in some z (some z (some z (some z none)))
-ending_words n rs (Refused why p) h f =
-    let a = both_true (every (λ r. not (is_eof r)) rs) ((leb p.offset.0 n && place_fits p) && ends_behind (last_row rs) p) f in
-    let b = both_true (leb p.offset.0 n && place_fits p) (ends_behind (last_row rs) p) a.1 in
-    let c = both_true (leb p.offset.0 n) (place_fits p) b.0 in
+ending_words n rs (Some e) h f =
+    let a = both_true (every (λ r. not (is_eof r)) rs) ((leb e.at.offset.0 n && place_fits e.at) && ends_behind (last_row rs) e.at) f in
+    let b = both_true (leb e.at.offset.0 n && place_fits e.at) (ends_behind (last_row rs) e.at) a.1 in
+    let c = both_true (leb e.at.offset.0 n) (place_fits e.at) b.0 in
     let d =
-    both_true (leb 1 p.line.0 && leb 1 p.column.0) (leb p.line.0 (p.offset.0 + 1) && leb p.column.0 (p.offset.0 + 1))
+    both_true (leb 1 e.at.line.0 && leb 1 e.at.column.0) (leb e.at.line.0 (e.at.offset.0 + 1) && leb e.at.column.0 (e.at.offset.0 + 1))
     c.1 in
-    let g = both_true (leb p.line.0 (p.offset.0 + 1)) (leb p.column.0 (p.offset.0 + 1)) d.1 in
-    let u = leb-true p.offset.0 n c.0 in
-    let v = leb-true p.line.0 (p.offset.0 + 1) g.0 in
-    let w = leb-true p.column.0 (p.offset.0 + 1) g.1 in
-    let x : p.offset.0 < 2 ^ 32 = omega arith in
-    let y : p.line.0 < 2 ^ 32 = omega arith in
-    let z : p.column.0 < 2 ^ 32 = omega arith in
-    let s : lexical_number why < 2 ^ 32 = omega (arith, number_most why) in
+    let g = both_true (leb e.at.line.0 (e.at.offset.0 + 1)) (leb e.at.column.0 (e.at.offset.0 + 1)) d.1 in
+    let u = leb-true e.at.offset.0 n c.0 in
+    let v = leb-true e.at.line.0 (e.at.offset.0 + 1) g.0 in
+    let w = leb-true e.at.column.0 (e.at.offset.0 + 1) g.1 in
+    let x : e.at.offset.0 < 2 ^ 32 = omega arith in
+    let y : e.at.line.0 < 2 ^ 32 = omega arith in
+    let z : e.at.column.0 < 2 ^ 32 = omega arith in
+    let s : lexical_number e.why < 2 ^ 32 = omega (arith, number_most e.why) in
     some s (some x (some y (some z none)))
 
 -- an ending is said in four words
 pub ending_four : (e : Ending) → length (ending_said e) ≡ 4
 ending_four None = refl
-ending_four (Refused why p) = refl
+ending_four (Some e) = refl
 
 -- ---- a table and its file
 
@@ -191,7 +189,7 @@ pub ending_back : (e : Ending)
     → read_ending (get_or (ending_said e) 0 0) (place (get_or (ending_said e) 1 0) (get_or (ending_said e) 2 0) (get_or (ending_said e) 3 0)) ≡ option.Some e
 unfolding read_ending
 ending_back None = refl
-ending_back (Refused why p) = rw (number_some why) (refused_back why p)
+ending_back (Some e) = rw (number_some e.why) (refused_back e.why e.at)
 
 -- Reading what was written gives back exactly the table, in room for its rows, and every row's words.
 module _ (ws : List ℕ) (t : Table) (well : well_formed ws t ≡ true) (few : t.count ≤ most_rows) (words : Words ws) where

@@ -10,8 +10,8 @@ use borrow.Author.Tests.{eqb-true, eq-eqb, ne_eqb, lt-ltb, le-ltb, not-false}
 use Rattle.laws.proofs.Tests.{both_true}
 use Rattle.rules.specs.declared.Cursor.{Cursor}
 use Rattle.rules.specs.declared.Lexical.{Lexical}
-use Rattle.rules.specs.declared.Ending.{Ending}
-use Rattle.rules.specs.declared.Ending.TheVariants.{None, Refused}
+use Rattle.rules.specs.Outcomes.{Ending, halt}
+use Rattle.std.specs.declared.option.Option.TheVariants.{None, Some}
 use Rattle.rules.specs.declared.Table.{Table}
 use Rattle.rules.specs.Rows.{well_formed, words_per_row}
 use Rattle.rules.specs.Refusals.{lexical_number}
@@ -20,9 +20,8 @@ use Rattle.refusals.proofs.Back.{number_back, number_lexical, reason_again}
 use Rattle.rules_files.specs.declared.Fault.TheVariants.{BadBlock, WrongLength, OtherForm}
 use Rattle.rules_files.specs.Bytes.{words_in}
 use Rattle.rules_files.specs.Blocks.{content_of, sound, blocks_for, file_length, block_bytes}
-use Rattle.rules_files.specs.Files.{most_rows, row_bytes, form_number, said_at, ending_said, read_refused, read_ending, ending_in}
-use Rattle.rules_files.specs.Files.{count_said, length_said, form_said, row_words_in, sound_in, read_told, blocks_told, said_told, load_told}
-use Rattle.rules_files.specs.Files.{said_bytes}
+use Rattle.rules_files.specs.Files.{most_rows, row_bytes, form_number, said_at, ending_said, read_refused, read_ending, ending_in, count_said, length_said, form_said, row_words_in, sound_in, read_told, blocks_told, said_told, load_told, said_bytes}
+use Rattle.rules_files.specs.declared.EndingRead.TheVariants.{Ends, Nothing}
 use Rattle.theory_files.specs.Whole.{Fits, Whole, sound_of, whole_told}
 use Rattle.theory_files.proofs.Whole.{content_said, said_kept}
 use Rattle.theory_files.proofs.Told.{told_whole, whole_told_lem, read_of}
@@ -55,7 +54,7 @@ said_front = said_kept long_fits
 -- ---- the ending that is told
 
 -- a refusal's number is read as that refusal
-pub refused_back : (why : Lexical) (p : Cursor) → read_refused (lexical_number why) p ≡ option.Some (Refused why p)
+pub refused_back : (why : Lexical) (p : Cursor) → read_refused (lexical_number why) p ≡ Some (Some (halt why p))
 unfolding read_refused
 refused_back why p = rw (number_lexical why, number_back why)
 
@@ -64,10 +63,10 @@ pub refused_said : (n : ℕ) (p : Cursor) (e : Ending) → read_refused n p ≡ 
 unfolding read_refused
 refused_said n p e q = go (is_lexical n) refl q
   where
-    go : (b : Bool) → is_lexical n ≡ b → cond b (option.Some (Refused (lexical_of n) p)) option.None ≡ option.Some e
+    go : (b : Bool) → is_lexical n ≡ b → cond b (Some (Some (halt (lexical_of n) p))) None ≡ Some e
         → ending_said e ≡ n ∷ p.offset.0 ∷ p.line.0 ∷ p.column.0 ∷ []
     go true f q =
-        let g : Refused (lexical_of n) p ≡ e = cc in
+        let g : Some (halt (lexical_of n) p) ≡ e = cc in
         rw (← g, reason_again n f)
     go false f q = absurd (let z : ◌≡◌ {A = ℕ} 0 1 = cc in omega arith)
 

@@ -9,7 +9,7 @@ use lib.ListN.{length, take, get_or, set, length-set}
 use lib.Seq.{take-set-le}
 use lib.Dec.{eqb, ltb}
 use borrow.Author.Tests.{eqb-true, eq-eqb, lt-ltb, le-ltb, ltb-true, ltb-false, not-false}
-use Rattle.rules.specs.declared.Ending.{Ending}
+use Rattle.rules.specs.Outcomes.{Ending}
 use Rattle.rules.specs.declared.Outer.TheVariants.{NoRowRoom}
 use Rattle.rules.specs.declared.Table.{Table}
 use Rattle.rules.specs.Rows.{well_formed}

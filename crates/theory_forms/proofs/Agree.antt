@@ -12,8 +12,8 @@ use Rattle.laws.proofs.Tests.{both_true, true_both}
 use Rattle.laws.proofs.Places.{place_eq}
 use Rattle.laws.proofs.Rows.{front_words}
 use Rattle.rules.specs.declared.Cursor.{Cursor}
-use Rattle.rules.specs.declared.Ending.{Ending}
-use Rattle.rules.specs.declared.Ending.TheVariants.{None, Refused}
+use Rattle.rules.specs.Outcomes.{Ending}
+use Rattle.std.specs.declared.option.Option.TheVariants.{None, Some}
 use Rattle.rules.specs.Text.{line_at, column_at, place_at}
 use Rattle.rules.specs.Rows.{row_in, rows_in, row_words, row_place, every, words_per_row}
 use Rattle.rules_forms.specs.Short.{short_row, shortened, placed_row, placed, placed_ending, on_one_line}
@@ -65,4 +65,4 @@ rows_placed text (suc n) ws h e =
 pub ending_placed : (text : List ℕ) (e : Ending) → ending_agrees text e ≡ true → placed_ending (place_at text) (placed_ending on_one_line e) ≡ e
 unfolding ending_agrees on_one_line
 ending_placed text None q = refl
-ending_placed text (Refused why p) q = ap (Refused why) (place_of text p q)
+ending_placed text (Some e) q = ap (λ (p : Cursor). Some (halt e.why p)) (place_of text e.at q)

@@ -10,13 +10,12 @@ use borrow.Author.Tests.{eqb-true, eq-eqb, leb-true, le-leb}
 use Rattle.laws.proofs.Tests.{both_true, true_both}
 use Rattle.laws.proofs.Places.{place_eq}
 use Rattle.rules.specs.declared.Cursor.{Cursor}
-use Rattle.rules.specs.declared.Ending.{Ending}
-use Rattle.rules.specs.declared.Ending.TheVariants.{None, Refused}
+use Rattle.rules.specs.Outcomes.{Ending}
+use Rattle.std.specs.declared.option.Option.TheVariants.{None, Some}
 use Rattle.rules.specs.declared.Table.{Table}
 use Rattle.rules.specs.Text.{most_bytes, place_at}
 use Rattle.rules.specs.Kinds.{is_made}
-use Rattle.rules.specs.Rows.{Row, row_in, rows_in, row_place, every, chained, value_bits, value_fits, spans_fit, place_fits, lines_fit, row_fits}
-use Rattle.rules.specs.Rows.{follows, gap_fits, gaps_fit, last_row, ends_behind, is_eof, eof_last, ending_fits, rows_fit, well_formed, words_per_row}
+use Rattle.rules.specs.Rows.{Row, row_in, rows_in, row_place, every, chained, value_bits, value_fits, spans_fit, place_fits, lines_fit, row_fits, follows, gap_fits, gaps_fit, last_row, ends_behind, is_eof, eof_last, ending_fits, rows_fit, well_formed, words_per_row}
 use Rattle.rules_forms.specs.Short.{short_row, shortened, placed_row, placed, placed_ending, on_one_line}
 use Rattle.theory_edits.proofs.Lines.{place_fits_lem, places_fit}
 use Rattle.theory_forms.proofs.Short.{placed_length, placed_table}
@@ -176,14 +175,14 @@ module _ (n : ℕ) (at : ℕ → Cursor) (l : Lined n at) where
       → (LastBelow n rows) × (ending_fits n (map (relined at) rows) (placed_ending at e) ≡ true)
   unfolding ending_fits
   ending_relined rows None f q = (eof_below n rows q, eof_relined rows ∙ q)
-  ending_relined rows (Refused why p) f q =
-      let a = both_true (every (λ r. not (is_eof r)) rows) ((leb p.offset.0 n && place_fits p) && ends_behind (last_row rows) p) q in
-      let b = both_true (leb p.offset.0 n && place_fits p) (ends_behind (last_row rows) p) a.1 in
-      let c = both_true (leb p.offset.0 n) (place_fits p) b.0 in
-      let h = leb-true p.offset.0 n c.0 in
-      let x : leb (at p.offset.0).offset.0 n ≡ true = rw (l.offset p.offset.0) c.0 in
-      let y = true_both (true_both x (l.fits p.offset.0)) (behind_relined rows p h f b.1) in
-      (behind_below n rows p h f b.1, true_both (plain_relined rows ∙ a.0) y)
+  ending_relined rows (Some e) f q =
+      let a = both_true (every (λ r. not (is_eof r)) rows) ((leb e.at.offset.0 n && place_fits e.at) && ends_behind (last_row rows) e.at) q in
+      let b = both_true (leb e.at.offset.0 n && place_fits e.at) (ends_behind (last_row rows) e.at) a.1 in
+      let c = both_true (leb e.at.offset.0 n) (place_fits e.at) b.0 in
+      let h = leb-true e.at.offset.0 n c.0 in
+      let x : leb (at e.at.offset.0).offset.0 n ≡ true = rw (l.offset e.at.offset.0) c.0 in
+      let y = true_both (true_both x (l.fits e.at.offset.0)) (behind_relined rows e.at h f b.1) in
+      (behind_below n rows e.at h f b.1, true_both (plain_relined rows ∙ a.0) y)
 
   rows_fit_lem : (rows : List Row) (e : Ending) → rows_fit n rows e ≡ true → rows_fit n (map (relined at) rows) (placed_ending at e) ≡ true
   unfolding rows_fit

@@ -10,17 +10,15 @@ use lib.Seq.{take_all, take-add}
 use lib.Dec.{eqb}
 use borrow.Author.Tests.{eqb-true}
 use Rattle.rules.specs.declared.Cursor.{Cursor}
-use Rattle.rules.specs.declared.Ending.{Ending}
-use Rattle.rules.specs.declared.Ending.TheVariants.{None, Refused}
+use Rattle.rules.specs.Outcomes.{Ending}
+use Rattle.std.specs.declared.option.Option.TheVariants.{None, Some}
 use Rattle.rules.specs.declared.Table.{Table}
 use Rattle.rules.specs.Text.{place}
 use Rattle.rules.specs.Rows.{row_in, well_formed, words_per_row}
 use Rattle.rules_files.specs.Bytes.{words_in}
 use Rattle.rules_files.specs.Blocks.{content_of, sound, blocks_for, file_length, block_bytes}
 use Rattle.rules_files.specs.Files.{most_rows, ending_said, said_at, form_said, count_said, length_said, read_refused, read_ending}
-use Rattle.rules_forms.specs.Short.{short_row, shortened, placed_row, placed, placed_ending, on_one_line, short_ending_said, short_said, short_encode}
-use Rattle.rules_forms.specs.Short.{short_ending, short_words_in, short_sound_in, short_table, short_blocks, short_judged, short_bytes}
-use Rattle.rules_forms.specs.Short.{short_said_bytes, short_words, short_number}
+use Rattle.rules_forms.specs.Short.{short_row, shortened, placed_row, placed, placed_ending, on_one_line, short_ending_said, short_said, short_encode, short_ending, short_words_in, short_sound_in, short_table, short_blocks, short_judged, short_bytes, short_said_bytes, short_words, short_number}
 use Rattle.laws.specs.Bounds.{Bytes}
 use Rattle.theory_files.specs.Whole.{Fits, Whole, said_from, words_of, sound_of, whole_told}
 use Rattle.theory_forms.specs.Forms.{RefusedByName}
@@ -77,13 +75,13 @@ content_short = content_said short_fits
 -- the words that say an ending in form 2 are the first two of form 1
 front_said : (e : Ending) → short_ending_said e ≡ take 2 (ending_said e)
 front_said None = refl
-front_said (Refused why p) = refl
+front_said (Some e) = refl
 
 -- an ending keeps its words wherever its place is counted
 pub placed_said : (at : ℕ → Cursor) → ((k : ℕ) → (at k).offset.0 ≡ k) → (e : Ending)
     → short_ending_said (placed_ending at e) ≡ short_ending_said e
 placed_said at o None = refl
-placed_said at o (Refused why p) = rw (o p.offset.0)
+placed_said at o (Some e) = rw (o e.at.offset.0)
 
 -- an ending that is read says the words that it was read from
 pub ending_short : (at : ℕ → Cursor) → ((k : ℕ) → (at k).offset.0 ≡ k) → (file : List ℕ) (e : Ending) → short_ending at file ≡ option.Some e

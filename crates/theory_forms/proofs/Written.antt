@@ -10,16 +10,15 @@ use lib.Seq.{take_all}
 use lib.Dec.{eqb}
 use Rattle.rules.specs.declared.Cursor.{Cursor}
 use Rattle.rules.specs.declared.Lexical.{Lexical}
-use Rattle.rules.specs.declared.Ending.{Ending}
-use Rattle.rules.specs.declared.Ending.TheVariants.{None, Refused}
+use Rattle.rules.specs.Outcomes.{Ending, halt}
+use Rattle.std.specs.declared.option.Option.TheVariants.{None, Some}
 use Rattle.rules.specs.declared.Table.{Table}
 use Rattle.rules.specs.Text.{place}
 use Rattle.rules.specs.Rows.{row_in, well_formed, words_per_row}
 use Rattle.rules.specs.Refusals.{lexical_number}
 use Rattle.refusals.proofs.Back.{number_some}
 use Rattle.rules_files.specs.Files.{form_number, most_rows, ending_said, said_at, form_said, count_said, read_refused, read_ending}
-use Rattle.rules_forms.specs.Short.{short_row, shortened, placed, placed_ending, on_one_line, short_ending_said, short_said, short_encode}
-use Rattle.rules_forms.specs.Short.{short_ending, short_words_in, short_table, short_judged, short_words, short_number}
+use Rattle.rules_forms.specs.Short.{short_row, shortened, placed, placed_ending, on_one_line, short_ending_said, short_said, short_encode, short_ending, short_words_in, short_table, short_judged, short_words, short_number}
 use Rattle.laws.specs.Bounds.{none, some, Words}
 use Rattle.theory_files.specs.Whole.{Whole, Holds, words_of}
 use Rattle.laws.proofs.Bounds.{below_append, below_at, below_drop}
@@ -52,17 +51,17 @@ shortened_length (suc n) ws = let r = shortened_length n (drop words_per_row ws)
 
 ending_words : (e : Ending) → Words (ending_said e) → Words (short_ending_said e)
 ending_words None (some a (some b c)) = some a (some b none)
-ending_words (Refused why p) (some a (some b c)) = some a (some b none)
+ending_words (Some e) (some a (some b c)) = some a (some b none)
 
 -- an ending is said in two words
 pub ending_two : (e : Ending) → length (short_ending_said e) ≡ 2
 ending_two None = refl
-ending_two (Refused why p) = refl
+ending_two (Some e) = refl
 
 -- the words that say an ending are read as that ending, on one line
 refused_one : (why : Lexical) (p : Cursor)
     → cond (eqb (lexical_number why) 0) (read_ending 0 p) (read_refused (lexical_number why) (on_one_line p.offset.0))
-    ≡ option.Some (Refused why (on_one_line p.offset.0))
+    ≡ Some (Some (halt why (on_one_line p.offset.0)))
 refused_one why p = rw (number_some why) (refused_back why (on_one_line p.offset.0))
 
 none_one : read_ending 0 (place 0 0 0) ≡ option.Some None
@@ -120,7 +119,7 @@ module _ (ws : List ℕ) (t : Table) (well : well_formed ws t ≡ true) (few : t
       go : (e : Ending) → cond (eqb (get_or (short_ending_said e) 0 0) 0) (read_ending 0 (place (get_or (short_ending_said e) 1 0) 0 0))
           (read_refused (get_or (short_ending_said e) 0 0) (on_one_line (get_or (short_ending_said e) 1 0))) ≡ option.Some (placed_ending on_one_line e)
       go None = none_one
-      go (Refused why p) = refused_one why (place p.offset.0 0 0)
+      go (Some e) = refused_one e.why (place e.at.offset.0 0 0)
 
   table_is : short_table (short_encode ws t) ≡ Ok (placed_table on_one_line t)
   unfolding short_table

@@ -9,7 +9,8 @@ use lib.ListN.{length}
 use Rattle.rules.specs.declared.Cursor.{Cursor}
 use Rattle.rules.specs.declared.Reason.{Reason}
 use Rattle.rules.specs.declared.Table.{Table}
-use Rattle.rules.specs.declared.Parsed.TheVariants as parsed
+use Rattle.rules.specs.Outcomes.{unparsed}
+use Rattle.std.specs.declared.result.Result.TheVariants.{Ok, Err}
 use Rattle.rules.specs.Tree.{Tree}
 use Rattle.rules.specs.Nodes.{Node, missing, width, nodes_of}
 use Rattle.rules.specs.Grammar.{Program, Is}
@@ -52,7 +53,7 @@ empty_nodes p q h k e b =
 -- a refusal of the probe is what its own parse tells
 pub empty_refused : (prelude pws : List ℕ) (ptable : Table) (text ws : List ℕ) (table : Table) (nodes entries n : ℕ)
     {y : Reason} {at : Cursor} {found : ℕ}
-    → parse_told prelude pws ptable ptable.count ≡ parsed.Nodes n → parse_told text ws table table.count ≡ parsed.Refused y at found
+    → parse_told prelude pws ptable ptable.count ≡ Ok n → parse_told text ws table table.count ≡ Err (unparsed y at found)
     → program_told prelude pws ptable text ws table nodes entries ≡ refused (why.Own y) at found Probe
 unfolding program_told
 empty_refused prelude pws ptable text ws table nodes entries n e f = rw (program_told, e, f) refl

@@ -11,8 +11,10 @@ use borrow.Author.Tests.{ltb-true, ltb-false}
 use Rattle.rules.specs.declared.Cursor.{Cursor}
 use Rattle.rules.specs.declared.Reason.{Reason}
 use Rattle.rules.specs.declared.Table.{Table}
-use Rattle.rules.specs.declared.Parsed.{Parsed}
-use Rattle.rules.specs.declared.Parsed.TheVariants as parsed
+use Rattle.rules.specs.Outcomes.{Parsed, unparsed}
+use Rattle.std.specs.declared.result.Result.TheVariants.{Ok, Err}
+use Rattle.rules.specs.Text.{start_place}
+use Rattle.rules.specs.Rows.{rows_in}
 use Rattle.rules.specs.Tree.{Tree}
 use Rattle.rules.specs.Parse.{Out, ok, parse}
 use Rattle.rules.specs.Calls.{tokens, node_room, reading, parse_told, parse_leaves}
@@ -37,8 +39,8 @@ use Rattle.theory_joint.specs.Joint.{IsProgram, Own, too_long, bad_byte, ends_re
 
 -- what a text's own reading gives: its program, which is what was read, or its refusal
 data Alone (t ws : List ℕ) (table : Table) : Parsed → Type 0 where
-  is_program : {n : ℕ} → IsProgram t (tree_in (reading t ws table)) → table.count ≡ length (rows_of t) → Alone t ws table (parsed.Nodes n)
-  is_refused : {y : Reason} {at : Cursor} {found : ℕ} → Own t y at found → Alone t ws table (parsed.Refused y at found)
+  is_program : {n : ℕ} → IsProgram t (tree_in (reading t ws table)) → table.count ≡ length (rows_of t) → Alone t ws table (Ok n)
+  is_refused : {y : Reason} {at : Cursor} {found : ℕ} → Own t y at found → Alone t ws table (Err (unparsed y at found))
 
 room_of : (n : ℕ) → node_room (replicate (8 * n) 0) ≡ n
 unfolding node_room
@@ -160,7 +162,7 @@ module _ (prelude pws : List ℕ) (ptable : Table) (text ws : List ℕ) (table :
         few_nodes x (omega (arith, ltb-true (node_room nodes) (ptable.count + table.count) f)) (refuses (e ∙ rw (room_told, f) refl))
     by_room false f = by_units f (unit_rows (declared_in 0 0 (declarations p))) refl
 
-  by_probe : IsProgram prelude p → ptable.count ≡ length (rows_of prelude) → (n : ℕ) → parse_told prelude pws ptable ptable.count ≡ parsed.Nodes n
+  by_probe : IsProgram prelude p → ptable.count ≡ length (rows_of prelude) → (n : ℕ) → parse_told prelude pws ptable ptable.count ≡ Ok n
       → (r : Parsed) → parse_told text ws table table.count ≡ r → Alone text ws table r
       → Answers
   unfolding program_told

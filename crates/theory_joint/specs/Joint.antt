@@ -1,8 +1,8 @@
 -- What reading a prelude and a probe as one program answers, in terms of the two texts, the grammar, and what they declare.
-use Rattle.std.specs.Prelude.{ℕ, ◌+◌, ◌*◌, ◌≤◌, ◌<◌, false, List, [], ◌∷◌, ◌++◌, ◌≡◌, length, drop}
+use Rattle.std.specs.Prelude.{ℕ, ◌+◌, ◌*◌, ◌≤◌, ◌<◌, false, List, [], ◌∷◌, ◌++◌, ◌≡◌, length, drop, Some}
 use Rattle.rules.specs.declared.Cursor.{Cursor}
 use Rattle.rules.specs.declared.Lexical.{Lexical}
-use Rattle.rules.specs.declared.Ending.TheVariants as ending
+use Rattle.rules.specs.Outcomes.{halt}
 use Rattle.rules.specs.declared.Outer.TheVariants.{TextTooLong, BadByte, NoNodeRoom}
 use Rattle.rules.specs.declared.Syntax.{Syntax}
 use Rattle.rules.specs.declared.Reason.{Reason}
@@ -37,7 +37,7 @@ pub data Own (t : List ℕ) : Reason → Cursor → ℕ → Type 0 where
   too_long : most_bytes < length t → Own t (reason.Outer TextTooLong) start_place 0
   bad_byte : length t ≤ most_bytes → valid t ≡ false → Own t (reason.Outer BadByte) (place_at t (valid_bytes t)) 0
   -- 11 to 17
-  ends_refused : {why : Lexical} {at : Cursor} → Readable t → read_ending (scan t) ≡ ending.Refused why at → Own t (reason.Lexical why) at 0
+  ends_refused : {why : Lexical} {at : Cursor} → Readable t → read_ending (scan t) ≡ Some (halt why at) → Own t (reason.Lexical why) at 0
   -- 21 to 32
   no_program : {why : Syntax} {row : Row} → ScansFully t → ((p : Tree) → ProgramOf t p → ⊥) → RefusedRow t why row
       → Own t (reason.Syntax why) (row_place row) (found_told why row.kind)

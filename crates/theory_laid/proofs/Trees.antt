@@ -9,10 +9,9 @@ use lib.ListN.{length, take, get_or}
 use borrow.Author.Tests.{eqb-true, eq-eqb}
 use Rattle.rules.specs.declared.Cursor.{Cursor}
 use Rattle.rules.specs.declared.Lexical.{Lexical}
-use Rattle.rules.specs.declared.Ending.{Ending}
-use Rattle.rules.specs.declared.Ending.TheVariants as ending
-use Rattle.rules.specs.declared.Judged.{Judged}
-use Rattle.rules.specs.declared.Judged.TheVariants as verdict
+use Rattle.rules.specs.Outcomes.{Ending, halt, Judged}
+use Rattle.std.specs.declared.option.Option.TheVariants.{None, Some}
+use Rattle.std.specs.declared.result.Result.TheVariants.{Ok, Err}
 use Rattle.rules.specs.Text.{text_judged}
 use Rattle.rules.specs.Kinds.{same_bytes}
 use Rattle.rules.specs.Rows.{words_of}
@@ -48,7 +47,7 @@ whole_0 : (table : List ℕ) → get_or table 0 0 ≡ 0 → is_whole (ending_of 
 unfolding is_whole
 whole_0 table e = rw e
 
-by_number : (b : Bool) (why : Lexical) (p : Cursor) → is_whole (cond b ending.None (ending.Refused why p)) ≡ true → b ≡ true
+by_number : (b : Bool) (why : Lexical) (p : Cursor) → is_whole (cond b None (Some (halt why p))) ≡ true → b ≡ true
 unfolding is_whole
 by_number true why p e = refl
 by_number false why p e = absurd (true≢false (sym e))
@@ -60,10 +59,10 @@ pub length_0 : (table : List ℕ) → get_or table 0 0 ≡ 0 → length_of table
 unfolding length_of is_ending
 length_0 table e = rw e
 
-whole_none : (e : Ending) → is_whole e ≡ true → e ≡ ending.None
+whole_none : (e : Ending) → is_whole e ≡ true → e ≡ None
 unfolding is_whole
-whole_none ending.None h = refl
-whole_none (ending.Refused why p) h = absurd (true≢false (sym h))
+whole_none None h = refl
+whole_none (Some e) h = absurd (true≢false (sym h))
 
 -- ---- a tree
 
@@ -74,7 +73,7 @@ module _ (text rows table nodes : List ℕ) (count : ℕ) where
   -- ---- of the text's tree
 
   module _ (p : Tree) (x : ItsTree text rows table nodes count p) where
-    pub its_fine : text_judged text ≡ verdict.Fine
+    pub its_fine : text_judged text ≡ Ok tt
     its_fine = text_fine text x.scans.readable.fits x.scans.readable.good
 
     its_scan : is_scan text rows (table_of table) ≡ true
@@ -107,12 +106,12 @@ module _ (text rows table nodes : List ℕ) (count : ℕ) where
   -- ---- what passes is the text's tree
 
   scan_of : (j : Judged) → text_judged text ≡ j → is_scanned text rows (table_of table) ≡ true
-      → (text_judged text ≡ verdict.Fine) × (is_scan text rows (table_of table) ≡ true)
+      → (text_judged text ≡ Ok tt) × (is_scan text rows (table_of table) ≡ true)
   unfolding is_scanned
-  scan_of verdict.Fine q e = (q, sym (rw (is_scanned, q)) ∙ e)
-  scan_of (verdict.Refused why p) q e = absurd (true≢false (sym e ∙ rw (is_scanned, q)))
+  scan_of (Ok _) q e = (q, sym (rw (is_scanned, q)) ∙ e)
+  scan_of (Err refusal) q e = absurd (true≢false (sym e ∙ rw (is_scanned, q)))
 
-  is_tree_lem : text_judged text ≡ verdict.Fine → is_scan text rows (table_of table) ≡ true → (u : Tree) (j : ℕ) → reading text ≡ ok u j
+  is_tree_lem : text_judged text ≡ Ok tt → is_scan text rows (table_of table) ≡ true → (u : Tree) (j : ℕ) → reading text ≡ ok u j
       → is_tree u nodes count ≡ true → ItsTree text rows table nodes count u
   unfolding is_scan is_tree tokens_of
   is_tree_lem fine s u j e t =
@@ -124,7 +123,7 @@ module _ (text rows table nodes : List ℕ) (count : ℕ) where
       let b = both_true (many && long) front a.1 in
       let c = both_true many long b.0 in
       let d = both_true (eqb count (size u)) (begins (tree_words 0 u) nodes) t in
-      let ends : read_ending (scan text) ≡ ending.None = whole_none (read_ending (scan text)) w.0 in
+      let ends : read_ending (scan text) ≡ None = whole_none (read_ending (scan text)) w.0 in
       let zero_is : get_or table 0 0 ≡ 0 = 0_whole table w.1 in
       let p = program_of text u j fine ends e in
       record {

@@ -8,8 +8,8 @@ use native.Mathlib.Omega.{arith}
 use lib.Dec.{eqb}
 use lib.ListN.{length, get_or, length-append, length-map}
 use borrow.Author.Tests.{eqb-true, eqb-false, eq-eqb}
-use Rattle.rules.specs.declared.Judged.TheVariants.{Fine}
-use Rattle.rules.specs.declared.Ending.TheVariants.{None}
+use Rattle.std.specs.declared.result.Result.TheVariants.{Ok}
+use Rattle.std.specs.declared.option.Option.TheVariants.{None}
 use Rattle.rules.specs.Text.{most_bytes, place_at, text_judged, valid}
 use Rattle.rules.specs.Kinds.{Eof}
 use Rattle.rules.specs.Scan.{scan, read, read_rows, read_ending}
@@ -92,7 +92,7 @@ no_bytes [] = refl
 no_bytes (x ∷ xs) = ap (λ (l : List ℕ). row_bytes x ++ l) (no_bytes xs)
 
 -- a program's declarations
-module _ (t : List ℕ) (l : Tree) (fine : text_judged t ≡ Fine) (ends : read_ending (scan t) ≡ None) (e : tokens_of t ≡ yield (program l))
+module _ (t : List ℕ) (l : Tree) (fine : text_judged t ≡ Ok tt) (ends : read_ending (scan t) ≡ None) (e : tokens_of t ≡ yield (program l))
     (is : Is true Decls 64 l) (short : length (layout (program l)) ≤ most_bytes) where
   long : length t ≤ most_bytes
   long = (fine_text t fine).0
@@ -147,25 +147,25 @@ by_program : (C : Tree → Type 0) {d : ℕ} (u : Tree) → ((l : Tree) → Is t
 by_program C u f (i_program {l = l} h) = f l h
 
 -- the tokens of a text that scans to its end have one Eof, the last
-pub text_whole : (t : List ℕ) → text_judged t ≡ Fine → read_ending (scan t) ≡ None → Whole (tokens_of t)
+pub text_whole : (t : List ℕ) → text_judged t ≡ Ok tt → read_ending (scan t) ≡ None → Whole (tokens_of t)
 unfolding tokens tokens_of
 text_whole t fine ends = let r : Ready t (scan t) = scanned_good t (fine_text t fine).1 ends in whole t r.toks r.same r.good
 
 -- what is read of them is their program
-pub program_of : (t : List ℕ) (u : Tree) (j : ℕ) → text_judged t ≡ Fine → read_ending (scan t) ≡ None → reading t ≡ ok u j
+pub program_of : (t : List ℕ) (u : Tree) (j : ℕ) → text_judged t ≡ Ok tt → read_ending (scan t) ≡ None → reading t ≡ ok u j
     → Is true Program 64 u × (tokens_of t ≡ yield u)
 unfolding reading tokens_of
 program_of t u j fine ends e = let x = parse_whole (tokens_of t) u j (text_whole t fine ends) e in (x.0, x.1)
 
 -- For every text that parses the layout reads back.
-pub read_back : (t : List ℕ) (u : Tree) (j : ℕ) → text_judged t ≡ Fine → read_ending (scan t) ≡ None → reading t ≡ ok u j
+pub read_back : (t : List ℕ) (u : Tree) (j : ℕ) → text_judged t ≡ Ok tt → read_ending (scan t) ≡ None → reading t ≡ ok u j
     → length (layout u) ≤ most_bytes → ReadsBack t u
 read_back t u j fine ends e short =
     let h = program_of t u j fine ends e in
     by_program (λ u. tokens_of t ≡ yield u → length (layout u) ≤ most_bytes → ReadsBack t u) u (λ l i f s. reads_back t l fine ends f i s) h.0 h.1 short
 
 -- Laid out twice it is the same bytes.
-pub laid_again : (t : List ℕ) (u : Tree) (j : ℕ) → text_judged t ≡ Fine → read_ending (scan t) ≡ None → reading t ≡ ok u j
+pub laid_again : (t : List ℕ) (u : Tree) (j : ℕ) → text_judged t ≡ Ok tt → read_ending (scan t) ≡ None → reading t ≡ ok u j
     → length (layout u) ≤ most_bytes → (v : Tree) (k : ℕ) → reading (layout u) ≡ ok v k → layout v ≡ layout u
 laid_again t u j fine ends e short v k f =
     let b : ReadsBack t u = read_back t u j fine ends e short in

@@ -10,8 +10,8 @@ use lib.ListN.{length, take, drop, length-append}
 use lib.Seq.{take-append_seam, drop-append_seam}
 use borrow.Author.Tests.{ne_eqb}
 use Rattle.rules.specs.declared.Cursor.{Cursor}
-use Rattle.rules.specs.declared.Ending.{Ending}
-use Rattle.rules.specs.declared.Ending.TheVariants.{None}
+use Rattle.rules.specs.Outcomes.{Ending}
+use Rattle.std.specs.declared.option.Option.TheVariants.{None}
 use Rattle.rules.specs.Text.{byte, is_blank, place_at, valid}
 use Rattle.rules.specs.Kinds.{Identifier, StringLiteral, Number, Eof}
 use Rattle.rules.specs.Rows.{Row, row_at, eof_row, spelling, value_bits}

@@ -10,8 +10,8 @@ use lib.ListN.{length, take, drop, get_or, length-drop, take-append-drop}
 use lib.Seq.{drop-drop, take-add, length-take-le, get_or-take}
 use borrow.Author.Tests.{eqb-true}
 use Rattle.rules.specs.declared.Cursor.{Cursor}
-use Rattle.rules.specs.declared.Ending.TheVariants as ending
-use Rattle.rules.specs.declared.Ending.TheVariants.{None}
+use Rattle.rules.specs.Outcomes.{halt}
+use Rattle.std.specs.declared.option.Option.TheVariants.{None, Some}
 use Rattle.rules.specs.declared.Lexical.{Lexical}
 use Rattle.rules.specs.Text.{front, place_at, valid}
 use Rattle.rules.specs.Kinds.{Identifier, StringLiteral, Number, Eof, reserved, kind_in}
@@ -185,7 +185,7 @@ eof_token : (t : List ℕ) (p : Cursor) (c : ℕ) → tok_of t (eof_row p c) ≡
 unfolding tok_of eof_row row_at
 eof_token t p c = refl
 
-not_none : {why : Lexical} {p : Cursor} → ending.Refused why p ≡ None → ⊥
+not_none : {why : Lexical} {p : Cursor} → Some (halt why p) ≡ None → ⊥
 not_none e = let z : ◌≡◌ {A = ℕ} 0 1 = cc in absurd (omega arith)
 
 module _ (t : List ℕ) (v : valid t ≡ true) where

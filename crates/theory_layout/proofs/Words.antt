@@ -6,8 +6,8 @@ use Prim.Native.Nat.{ℕ, zero, suc, ◌*◌, ◌≤◌, ◌<◌}
 use native.Mathlib.Omega.{arith}
 use lib.Dec.{eqb}
 use lib.ListN.{length, get_or, take, drop, take-append-drop}
-use Rattle.rules.specs.declared.Judged.TheVariants.{Fine}
-use Rattle.rules.specs.declared.Ending.TheVariants.{None}
+use Rattle.std.specs.declared.result.Result.TheVariants.{Ok}
+use Rattle.std.specs.declared.option.Option.TheVariants.{None}
 use Rattle.rules.specs.Text.{most_bytes, text_judged}
 use Rattle.rules.specs.Kinds.{Identifier, StringLiteral, Number, Eof}
 use Rattle.rules.specs.Rows.{Row, row_no, rows_in, words_of, spelling, value_bits}
@@ -119,7 +119,7 @@ module _ (t ws nodes : List ℕ) (u : Tree) (long : length t ≤ most_bytes) (sa
       (λ r. spelling t (row_no ws r)) (rows_spelled t ws (length (read_rows (scan t)))) u (toks_are ∙ same)
 
 -- Rows and nodes that begin with those of a text's tree, and such as begin with those of its layout's, have the same faces.
-pub same_in_words : (t : List ℕ) (u : Tree) (j : ℕ) → text_judged t ≡ Fine → read_ending (scan t) ≡ None → reading t ≡ ok u j
+pub same_in_words : (t : List ℕ) (u : Tree) (j : ℕ) → text_judged t ≡ Ok tt → read_ending (scan t) ≡ None → reading t ≡ ok u j
     → length (layout u) ≤ most_bytes → (ws nodes ws' nodes' : List ℕ)
     → take (8 * length (read_rows (scan t))) ws ≡ words_of (read_rows (scan t)) → take (8 * size u) nodes ≡ tree_words 0 u
     → take (8 * length (read_rows (scan (layout u)))) ws' ≡ words_of (read_rows (scan (layout u)))

@@ -1,7 +1,5 @@
 -- Reading back: "a tree with the same kinds, children, spellings and facts; only places, name rows and the licence's row number may differ".
-use Rattle.std.specs.Prelude.{◌≡◌, cond, List, [], ◌∷◌, map, ℕ, zero, suc, eqb, get_or, length, drop}
-use Rattle.rules.specs.declared.Judged.TheVariants.{Fine}
-use Rattle.rules.specs.declared.Ending.TheVariants.{None}
+use Rattle.std.specs.Prelude.{◌≡◌, cond, List, [], ◌∷◌, map, ℕ, zero, suc, eqb, get_or, length, drop, Ok, None}
 use Rattle.rules.specs.Text.{text_judged}
 use Rattle.rules.specs.Kinds.{Eof}
 use Rattle.rules.specs.Rows.{row_no, spelling}
@@ -106,7 +104,7 @@ faces_in t ws n nodes = map (face_by (λ r. spelling t (row_no ws r))) (nodes_in
 
 -- The layout of the tree u of a text t is a text, scans to its end, reads as the tree that was written, and its nodes have the same faces.
 pub record ReadsBack (t : List ℕ) (u : Tree) : Type 0 where
-  pub fine : text_judged (layout u) ≡ Fine
+  pub fine : text_judged (layout u) ≡ Ok tt
   pub whole : read_ending (scan (layout u)) ≡ None
   pub reads : reading (layout u) ≡ ok (laid u) (length (tokens_of (layout u)))
   pub same : faces (tokens_of (layout u)) (laid u) ≡ faces (tokens_of t) u

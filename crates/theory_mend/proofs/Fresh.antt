@@ -11,7 +11,7 @@ use borrow.Author.Tests.{eqb-true, eq-eqb}
 use Rattle.laws.proofs.Tests.{true_both}
 use Rattle.laws.proofs.Valid.{fine_text}
 use Rattle.laws.proofs.Rows.{words_length}
-use Rattle.rules.specs.declared.Judged.TheVariants as verdict
+use Rattle.std.specs.declared.result.Result.TheVariants.{Ok}
 use Rattle.rules.specs.declared.Table.{Table}
 use Rattle.rules.specs.Text.{place_at, text_judged}
 use Rattle.rules.specs.Rows.{words_per_row, rows_in, row_at, eof_row, row_place, every, well_formed}
@@ -67,7 +67,7 @@ pub record Holds (text file : List ℕ) : Type 0 where
   pub beside : table_beside text file table ≡ fresh_table text
   pub rows : rows_beside text file ≡ fresh_words text
 
-module _ (text : List ℕ) (fine : text_judged text ≡ verdict.Fine) where
+module _ (text : List ℕ) (fine : text_judged text ≡ Ok tt) where
   scanned : Scanned text (fresh_words text) (fresh_table text)
   unfolding fresh_words fresh_table
   scanned = record { fits = (fine_text text fine).0; spare = []; words = sym (append-nil _); told = refl }

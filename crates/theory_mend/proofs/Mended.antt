@@ -13,10 +13,9 @@ use Rattle.laws.proofs.Tests.{neither}
 use Rattle.laws.proofs.Rows.{scan_told_lem, scan_leaves_lem, told_all, laid_all}
 use Rattle.laws.proofs.Lists.{empty, part_front}
 use Rattle.rules.specs.declared.Cursor.{Cursor}
-use Rattle.rules.specs.declared.Judged.{Judged}
-use Rattle.rules.specs.declared.Judged.TheVariants as verdict
+use Rattle.rules.specs.Outcomes.{Judged}
+use Rattle.std.specs.declared.result.Result.TheVariants.{Ok, Err}
 use Rattle.rules.specs.declared.Outer.TheVariants.{NoRowRoom}
-use Rattle.rules.specs.declared.Told.TheVariants as told
 use Rattle.rules.specs.Text.{start_place, text_judged}
 use Rattle.rules.specs.Rows.{words_per_row}
 use Rattle.rules.specs.Scan.{read_rows, read_ending, scan, room_of, scan_told, scan_leaves}
@@ -27,8 +26,7 @@ use Rattle.rules_files.specs.Files.{most_rows, form_number, form_said, load_told
 use Rattle.rules_forms.specs.Forms.{is_form, beside_judged, beside_told, beside_leaves, encode_in}
 use Rattle.rules_mend.specs.Mend.{fresh_table, fresh_words, fresh_file, listed, too_small, fresh_told, mend_told, mend_leaves, list_leaves}
 use Rattle.theory_files.proofs.Files.{stored_read, stored_words}
-use Rattle.theory_mend.specs.Mended.{IsMended, left, ReadsBack, IsRight, NothingAgain, Untouched, RestStays}
-use Rattle.theory_mend.specs.Mended.{block_at, Member, ListTells, HasRoom}
+use Rattle.theory_mend.specs.Mended.{IsMended, left, ReadsBack, IsRight, NothingAgain, Untouched, RestStays, block_at, Member, ListTells, HasRoom}
 use Rattle.theory_mend.proofs.Listed.{listed_exactly, cut_listed, listed_ascending, listed_none, none_right, unlisted, listed_most}
 use Rattle.theory_mend.proofs.Fresh.{Holds, fresh_whole, fresh_well, fresh_words_lem, fresh_size, fresh_agrees, fresh_says, fresh_holds}
 use Rattle.std.specs.Prelude.{Ok, Result, Err}
@@ -40,7 +38,7 @@ use Rattle.rules_mend.specs.declared.NotMended.{NotMended}
 -- What holds where a mending is told, and nothing else must.
 pub record MendOf (text : List ℕ) (form : ℕ) (memory : List ℕ) (n : ℕ) (list : List ℕ) (size count : ℕ) : Type 0 where
   pub known : is_form form ≡ true
-  pub fine : text_judged text ≡ verdict.Fine
+  pub fine : text_judged text ≡ Ok tt
   pub few : (fresh_table text).count ≤ most_rows
   pub room : length (fresh_file form text) ≤ length memory
   pub held : n ≤ length memory
@@ -76,12 +74,12 @@ mend_of text form memory n list size count m =
     go : (v : Judged) → text_judged text ≡ v
         → (not (is_form form) ≡ false)
         × (elim v as (λ _. Result Mended NotMended) [
-          | verdict.Fine ↦ fresh_told (fresh_file form text) (fresh_table text).count memory n list
-          | verdict.Refused why p ↦ Err (record { why = Outer why; at = p })
+          | Ok _ ↦ fresh_told (fresh_file form text) (fresh_table text).count memory n list
+          | Err e ↦ Err (record { why = Outer e.why; at = e.at })
         ] ≡ Ok (record { bytes = size; listed = count }))
         → MendOf text form memory n list size count
-    go (verdict.Refused why p) f a = absurd (let z : ◌≡◌ {A = ℕ} 0 1 = cc in omega arith)
-    go verdict.Fine f a =
+    go (Err e) f a = absurd (let z : ◌≡◌ {A = ℕ} 0 1 = cc in omega arith)
+    go (Ok _) f a =
         let fresh = fresh_file form text in
         let found = listed (fresh_file form text) (take n memory) in
         let rows = (fresh_table text).count in
@@ -198,7 +196,7 @@ module _ (text : List ℕ) (form : ℕ) (memory : List ℕ) (n : ℕ) (list : Li
   holds : Holds text (fresh_file form text)
   holds = fresh_holds text is_mended.fine is_mended.few form
 
-  scans : (room : ℕ) → (fresh_table text).count ≤ room → scan_told text room ≡ told.Rows (fresh_table text)
+  scans : (room : ℕ) → (fresh_table text).count ≤ room → scan_told text room ≡ Ok (fresh_table text)
   unfolding fresh_table
   scans room h = scan_told_lem text is_mended.fine room ∙ told_all (length text) room (read_rows (scan text)) (read_ending (scan text)) h
 
@@ -360,7 +358,7 @@ mended_few text form memory n list size count m =
 
 -- So with room for that many a mending is never refused with 4.
 pub room_enough : (text : List ℕ) (form : ℕ) (memory : List ℕ) (n : ℕ) (list : List ℕ) → is_form form ≡ true
-    → text_judged text ≡ verdict.Fine → (fresh_table text).count ≤ most_rows → HasRoom text form memory n list
+    → text_judged text ≡ Ok tt → (fresh_table text).count ≤ most_rows → HasRoom text form memory n list
     → IsMended text form memory n list (length (fresh_file form text)) (length (listed (fresh_file form text) (take n memory)))
 room_enough text form memory n list known fine few r =
     record {

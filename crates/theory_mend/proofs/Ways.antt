@@ -5,7 +5,8 @@ use mathlib.Core.List.{List}
 use Prim.Native.Nat.{ℕ, ◌≤◌, ◌<◌}
 use borrow.Author.Tests.{lt-ltb, le-ltb}
 use Rattle.rules.specs.declared.Cursor.{Cursor}
-use Rattle.rules.specs.declared.Judged.TheVariants as verdict
+use Rattle.rules.specs.Outcomes.{unfit}
+use Rattle.std.specs.declared.result.Result.TheVariants.{Ok, Err}
 use Rattle.rules.specs.declared.Outer.{Outer}
 use Rattle.rules.specs.declared.Outer.TheVariants.{NoRowRoom}
 use Rattle.rules.specs.Text.{start_place, text_judged}
@@ -23,12 +24,12 @@ module _ (text : List ℕ) (form : ℕ) (memory : List ℕ) (n : ℕ) (list : Li
 
   module _ (known : is_form form ≡ true) where
     -- 1 and 2
-    pub told_text : (why : Outer) (p : Cursor) → text_judged text ≡ verdict.Refused why p
-        → mend_told text form memory n list ≡ Err (record { why = fault.Outer why; at = p })
+    pub told_text : (e : Unfit) → text_judged text ≡ Err e
+        → mend_told text form memory n list ≡ Err (record { why = fault.Outer e.why; at = e.at })
     unfolding mend_told
     told_text why p e = rw (mend_told, known, e)
 
-    module _ (fine : text_judged text ≡ verdict.Fine) where
+    module _ (fine : text_judged text ≡ Ok tt) where
       -- 40
       pub told_many : most_rows < (fresh_table text).count → mend_told text form memory n list ≡ Err (record { why = fault.TooManyRows; at = start_place })
       unfolding mend_told fresh_told

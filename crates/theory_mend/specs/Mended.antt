@@ -1,7 +1,5 @@
 -- What is claimed of a file that was mended, and of the blocks that are listed.
 use Rattle.std.specs.Prelude.{◌≡◌, true, List, [], ◌∷◌, ℕ, ◌+◌, ◌*◌, ◌/◌, ◌≤◌, ◌<◌, length, take, drop, Ok}
-use Rattle.rules.specs.declared.Judged.TheVariants as verdict
-use Rattle.rules.specs.declared.Told.TheVariants as told
 use Rattle.rules.specs.Text.{text_judged}
 use Rattle.rules.specs.Scan.{room_of, scan_told, scan_leaves}
 use Rattle.rules_files.specs.Blocks.{block_bytes}
@@ -21,7 +19,7 @@ left text form memory n list size = take size (mend_leaves text form memory n li
 -- all rows; it says "the form asked for"
 pub record ReadsBack (text : List ℕ) (form : ℕ) (file : List ℕ) : Type 0 where
   pub said : form_said file ≡ form
-  pub scanned : (room : ℕ) → (fresh_table text).count ≤ room → scan_told text room ≡ told.Rows (fresh_table text)
+  pub scanned : (room : ℕ) → (fresh_table text).count ≤ room → scan_told text room ≡ Ok (fresh_table text)
   pub beside : (room : ℕ) → (fresh_table text).count ≤ room → beside_told text file room ≡ Ok (fresh_table text)
   pub rows_beside : (ws : List ℕ) → (fresh_table text).count ≤ room_of ws → beside_leaves text file ws ≡ scan_leaves text ws
   pub alone : form ≡ form_number → (room : ℕ) → (fresh_table text).count ≤ room → load_told file room ≡ Ok (fresh_table text)
@@ -30,7 +28,7 @@ pub record ReadsBack (text : List ℕ) (form : ℕ) (file : List ℕ) : Type 0 w
 -- "A file equal to the fresh scan's in that form": the first n bytes of memory, of a text that has such a file
 pub record IsRight (text : List ℕ) (form : ℕ) (memory : List ℕ) (n : ℕ) : Type 0 where
   pub known : is_form form ≡ true
-  pub fine : text_judged text ≡ verdict.Fine
+  pub fine : text_judged text ≡ Ok tt
   pub few : (fresh_table text).count ≤ most_rows
   pub held : n ≤ length memory
   pub file : take n memory ≡ fresh_file form text

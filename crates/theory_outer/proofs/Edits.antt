@@ -10,8 +10,7 @@ use mathlib.Core.Path.{◌≡◌, refl, ap, sym, ◌∙◌}
 use lib.ListN.{length, take, drop, get_or}
 use lib.Seq.{take_at}
 use Rattle.rules.specs.declared.Table.{Table}
-use Rattle.rules.specs.declared.Told.{Told}
-use Rattle.rules.specs.declared.Told.TheVariants.{Rows}
+use Rattle.rules.specs.Outcomes.{Told}
 use Rattle.rules.specs.Text.{start_place}
 use Rattle.rules.specs.Rows.{Row, words_of}
 use Rattle.rules.specs.Scan.{read_rows, read_ending, scan, room_of, scan_told, scan_leaves}

@@ -6,8 +6,10 @@ use mathlib.Core.List.{List}
 use mathlib.Core.Path.{◌≡◌, refl, ap, sym, ◌∙◌}
 use lib.ListN.{length, get_or, set}
 use borrow.Author.Tests.{le-ltb}
-use Rattle.rules.specs.declared.Ending.{Ending}
-use Rattle.rules.specs.declared.Ending.TheVariants as ending
+use Rattle.rules.specs.Outcomes.{Ending, halt}
+use Rattle.std.specs.declared.option.Option.TheVariants.{None, Some}
+use Rattle.rules.specs.declared.Lexical.{Lexical}
+use Rattle.rules.specs.declared.Cursor.{Cursor}
 use Rattle.rules.specs.declared.Lexical.TheVariants as lexical
 use Rattle.rules.specs.declared.Outer.TheVariants as outer
 use Rattle.rules.specs.Text.{start_place}
@@ -23,8 +25,7 @@ use Rattle.rules_files.specs.Blocks.{block_bytes, file_length}
 use Rattle.rules_files.specs.Files.{fault_number, most_rows, row_bytes, encode, store_told, store_leaves, load_told, load_leaves}
 use Rattle.laws.specs.Bounds.{Bytes, Words}
 use Rattle.theory_files.proofs.Said.{reads_of}
-use Rattle.theory_files.proofs.Files.{read_left, encode_length, changed_told, stored_changed, stored_of, stored_file}
-use Rattle.theory_files.proofs.Files.{store_written, store_untouched, load_untouched}
+use Rattle.theory_files.proofs.Files.{read_left, encode_length, changed_told, stored_changed, stored_of, stored_file, store_written, store_untouched, load_untouched}
 use Rattle.answers.specs.Layout.{words, ending_words, is_ending, table_of}
 use Rattle.file_answers.specs.Layout.{stored_words, loaded_words}
 use Rattle.spoonharbor.specs.OuterFiles.{OuterStored, file_of, OuterFile, OuterLends}
@@ -112,14 +113,17 @@ store_refused {rows} {table} {lent} {answer} s ne = (store_says s).1 ∙ by (sto
 -- a table's number is an ending's
 pub ending_told : (k n : ℕ) (e : Ending) → is_ending (get_or (ending_words k n e) 0 0) ≡ true
 unfolding is_ending
-ending_told k n ending.None = refl
-ending_told k n (ending.Refused lexical.NoRowBegins p) = refl
-ending_told k n (ending.Refused lexical.LoneSign p) = refl
-ending_told k n (ending.Refused lexical.NoHexDigit p) = refl
-ending_told k n (ending.Refused lexical.OpenComment p) = refl
-ending_told k n (ending.Refused lexical.OpenString p) = refl
-ending_told k n (ending.Refused lexical.BadEscape p) = refl
-ending_told k n (ending.Refused lexical.NumberTooLarge p) = refl
+ending_told k n None = refl
+ending_told k n (Some z) = case z.why z.at
+  where
+    case : (why : Lexical) (p : Cursor) → is_ending (get_or (ending_words k n (Some (halt why p))) 0 0) ≡ true
+    case lexical.NoRowBegins p = refl
+    case lexical.LoneSign p = refl
+    case lexical.NoHexDigit p = refl
+    case lexical.OpenComment p = refl
+    case lexical.OpenString p = refl
+    case lexical.BadEscape p = refl
+    case lexical.NumberTooLarge p = refl
 
 -- and no fault's is
 pub no_ending : (why : Fault) → is_ending (fault_number why) ≡ false

@@ -11,11 +11,10 @@ use lib.ListN.{length, take, drop, get_or}
 use lib.Seq.{take_at, take-append_seam}
 use borrow.Author.Tests.{eqb-false}
 use Rattle.rules.specs.declared.Cursor.{Cursor}
-use Rattle.rules.specs.declared.Ending.{Ending}
-use Rattle.rules.specs.declared.Ending.TheVariants as ending
+use Rattle.rules.specs.Outcomes.{Ending, halt, Told}
+use Rattle.std.specs.declared.option.Option.TheVariants.{None, Some}
 use Rattle.rules.specs.declared.Lexical.{Lexical}
 use Rattle.rules.specs.declared.Table.{Table}
-use Rattle.rules.specs.declared.Told.{Told}
 use Rattle.rules.specs.Text.{most_bytes, place_at}
 use Rattle.rules.specs.Refusals.{lexical_number}
 use Rattle.rules.specs.Rows.{words_of}
@@ -87,7 +86,7 @@ number_of_lem e = ap (λ (l : List ℕ). get_or l 0 0) e
 no_number : (why : Lexical) → lexical_number why ≡ 0 → ⊥
 no_number why = eqb-false (lexical_number why) 0 (number_some why)
 
-none_refused : {why : Lexical} {at : Cursor} → ending.None ≡ ending.Refused why at → ⊥
+none_refused : {why : Lexical} {at : Cursor} → None ≡ Some (halt why at) → ⊥
 none_refused e = let z : ◌≡◌ {A = ℕ} 0 1 = cc in omega arith
 
 module _ {text lent table rows : List ℕ} (s : ScanCall text lent table rows) {new told nodes : List ℕ}

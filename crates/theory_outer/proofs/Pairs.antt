@@ -9,12 +9,13 @@ use mathlib.Core.Logic.{◌↔◌}
 use mathlib.Core.Path.{◌≡◌, refl, ap, sym, subst, ◌∙◌}
 use lib.ListN.{length, take, drop, get_or}
 use lib.Seq.{take_at}
-use Rattle.rules.specs.declared.Ending.{Ending}
-use Rattle.rules.specs.declared.Ending.TheVariants as ending
+use Rattle.rules.specs.Outcomes.{Ending, halt, Told}
+use Rattle.std.specs.declared.option.Option.TheVariants.{None, Some}
+use Rattle.rules.specs.declared.Lexical.{Lexical}
+use Rattle.rules.specs.declared.Cursor.{Cursor}
 use Rattle.rules.specs.declared.Lexical.TheVariants as lexical
 use Rattle.rules.specs.declared.Table.{Table}
-use Rattle.rules.specs.declared.Told.{Told}
-use Rattle.rules.specs.declared.Told.TheVariants.{Rows}
+use Rattle.std.specs.declared.result.Result.TheVariants.{Ok}
 use Rattle.rules.specs.Text.{valid}
 use Rattle.rules.specs.Rows.{words_of}
 use Rattle.rules.specs.Scan.{read_rows, scan, room_of, scan_told, scan_leaves}
@@ -73,16 +74,19 @@ module _ {t : List ℕ} {e : Edit} (h : Lies e t) {rows table : List ℕ} (g : O
 -- a table's number is 0 or 11 to 17
 ending_is : (k n : ℕ) (e : Ending) → is_ending (get_or (ending_words k n e) 0 0) ≡ true
 unfolding is_ending
-ending_is k n ending.None = refl
-ending_is k n (ending.Refused lexical.NoRowBegins p) = refl
-ending_is k n (ending.Refused lexical.LoneSign p) = refl
-ending_is k n (ending.Refused lexical.NoHexDigit p) = refl
-ending_is k n (ending.Refused lexical.OpenComment p) = refl
-ending_is k n (ending.Refused lexical.OpenString p) = refl
-ending_is k n (ending.Refused lexical.BadEscape p) = refl
-ending_is k n (ending.Refused lexical.NumberTooLarge p) = refl
+ending_is k n None = refl
+ending_is k n (Some z) = case z.why z.at
+  where
+    case : (why : Lexical) (p : Cursor) → is_ending (get_or (ending_words k n (Some (halt why p))) 0 0) ≡ true
+    case lexical.NoRowBegins p = refl
+    case lexical.LoneSign p = refl
+    case lexical.NoHexDigit p = refl
+    case lexical.OpenComment p = refl
+    case lexical.OpenString p = refl
+    case lexical.BadEscape p = refl
+    case lexical.NumberTooLarge p = refl
 
-table_is : (table : Table) → is_ending (get_or (told_words (Rows table)) 0 0) ≡ true
+table_is : (table : Table) → is_ending (get_or (told_words (Ok table)) 0 0) ≡ true
 table_is table = ending_is table.count table.length table.ending
 
 -- what is told of a valid text is not 2
@@ -97,7 +101,7 @@ pub table_exactly : {t lent new answer : List ℕ} → OuterLent t lent new answ
 table_exactly {t} {lent} {new} {answer} g = (
   λ h. record { fits = (lent_scanned g h).fits; good = lent_valid g h; room = lent_room g h },
   λ p.
-      let f : answer ≡ told_words (Rows (scanned.table_of t))
+      let f : answer ≡ told_words (Ok (scanned.table_of t))
       = g.told ∙ ap (λ (x : Told). told_words x) (scan_rows t (room_of lent) (record { fits = p.fits; good = p.good }) p.room) in
       ap (λ (ws : List ℕ). is_ending (get_or ws 0 0)) f ∙ table_is (scanned.table_of t),
 )

@@ -7,10 +7,10 @@ use mathlib.Core.Path.{◌≡◌, refl, ap, sym, ◌∙◌}
 use lib.Dec.{eqb, ltb}
 use lib.ListN.{length, get_or}
 use borrow.Author.Tests.{le-ltb}
-use Rattle.rules.specs.declared.Ending.{Ending}
-use Rattle.rules.specs.declared.Ending.TheVariants as ending
-use Rattle.rules.specs.declared.Judged.{Judged}
-use Rattle.rules.specs.declared.Judged.TheVariants as verdict
+use Rattle.rules.specs.Outcomes.{Ending, halt, Judged, unfit}
+use Rattle.std.specs.declared.option.Option.TheVariants.{None, Some}
+use Rattle.std.specs.declared.result.Result.TheVariants.{Ok, Err}
+use Rattle.rules.specs.declared.Lexical.{Lexical}
 use Rattle.rules.specs.declared.Lexical.TheVariants as lexical
 use Rattle.rules.specs.declared.Cursor.{Cursor}
 use Rattle.rules.specs.declared.Outer.{Outer}
@@ -53,23 +53,26 @@ out_5 ws (no syntax.TooDeep r) e = omega arith
 ending_5 : (t ws : List ℕ) (table : Table) (z : Ending) (room : ℕ) → table.count ≤ room
     → get_or (parsed_words (ending_told t ws table z room)) 0 0 ≡ 5 → ⊥
 unfolding ending_told
-ending_5 t ws table ending.None room h e = out_5 ws (reading t ws table) (rw (le-ltb room table.count h) at e)
-ending_5 t ws table (ending.Refused lexical.NoRowBegins p) room h e = omega arith
-ending_5 t ws table (ending.Refused lexical.LoneSign p) room h e = omega arith
-ending_5 t ws table (ending.Refused lexical.NoHexDigit p) room h e = omega arith
-ending_5 t ws table (ending.Refused lexical.OpenComment p) room h e = omega arith
-ending_5 t ws table (ending.Refused lexical.OpenString p) room h e = omega arith
-ending_5 t ws table (ending.Refused lexical.BadEscape p) room h e = omega arith
-ending_5 t ws table (ending.Refused lexical.NumberTooLarge p) room h e = omega arith
+ending_5 t ws table None room h e = out_5 ws (reading t ws table) (rw (le-ltb room table.count h) at e)
+ending_5 t ws table (Some z) room h e = case z.why z.at e
+  where
+    case : (why : Lexical) (p : Cursor) → get_or (parsed_words (ending_told t ws table (Some (halt why p)) room)) 0 0 ≡ 5 → ⊥
+    case lexical.NoRowBegins p e = omega arith
+    case lexical.LoneSign p e = omega arith
+    case lexical.NoHexDigit p e = omega arith
+    case lexical.OpenComment p e = omega arith
+    case lexical.OpenString p e = omega arith
+    case lexical.BadEscape p e = omega arith
+    case lexical.NumberTooLarge p e = omega arith
 
 -- a text and its table are refused with 1, 2 or 3
 module _ (t ws : List ℕ) (table : Table) (room : ℕ) where
-  refused_number : {why : Outer} {p : Cursor} → judged t ws table ≡ verdict.Refused why p
+  refused_number : {why : Outer} {p : Cursor} → judged t ws table ≡ Err (unfit why p)
       → get_or (parsed_words (parse_told t ws table room)) 0 0 ≡ outer_number why
   unfolding parse_told
   refused_number j = rw (parse_told, j)
 
-  read_number : judged t ws table ≡ verdict.Fine → parse_told t ws table room ≡ ending_told t ws table table.ending room
+  read_number : judged t ws table ≡ Ok tt → parse_told t ws table room ≡ ending_told t ws table table.ending room
   unfolding parse_told
   read_number j = rw (parse_told, j)
 
@@ -81,10 +84,10 @@ module _ (t ws : List ℕ) (table : Table) (room : ℕ) where
       by v q (long l) b w = let k = sym (refused_number (judged_text t ws table q)) ∙ e in omega (arith, k)
       by v q (bad l f) b w = let k = sym (refused_number (judged_text t ws table q)) ∙ e in omega (arith, k)
       by v q (fine l f) true w =
-          let j : judged t ws table ≡ verdict.Fine = rw (judged, q) (rw w) in
+          let j : judged t ws table ≡ Ok tt = rw (judged, q) (rw w) in
           ending_5 t ws table table.ending room h (rw (read_number j) at e)
       by v q (fine l f) false w =
-          let j : judged t ws table ≡ verdict.Refused NotWellFormed start_place = rw (judged, q) (rw w) in
+          let j : judged t ws table ≡ Err (unfit NotWellFormed start_place) = rw (judged, q) (rw w) in
           let k = sym (refused_number j) ∙ e in omega (arith, k)
 
 -- A parse that is lent eight words for each of its table's rows does not say 5.

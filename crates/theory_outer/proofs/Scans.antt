@@ -9,15 +9,14 @@ use mathlib.Core.Path.{◌≡◌, refl, ap, sym, ◌∙◌}
 use lib.Dec.{ltb}
 use lib.ListN.{length, take, drop, get_or}
 use borrow.Author.Tests.{ltb-true, ltb-false}
-use Rattle.rules.specs.declared.Ending.{Ending}
-use Rattle.rules.specs.declared.Ending.TheVariants as ending
-use Rattle.rules.specs.declared.Judged.{Judged}
-use Rattle.rules.specs.declared.Judged.TheVariants as verdict
+use Rattle.rules.specs.Outcomes.{Ending, halt, Judged, Told, unread}
+use Rattle.std.specs.declared.option.Option.TheVariants.{None, Some}
+use Rattle.std.specs.declared.result.Result.TheVariants.{Ok, Err}
+use Rattle.rules.specs.declared.Lexical.{Lexical}
+use Rattle.rules.specs.declared.Cursor.{Cursor}
 use Rattle.rules.specs.declared.Lexical.TheVariants as lexical
 use Rattle.rules.specs.declared.Outer.TheVariants.{TextTooLong, BadByte, NoRowRoom}
 use Rattle.rules.specs.declared.Table.{Table}
-use Rattle.rules.specs.declared.Told.{Told}
-use Rattle.rules.specs.declared.Told.TheVariants.{Rows, Refused}
 use Rattle.rules.specs.Text.{most_bytes, valid_bytes, valid, place_at, start_place}
 use Rattle.rules.specs.Rows.{Row, row_no, rows_in, well_formed, spelling}
 use Rattle.rules.specs.Scan.{Reading, read_rows, read_ending, scan, room_of, scan_told}
@@ -42,10 +41,10 @@ use Rattle.theory_outer.proofs.Lent.{scan_lends, lent_words, lent_is, lent_scann
 -- ---- the ways in which a scan ends
 
 data Tells (t : List ℕ) (m : ℕ) : Told → Type 0 where
-  tells_1 : Tells t m (Refused TextTooLong start_place 0)
-  tells_2 : valid t ≡ false → Tells t m (Refused BadByte (place_at t (valid_bytes t)) 0)
-  tells_4 : length t ≤ most_bytes → m < length (rows_of t) → Tells t m (Refused NoRowRoom start_place m)
-  tells_rows : Tells t m (Rows (scanned.table_of t))
+  tells_1 : Tells t m (Err (unread TextTooLong start_place 0))
+  tells_2 : valid t ≡ false → Tells t m (Err (unread BadByte (place_at t (valid_bytes t)) 0))
+  tells_4 : length t ≤ most_bytes → m < length (rows_of t) → Tells t m (Err (unread NoRowRoom start_place m))
+  tells_rows : Tells t m (Ok (scanned.table_of t))
 
 tells : (t : List ℕ) (m : ℕ) → Tells t m (scan_told t m)
 tells t m = by (ltb most_bytes (length t)) refl (valid t) refl (ltb m (length (rows_of t))) refl
@@ -62,16 +61,19 @@ tells t m = by (ltb most_bytes (length t)) refl (valid t) refl (ltb m (length (r
 
 -- a table's number is none of 1 to 7
 ending_number : (k n : ℕ) (e : Ending) → 0 < get_or (ending_words k n e) 0 0 → 7 < get_or (ending_words k n e) 0 0
-ending_number k n ending.None f = omega arith
-ending_number k n (ending.Refused lexical.NoRowBegins p) f = omega arith
-ending_number k n (ending.Refused lexical.LoneSign p) f = omega arith
-ending_number k n (ending.Refused lexical.NoHexDigit p) f = omega arith
-ending_number k n (ending.Refused lexical.OpenComment p) f = omega arith
-ending_number k n (ending.Refused lexical.OpenString p) f = omega arith
-ending_number k n (ending.Refused lexical.BadEscape p) f = omega arith
-ending_number k n (ending.Refused lexical.NumberTooLarge p) f = omega arith
+ending_number k n None f = omega arith
+ending_number k n (Some z) f = case z.why z.at f
+  where
+    case : (why : Lexical) (p : Cursor) → 0 < get_or (ending_words k n (Some (halt why p))) 0 0 → 7 < get_or (ending_words k n (Some (halt why p))) 0 0
+    case lexical.NoRowBegins p f = omega arith
+    case lexical.LoneSign p f = omega arith
+    case lexical.NoHexDigit p f = omega arith
+    case lexical.OpenComment p f = omega arith
+    case lexical.OpenString p f = omega arith
+    case lexical.BadEscape p f = omega arith
+    case lexical.NumberTooLarge p f = omega arith
 
-rows_number : (t : Table) → 0 < get_or (told_words (Rows t)) 0 0 → 7 < get_or (told_words (Rows t)) 0 0
+rows_number : (t : Table) → 0 < get_or (told_words (Ok t)) 0 0 → 7 < get_or (told_words (Ok t)) 0 0
 rows_number t h = ending_number t.count t.length t.ending h
 
 not_4 : {t : List ℕ} {m : ℕ} {x : Told} → Tells t m x → (length t ≤ most_bytes → length (rows_of t) ≤ m) → get_or (told_words x) 0 0 ≡ 4 → ⊥
@@ -106,15 +108,18 @@ at_2 (tells_4 l f) q e = absurd (omega arith)
 at_2 {t} tells_rows q e = let l = rows_number (scanned.table_of t) (omega (arith, e)) in absurd (omega (arith, e))
 
 -- a table whose number is 0 ends the text
-none_told : (k n : ℕ) (e : Ending) → get_or (ending_words k n e) 0 0 ≡ 0 → e ≡ ending.None
-none_told k n ending.None f = refl
-none_told k n (ending.Refused lexical.NoRowBegins p) f = absurd (omega arith)
-none_told k n (ending.Refused lexical.LoneSign p) f = absurd (omega arith)
-none_told k n (ending.Refused lexical.NoHexDigit p) f = absurd (omega arith)
-none_told k n (ending.Refused lexical.OpenComment p) f = absurd (omega arith)
-none_told k n (ending.Refused lexical.OpenString p) f = absurd (omega arith)
-none_told k n (ending.Refused lexical.BadEscape p) f = absurd (omega arith)
-none_told k n (ending.Refused lexical.NumberTooLarge p) f = absurd (omega arith)
+none_told : (k n : ℕ) (e : Ending) → get_or (ending_words k n e) 0 0 ≡ 0 → e ≡ None
+none_told k n None f = refl
+none_told k n (Some z) f = case z.why z.at f
+  where
+    case : (why : Lexical) (p : Cursor) → get_or (ending_words k n (Some (halt why p))) 0 0 ≡ 0 → Some (halt why p) ≡ None
+    case lexical.NoRowBegins p f = absurd (omega arith)
+    case lexical.LoneSign p f = absurd (omega arith)
+    case lexical.NoHexDigit p f = absurd (omega arith)
+    case lexical.OpenComment p f = absurd (omega arith)
+    case lexical.OpenString p f = absurd (omega arith)
+    case lexical.BadEscape p f = absurd (omega arith)
+    case lexical.NumberTooLarge p f = absurd (omega arith)
 
 -- each row of a reading whose rows start and end between characters
 part_at : (t : List ℕ) (v : valid t ≡ true) (d : Row) {l : Reading} → Parts t v l → (k : ℕ) → k < length (read_rows l)
@@ -178,7 +183,7 @@ module _ {text lent answer rows : List ℕ} (s : ScanCall text lent answer rows)
   unfolding is_ending
   comments_add_up e =
       let h : is_ending (get_or answer 0 0) ≡ true = rw e in
-      let f : get_or (told_words (Rows (scanned.table_of text))) 0 0 ≡ 0
+      let f : get_or (told_words (Ok (scanned.table_of text))) 0 0 ≡ 0
       = ap (λ (ws : List ℕ). get_or ws 0 0) (sym (lent_words (scan_lends s) h)) ∙ e in
       let d = none_told (scanned.table_of text).count (scanned.table_of text).length (read_ending (scan text)) f in
       ap (λ (t : Table). counted (rows_in t.count rows)) (lent_is (scan_lends s) h)
@@ -211,9 +216,9 @@ spelled {text} {rows} {table} {k} {answer} s = by (judged text rows (table_of ta
   where
     by : (v : Judged) → judged text rows (table_of table) ≡ v → (x : Bool) → ltb k (table_of table).count ≡ x
         → Spells text rows (table_of table) k answer
-    by verdict.Fine e true x =
+    by (Ok _) e true x =
         let t : answer ≡ words 0 nowhere (row_no rows k).start (row_no rows k).end 0 0
         = spelling_says s ∙ rw (spelling_judged, e, x, start_word rows k, end_word rows k) in
         spells e (ltb-true _ _ x) (record { told = t; part = rw t })
-    by verdict.Fine e false x = beyond e (ltb-false _ _ x) (spelling_says s ∙ rw (spelling_judged, e, x))
-    by (verdict.Refused why p) e x f = unread why p e (spelling_says s ∙ rw (spelling_judged, e))
+    by (Ok _) e false x = beyond e (ltb-false _ _ x) (spelling_says s ∙ rw (spelling_judged, e, x))
+    by (Err refusal) e x f = unread refusal.why refusal.at e (spelling_says s ∙ rw (spelling_judged, e))

@@ -1,7 +1,7 @@
 -- What the theorems over the calls say.
-use Rattle.std.specs.Prelude.{ℕ, zero, suc, ◌+◌, ◌-◌, ◌≤◌, ◌<◌, cond, true, false, List, [], ◌∷◌, ◌++◌, ◌⊎◌, ◌↔◌, ◌≡◌, length, take, drop, get_or}
+use Rattle.std.specs.Prelude.{ℕ, zero, suc, ◌+◌, ◌-◌, ◌≤◌, ◌<◌, cond, true, false, List, [], ◌∷◌, ◌++◌, ◌⊎◌, ◌↔◌, ◌≡◌, length, take, drop, get_or, Ok, Err}
 use Rattle.rules.specs.declared.Cursor.{Cursor}
-use Rattle.rules.specs.declared.Judged.TheVariants as verdict
+use Rattle.rules.specs.Outcomes.{unfit}
 use Rattle.rules.specs.declared.Outer.{Outer}
 use Rattle.rules.specs.declared.Table.{Table}
 use Rattle.rules.specs.Text.{start_place}
@@ -29,11 +29,11 @@ pub record Part (text rows : List ℕ) (k : ℕ) (answer : List ℕ) : Type 0 wh
 
 -- asked for row k of a table
 pub data Spells (text rows : List ℕ) (table : Table) (k : ℕ) (answer : List ℕ) : Type 0 where
-  spells : judged text rows table ≡ verdict.Fine → k < table.count → Part text rows k answer → Spells text rows table k answer
+  spells : judged text rows table ≡ Ok tt → k < table.count → Part text rows k answer → Spells text rows table k answer
   -- no such row
-  beyond : judged text rows table ≡ verdict.Fine → table.count ≤ k → answer ≡ words 3 start_place 0 0 0 0 → Spells text rows table k answer
+  beyond : judged text rows table ≡ Ok tt → table.count ≤ k → answer ≡ words 3 start_place 0 0 0 0 → Spells text rows table k answer
   -- 1, 2 or 3 of the text and its table
-  unread : (why : Outer) (p : Cursor) → judged text rows table ≡ verdict.Refused why p → answer ≡ words (outer_number why) p 0 0 0 0
+  unread : (why : Outer) (p : Cursor) → judged text rows table ≡ Err (unfit why p) → answer ≡ words (outer_number why) p 0 0 0 0
       → Spells text rows table k answer
 
 -- ---- sections and sets

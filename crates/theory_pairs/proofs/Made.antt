@@ -8,8 +8,8 @@ use mathlib.Core.Path.{◌≡◌, ap, sym, subst, ◌∙◌}
 use lib.ListN.{length, take, drop, length-drop, take-append-drop}
 use lib.Seq.{length-take-le, drop-drop}
 use Rattle.rules.specs.declared.Table.{Table}
-use Rattle.rules.specs.declared.Told.{Told}
-use Rattle.rules.specs.declared.Told.TheVariants.{Rows}
+use Rattle.rules.specs.Outcomes.{Told}
+use Rattle.std.specs.declared.result.Result.TheVariants.{Ok}
 use Rattle.rules.specs.Text.{valid}
 use Rattle.rules.specs.Scan.{read_rows, read_ending, scan, room_of, scan_told, scan_leaves}
 use Rattle.rules.specs.Edit.{restart, edit_told, edit_leaves}
@@ -119,27 +119,27 @@ module _ {t : List ℕ} {e : Edit} (h : Lies e t) where
 -- ---- what says as much as a scan
 
 -- A call that told a table left what is held of its text; so the next may be lent it.
-pub says_held : {t lent new : List ℕ} {table : Table} → SaysScan lent (Rows table) new t → Held t new table
+pub says_held : {t lent new : List ℕ} {table : Table} → SaysScan lent (Ok table) new t → Held t new table
 says_held {t} {lent} {new} {table} s = record {
   scanned = rw s.left (scan_scanned t lent table (sym s.told));
   good = scan_valid t (room_of lent) table (sym s.told);
 }
 
 -- A scan that told a table did.
-pub scan_held : {t lent rows : List ℕ} {table : Table} → ScanCall t lent (Rows table) rows → Held t rows table
+pub scan_held : {t lent rows : List ℕ} {table : Table} → ScanCall t lent (Ok table) rows → Held t rows table
 scan_held c = says_held (record { told = (scan_says c).0; left = (scan_says c).1 })
 
 -- It told a table exactly if demand 3's premises hold of its text.
-pub told_exactly : {t lent new : List ℕ} {r : Told} → SaysScan lent r new t → (r ≡ Rows (table_of t)) ↔ Premises t lent
+pub told_exactly : {t lent new : List ℕ} {r : Told} → SaysScan lent r new t → (r ≡ Ok (table_of t)) ↔ Premises t lent
 told_exactly {t} {lent} {new} {r} s = (λ e. to (scans.scan_says t (room_of lent)) (sym s.told ∙ e), of)
   where
-    to : {x : Told} → Scans t (room_of lent) x → x ≡ Rows (table_of t) → Premises t lent
+    to : {x : Told} → Scans t (room_of lent) x → x ≡ Ok (table_of t) → Premises t lent
     to says_1 f = absurd (let z : ◌≡◌ {A = ℕ} 0 1 = cc in let y : ⊥ = omega arith in y)
     to says_2 f = absurd (let z : ◌≡◌ {A = ℕ} 0 1 = cc in let y : ⊥ = omega arith in y)
     to says_4 f = absurd (let z : ◌≡◌ {A = ℕ} 0 1 = cc in let y : ⊥ = omega arith in y)
     to (says_rows l v k) f = record { fits = l; good = v; room = k }
 
-    of : Premises t lent → r ≡ Rows (table_of t)
+    of : Premises t lent → r ≡ Ok (table_of t)
     of p =
         s.told ∙ rows.scan_told_lem t (text_fine t p.fits p.good) (room_of lent)
         ∙ rows.told_all (length t) (room_of lent) (read_rows (scan t)) (read_ending (scan t)) p.room

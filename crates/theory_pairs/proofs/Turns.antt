@@ -10,8 +10,8 @@ use mathlib.Core.Path.{◌≡◌, ap, sym, ◌∙◌}
 use lib.ListN.{length, take}
 use lib.Seq.{take_at}
 use Rattle.rules.specs.declared.Table.{Table}
-use Rattle.rules.specs.declared.Told.{Told}
-use Rattle.rules.specs.declared.Told.TheVariants.{Rows}
+use Rattle.rules.specs.Outcomes.{Told}
+use Rattle.std.specs.declared.result.Result.TheVariants.{Ok}
 use Rattle.rules.specs.Text.{most_bytes, valid, text_judged}
 use Rattle.rules.specs.Rows.{words_of}
 use Rattle.rules.specs.Scan.{read_rows, read_ending, scan, room_of, scan_told, scan_leaves}
@@ -96,7 +96,7 @@ module _ {t : List ℕ} {e f : Edit} (p : Pair t e f) where
 
   -- Either order, each last call in a memory of its own: the same table, and the same rows.
   pub either_order_rows : {room room' : List ℕ} {table table' : Table} {new new' : List ℕ}
-      → Turns t e (adjusted e f) room (Rows table) new → Turns t f (adjusted f e) room' (Rows table') new'
+      → Turns t e (adjusted e f) room (Ok table) new → Turns t f (adjusted f e) room' (Ok table') new'
       → AlikeRows table table' new new'
   either_order_rows v w =
       alike_rows (says_held (one_way v)) (says_held (other_way w)) (same_text p)
@@ -119,7 +119,7 @@ module _ {t : List ℕ} {e f : Edit} (h : Lies e t) (i : Lies f (after t e)) whe
   in_a_row g c w o = alike (turns_say h i w) (once_says (covers_lies h i g c) o) (sym (covered h i g c))
 
   pub in_a_row_rows : (g : Edit) → Covers t e f g → {room room' : List ℕ} {table table' : Table} {new new' : List ℕ}
-      → Turns t e f room (Rows table) new → Once t g room' (Rows table') new'
+      → Turns t e f room (Ok table) new → Once t g room' (Ok table') new'
       → AlikeRows table table' new new'
   in_a_row_rows g c w o = alike_rows (says_held (turns_say h i w)) (says_held (once_says (covers_lies h i g c) o)) (sym (covered h i g c))
 

@@ -6,7 +6,7 @@ use contract.Lifetimes.{Lfts}
 use borrow.Fn.Kinds.{Dens, ended_of}
 use denote.Triple.Clauses.{AtExit}
 use Rattle.rules.specs.declared.Table.{Table}
-use Rattle.rules.specs.declared.Told.{Told}
+use Rattle.rules.specs.Outcomes.{Told}
 use Rattle.scan.proofs.scan.Kinds as of_scan
 use Rattle.scan.proofs.scan.Reads.{Post as ScanPost}
 use Rattle.edit.proofs.edit.Kinds as of_edit

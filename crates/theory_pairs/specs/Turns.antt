@@ -1,8 +1,7 @@
 -- Edits made by the calls, one and two in a row: the second is lent what the first told and left.
-use Rattle.std.specs.Prelude.{ℕ, ◌*◌, ◌≤◌, ◌<◌, true, List, ◌≡◌, length, take, drop}
+use Rattle.std.specs.Prelude.{ℕ, ◌*◌, ◌≤◌, ◌<◌, true, List, ◌≡◌, length, take, drop, Ok, Err}
 use Rattle.rules.specs.declared.Table.{Table}
-use Rattle.rules.specs.declared.Told.{Told}
-use Rattle.rules.specs.declared.Told.TheVariants.{Rows, Refused}
+use Rattle.rules.specs.Outcomes.{Told, unread}
 use Rattle.rules.specs.declared.Outer.TheVariants.{TextTooLong, NoRowRoom}
 use Rattle.rules.specs.Text.{most_bytes, valid, start_place}
 use Rattle.rules.specs.Scan.{read_rows, scan, room_of}
@@ -47,7 +46,7 @@ pub record Turns (t : List ℕ) (e f : Edit) (room : List ℕ) (r : Told) (new :
   pub lent : List ℕ
   pub rows : List ℕ
   pub table : Table
-  pub first : Once t e lent (Rows table) rows
+  pub first : Once t e lent (Ok table) rows
   pub second : Applied (after t e) f rows table room r new
 
 -- ---- what is said of the last calls
@@ -64,6 +63,6 @@ pub record AlikeRows (table table' : Table) (new new' : List ℕ) : Type 0 where
 
 -- The ways to answer for a last text that is valid: 1 if it is too long, its table if there is room, and else 4.
 pub data Ends (t room : List ℕ) : Told → Type 0 where
-  ends_1 : most_bytes < length t → Ends t room (Refused TextTooLong start_place 0)
-  ends_4 : length t ≤ most_bytes → room_of room < length (read_rows (scan t)) → Ends t room (Refused NoRowRoom start_place (room_of room))
-  ends_rows : Premises t room → Ends t room (Rows (table_of t))
+  ends_1 : most_bytes < length t → Ends t room (Err (unread TextTooLong start_place 0))
+  ends_4 : length t ≤ most_bytes → room_of room < length (read_rows (scan t)) → Ends t room (Err (unread NoRowRoom start_place (room_of room)))
+  ends_rows : Premises t room → Ends t room (Ok (table_of t))

@@ -8,7 +8,8 @@ use lib.Dec.{eqb, ltb}
 use borrow.Author.Rules.{rules}
 use Rattle.rules.specs.declared.Cursor.{Cursor}
 use Rattle.rules.specs.declared.Outer.TheVariants as outers
-use Rattle.rules.specs.declared.Told.TheVariants as tells
+use Rattle.rules.specs.Outcomes.{unread}
+use Rattle.std.specs.declared.result.Result.TheVariants.{Err}
 use Rattle.rules.specs.Text.{over}
 use Rattle.rules.specs.Scan.{room_of}
 use Rattle.rules.specs.Edit.{new_length, window_bytes}
@@ -99,7 +100,7 @@ returns_2 c =
     let q = reread_bad s.requires (room_of s.args.new.now) s.args.new.now (is_late v) (flag k) (is_whole k)
     (omega (arith, c.before.if-valid-window.true, v.window_bytes-valid.ensures)) in
     let e = c.pass.ensures ∙ ap (λ (z : ℕ). over s.args.job.begin (take z s.args.window.now)) v.window_bytes-valid.ensures in
-    (ap (λ (z : Cursor). tells.Refused outers.BadByte z 0) e ∙ q.0, q.1)
+    (ap (λ (z : Cursor). (Err (unread outers.BadByte z 0))) e ∙ q.0, q.1)
 
 is_short_requires : tie.Need-is_short-requires
 is_short_requires c κs = search rules

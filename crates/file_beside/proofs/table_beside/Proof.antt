@@ -2,7 +2,8 @@
 use mathlib.Core.Path.{sym, ap, ◌∙◌}
 use borrow.Author.Rules.{rules}
 use Rattle.rules.specs.declared.Cursor.{Cursor}
-use Rattle.rules.specs.declared.Ending.TheVariants.{Refused}
+use Rattle.rules.specs.Outcomes.{halt}
+use Rattle.std.specs.declared.option.Option.TheVariants.{Some}
 use Rattle.file_beside.proofs.Known.{known}
 use Rattle.file_beside.proofs.Rows.{counts_refused}
 use Rattle.file_beside.proofs.Agreeing.{agrees_long}
@@ -18,7 +19,7 @@ start c = c.before.before.before
 abbrev at_short : tie.In-Short → tie.After-form_of
 at_short c = c.before
 
-abbrev at_refused : tie.In-Refused → tie.In-Short
+abbrev at_refused : tie.In-Some → tie.In-Short
 at_refused c = c.before
 
 form_of_requires : tie.Need-form_of-requires
@@ -41,7 +42,7 @@ place_from_requires c κs =
     let s = start (at_short (at_refused c)) in
     let a = s.args in
     let l = agrees_long s.requires.0 in
-    counts_refused a.text.now a.file.now a.table s.requires.0.holds l a.last s.requires.1 c.in-Refused.why c.in-Refused.p c.in-Refused.is
+    counts_refused a.text.now a.file.now a.table s.requires.0.holds l a.last s.requires.1 c.in-Some.e.why c.in-Some.e.at c.in-Some.is
 
 returns : tie.Need-returns-in-Full
 returns c =
@@ -57,15 +58,15 @@ returns_2 c =
     let g = sym f.form_of.ensures ∙ e.in-Short.is in
     sym (table_none a.text.now a.file.now a.table g c.in-None.is)
 
-returns_3 : tie.Need-returns-in-Refused
+returns_3 : tie.Need-returns-in-Some
 returns_3 c =
     let r = c.before in
     let f = at_short (at_refused r) in
     let a = (start f).args in
     let t = a.table in
     let g = sym f.form_of.ensures ∙ (at_refused r).in-Short.is in
-    ap (λ (q : Cursor). record { count = t.count; length = t.length; ending = Refused r.in-Refused.why q }) c.place_from.ensures
-    ∙ sym (table_refused a.text.now a.file.now t g r.in-Refused.why r.in-Refused.p r.in-Refused.is)
+    ap (λ (q : Cursor). record { count = t.count; length = t.length; ending = Some (halt r.in-Some.e.why q) }) c.place_from.ensures
+    ∙ sym (table_refused a.text.now a.file.now t g r.in-Some.e.why r.in-Some.e.at r.in-Some.is)
 
 pub table_beside_spec : {M : Type 1} → statement M
 table_beside_spec =

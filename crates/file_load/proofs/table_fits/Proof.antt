@@ -58,7 +58,7 @@ returns_4 c =
     c.last_closes.ensures
     ∙ sym (fits_none a.form a.file.now a.table s.requires.0 e.if-size-gt-MOST_BYTES_U32.false m.in-None.is h z.if-count-eq0.false)
 
-returns_5 : tie.Need-returns-in-Refused
+returns_5 : tie.Need-returns-in-Some
 returns_5 c =
     let m = c.before in
     let f = m.before in
@@ -67,7 +67,7 @@ returns_5 c =
     let a = s.args in
     let h = sym s.requires.1 ∙ not-false a.stand f.if-not-stand.false-raw in
     c.place_breaks.ensures
-    ∙ sym (fits_refused a.form a.file.now a.table s.requires.0 e.if-size-gt-MOST_BYTES_U32.false _ _ m.in-Refused.is h)
+    ∙ sym (fits_refused a.form a.file.now a.table s.requires.0 e.if-size-gt-MOST_BYTES_U32.false _ _ m.in-Some.is h)
 
 pub table_fits_spec : {M : Type 1} → statement M
 table_fits_spec =

@@ -15,8 +15,8 @@ lexical_number_requires c κs = search rules
 returns : tie.Need-returns-in-None
 returns c = rw c.in-None.is
 
-returns_2 : tie.Need-returns-in-Refused
-returns_2 c = rw (c.before.in-Refused.is, c.lexical_number.ensures)
+returns_2 : tie.Need-returns-in-Some
+returns_2 c = rw (c.before.in-Some.is, c.lexical_number.ensures)
 
 pub short_words_of_spec : {M : Type 1} → statement M
 short_words_of_spec =

@@ -34,7 +34,7 @@ returns_2 c =
     let k = q.before in
     let a = k.before.before.before.before.before.args in (
       other_count a.text.now a.rows.now a.table a.nodes.now a.count a.scratch.now k.before.parse-arg-1.given.0.1
-          q.in-Nodes.made (sym k.parse.ensures.0 ∙ q.in-Nodes.is) c.if-made-count.true,
+          q.in-Ok.made (sym k.parse.ensures.0 ∙ q.in-Ok.is) c.if-made-count.true,
       k.parse.ensures.1,
     )
 
@@ -53,7 +53,7 @@ begins_with_requires c κs =
     let k = q.before in
     let a = k.before.before.before.before.before.args in
     nodes_inside a.text.now a.rows.now a.table a.nodes.now a.count a.scratch.now k.before.parse-arg-1.given.0.1
-    q.in-Nodes.made (sym k.parse.ensures.0 ∙ q.in-Nodes.is) _ k.parse.ensures.1
+    q.in-Ok.made (sym k.parse.ensures.0 ∙ q.in-Ok.is) _ k.parse.ensures.1
 
 -- src/lib.rt:90:1
 returns_3 : tie.Need-returns
@@ -63,7 +63,7 @@ returns_3 c =
     let k = q.before in
     let a = k.before.before.before.before.before.args in (
       same_nodes a.text.now a.rows.now a.table a.nodes.now a.count a.scratch.now k.before.parse-arg-1.given.0.1
-          q.in-Nodes.made (sym k.parse.ensures.0 ∙ q.in-Nodes.is) _ k.parse.ensures.1
+          q.in-Ok.made (sym k.parse.ensures.0 ∙ q.in-Ok.is) _ k.parse.ensures.1
           l.if-made-count.false c.begins_with.ensures,
       k.parse.ensures.1,
     )

@@ -1,6 +1,7 @@
 -- `is_scan` meets its contract: a scan into room for every text, and what it leaves held against what is lent.
 use mathlib.Core.Path.{sym, ◌∙◌}
 use borrow.Author.Tests.{not-true, not-false}
+use Rattle.rules.specs.Scan.{room_of, scan_told}
 use Rattle.layout_judge.proofs.Held.{scan_refused, other_table, rows_inside, same_rows}
 use borrow.Author.Rules.{rules}
 use Rattle.layout_judge.proofs.is_scan.Statement.{statement}
@@ -37,8 +38,8 @@ returns_2 c =
     let q = c.before.before in
     let k = q.before in
     let a = k.before.before.before.before.args in (
-      other_table a.text.now a.rows.now a.table a.scratch.now q.in-Rows.fresh
-          (sym k.scan.ensures.0 ∙ q.in-Rows.is)
+      other_table a.text.now a.rows.now a.table a.scratch.now q.in-Ok.fresh
+          (sym k.scan.ensures.0 ∙ q.in-Ok.is)
           (sym c.before.same_table.ensures ∙ not-true c.before.same_table.result c.if-not-same_table.true-raw),
       k.scan.ensures.1,
     )
@@ -57,8 +58,8 @@ begins_with_requires c κs =
     let q = c.before.before.before.before.before in
     let k = q.before in
     let a = k.before.before.before.before.args in
-    rows_inside a.text.now a.rows.now a.table a.scratch.now q.in-Rows.fresh
-    (sym k.scan.ensures.0 ∙ q.in-Rows.is) _ k.scan.ensures.1
+    rows_inside a.text.now a.rows.now a.table a.scratch.now q.in-Ok.fresh
+    (sym k.scan.ensures.0 ∙ q.in-Ok.is) _ k.scan.ensures.1
 
 -- src/lib.rt:76:1
 returns_3 : tie.Need-returns
@@ -67,8 +68,8 @@ returns_3 c =
     let q = l.before.before in
     let k = q.before in
     let a = k.before.before.before.before.args in (
-      same_rows a.text.now a.rows.now a.table a.scratch.now q.in-Rows.fresh
-          (sym k.scan.ensures.0 ∙ q.in-Rows.is) _ k.scan.ensures.1
+      same_rows a.text.now a.rows.now a.table a.scratch.now q.in-Ok.fresh
+          (sym k.scan.ensures.0 ∙ q.in-Ok.is) _ k.scan.ensures.1
           (sym l.before.same_table.ensures ∙ not-false l.before.same_table.result l.if-not-same_table.false-raw)
           c.begins_with.ensures,
       k.scan.ensures.1,

@@ -1,6 +1,6 @@
 -- `allows` meets its contract: a bit of the mask is the membership that the set says.
 use Prim.Native.Nat.{◌^◌}
-use Rattle.rules.specs.declared.Asked.TheVariants.{Is}
+use Rattle.std.specs.declared.result.Result.TheVariants.{Ok}
 use mathlib.Core.Path.{ap}
 use native.Mathlib.Omega.{arith}
 use borrow.Author.Tests.{le-leb, lt-leb}
@@ -38,7 +38,7 @@ unfolding member_asked
 returns_3 c =
     let a = c.before.before.args in
     rw (le-leb a.kind 10 c.before.if-kind-gt-LAST_KIND.false, le-leb a.method 15 c.if-method-gt-LAST_METHOD.false)
-    (ap Is (mask_bit a.kind (omega arith) a.method (omega arith)))
+    (ap Ok (mask_bit a.kind (omega arith) a.method (omega arith)))
 
 pub allows_spec : {M : Type 1} → statement M
 allows_spec =

@@ -57,7 +57,7 @@ row_closes_requires c κs = (search rules, length_table)
 enum_known_ending : tie.Need-enum_known-ending
 enum_known_ending c = search rules
 
-rows_stand_requires_2 : tie.Need-rows_stand-requires-in-Refused
+rows_stand_requires_2 : tie.Need-rows_stand-requires-in-Some
 rows_stand_requires_2 c κs = (search rules, length_table)
 
 returns_5 : tie.Need-returns-then-not-rows_stand-2
@@ -66,8 +66,8 @@ returns_5 c =
     let m = r.before.before.before in
     let f = m.before in
     let a = f.before.before.before.before.args in
-    let no = sym r.rows_stand-in-Refused.ensures ∙ not-true r.rows_stand-in-Refused.result c.if-not-rows_stand-2.true-raw in
-    sym (well_refused a.rows.now a.table f.before.if-rows-count.false f.if-size-gt-MOST_BYTES_U32.false _ _ m.in-Refused.is ∙ rw no)
+    let no = sym r.rows_stand-in-Some.ensures ∙ not-true r.rows_stand-in-Some.result c.if-not-rows_stand-2.true-raw in
+    sym (well_refused a.rows.now a.table f.before.if-rows-count.false f.if-size-gt-MOST_BYTES_U32.false _ _ m.in-Some.is ∙ rw no)
 
 place_breaks_requires : tie.Need-place_breaks-requires
 place_breaks_requires c κs = search rules
@@ -89,9 +89,9 @@ returns_7 c =
     let m = r.before.before.before in
     let f = m.before in
     let a = f.before.before.before.before.args in
-    let yes = sym r.rows_stand-in-Refused.ensures ∙ not-false r.rows_stand-in-Refused.result c.before.if-not-rows_stand-2.false-raw in
+    let yes = sym r.rows_stand-in-Some.ensures ∙ not-false r.rows_stand-in-Some.result c.before.if-not-rows_stand-2.false-raw in
     c.place_breaks.ensures
-    ∙ sym (well_refused a.rows.now a.table f.before.if-rows-count.false f.if-size-gt-MOST_BYTES_U32.false _ _ m.in-Refused.is ∙ rw yes)
+    ∙ sym (well_refused a.rows.now a.table f.before.if-rows-count.false f.if-size-gt-MOST_BYTES_U32.false _ _ m.in-Some.is ∙ rw yes)
 
 pub well_formed_spec : {M : Type 1} → statement M
 well_formed_spec =

@@ -17,15 +17,15 @@ cast_result c = search rules
 enum_told : tie.Need-enum_told-1
 enum_told c = search rules
 
-returns : tie.Need-returns-in-Is
+returns : tie.Need-returns-in-Ok
 returns c =
     let a = c.before in
-    size_told a.before.args.kind _ (sym a.set_size.ensures ∙ c.in-Is.is)
+    size_told a.before.args.kind _ (sym a.set_size.ensures ∙ c.in-Ok.is)
 
-returns_2 : tie.Need-returns-in-Refused
+returns_2 : tie.Need-returns-in-Err
 returns_2 c =
     let a = c.before in
-    size_untold a.before.args.kind _ (sym a.set_size.ensures ∙ c.in-Refused.is)
+    size_untold a.before.args.kind _ (sym a.set_size.ensures ∙ c.in-Err.is)
 
 pub methods_in_spec : {M : Type 1} → statement M
 methods_in_spec =
