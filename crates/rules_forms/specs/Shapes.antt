@@ -10,7 +10,7 @@ use Rattle.rules_forms.specs.declared.Form.TheVariants.{Full, Short}
 use Rattle.rules_forms.specs.Short.{short_number, short_bytes, short_said_bytes, short_said, shortened, short_words_in, placed, on_one_line, short_ending}
 use Rattle.rules_forms.specs.Forms.{is_short}
 use Rattle.rules_files.specs.declared.Fault.{Fault}
-use Rattle.rules.specs.declared.Ending.{Ending}
+use Rattle.rules.specs.Outcomes.{Ending}
 
 abbrev pub number_of : Form → ℕ
 number_of Full = form_number

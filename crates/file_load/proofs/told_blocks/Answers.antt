@@ -1,7 +1,7 @@
 use Rattle.std.proofs.Common.{◌≡◌, ℕ, List, arith, ap, sym, ◌∙◌}
 use Rattle.std.proofs.lemmas.Result.{err_from_is_err_and}
 use Rattle.std.specs.Prelude.{Result, Option}
-use Rattle.rules.specs.declared.Ending.{Ending}
+use Rattle.rules.specs.Outcomes.{Ending}
 use Rattle.rules.specs.declared.Table.{Table}
 use Rattle.rules_files.specs.declared.Fault.{Fault}
 use Rattle.rules_files.specs.Files.{rows_told}

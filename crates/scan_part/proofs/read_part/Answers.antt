@@ -1,6 +1,6 @@
 -- Each way through a turn is one of the laws of `Going`.
 use Rattle.std.proofs.Common.{◌≡◌, ◌-◌, ◌<◌, length, refl, sym, ◌∙◌, arith}
-use Rattle.rules.specs.declared.Ending.{Ending}
+use Rattle.rules.specs.Outcomes.{Ending}
 use Rattle.rules.specs.Text.{is_blank}
 use Rattle.rules.specs.Kinds.{signs, kind_in, same_bytes}
 use Rattle.rules.specs.Lex.{is_letter, is_digit, maybe_two}
