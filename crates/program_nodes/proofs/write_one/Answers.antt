@@ -8,8 +8,8 @@ written-requires c =
     let p = c.requires.0 in
     (record { ended = p.ended; room = c.requires.1 }, record { tree = p.tree; behind = c.args.source.now.count; is = p.reads })
 
-pub returns-in-Nodes : goal.returns-in-Nodes
-returns-in-Nodes c = one_written c.requires.0 c.args.nodes.now _ _ c.in-Nodes.ensures _ refl
+pub returns-in-Ok : goal.returns-in-Ok
+returns-in-Ok c = one_written c.requires.0 c.args.nodes.now _ _ c.in-Ok.ensures _ refl
 
-pub returns-in-Refused : goal.returns-in-Refused
-returns-in-Refused c = absurd (one_refused c.requires.0 c.args.nodes.now _ _ c.in-Refused.ensures _ _ _ refl)
+pub returns-in-Err : goal.returns-in-Err
+returns-in-Err c = absurd (one_refused c.requires.0 c.args.nodes.now _ _ c.in-Err.ensures _ _ _ refl)

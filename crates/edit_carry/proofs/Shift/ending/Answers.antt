@@ -1,10 +1,15 @@
+use Rattle.std.proofs.Common.{rules}
 use Rattle.rules.specs.Edit.{carry_ending}
+use Rattle.edit_carry.proofs.Carried.{refused_moves}
 use Rattle.edit_carry.proofs.Shift.ending.Goals as goal
+
+pub place-requires : goal.place-requires
+place-requires c = refused_moves (rw c.in-Some.is at c.requires)
 
 pub returns-in-None : goal.returns-in-None
 unfolding carry_ending
 returns-in-None c = rw c.in-None.is
 
-pub returns-in-Refused : goal.returns-in-Refused
+pub returns-in-Some : goal.returns-in-Some
 unfolding carry_ending
-returns-in-Refused c = rw (c.in-Refused.is, c.place.ensures)
+returns-in-Some c = rw (c.in-Some.is, c.place.ensures)
