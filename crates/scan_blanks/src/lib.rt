@@ -96,7 +96,11 @@ pub fn past_blanks(text: &[u8], from: Spot) -> Spot
             at: here.at + 1,
             cursor,
         };
-        here = if b == b'\n' { past_margin(text, next) } else { next };
+        here = if b == b'\n' {
+            past_margin(text, next)
+        } else {
+            next
+        };
     }
     here
 }

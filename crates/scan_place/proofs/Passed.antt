@@ -17,9 +17,6 @@ use Rattle.laws.proofs.Valid.{valid_none, is_valid, valid_end, valid_low, valid_
 use Rattle.scan_place.specs.Passed.{Passed}
 
 module _ (t : List ℕ) where
-  pub passed_none : (i : ℕ) → i ≤ length t → Passed t i i
-  passed_none i h = record { behind = omega arith; inside = h; valid = refl }
-
   pub passed_on : {a i j : ℕ} → Passed t a i → Passed t i j → Passed t a j
   passed_on p q = record { behind = omega (arith, p.behind, q.behind); inside = q.inside; valid = p.valid ∙ q.valid }
 

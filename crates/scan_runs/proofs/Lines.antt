@@ -8,7 +8,7 @@ use native.Mathlib.Omega.{arith}
 use lib.ListN.{length, drop, get_or, length-drop}
 use lib.Seq.{drop-drop}
 use lib.Dec.{eqb, ltb}
-use borrow.Author.Tests.{eqb-true, eqb-false, eq-eqb, ne_eqb, ltb-true, ltb-false, lt-ltb, le-ltb}
+use borrow.Author.Tests.{ltb-true, ltb-false, lt-ltb, le-ltb}
 use Rattle.rules.specs.Text.{front, not_newline}
 use Rattle.laws.proofs.Fronts.{front_le, front_off, front_drop, front_more}
 
@@ -42,17 +42,6 @@ module _ (t : List ℕ) (a k : ℕ) (l : a + k < length t) where
           let s = line_same t a (a + k) (omega arith) (omega (arith, none)) in
           sym (lt-ltb left (k + 1) (omega (arith, s, front_off not_newline t (a + k) l (rw f))))
       by false f = sym (le-ltb left (k + 1) (front_more not_newline t a k none l (rw f)))
-
-  -- the same of a test the other way round
-  pub block_turned : (q : Bool) → q ≡ ltb left k → (q || eqb 10 (get_or t (a + k) 0)) ≡ ltb left (k + 1)
-  block_turned q e = ap (λ (p : Bool). q || p) (turned 10 (get_or t (a + k) 0)) ∙ block_on q e
-    where
-      turned : (x y : ℕ) → eqb x y ≡ eqb y x
-      turned x y = pick (eqb y x) refl
-        where
-          pick : (p : Bool) → eqb y x ≡ p → eqb x y ≡ p
-          pick true f = eq-eqb x y (sym (eqb-true y x f))
-          pick false f = ne_eqb x y (λ z. eqb-false y x f (sym z))
 
 -- the same of a list's own bytes
 pub line_on : (s : List ℕ) (k : ℕ) → k < length s → (q : Bool) → q ≡ ltb (front not_newline s) k

@@ -123,9 +123,6 @@ pub record Counted (hex : Bool) (t : List ℕ) (i₀ v i : ℕ) : Type 0 where
   pub small : v ≤ suc largest
   pub spells : spelt_front hex v (drop i t) ≡ spelt_front hex 0 (drop i₀ t)
 
-pub counted_start : (hex : Bool) (t : List ℕ) (i : ℕ) → i ≤ length t → Counted hex t i 0 i
-counted_start hex t i h = record { inside = h; ends = refl; small = omega arith; spells = refl }
-
 module _ (hex : Bool) (t : List ℕ) (i₀ v i : ℕ) (r : Counted hex t i₀ v i) where
   pub counted_on : i < length t → get_or t i 0 < 256 → digit_of (get_or t i 0) < base_of hex → Counted hex t i₀ (clipped (v * base_of hex + digit_of (get_or t i 0))) (i + 1)
   counted_on h b d =

@@ -1,5 +1,5 @@
 -- Laws of a word at an index: what its bytes come to packed, and that it stands in a line.
-use mathlib.Core.Path.{◌≡◌, refl, sym, ◌∙◌}
+use mathlib.Core.Path.{◌≡◌, sym, ◌∙◌}
 use mathlib.Core.Bool.{true, false}
 use mathlib.Core.List.{List, []}
 use Prim.Native.Nat.{ℕ, suc, ◌+◌, ◌-◌, ◌*◌, ◌%◌, ◌^◌, ◌≤◌, ◌<◌}
@@ -47,11 +47,6 @@ pub record Packing (t : List ℕ) (i₀ v i : ℕ) : Type 0 where
   pub few : i < i₀ + packable
   pub ends : i + front is_word (drop i t) ≡ i₀ + front is_word (drop i₀ t)
   pub packs : packed_front v (i₀ + packable - i) (drop i t) ≡ packed_front 0 packable (drop i₀ t)
-
-pub packing_start : (t : List ℕ) (i : ℕ) → i ≤ length t → Packing t i 0 i
-packing_start t i h =
-    let n : i + packable - i ≡ packable = omega arith in
-    record { inside = h; behind = omega arith; few = omega arith; ends = refl; packs = rw n }
 
 abbrev found : ℕ → ℕ → Word
 found e v = record { end = e; packed = v }

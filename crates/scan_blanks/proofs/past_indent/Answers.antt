@@ -53,5 +53,5 @@ loop-bytes-preserved c =
       size = s.0 ∙ v.size;
       rest = (block_is t i 4 x (chunks_exact_rest c.next.new.self) d n).1;
       passed
-      = blanked_four v.passed (four_inside t i x (chunks_exact_rest c.next.new.self) d n) f refl refl c.onward-cursor.ensures;
+          = blanked_four v.passed (four_inside t i x (chunks_exact_rest c.next.new.self) d n) f refl refl c.onward-cursor.ensures;
     }
