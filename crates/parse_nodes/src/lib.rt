@@ -125,6 +125,7 @@ pub struct Words {
 }
 
 // The kind of row i of a table of so many rows, and Eof past the last.
+// Stays: a kind is a number, since rows are words that C lends; and Eof is no None, since kind_word, which the contracts cite, says so.
 #[tactic(auto, unfolding(crate::specs::Post::kind_word))]
 pub fn kind_at(rows: &[u32], count: u32, i: u32) -> u32
     requires { count * 8 ≤ length rows.now }
@@ -174,6 +175,7 @@ fn store_part(nodes: &mut [u32], at: usize, w: Words)
 }
 
 // A node's words from an index on, where there is room for all.
+// Stays: a twin of store_part. With tested words alone a parse of 9,000 rows of statements takes 104 us where it takes 82.
 fn store_whole(nodes: &mut [u32], at: usize, w: Words)
     requires { at + 8 ≤ length nodes.old }
     ensures { nodes.new
@@ -350,6 +352,19 @@ pub fn unended(rows: &[u32], count: u32, s: At, ends: u64) -> Syntax
     ensures { result ≡ wrong (onward_words rows.now count s.summed s.row + ends) }
 {
     wrong(onward(rows, count, s) + ends)
+}
+
+// That the expression or arguments that s stands behind end at a row of a kind, or else 21, where any of a set would have ended them.
+pub fn want_end(rows: &[u32], count: u32, s: At, kind: u32, ends: u64) -> Result<(), Refusal>
+    requires { (count * 8 ≤ length rows.now) × (ends < 2 ^ 53) }
+    ensures ok { OnOk result (kind_word rows.now count s.row ≡ kind) }
+    ensures err { IfErr result (λ e. (kind_word rows.now count s.row ≢ kind)
+        × (e ≡ refusal (wrong (onward_words rows.now count s.summed s.row + ends)) s.row)) }
+{
+    if kind_at(rows, count, s.row) != kind {
+        return Err(Refusal::new(unended(rows, count, s, ends), s.row));
+    }
+    Ok(())
 }
 
 // The header of the declaration whose word is at the row, a name and `{`: the state at the first thing in its braces.
