@@ -260,7 +260,13 @@ fn table_fits(form: Form, file: &[u8], table: Table, stand: bool) -> bool
 }
 
 // What is told of sound blocks: 43, then 4, or the table.
-fn told_rows(form: Form, file: &[u8], table: Table, stand: bool, room: usize) -> Result<Table, Fault>
+fn told_rows(
+    form: Form,
+    file: &[u8],
+    table: Table,
+    stand: bool,
+    room: usize,
+) -> Result<Table, Fault>
     requires { Framed form table.count file.now × (stand ≡ standing form table.ending file.now) }
     ensures { result ≡ rows_told (row_words_of form file.now) room table }
 {

@@ -60,7 +60,13 @@ fn put_moved(form: Form, text: &[u8], file: &[u8], table: Table, moved: &mut [u8
 }
 
 // What is told of a file that holds a table: 4, 45 last of all, or the bytes that were written.
-fn move_table(form: Form, text: &[u8], file: &[u8], table: Table, moved: &mut [u8]) -> Result<u32, Apart>
+fn move_table(
+    form: Form,
+    text: &[u8],
+    file: &[u8],
+    table: Table,
+    moved: &mut [u8],
+) -> Result<u32, Apart>
     requires { judged file.now ≡ Ok table }
     ensures { (result
         ≡ move_judged text.now file.now (number_of form) (length moved.old)

@@ -60,6 +60,8 @@ fn mend_rows(
     let mut spot = begin();
     let mut listed = first;
     let mut k: u32 = 1;
+    // Stays a loop: each turn reads on from where the part before it ended, and the part says whether it is the last; a
+    // for has neither.
     loop {
         let step = mend_part(form, text, spot, k, file, n, list, listed);
         let part = step.part;

@@ -87,6 +87,8 @@ fn survey_rows(form: Form, text: &[u8], file: &[u8]) -> Seen
     let mut count = 0;
     let mut listed = 0;
     let mut k: u32 = 1;
+    // Stays a loop: each turn reads on from where the part before it ended, and the part says whether it is the last; a
+    // for has neither.
     loop {
         let step = hold_part(form, text, spot, k, file);
         let part = step.part;

@@ -17,10 +17,6 @@ use Rattle.rules.specs.Scan.{room_of}
 use Rattle.rules_files.specs.declared.Fault.{Fault}
 use Rattle.rules_files.specs.declared.Fault.TheVariants as fault
 use Rattle.rules_files.specs.declared.Fault.TheVariants.{BadBlock}
-use Rattle.rules_files.specs.declared.Stored.{Stored}
-use Rattle.rules_files.specs.declared.Stored.TheVariants as is_stored
-use Rattle.rules_files.specs.declared.Loaded.{Loaded}
-use Rattle.rules_files.specs.declared.Loaded.TheVariants as is_loaded
 use Rattle.rules_files.specs.Blocks.{block_bytes, file_length}
 use Rattle.rules_files.specs.Files.{fault_number, most_rows, row_bytes, encode, store_told, store_leaves, load_told, load_leaves}
 use Rattle.laws.specs.Bounds.{Bytes, Words}
@@ -33,12 +29,14 @@ use Rattle.spoonharbor.specs.OuterParse.{OuterRefused}
 use Rattle.spoonharbor.proofs.OuterFiles.{is_file, outer_load_lends}
 use Rattle.theory_outer.specs.Calls.{StoreCall, LoadCall}
 use Rattle.theory_outer.proofs.Calls.{store_says, load_says}
+use Rattle.rules.specs.declared.Table.{Table}
+use Rattle.std.specs.Prelude.{Result, Ok, Err}
 
 -- ---- a load
 
 -- 41 with its block, and every lent word as it was
 refused_block : {file lent answer rows : List ℕ} {k : ℕ} → LoadCall file lent answer rows
-    → load_told file (room_of lent) ≡ is_loaded.Refused (BadBlock k)
+    → load_told file (room_of lent) ≡ Err (BadBlock k)
     → OuterRefused lent answer rows 41 start_place k 0 0
 refused_block {file} {lent} {k = k} l e =
     record { told = (load_says l).0 ∙ ap loaded_words e; left = (load_says l).1 ∙ load_untouched file lent (BadBlock k) e }
@@ -55,7 +53,7 @@ module _ {file lent answer rows : List ℕ} (l : LoadCall file lent answer rows)
   same_size : file_length row_bytes (table_of answer).count ≡ length file
   same_size = sym (encode_length rows (table_of answer)) ∙ ap length same_file
 
-  stores : (room : ℕ) → length file ≤ room → store_told rows (table_of answer) room ≡ is_stored.Bytes (length file)
+  stores : (room : ℕ) → length file ≤ room → store_told rows (table_of answer) room ≡ Ok (length file)
   unfolding store_told
   stores room k =
       let few = (reads_of file (room_of lent) (table_of answer) lends.told).few in
@@ -85,7 +83,7 @@ module _ {rows table lent answer m : List ℕ} (s : StoreCall rows table lent an
   was_stored : OuterStored rows table lent answer m
   was_stored = record { told = (store_says s).0; left = (store_says s).1; stored = z }
 
-  told_bytes : store_told rows (table_of table) (length lent) ≡ is_stored.Bytes (get_or answer 7 0)
+  told_bytes : store_told rows (table_of table) (length lent) ≡ Ok (get_or answer 7 0)
   told_bytes = is_file _ _ _ _ _ was_stored fit
 
   -- what is written is the one file of its table
@@ -106,9 +104,9 @@ module _ {rows table lent answer m : List ℕ} (s : StoreCall rows table lent an
 pub store_refused : {rows table lent answer m : List ℕ} → StoreCall rows table lent answer m → (get_or answer 0 0 ≡ 0 → ⊥) → m ≡ lent
 store_refused {rows} {table} {lent} {answer} s ne = (store_says s).1 ∙ by (store_told rows (table_of table) (length lent)) refl
   where
-    by : (x : Stored) → store_told rows (table_of table) (length lent) ≡ x → store_leaves rows (table_of table) lent ≡ lent
-    by (is_stored.Bytes n) e = absurd (ne (ap (λ (ws : List ℕ). get_or ws 0 0) ((store_says s).0 ∙ ap stored_words e)))
-    by (is_stored.Refused why) e = store_untouched rows (table_of table) lent why e
+    by : (x : Result ℕ Fault) → store_told rows (table_of table) (length lent) ≡ x → store_leaves rows (table_of table) lent ≡ lent
+    by (Ok n) e = absurd (ne (ap (λ (ws : List ℕ). get_or ws 0 0) ((store_says s).0 ∙ ap stored_words e)))
+    by (Err why) e = store_untouched rows (table_of table) lent why e
 
 -- a table's number is an ending's
 pub ending_told : (k n : ℕ) (e : Ending) → is_ending (get_or (ending_words k n e) 0 0) ≡ true
@@ -145,7 +143,7 @@ no_ending fault.OtherForm = refl
 pub load_refused : {file lent answer rows : List ℕ} → LoadCall file lent answer rows → is_ending (get_or answer 0 0) ≡ false → rows ≡ lent
 load_refused {file} {lent} {answer} l f = (load_says l).1 ∙ by (load_told file (room_of lent)) refl
   where
-    by : (x : Loaded) → load_told file (room_of lent) ≡ x → load_leaves file lent ≡ lent
-    by (is_loaded.Rows t) e =
+    by : (x : Result Table Fault) → load_told file (room_of lent) ≡ x → load_leaves file lent ≡ lent
+    by (Ok t) e =
         absurd (true≢false (sym (ending_told t.count t.length t.ending) ∙ rw ((load_says l).0, e) at f))
-    by (is_loaded.Refused why) e = load_untouched file lent why e
+    by (Err why) e = load_untouched file lent why e

@@ -14,16 +14,10 @@ use Rattle.rules.specs.declared.Table.{Table}
 use Rattle.rules.specs.Text.{start_place}
 use Rattle.rules.specs.Scan.{room_of}
 use Rattle.rules_files.specs.declared.Fault.TheVariants.{Outer, OtherForm}
-use Rattle.rules_files.specs.declared.Loaded.{Loaded}
-use Rattle.rules_files.specs.declared.Loaded.TheVariants as is_loaded
 use Rattle.rules_files.specs.Blocks.{block_bytes, file_length}
 use Rattle.rules_files.specs.Files.{form_said, count_said, row_words_in, load_told}
 use Rattle.rules_forms.specs.declared.Apart.{Apart}
 use Rattle.rules_forms.specs.declared.Apart.TheVariants.{File, OtherText}
-use Rattle.rules_forms.specs.declared.Beside.{Beside}
-use Rattle.rules_forms.specs.declared.Beside.TheVariants as is_beside
-use Rattle.rules_forms.specs.declared.Moved.{Moved}
-use Rattle.rules_forms.specs.declared.Moved.TheVariants as is_moved
 use Rattle.rules_forms.specs.Short.{short_number, short_encode, short_judged}
 use Rattle.rules_forms.specs.Forms.{is_form, is_short, judged, rows_beside, table_beside, encode_in, beside_judged, beside_told, beside_leaves}
 use Rattle.rules_forms.specs.Forms.{agrees_beside, row_bytes_in, move_judged, move_told, moved_from, move_leaves}
@@ -47,6 +41,8 @@ use Rattle.spoonharbor.proofs.OuterForms as outer
 use Rattle.theory_outer.specs.Calls.{LoadCall, LoadBesideCall, MoveCall}
 use Rattle.theory_outer.proofs.Calls.{load_says, beside_says, move_says}
 use Rattle.theory_outer.proofs.Files.{ending_told, no_ending}
+use Rattle.rules_files.specs.declared.Fault.{Fault}
+use Rattle.std.specs.Prelude.{Result, Ok, Err}
 
 -- ---- a reading of form 1
 
@@ -62,15 +58,15 @@ pub load_by_name : {file lent answer rows : List ℕ} → LoadCall file lent ans
 load_by_name {file} l s = refused_44 l (refused_by_name file s)
 
 -- So it does of a file of form 2 that a reading beside a text takes.
-short_read : (text file : List ℕ) (room : ℕ) (t : Table) → beside_told text file room ≡ is_beside.Rows t → form_said file ≡ short_number
+short_read : (text file : List ℕ) (room : ℕ) (t : Table) → beside_told text file room ≡ Ok t → form_said file ≡ short_number
     → RefusedByName file
 unfolding beside_told beside_judged judged
 short_read text file room t e f = by (short_judged file) refl
   where
-    by : (x : Loaded) → short_judged file ≡ x → RefusedByName file
-    by (is_loaded.Rows u) j = older_refuses file u f j
-    by (is_loaded.Refused why) j =
-        let q : is_beside.Refused (File why) ≡ is_beside.Rows t = rw (eq-eqb (form_said file) short_number f, j) at e in
+    by : (x : Result Table Fault) → short_judged file ≡ x → RefusedByName file
+    by (Ok u) j = older_refuses file u f j
+    by (Err why) j =
+        let q : Err (File why) ≡ Ok t = rw (eq-eqb (form_said file) short_number f, j) at e in
         absurd (let z : ◌≡◌ {A = ℕ} 0 1 = cc in omega arith)
 
 pub beside_by_name : {text file lent answer rows : List ℕ} → LoadBesideCall text file lent answer rows → is_ending (get_or answer 0 0) ≡ true
@@ -78,10 +74,10 @@ pub beside_by_name : {text file lent answer rows : List ℕ} → LoadBesideCall 
 unfolding is_ending
 beside_by_name {text} {file} {lent} {answer} s h f {room} {told} {m} l = by (beside_told text file (room_of lent)) refl
   where
-    by : (x : Beside) → beside_told text file (room_of lent) ≡ x → OuterRefused room told m 44 start_place 0 0 0
-    by (is_beside.Rows t) e = refused_44 l (short_read text file (room_of lent) t e f)
-    by (is_beside.Refused (File why)) e = absurd (true≢false (sym h ∙ rw ((beside_says s).0, e) (no_ending why)))
-    by (is_beside.Refused OtherText) e = absurd (true≢false (sym h ∙ rw ((beside_says s).0, e) refl))
+    by : (x : Result Table Apart) → beside_told text file (room_of lent) ≡ x → OuterRefused room told m 44 start_place 0 0 0
+    by (Ok t) e = refused_44 l (short_read text file (room_of lent) t e f)
+    by (Err (File why)) e = absurd (true≢false (sym h ∙ rw ((beside_says s).0, e) (no_ending why)))
+    by (Err OtherText) e = absurd (true≢false (sym h ∙ rw ((beside_says s).0, e) refl))
 
 -- ---- a move
 
@@ -119,13 +115,13 @@ moved_stays {text} {file} {lent} {answer} {m} s z bytes =
     }
 
 -- Moved to form 2, a file is 44 for a load, which reads form 1.
-module _ (text file : List ℕ) (bytes : Bytes file) (t : Table) (held : judged file ≡ is_loaded.Rows t) where
+module _ (text file : List ℕ) (bytes : Bytes file) (t : Table) (held : judged file ≡ Ok t) where
   -- a file of form 2 has that form already
   of_short : is_short file ≡ true → RefusedByName (encode_in short_number (rows_beside text file) (table_beside text file t))
   unfolding judged
   of_short e =
       let f = eqb-true (form_said file) short_number e in
-      let h : short_judged file ≡ is_loaded.Rows t = rw e at held in
+      let h : short_judged file ≡ Ok t = rw e at held in
       let k : is_form (form_said file) ≡ true = rw f in
       let w : encode_in short_number (rows_beside text file) (table_beside text file t) ≡ file =
       ap (λ (x : ℕ). encode_in x (rows_beside text file) (table_beside text file t)) (sym f) ∙ own_form text file bytes t held k in
@@ -135,7 +131,7 @@ module _ (text file : List ℕ) (bytes : Bytes file) (t : Table) (held : judged 
   of_long : is_short file ≡ false → RefusedByName (encode_in short_number (rows_beside text file) (table_beside text file t))
   unfolding judged rows_beside table_beside encode_in row_words_in words_of
   of_long e =
-      let h : load_told file (count_said file) ≡ is_loaded.Rows t = rw e at held in
+      let h : load_told file (count_said file) ≡ Ok t = rw e at held in
       let r = reads_of file (count_said file) t h in
       let w : Words (row_words_in file) = words_fit long_fits (count_said file) bytes in
       let f = written_form (row_words_in file) t r.well r.few w in
@@ -163,28 +159,28 @@ moved_by_name {text} {file} {lent} {answer} {m} s z bytes l =
 -- a reading that is told
 record ReadOf (text file : List ℕ) (u : Table) : Type 0 where
   table : Table
-  judged_is : judged file ≡ is_loaded.Rows table
+  judged_is : judged file ≡ Ok table
   agree : agrees_beside text file table ≡ true
   count : table.count ≡ u.count
 
-past : (b : Bool) (why : Apart) (y : Beside) (u : Table) → cond b (is_beside.Refused why) y ≡ is_beside.Rows u
-    → (b ≡ false) × (y ≡ is_beside.Rows u)
+past : (b : Bool) (why : Apart) (y : Result Table Apart) (u : Table) → cond b (Err why) y ≡ Ok u
+    → (b ≡ false) × (y ≡ Ok u)
 past true why y u e = absurd (let z : ◌≡◌ {A = ℕ} 0 1 = cc in omega arith)
 past false why y u e = (refl, e)
 
-read_of : (text file : List ℕ) (room : ℕ) (u : Table) → beside_told text file room ≡ is_beside.Rows u → ReadOf text file u
+read_of : (text file : List ℕ) (room : ℕ) (u : Table) → beside_told text file room ≡ Ok u → ReadOf text file u
 unfolding beside_told beside_judged table_beside
 read_of text file room u q = go (judged file) refl q
   where
-    count_same : (t : Table) → is_beside.Rows (table_beside text file t) ≡ is_beside.Rows u → table_beside text file t ≡ u
+    count_same : (t : Table) → ◌≡◌ {A = Result Table Apart} (Ok (table_beside text file t)) (Ok u) → table_beside text file t ≡ u
     count_same t e = cc
 
-    go : (x : Loaded) → judged file ≡ x → beside_judged text file room x ≡ is_beside.Rows u → ReadOf text file u
-    go (is_loaded.Refused why) j e = absurd (let z : ◌≡◌ {A = ℕ} 0 1 = cc in omega arith)
-    go (is_loaded.Rows t) j e =
-        let last = cond (not (agrees_beside text file t)) (is_beside.Refused OtherText) (is_beside.Rows (table_beside text file t)) in
+    go : (x : Result Table Fault) → judged file ≡ x → beside_judged text file room x ≡ Ok u → ReadOf text file u
+    go (Err why) j e = absurd (let z : ◌≡◌ {A = ℕ} 0 1 = cc in omega arith)
+    go (Ok t) j e =
+        let last = cond (not (agrees_beside text file t)) (Err OtherText) (Ok (table_beside text file t)) in
         let f = past (ltb room t.count) (File (Outer NoRowRoom)) last u e in
-        let k = past (not (agrees_beside text file t)) OtherText (is_beside.Rows (table_beside text file t)) u f.1 in
+        let k = past (not (agrees_beside text file t)) OtherText (Ok (table_beside text file t)) u f.1 in
         record {
           table = t;
           judged_is = j;
@@ -201,16 +197,16 @@ pub read_then_move : {text file lent answer rows : List ℕ} → LoadBesideCall 
 unfolding is_ending move_told move_judged
 read_then_move {text} {file} {lent} {answer} s h {form} {room} {told} c k l = by (beside_told text file (room_of lent)) refl
   where
-    by : (x : Beside) → beside_told text file (room_of lent) ≡ x → get_or told 0 0 ≡ 0
-    by (is_beside.Rows u) e =
+    by : (x : Result Table Apart) → beside_told text file (room_of lent) ≡ x → get_or told 0 0 ≡ 0
+    by (Ok u) e =
         let r = read_of text file (room_of lent) u e in
         let t : table_of answer ≡ u = lent_table u ((beside_says s).0 ∙ ap beside_words e) in
         let n : get_or answer 6 0 ≡ r.table.count = ap (λ (v : Table). v.count) t ∙ sym r.count in
         let f : ltb (length room) (file_length (row_bytes_in form) r.table.count) ≡ false
         = le-ltb (length room) _ (rw n at l) in
         rw ((move_says c).0, k, r.judged_is, f, r.agree)
-    by (is_beside.Refused (File why)) e = absurd (true≢false (sym h ∙ rw ((beside_says s).0, e) (no_ending why)))
-    by (is_beside.Refused OtherText) e = absurd (true≢false (sym h ∙ rw ((beside_says s).0, e) refl))
+    by (Err (File why)) e = absurd (true≢false (sym h ∙ rw ((beside_says s).0, e) (no_ending why)))
+    by (Err OtherText) e = absurd (true≢false (sym h ∙ rw ((beside_says s).0, e) refl))
 
 -- ---- refused calls
 
@@ -220,16 +216,16 @@ pub move_refused : {text file : List ℕ} {form : ℕ} {lent answer m : List ℕ
     → m ≡ lent
 move_refused {text} {file} {form} {lent} {answer} s ne = (move_says s).1 ∙ by (move_told text file form (length lent)) refl
   where
-    by : (x : Moved) → move_told text file form (length lent) ≡ x → move_leaves text file form lent ≡ lent
-    by (is_moved.Bytes n) e = absurd (ne (ap (λ (ws : List ℕ). get_or ws 0 0) ((move_says s).0 ∙ ap moved_words e)))
-    by (is_moved.Refused why) e = move_untouched text file form lent why e
+    by : (x : Result ℕ Apart) → move_told text file form (length lent) ≡ x → move_leaves text file form lent ≡ lent
+    by (Ok n) e = absurd (ne (ap (λ (ws : List ℕ). get_or ws 0 0) ((move_says s).0 ∙ ap moved_words e)))
+    by (Err why) e = move_untouched text file form lent why e
 
 -- A reading beside the text that is refused leaves every lent word.
 pub beside_refused : {text file lent answer rows : List ℕ} → LoadBesideCall text file lent answer rows → is_ending (get_or answer 0 0) ≡ false
     → rows ≡ lent
 beside_refused {text} {file} {lent} {answer} s f = (beside_says s).1 ∙ by (beside_told text file (room_of lent)) refl
   where
-    by : (x : Beside) → beside_told text file (room_of lent) ≡ x → beside_leaves text file lent ≡ lent
-    by (is_beside.Rows t) e =
+    by : (x : Result Table Apart) → beside_told text file (room_of lent) ≡ x → beside_leaves text file lent ≡ lent
+    by (Ok t) e =
         absurd (true≢false (sym (ending_told t.count t.length t.ending) ∙ rw ((beside_says s).0, e) at f))
-    by (is_beside.Refused why) e = beside_untouched text file lent why e
+    by (Err why) e = beside_untouched text file lent why e

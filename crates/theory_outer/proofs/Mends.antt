@@ -10,13 +10,10 @@ use lib.Dec.{ltb}
 use lib.ListN.{length, take, drop, get_or}
 use borrow.Author.Tests.{ltb-true, ltb-false}
 use Rattle.rules.specs.Scan.{room_of}
-use Rattle.rules_files.specs.declared.Loaded.TheVariants as is_loaded
 use Rattle.rules_files.specs.Blocks.{block_bytes}
 use Rattle.rules_files.specs.Files.{form_number, encode, load_told, load_leaves}
 use Rattle.laws.specs.Bounds.{Bytes, Words}
 use Rattle.theory_files.proofs.Files.{read_left}
-use Rattle.rules_mend.specs.declared.Mended.{Mended}
-use Rattle.rules_mend.specs.declared.Mended.TheVariants as is_mended
 use Rattle.rules_mend.specs.Mend.{fresh_table, fresh_file, listed, mend_told, mend_leaves, list_leaves}
 use Rattle.theory_mend.specs.Mended.{IsMended, left, NothingAgain, Untouched, RestStays, ListTells, Member, Differs, BeginsTail, block_at}
 use Rattle.theory_mend.proofs.Mended.{mended_reads, mended_again, mended_lists, rest_stays, mend_untouched}
@@ -30,6 +27,9 @@ use Rattle.theory_outer.specs.Said.{Lists, Stays, entries}
 use Rattle.theory_outer.proofs.Calls.{scan_says, mend_says}
 use Rattle.theory_outer.proofs.Lent.{scan_lends, lent_is, lent_room}
 use Rattle.theory_outer.proofs.Files.{its_file}
+use Rattle.std.specs.Prelude.{Ok, Result, Err}
+use Rattle.rules_mend.specs.declared.Mended.{Mended}
+use Rattle.rules_mend.specs.declared.NotMended.{NotMended}
 
 module _ {text : List ℕ} {form : ℕ} {memory : List ℕ} {n : ℕ} {list answer m blocks : List ℕ}
     (s : MendCall text form memory n list answer m blocks)
@@ -100,7 +100,7 @@ mend_stores {text} {memory} {n} {list} {answer} {m} s z bytes {lent} {told} {row
     let l = lent_room (scan_lends p) h in
     let file : List ℕ = file_of answer m in
     let is : left text form_number memory n list (get_or answer 7 0) ≡ file = ap (take (get_or answer 7 0)) (sym (mend_says s).1.0) in
-    let e : load_told file (room_of lent) ≡ is_loaded.Rows (fresh_table text) = rw is at (r.alone refl (room_of lent) l) in
+    let e : load_told file (room_of lent) ≡ Ok (fresh_table text) = rw is at (r.alone refl (room_of lent) l) in
     let w : load_leaves file lent ≡ rows = rw is at (r.rows_alone refl lent l) ∙ sym (scan_says p).1 in
     sym (read_left file bytes (room_of lent) (fresh_table text) e lent refl)
     ∙ ap (λ (ws : List ℕ). encode ws (fresh_table text)) w
@@ -112,7 +112,7 @@ pub mend_refused : {text : List ℕ} {form : ℕ} {memory : List ℕ} {n : ℕ} 
     → MendCall text form memory n list answer m blocks → (get_or answer 0 0 ≡ 0 → ⊥) → (m ≡ memory) × (blocks ≡ list)
 mend_refused {text} {form} {memory} {n} {list} {answer} {m} {blocks} s ne = by (mend_told text form memory n list) refl
   where
-    by : (x : Mended) → mend_told text form memory n list ≡ x → (m ≡ memory) × (blocks ≡ list)
-    by (is_mended.Blocks k c) e = absurd (ne (ap (λ (ws : List ℕ). get_or ws 0 0) ((mend_says s).0 ∙ ap mended_words e)))
-    by (is_mended.Refused why p) e =
-        let u = mend_untouched text form memory n list why p e in ((mend_says s).1.0 ∙ u.file, (mend_says s).1.1 ∙ u.entries)
+    by : (x : Result Mended NotMended) → mend_told text form memory n list ≡ x → (m ≡ memory) × (blocks ≡ list)
+    by (Ok done) e = absurd (ne (ap (λ (ws : List ℕ). get_or ws 0 0) ((mend_says s).0 ∙ ap mended_words e)))
+    by (Err refused) e =
+        let u = mend_untouched text form memory n list refused.why refused.at e in ((mend_says s).1.0 ∙ u.file, (mend_says s).1.1 ∙ u.entries)

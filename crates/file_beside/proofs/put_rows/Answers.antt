@@ -23,7 +23,7 @@ place_of-here-requires c =
     let asked : Asked a.text.now a.file.now a.table a.from a.n a.words.now
     = record { agree = c.requires.0.0.0; rows = c.requires.0.0.1; room = c.requires.0.1 } in
     let row_is =
-        c.row_of-r.ensures ∙ ap (λ (f : Form). row_no (row_words_of f a.file.now) (a.from + c.loop-i.i)) c.form_of-form.ensures
+    c.row_of-r.ensures ∙ ap (λ (f : Form). row_no (row_words_of f a.file.now) (a.from + c.loop-i.i)) c.form_of-form.ensures
     in
     putting_counts asked c.loop-i.invariant c.loop-i-test.true (as_row c.row_of-r.result) row_is
 
@@ -33,7 +33,7 @@ loop-i-preserved c =
     let asked : Asked a.text.now a.file.now a.table a.from a.n a.words.now
     = record { agree = c.requires.0.0.0; rows = c.requires.0.0.1; room = c.requires.0.1 } in
     let row_is =
-        c.row_of-r.ensures ∙ ap (λ (f : Form). row_no (row_words_of f a.file.now) (a.from + c.loop-i.i)) c.form_of-form.ensures
+    c.row_of-r.ensures ∙ ap (λ (f : Form). row_no (row_words_of f a.file.now) (a.from + c.loop-i.i)) c.form_of-form.ensures
     in
     let placed = c.place_of-here.ensures ∙ ap (λ (f : Form). placed_at f a.text.now (as_row c.row_of-r.result)) c.form_of-form.ensures in
     putting_next asked c.loop-i.invariant c.loop-i-test.true (as_row c.row_of-r.result) row_is c.place_of-here.result placed
