@@ -10,6 +10,7 @@ use rules::node::MISSING;
 use rules::{node, node_kind};
 
 // A row that stands so many rows further on. A row that is missing stays missing.
+// Stays a number, MISSING: rows are words of memory that C lends, and `moved_row` speaks of these words.
 #[tactic(auto, using(crate::proofs::First::row_missing, crate::proofs::First::row_there))]
 fn move_row(row: u32, by: u32) -> u32
     requires { (row ≡ missing → ⊥) → row + by ≤ missing }

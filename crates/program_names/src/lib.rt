@@ -94,6 +94,7 @@ impl<'a> Both<'a> {
 }
 
 // The kind of a row of both.
+// Stays a function of rows alone: no other crate calls it, so as a method of Both it would ask its callers for more, which it may not.
 #[tactic(auto, using(crate::proofs::Heads::kind_front, crate::proofs::Heads::kind_later))]
 pub fn kind_of_both(prelude_rows: &[u32], prelude_count: u32, rows: &[u32], row: u32) -> u32
     requires { AsksKind prelude_rows.now prelude_count rows.now row }
@@ -115,7 +116,6 @@ pub fn comes_before(a: &[u8], b: &[u8]) -> bool
 }
 
 // Whether two names have the same bytes.
-
 #[tactic(auto, using(crate::proofs::Order::same_says))]
 pub fn same(a: &[u8], b: &[u8]) -> bool
     ensures { result ≡ same_bytes a.now b.now }
@@ -124,6 +124,7 @@ pub fn same(a: &[u8], b: &[u8]) -> bool
 }
 
 // The first row of a table that is a unit's keyword.
+// Stays a function of rows alone: no other crate calls it, so as a method of Scanned it would ask its callers for more, which it may not.
 pub fn first_unit(rows: &[u32], count: u32) -> Option<u32>
     requires { count * 8 ≤ length rows.now }
     ensures { result ≡ first_of (unit_heads rows.now count) }

@@ -1,15 +1,15 @@
 -- The steps of names given out: a head's name stands in a row, the first, one that comes after, and one with the name of the last.
 use mathlib.Core.Path.{◌≡◌, refl, sym, ◌∙◌}
-use mathlib.Core.Bool.{Bool, true, false, true≢false}
+use mathlib.Core.Bool.{Bool, true}
 use mathlib.Core.List.{List, [], ◌∷◌}
 use Prim.Native.Nat.{ℕ, ◌+◌, ◌≤◌, ◌<◌}
 use native.Mathlib.Decide.{dec_lt}
 use native.Mathlib.Omega.{arith}
-use Rattle.std.specs.Prelude.{Option, None, Some, IfSome, min}
+use Rattle.std.specs.Prelude.{Option, None, Some, IfSome, IsTrue, ◌↔◌, min}
 use Rattle.rules.specs.Kinds.{same_bytes}
 use Rattle.rules_program.specs.Names.{comes_before}
 use Rattle.laws.proofs.Spelled.{same_eq, same_self}
-use Rattle.program_twins.specs.Given.{Says, Twin, TwinRow, AtMost, First, HeadAt, higher, again, Rising, one, more, Listed, lesser}
+use Rattle.program_twins.specs.Given.{Twin, TwinRow, AtMost, First, HeadAt, higher, again, Rising, one, more, Listed, lesser}
 
 -- ---- what an answer says
 
@@ -19,9 +19,8 @@ spelled_before r a b w v d e f g = cc
 pub spelled_same : (r : Bool) (a b w v : List ℕ) → a ≡ w → b ≡ v → r ≡ same_bytes a b → r ≡ true → w ≡ v
 spelled_same r a b w v d e f g = sym d ∙ (same_eq a b (sym f ∙ g) ∙ e)
 
-pub says_named : (r : Bool) (own w name : List ℕ) {H : Type 0} → H → own ≡ w → r ≡ same_bytes own name → Says r (H × (w ≡ name))
-says_named true own w name h e f = (h, sym e ∙ same_eq own name (sym f))
-says_named false own w name h e f = λ p. true≢false (sym (rw (e ∙ p.1) (same_self name)) ∙ sym f)
+pub says_named : (r : Bool) (own w name : List ℕ) {H : Type 0} → H → own ≡ w → r ≡ same_bytes own name → IsTrue r ↔ (H × (w ≡ name))
+says_named r own w name h e f = (λ g. (h, sym e ∙ same_eq own name (sym f ∙ g)), λ p. f ∙ rw (e ∙ p.1) (same_self name))
 
 module _ (head : ℕ → Bool) (spelled : ℕ → List ℕ) where
   pub first_here : (n row : ℕ) → row < n → ((j : ℕ) → j < row → Twin head spelled j → ⊥) → Twin head spelled row →

@@ -1,6 +1,6 @@
 -- Names given out in order, each with its row, and what is known of the first that was declared before. Heads are rows that meet a test,
 -- and a head's name is spelled by the row after it.
-use Rattle.std.specs.Prelude.{◌≡◌, Bool, true, false, List, [], ◌∷◌, ℕ, ◌+◌, ◌≤◌, ◌<◌, length, min, Option, None, Some, MatchOption, IfSome, IsSomeAnd}
+use Rattle.std.specs.Prelude.{◌≡◌, Bool, true, List, [], ◌∷◌, ℕ, ◌+◌, ◌≤◌, ◌<◌, length, min, Option, None, Some, MatchOption, IfSome, IsSomeAnd}
 use Rattle.rules_program.specs.Names.{twin_rows, comes_before}
 use Rattle.program_names.specs.declared.Both.{Both}
 use Rattle.program_names.specs.Heads.{head_names, first_of}
@@ -14,11 +14,6 @@ first_twin prelude pws count text ws rest = first_of (twin_rows [] (head_names p
 -- of two texts
 abbrev pub twin_of : Both → Option ℕ
 twin_of b = first_twin b.prelude.text.now b.prelude.rows.now b.prelude.count b.probe.text.now b.probe.rows.now b.probe.count
-
--- an answer says whether a thing is so
-abbrev pub Says : Bool → Type 0 → Type 0
-Says true A = A
-Says false A = A → ⊥
 
 -- a head before row j has the name w
 pub record Before (head : ℕ → Bool) (spelled : ℕ → List ℕ) (j : ℕ) (w : List ℕ) : Type 0 where

@@ -2,9 +2,9 @@
 // if all of them came, in order, then twins stood side by side. Where a check fails, each name is looked for among those before it.
 #![tactic(auto)]
 
-ghost use Rattle.std.specs.Prelude.{◌≡◌, true, None, IfSome, ◌+◌, ◌≤◌, ◌<◌, length};
+ghost use Rattle.std.specs.Prelude.{◌≡◌, true, None, IfSome, IsTrue, ◌↔◌, ◌+◌, ◌≤◌, ◌<◌, length};
 ghost use Rattle.program_names.specs.Both.{heads, spelled, rows_of};
-ghost use Rattle.program_twins.specs.Given.{Says, Before, Twin, HeadAt, CheckedBoth, lesser, twin_of};
+ghost use Rattle.program_twins.specs.Given.{Before, Twin, HeadAt, CheckedBoth, lesser, twin_of};
 
 use program_heap::ROOM;
 use program_names::Both;
@@ -22,7 +22,7 @@ pub struct Given {
 // Whether a row is a head that is named so.
 fn named_so(both: &Both<'_>, row: u32, name: &[u8]) -> bool
     requires { row < rows_of both.now }
-    ensures { Says result ((heads both.now row ≡ true) × (spelled both.now (row + 1) ≡ name.now)) }
+    ensures { IsTrue result ↔ ((heads both.now row ≡ true) × (spelled both.now (row + 1) ≡ name.now)) }
 {
     both.is_head(row) && program_names::same(both.spelling(row + 1), name)
 }
@@ -30,7 +30,7 @@ fn named_so(both: &Both<'_>, row: u32, name: &[u8]) -> bool
 // Whether a head before a row is named so.
 fn named_before(both: &Both<'_>, row: u32, name: &[u8]) -> bool
     requires { row < rows_of both.now }
-    ensures { Says result (Before (heads both.now) (spelled both.now) row name.now) }
+    ensures { IsTrue result ↔ Before (heads both.now) (spelled both.now) row name.now }
 {
     for k in 0..row {
         if named_so(both, k, name) {
@@ -43,7 +43,7 @@ fn named_before(both: &Both<'_>, row: u32, name: &[u8]) -> bool
 // Whether a row is a head whose name was declared before.
 fn twin_at(both: &Both<'_>, row: u32) -> bool
     requires { row < rows_of both.now }
-    ensures { Says result (Twin (heads both.now) (spelled both.now) row) }
+    ensures { IsTrue result ↔ Twin (heads both.now) (spelled both.now) row }
 {
     both.is_head(row) && named_before(both, row, both.spelling(row + 1))
 }
