@@ -216,6 +216,7 @@ pub fn store(nodes: &mut [u32], n: u32, w: Words)
 }
 
 // Node n with no facts; `name` is a row, or MISSING.
+// Stays: MISSING is no None, since it is the word that C reads in a node.
 pub fn close(nodes: &mut [u32], n: u32, kind: u32, place: u32, name: u32, children: u32)
     requires { n ≤ most_rows }
     ensures { nodes.new ≡ sets nodes.old (8 * n) (node_words (node kind place name children)) }
