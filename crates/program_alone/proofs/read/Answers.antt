@@ -1,5 +1,5 @@
 -- 1, 2 and 3, the table's refused ending, and then the reading.
-use mathlib.Core.Path.{◌≡◌, refl, sym, ◌∙◌}
+use mathlib.Core.Path.{sym, ◌∙◌}
 use Rattle.program_alone.proofs.Told.{told_refused, told_ending, told_read, table_ended}
 use Rattle.program_alone.proofs.read.Goals as goal
 
