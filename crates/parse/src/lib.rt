@@ -9,7 +9,8 @@ ghost use Rattle.rules.specs.Outcomes.{unparsed};
 ghost use Rattle.rules.specs.declared.Reason.TheVariants as reason;
 ghost use Rattle.parse_nodes.specs.Post.{AsksOpen};
 ghost use Rattle.parse_nodes.specs.Names.{Spans};
-ghost use Rattle.parse.specs.Program.{TopMet, ProgramMet, AsksTable, AsksEnded, AsksWhole, TopPassed, ProgramPassed, reading_of, Accepted, Final};
+ghost use Rattle.parse.specs.Program.{AsksTable, AsksEnded, AsksWhole, TopMet, ProgramMet, TopPassed, ProgramPassed};
+ghost use Rattle.parse.specs.Program.{reading_of, Accepted, Final};
 
 use parse_nodes::{At, Refusal};
 use rows::shape::Row;

@@ -1,12 +1,10 @@
 -- What a unit's contents give: the kind and the licence so far, and the answers of the functions that read them.
-use Rattle.std.specs.Prelude.{◌≡◌, true, false, Option, Some, Result, Ok, List, [], ◌∷◌, ℕ, ◌+◌, ◌-◌, ◌*◌, ◌≤◌, length, get_or, take, drop}
+use Rattle.std.specs.Prelude.{◌≡◌, true, false, Result, Ok, List, ℕ, ◌+◌, ◌*◌, ◌≤◌}
 use Rattle.std.proofs.lemmas.List.Edits.{sets}
-use Rattle.rules.specs.Rows.{at_end, at_start, words_per_row}
 use Rattle.rules.specs.Kinds.{RBrace}
-use Rattle.rules.specs.Sets.{from_section}
 use Rattle.rules.specs.Fits.{unit_things}
-use Rattle.rules.specs.Tree.{Tok, Tree, text, is_sum, hangs, sections_of, section_text}
-use Rattle.rules.specs.Nodes.{missing, size, licence_row, tree_words}
+use Rattle.rules.specs.Tree.{Tok, Tree, text, is_sum, hangs, sections_of}
+use Rattle.rules.specs.Nodes.{size, licence_row, tree_words}
 use Rattle.rules.specs.Parse
 use Rattle.rules.specs.Parse.{Out, ok, no, is_text}
 use Rattle.parse_nodes.specs.Post.{kind_word, state_at, behind, refused_at, Asks, Met}

@@ -1,21 +1,18 @@
 -- Declaration by declaration, and the program around them.
 use mathlib.Core.Path.{◌≡◌, refl, sym, ap, ◌∙◌}
 use mathlib.Core.Bool.{false}
-use mathlib.Core.List.{List}
-use Prim.Native.Nat.{ℕ, ◌+◌}
 use native.Mathlib.Omega.{arith}
 use borrow.Author.Rules.{rules}
 use Rattle.std.proofs.lemmas.Result.{err_from_is_err_and}
 use Rattle.rules.specs.Parse
 use Rattle.rules.specs.Kinds.{Eof}
 use Rattle.rules.specs.Fits.{tops}
-use Rattle.rules.specs.Tree.{Tok, program}
+use Rattle.rules.specs.Tree.{program}
 use Rattle.rules.specs.Parse.{ok}
 use Rattle.theory_grammar.proofs.Cases.{then_ok, then_no, parse_is}
 use Rattle.parse_nodes.specs.Post.{refusal}
 use Rattle.parse_nodes.specs.Fitting.{retold_at}
 use Rattle.parse_nodes.specs.declared.At.{At}
-use Rattle.parse_nodes.specs.declared.Refusal.{Refusal}
 use Rattle.parse_nodes.proofs.Errs.{met_err, mapped_ok, mapped_err}
 use Rattle.parse_nodes.proofs.Seen.{seen}
 use Rattle.parse_nodes.proofs.Told.{names_told}

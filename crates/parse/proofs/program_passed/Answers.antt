@@ -1,9 +1,7 @@
 -- Declaration by declaration, as the parser reads them.
-use mathlib.Core.Path.{◌≡◌, sym, ◌∙◌}
-use mathlib.Core.List.{List}
-use Prim.Native.Nat.{ℕ, ◌-◌}
+use mathlib.Core.Path.{sym, ◌∙◌}
+use Prim.Native.Nat.{ℕ}
 use native.Mathlib.Omega.{arith}
-use lib.ListN.{length}
 use borrow.Author.Rules.{rules}
 use Rattle.std.proofs.lemmas.Result.{err_from_is_err_and}
 use Rattle.rules.specs.Fits.{tops}
@@ -12,7 +10,6 @@ use Rattle.rules.specs.Parse
 use Rattle.theory_grammar.proofs.Tables.{tokens_proper}
 use Rattle.parse_nodes.specs.Post.{refusal}
 use Rattle.parse_nodes.specs.Fitting.{retold_at}
-use Rattle.parse_nodes.specs.declared.Refusal.{Refusal}
 use Rattle.parse_nodes.proofs.Errs.{mapped_ok, mapped_err}
 use Rattle.parse_nodes.proofs.Seen.{seen}
 use Rattle.parse_nodes.proofs.Told.{names_told}

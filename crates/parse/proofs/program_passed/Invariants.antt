@@ -1,7 +1,7 @@
 -- At the loop's head the maps, units and events so far are passed.
 use mathlib.Core.Path.{◌≡◌}
 use mathlib.Core.List.{List}
-use Prim.Native.Nat.{ℕ, ◌-◌}
+use Prim.Native.Nat.{◌-◌}
 use lib.ListN.{length}
 use Rattle.rules.specs.Tree.{Tok}
 use Rattle.theory_grammar.specs.Tokens.{Proper}

@@ -1,13 +1,9 @@
 -- Thing by thing.
-use mathlib.Core.Path.{◌≡◌, sym, ap, ◌∙◌}
-use mathlib.Core.Bool.{cond}
-use Prim.Native.Nat.{ℕ, ◌+◌}
+use mathlib.Core.Path.{sym, ap, ◌∙◌}
+use Prim.Native.Nat.{ℕ}
 use native.Mathlib.Omega.{arith}
-use Rattle.std.specs.Prelude.{Err}
 use Rattle.rules.specs.Parse
-use Rattle.parse_nodes.specs.Post.{refusal}
 use Rattle.parse_nodes.specs.Fitting.{retold_at}
-use Rattle.parse_nodes.specs.declared.Refusal.{Refusal}
 use Rattle.parse_nodes.proofs.Seen.{seen}
 use Rattle.parse_nodes.proofs.Told.{names_told}
 use Rattle.parse_units.proofs.Answers.{added, add_refused, item_up, item_inside}

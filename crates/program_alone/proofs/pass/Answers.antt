@@ -1,5 +1,5 @@
 -- The first pass, into no memory, says what is read.
-use mathlib.Core.Path.{◌≡◌, refl, ap, ◌∙◌}
+use mathlib.Core.Path.{ap, ◌∙◌}
 use Rattle.rules.specs.Refusals.{found_told}
 use Rattle.rules.specs.Rows.{Row, row_place, rows_in}
 use Rattle.rules.specs.Calls.{place_of_row}
