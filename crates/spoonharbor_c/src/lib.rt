@@ -19,7 +19,7 @@ ghost use Rattle.edit_change.specs.Change.{change_told, change_leaves};
 ghost use Rattle.rules_layout.specs.Layout.{layout_told, layout_leaves};
 ghost use Rattle.layout.specs.Laying.{scratch_leaves};
 ghost use Rattle.layout_answers.specs.Words.{laid_words};
-ghost use Rattle.rules_tally.specs.Calls.{counting_number, joining_number, tallied, joined, tally_in, tally_words};
+ghost use Rattle.rules_tally.specs.Calls.{counting_number, joining_number, counted, joined_counts, tallied, joined, tally_in, tally_words};
 
 use layout_judge::SCRATCH;
 
@@ -265,8 +265,8 @@ pub extern "C" fn spoonharbor_layout(
 // The tally of the first `count` nodes: 0, or 3 and the tally of nothing.
 #[unsafe(no_mangle)]
 pub extern "C" fn spoonharbor_tally(nodes: &[u32], count: u32, counts: &mut [u64; 20]) -> u32
-    ensures told { result ≡ counting_number (tallied nodes.now count).how }
-    ensures left { counts.new ≡ tally_words (tallied nodes.now count).tally }
+    ensures told { result ≡ counting_number (tallied nodes.now count) }
+    ensures left { counts.new ≡ tally_words (counted (tallied nodes.now count)) }
 {
     spoonharbor::figures::spoonharbor_tally(nodes, count, counts)
 }
@@ -278,9 +278,9 @@ pub extern "C" fn spoonharbor_join(
     second: &[u64; 20],
     sum: &mut [u64; 20],
 ) -> u32
-    ensures told { result ≡ joining_number (joined (tally_in first.now) (tally_in second.now)).how }
+    ensures told { result ≡ joining_number (joined (tally_in first.now) (tally_in second.now)) }
     ensures left { sum.new
-        ≡ tally_words (joined (tally_in first.now) (tally_in second.now)).tally }
+        ≡ tally_words (joined_counts (joined (tally_in first.now) (tally_in second.now))) }
 {
     spoonharbor::figures::spoonharbor_join(first, second, sum)
 }
