@@ -25,7 +25,7 @@ use Rattle.scan_stop.specs.declared.Walked.{Walked}
 use Rattle.scan_meet.specs.Meeting.{meets_at}
 use Rattle.scan_walk.specs.Walk.{Walkable, place_in, rows_seen, seen_from, walk_seen, walk_rows, walk_of}
 use Rattle.edit.specs.declared.Job.{Job}
-use Rattle.edit_parts.specs.declared.Tail.TheVariants.{Full}
+use Rattle.std.specs.Prelude.{None}
 use Rattle.edit.specs.Job.{Ready, Follows, old_rows, olds_of, job_seen, job_rows, job_ending, tail_told, rows_behind, ending_behind}
 use Rattle.edit.proofs.Facts.{rising, moves_row, moves_ending}
 use Rattle.edit.proofs.Tails.{full_before}
@@ -164,7 +164,7 @@ module _ {ws : List ℕ} {j : Job} {w : List ℕ} (r : Ready ws j w) where
 
       -- they found no room
       pub full_by : (tail : List ℕ) → room_of tail < length ours →
-          (Full ≡ tail_told (room_of tail) (job_rows ws j w whole) (job_ending ws j w whole))
+          (None ≡ tail_told (room_of tail) (job_rows ws j w whole) (job_ending ws j w whole))
           × (laid ours tail ≡ laid (job_rows ws j w whole) tail)
       unfolding job_rows
       full_by tail h =

@@ -193,7 +193,7 @@ module _ (ws : List ℕ) (j : Job) (w : List ℕ) where
   begins short = record { others = []; all = refl }
 
   pub by_lacking : (x : Seen) → is_short x ≡ is_lacking (stop_of x)
-  unfolding is_short stop_seen is_lacking
+  unfolding is_short stop_seen
   by_lacking (sees r s) = by_lacking s
   by_lacking (over' x) = refl
   by_lacking (met m c) = refl

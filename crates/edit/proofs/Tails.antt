@@ -24,13 +24,13 @@ use Rattle.rows.specs.Shape.{row_no}
 use Rattle.laws.proofs.Lists.{lent_tail, back_tail}
 use Rattle.laws.proofs.Rows.{rows_length, words_length, take_rows, drop_rows, told_full, room_behind, laid_append, laid_front, laid_part, laid_all}
 use Rattle.edit_carry.proofs.Carried.{recounted_length}
-use Rattle.edit_parts.specs.declared.Tail.{Tail}
-use Rattle.edit_parts.specs.declared.Tail.TheVariants.{Rows, Full}
-use Rattle.edit_parts.specs.Parts.{behind_of, FewBehind, tell_of, TellsFit}
+use Rattle.std.specs.Prelude.{Option, Some, None}
+use Rattle.edit_parts.specs.declared.Rest.{Rest}
+use Rattle.edit_parts.specs.Parts.{behind_of, tell_of, TellsFit}
 use Rattle.edit.specs.Job.{tail_told, rows_behind, ending_behind}
 
 -- all find room
-pub tail_all : (m : ℕ) (rows : List Row) (e : Ending) → length rows ≤ m → Rows (length rows) e ≡ tail_told m rows e
+pub tail_all : (m : ℕ) (rows : List Row) (e : Ending) → length rows ≤ m → Some (record { count = length rows; ending = e }) ≡ tail_told m rows e
 unfolding tail_told
 tail_all m rows e h = rw (le-leb (length rows) m h)
 
@@ -38,7 +38,7 @@ tail_all m rows e h = rw (le-leb (length rows) m h)
 
 module _ (ys zs : List Row) (e : Ending) (ws : List ℕ) where
   -- the window's rows find no room
-  pub full_before : room_of ws < length ys → (Full ≡ tail_told (room_of ws) (ys ++ zs) e) × (laid ys ws ≡ laid (ys ++ zs) ws)
+  pub full_before : room_of ws < length ys → (None ≡ tail_told (room_of ws) (ys ++ zs) e) × (laid ys ws ≡ laid (ys ++ zs) ws)
   unfolding tail_told
   full_before h = (
     rw (lt-leb (length (ys ++ zs)) (room_of ws) (omega (arith, length-append ys zs))),
@@ -47,31 +47,31 @@ module _ (ys zs : List Row) (e : Ending) (ws : List ℕ) where
 
   -- they do, and what stands behind them is told of all
   pub told_behind : length ys ≤ room_of ws → behind_of (length ys) (tail_told (room_of (drop (8 * length ys) ws)) zs e) ≡ tail_told (room_of ws) (ys ++ zs) e
-  unfolding tail_told behind_of
+  unfolding tail_told
   told_behind h = rw (room_behind (length ys) ws, leb_behind (length ys) (length zs) (room_of ws) h, length-append) (pick (leb (length ys + length zs) (room_of ws)))
     where
-      pick : (p : Bool) → behind_of (length ys) (cond p (Rows (length zs) e) Full) ≡ cond p (Rows (length ys + length zs) e) Full
+      pick : (p : Bool) → behind_of (length ys) (cond p (Some (record { count = length zs; ending = e })) None) ≡ cond p (Some (record { count = length ys + length zs; ending = e })) None
       pick true = refl
       pick false = refl
 
 -- what is told of rows and of what stands behind them
 told_kept : (ys zs : List Row) (e : Ending) (ws : List ℕ) (size : ℕ) → length ys ≤ room_of ws →
     tell_of (length ys) (tail_told (room_of (drop (8 * length ys) ws)) zs e) size (room_of ws) ≡ told size (room_of ws) (ys ++ zs) e
-unfolding tail_told tell_of told
+unfolding tail_told told
 told_kept ys zs e ws size h = rw (room_behind (length ys) ws, leb_behind (length ys) (length zs) (room_of ws) h, length-append) (pick (leb (length ys + length zs) (room_of ws)))
   where
-    pick : (p : Bool) → tell_of (length ys) (cond p (Rows (length zs) e) Full) size (room_of ws) ≡
+    pick : (p : Bool) → tell_of (length ys) (cond p (Some (record { count = length zs; ending = e })) None) size (room_of ws) ≡
         cond p (Ok (record { count = length ys + length zs; length = size; ending = e })) (Err (unread NoRowRoom start_place (room_of ws)))
     pick true = refl
     pick false = refl
 
-pub few_behind : (n m : ℕ) (zs : List Row) (e : Ending) → n + length zs < 2 ^ 64 → FewBehind n (tail_told m zs e)
-unfolding tail_told FewBehind
-few_behind n m zs e h = pick (leb (length zs) m)
+pub few_behind : (n m : ℕ) (zs : List Row) (e : Ending) (x : Rest) → Some x ≡ tail_told m zs e → n + length zs < 2 ^ 64 → n + x.count < 2 ^ 64
+unfolding tail_told
+few_behind n m zs e x q h = pick (leb (length zs) m) q
   where
-    pick : (p : Bool) → FewBehind n (cond p (Rows (length zs) e) Full)
-    pick true = h
-    pick false = tt
+    pick : (p : Bool) → Some x ≡ cond p (Some (record { count = length zs; ending = e })) None → n + x.count < 2 ^ 64
+    pick true f = let c : x ≡ record { count = length zs; ending = e } = cc in rw c h
+    pick false f = absurd (let z : ◌≡◌ {A = ℕ} 0 1 = cc in omega arith)
 
 map_take : (f : Row → Row) (n : ℕ) (xs : List Row) → take n (map f xs) ≡ map f (take n xs)
 map_take f zero xs = refl
@@ -149,7 +149,7 @@ module _ (ws : List ℕ) (t : Table) (row : ℕ) (p : Cursor) (c : ℕ) (xs : Li
   Carried n ys = ys ≡ words_of (recounted c (map (carry_row (row_place (row_no ws row)) p) (rows_in n (drop (8 * row) ws)))) ++ drop (8 * n) xs
 
   pub follow_full : length xs / 8 < t.count - row → (ys : List ℕ) → Carried (length xs / 8) ys →
-      (Full ≡ tail_told (room_of xs) rows (ending_behind ws t row p)) × (ys ≡ laid rows xs)
+      (None ≡ tail_told (room_of xs) rows (ending_behind ws t row p)) × (ys ≡ laid rows xs)
   unfolding room_of tail_told left f
   follow_full h ys e = (
     rw (lt-leb (length rows) (length xs / 8) (omega (arith, count_behind))),
@@ -157,7 +157,7 @@ module _ (ws : List ℕ) (t : Table) (row : ℕ) (p : Cursor) (c : ℕ) (xs : Li
   )
 
   pub follow_all : t.count - row ≤ length xs / 8 → (ys : List ℕ) → Carried (t.count - row) ys → (e : Ending) → e ≡ ending_behind ws t row p →
-      (Rows (t.count - row) e ≡ tail_told (room_of xs) rows (ending_behind ws t row p)) × (ys ≡ laid rows xs)
+      (Some (record { count = t.count - row; ending = e }) ≡ tail_told (room_of xs) rows (ending_behind ws t row p)) × (ys ≡ laid rows xs)
   unfolding room_of tail_told left f
   follow_all h ys e x q = (
     rw (le-leb (length rows) (length xs / 8) (omega (arith, count_behind)), count_behind, q),
@@ -176,31 +176,30 @@ module _ (ys zs : List Row) (e : Ending) (ws xs : List ℕ) (count : ℕ) (left 
   back_all ps q =
       back_behind ys ws xs count left h n ps ∙ ap (λ (z : List ℕ). words_of ys ++ z) (q ∙ ap (laid zs) (lent_behind ys ws xs count left h n)) ∙ sym (laid_append ys zs ws h)
 
-  part_told : (r : Tail) → r ≡ tail_told (room_of part) zs e → r ≡ tail_told (room_of (drop (8 * length ys) ws)) zs e
+  part_told : (r : Option Rest) → r ≡ tail_told (room_of part) zs e → r ≡ tail_told (room_of (drop (8 * length ys) ws)) zs e
   part_told r q = q ∙ ap (λ (z : List ℕ). tail_told (room_of z) zs e) (lent_behind ys ws xs count left h n)
 
-  pub met_all : (r s : Tail) (ps : List ℕ) → (r ≡ tail_told (room_of part) zs e) × (ps ≡ laid zs part) → s ≡ behind_of count r →
+  pub met_all : (r s : Option Rest) (ps : List ℕ) → (r ≡ tail_told (room_of part) zs e) × (ps ≡ laid zs part) → s ≡ behind_of count r →
       (s ≡ tail_told (room_of ws) (ys ++ zs) e) × (put_mid (count * 8) (length xs - count * 8) xs ps ≡ laid (ys ++ zs) ws)
   met_all r s ps q g =
       (g ∙ ap (λ (k : ℕ). behind_of k r) n ∙ ap (behind_of (length ys)) (part_told r q.0) ∙ told_behind ys zs e ws h, back_all ps q.1)
 
-  pub kept_all : (size : ℕ) (r : Tail) (s : Told) (ps : List ℕ) → (r ≡ tail_told (room_of part) zs e) × (ps ≡ laid zs part) → s ≡ tell_of count r size (length ws / 8) →
+  pub kept_all : (size : ℕ) (r : Option Rest) (s : Told) (ps : List ℕ) → (r ≡ tail_told (room_of part) zs e) × (ps ≡ laid zs part) → s ≡ tell_of count r size (length ws / 8) →
       (s ≡ told size (room_of ws) (ys ++ zs) e) × (put_mid (count * 8) (length xs - count * 8) xs ps ≡ laid (ys ++ zs) ws)
   unfolding room_of
   kept_all size r s ps q g =
-      (g ∙ ap (λ (k : ℕ). tell_of k r size (length ws / 8)) n ∙ ap (λ (z : Tail). tell_of (length ys) z size (length ws / 8)) (part_told r q.0) ∙ told_kept ys zs e ws size h, back_all ps q.1)
+      (g ∙ ap (λ (k : ℕ). tell_of k r size (length ws / 8)) n ∙ ap (λ (z : Option Rest). tell_of (length ys) z size (length ws / 8)) (part_told r q.0) ∙ told_kept ys zs e ws size h, back_all ps q.1)
 
-  pub kept_fits : (r : Tail) → r ≡ tail_told (room_of part) zs e → count + length zs < 2 ^ 32 → TellsFit count r (length ws / 8)
-  unfolding tail_told TellsFit room_of
-  kept_fits r q l = subst (λ (z : Tail). TellsFit count z (length ws / 8)) (sym (part_told r q)) (rw (room_behind (length ys) ws) (pick (leb (length zs) (room_of ws - length ys)) refl))
+  pub kept_fits : (r : Option Rest) → r ≡ tail_told (room_of part) zs e → count + length zs < 2 ^ 32 → TellsFit count r (length ws / 8)
+  unfolding tail_told room_of
+  kept_fits r q l = subst (λ (z : Option Rest). TellsFit count z (length ws / 8)) (sym (part_told r q)) (rw (room_behind (length ys) ws) (pick (leb (length zs) (room_of ws - length ys)) refl))
     where
-      pick : (p : Bool) → leb (length zs) (length ws / 8 - length ys) ≡ p → TellsFit count (cond p (Rows (length zs) e) Full) (length ws / 8)
+      pick : (p : Bool) → leb (length zs) (length ws / 8 - length ys) ≡ p → TellsFit count (cond p (Some (record { count = length zs; ending = e })) None) (length ws / 8)
       pick true f = l
       pick false f = omega (arith, leb-false (length zs) (length ws / 8 - length ys) f)
 
 -- the rows in front find no room
 pub kept_full : (ys zs : List Row) (e : Ending) (ws : List ℕ) (size k : ℕ) → room_of ws < length ys →
-    (tell_of k Full size (room_of ws) ≡ told size (room_of ws) (ys ++ zs) e) × (words_of (take (room_of ws) ys) ++ drop (8 * room_of ws) ws ≡ laid (ys ++ zs) ws)
-unfolding tell_of
+    (tell_of k None size (room_of ws) ≡ told size (room_of ws) (ys ++ zs) e) × (words_of (take (room_of ws) ys) ++ drop (8 * room_of ws) ws ≡ laid (ys ++ zs) ws)
 kept_full ys zs e ws size k h =
     (sym (told_full size (room_of ws) (ys ++ zs) e (omega (arith, length-append ys zs))), sym (laid_front ys zs ws (omega arith)))

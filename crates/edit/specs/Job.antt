@@ -1,6 +1,6 @@
 -- What the parts of the edit call ask and give: an edit whose numbers are sensible, what is seen of its window, and what is written
 -- behind the kept rows.
-use Rattle.std.specs.Prelude.{◌≡◌, Bool, true, false, cond, not, ◌&&◌, List, map, ℕ, ◌+◌, ◌*◌, ◌^◌, ◌≤◌, ◌<◌, length, take, drop, eqb, leb, Err}
+use Rattle.std.specs.Prelude.{◌≡◌, Bool, true, false, cond, not, ◌&&◌, Option, Some, None, List, map, ℕ, ◌+◌, ◌*◌, ◌^◌, ◌≤◌, ◌<◌, length, take, drop, eqb, leb, Err}
 use Rattle.rules.specs.declared.Cursor.{Cursor}
 use Rattle.rules.specs.Outcomes.{Ending, Told, unread}
 use Rattle.rules.specs.declared.Table.{Table}
@@ -13,8 +13,7 @@ use Rattle.rows.specs.Shape.{row_no}
 use Rattle.edit_carry.specs.Moves.{MovesRow, MovesEnding}
 use Rattle.scan_meet.specs.declared.Olds.{Olds}
 use Rattle.edit.specs.declared.Job.{Job}
-use Rattle.edit_parts.specs.declared.Tail.{Tail}
-use Rattle.edit_parts.specs.declared.Tail.TheVariants.{Rows, Full}
+use Rattle.edit_parts.specs.declared.Rest.{Rest}
 
 -- an edit's kept rows, and the place behind them
 abbrev pub job_of : List ℕ → Table → (a b n : ℕ) → Job
@@ -67,8 +66,8 @@ pub record Showing (ws : List ℕ) (j : Job) (w : List ℕ) (whole : Bool) : Typ
 -- ---- what is written behind the kept rows
 
 -- rows and an ending, into room for m
-unfoldable pub tail_told : ℕ → List Row → Ending → Tail
-tail_told m rows e = cond (leb (length rows) m) (Rows (length rows) e) Full
+unfoldable pub tail_told : ℕ → List Row → Ending → Option Rest
+tail_told m rows e = cond (leb (length rows) m) (Some (record { count = length rows; ending = e })) None
 
 -- the old rows from one on, moved: what stood at that row's start stands at p, with c comments in the gap before it
 unfoldable pub rows_behind : List ℕ → Table → ℕ → Cursor → ℕ → List Row

@@ -5,15 +5,15 @@ ghost use Rattle.rules.specs.Scan.{room_of, laid, told};
 ghost use Rattle.rules.specs.Edit.{kept, is_short, edit_told, edit_leaves, restart_told};
 ghost use Rattle.edit.specs.Job.{job_of, old_rows, olds_of, Tested, Ready, Showing, job_seen, job_rows, job_ending, tail_told, rows_behind, ending_behind, Follows, reread_told, reread_leaves};
 
-use edit_carry::{carry_ending, carry_rows};
+use edit_carry::Shift;
 use edit_kept::{copy_rows, kept_rows, place_behind};
-use edit_parts::{Tail, behind, new_length, refused, sensible, tell};
-use rows::shape::{row_at, row_place, wide};
+use edit_parts::{Rest, new_length, refused, sensible, tell};
+use rows::shape::Row;
 use rows::well_formed;
 use rules::{Cursor, Outer, Table, Told, Unread, limit, row};
 use scan_meet::Olds;
 use scan_place::{pass, window_bytes};
-use scan_stop::{Stop, lacks};
+use scan_stop::Stop;
 use scan_walk::walk;
 
 // An edit of a table: old bytes a to b become n new ones, so many rows are kept, and reading restarts at a place.
@@ -27,17 +27,17 @@ pub struct Job {
     pub begin: Cursor,
 }
 
-// The old rows that the window of an edit may meet, and how they are moved.
-fn olds_of(job: Job) -> Olds
-    ensures { result ≡ olds_of job }
-{
-    let table = job.table;
-    let least = wide(job.a) + wide(job.n);
-    Olds {
-        count: table.count as usize,
-        first: job.kept,
-        least,
-        b: job.b,
+impl Job {
+    // The old rows that its window may meet, and how they are moved.
+    fn olds(self) -> Olds
+        ensures { result ≡ olds_of self }
+    {
+        Olds {
+            count: self.table.count as usize,
+            first: self.kept,
+            least: u64::from(self.a) + u64::from(self.n),
+            b: self.b,
+        }
     }
 }
 
@@ -50,58 +50,70 @@ fn is_short(old: &[u32], job: Job, window: &[u8], whole: bool) -> bool
         return false;
     }
     let mut none: [u32; 1] = [0];
-    let begin = job.begin;
-    let stop = walk(old, olds_of(job), window, begin, whole, &mut none).stop;
-    lacks(stop)
+    let walked = walk(old, job.olds(), window, job.begin, whole, &mut none);
+    walked.stop.lacks()
 }
 
-// The old rows from one on, moved: what stood at that row's start stands at p, with so many comments in the gap before it.
-fn follow(old: &[u32], table: Table, row: usize, p: Cursor, comments: u32, tail: &mut [u32]) -> Tail
+// The old rows from one on, moved: what stood at that row's start stands at p, with so many comments in the gap before it. None where
+// there is no room for all of them.
+fn follow(
+    old: &[u32],
+    table: Table,
+    row: usize,
+    p: Cursor,
+    comments: u32,
+    tail: &mut [u32],
+) -> Option<Rest>
     requires { Follows old.now table row p }
     ensures { (result
         ≡ tail_told (room_of tail.old) (rows_behind old.now table row p comments)
         (ending_behind old.now table row p))
         × (tail.new ≡ laid (rows_behind old.now table row p comments) tail.old) }
 {
-    let met = row_at(old, row);
-    let o = row_place(met);
+    let shift = Shift {
+        from: Row::at(old, row).place(),
+        to: p,
+    };
     let left = table.count as usize - row;
     let room = tail.len() / row::WORDS;
     if room < left {
-        carry_rows(old, row, room, o, p, comments, tail);
-        return Tail::Full;
+        shift.rows(old, row, room, comments, tail);
+        return None;
     }
-    carry_rows(old, row, left, o, p, comments, tail);
-    let ending = table.ending;
-    Tail::Rows(left, carry_ending(ending, o, p))
+    shift.rows(old, row, left, comments, tail);
+    Some(Rest {
+        count: left,
+        ending: shift.ending(table.ending),
+    })
 }
 
-// The rows behind the kept ones: those of the window, and from a meeting on the old rows, moved.
-fn fill_tail(old: &[u32], job: Job, window: &[u8], whole: bool, tail: &mut [u32]) -> Tail
+// The rows behind the kept ones: those of the window, and from a meeting on the old rows, moved. None where there is no room for all.
+fn fill_tail(
+    old: &[u32],
+    job: Job,
+    window: &[u8],
+    whole: bool,
+    tail: &mut [u32],
+) -> Option<Rest>
     requires { Showing old.now job window.now whole }
     ensures { (result
         ≡ tail_told (room_of tail.old) (job_rows old.now job window.now whole)
         (job_ending old.now job window.now whole))
         × (tail.new ≡ laid (job_rows old.now job window.now whole) tail.old) }
 {
-    let begin = job.begin;
-    let walked = walk(old, olds_of(job), window, begin, whole, tail);
+    let walked = walk(old, job.olds(), window, job.begin, whole, tail);
     let count = walked.count;
     if tail.len() / row::WORDS < count {
-        return Tail::Full;
+        return None;
     }
-    let stop = walked.stop;
-    match stop {
+    match walked.stop {
         Stop::Met(p, row, comments) => {
             let base = count * row::WORDS;
-            let table = job.table;
-            behind(
-                count,
-                follow(old, table, row, p, comments, &mut tail[base..]),
-            )
+            let rest = follow(old, job.table, row, p, comments, &mut tail[base..])?;
+            Some(rest.behind(count))
         }
-        Stop::Over(ending) => Tail::Rows(count, ending),
-        Stop::Short => Tail::Full,
+        Stop::Over(ending) => Some(Rest { count, ending }),
+        Stop::Short => unreachable!(),
     }
 }
 
@@ -121,7 +133,7 @@ fn fill(old: &[u32], job: Job, window: &[u8], whole: bool, size: u32, new: &mut 
     let room = new.len() / row::WORDS;
     if room < kept {
         copy_rows(old, room, new);
-        return tell(kept, Tail::Full, size, room);
+        return tell(kept, None, size, room);
     }
     copy_rows(old, kept, new);
     let base = kept * row::WORDS;
@@ -139,9 +151,9 @@ fn reread(old: &[u32], job: Job, window: &[u8], new: &mut [u32]) -> Told
     let table = job.table;
     let begin = job.begin;
     let size = new_length(table.length, job.a, job.b, job.n);
-    let end = wide(begin.offset.0) + window.len() as u64;
+    let end = u64::from(begin.offset.0) + window.len() as u64;
     let whole = end == size;
-    let olds = olds_of(job);
+    let olds = job.olds();
     if (end < olds.least + limit::JUDGING) & !whole {
         return refused(Outer::WindowShort);
     }

@@ -6,6 +6,7 @@ ghost use Rattle.rules.specs.Edit.{kept, last_end};
 ghost use Rattle.rows.specs.Shape.{row_no};
 ghost use Rattle.edit_kept.specs.Kept.{EndsRise, Ended};
 
+use rows::shape::Row;
 use rules::{Column, Cursor, Line, Offset, row};
 
 // How many of the first rows end below a, found by halving.
@@ -15,6 +16,7 @@ pub fn kept_rows(old: &[u32], count: usize, a: u32) -> usize
 {
     let mut low = 0;
     let mut high = count;
+    // Stays a while loop: must-fail/halving_skips_a_row.edit is a wrong step of this halving, which `partition_point` has inside.
     while low < high {
         let middle = low + (high - low) / 2;
         if a <= old[middle * row::WORDS + row::END] {
@@ -34,7 +36,7 @@ pub fn place_behind(old: &[u32], n: usize) -> Cursor
     if n == 0 {
         return Cursor::start();
     }
-    let last = rows::shape::row_at(old, n - 1);
+    let last = Row::at(old, n - 1);
     Cursor {
         offset: Offset(last.end),
         line: Line(last.line),
@@ -48,9 +50,5 @@ pub fn copy_rows(old: &[u32], n: usize, new: &mut [u32])
     ensures { new.new ≡ words_of (rows_in n old.now) ++ drop (8 * n) new.old }
 {
     let words = n * row::WORDS;
-    let mut i = 0;
-    while i < words {
-        new[i] = old[i];
-        i += 1;
-    }
+    new[..words].copy_from_slice(&old[..words]);
 }

@@ -1,22 +1,21 @@
 -- Laws of numbers where they stand in bytes, of one more word or row, and of bytes written one behind the other.
 use mathlib.Core.Path.{◌≡◌, refl, sym, ap, ◌∙◌}
-use mathlib.Core.Bool.{Bool, true, false, ◌&&◌}
+use mathlib.Core.Bool.{true, false}
 use mathlib.Core.List.{List, [], ◌∷◌, ◌++◌, append_assoc, append-nil}
-use Prim.Native.Nat.{ℕ, zero, suc, ◌+◌, ◌-◌, ◌*◌, ◌/◌, ◌%◌, ◌≤◌, ◌<◌, min, max}
-use native.Mathlib.Nat.{not-suc-le-zero, le_of_suc-le-suc}
+use Prim.Native.Nat.{ℕ, zero, suc, ◌+◌, ◌-◌, ◌*◌, ◌/◌, ◌≤◌, ◌<◌, min}
 use native.Mathlib.Numerals.{add-one}
 use native.Mathlib.Omega.{arith}
-use lib.ListN.{length, take, drop, get_or, set, replicate, length-append, length-take, length-drop, length-replicate}
-use lib.ListN.{replicate-append-replicate, take-append-drop, drop_of_length-le}
-use lib.Seq.{take-suc, drop-cons, drop-drop, get_or-drop, sets-eq, set_at, take_at, drop_at, length-take-le, drop-append-add}
+use lib.ListN.{length, take, drop, get_or, set, replicate, length-append, length-take, length-drop, length-replicate, take-append-drop, drop_of_length-le}
+use lib.Seq.{take-suc, drop-cons, drop-drop, set_at, take_at, drop_at, length-take-le, drop-append-add}
 use lib.Dec.{eqb}
-use borrow.Author.Tests.{eqb-true, eq-eqb}
-use Rattle.laws.proofs.Tests.{same_bool, both_true, true_both}
+use borrow.Rule.Slice.PartMut.{put_mid}
+use borrow.Author.Tests.{eq-eqb}
+use Rattle.std.specs.Int.{w32, to_le_bytes}
 use Rattle.rules.specs.Text.{most_bytes}
 use Rattle.rules.specs.Rows.{Row, row_in}
 use Rattle.rows.specs.Shape.{stands_on}
 use Rattle.rules_files.specs.Bytes.{little, number, number_at, bytes_of, words_in}
-use Rattle.rules_files.specs.Blocks.{sum_from, check, checked, block, content_of, zeros, sound}
+use Rattle.rules_files.specs.Blocks.{check, checked, block, content_of, zeros, sound}
 use Rattle.rules_forms.specs.declared.Form.{Form}
 use Rattle.rules_forms.specs.declared.Form.TheVariants.{Full, Short}
 use Rattle.rules_forms.specs.Short.{placed_row, on_one_line}
@@ -56,22 +55,21 @@ module _ (s : List ℕ) (at : ℕ) where
       )
       (omega arith)
 
-  module _ (x : ℕ) where
-    pub half_put : at + 2 ≤ length s → set (set s at (x % 256)) (at + 1) (x / 256 % 256) ≡ (take at s ++ little 2 x) ++ drop (at + 2) s
-    unfolding little
-    half_put h =
-        let e : at + 1 ≡ suc at = omega arith in
-        rw e (sets-eq (little 2 x) s at (omega arith))
+-- a word's bytes, as the library has them
+pub word_bytes_are : (x : ℕ) → to_le_bytes w32 x ≡ little 4 x
+unfolding little
+word_bytes_are x =
+    let e : x / 65536 ≡ x / 256 / 256 = omega arith in
+    let f : x / 16777216 ≡ x / 256 / 256 / 256 = omega arith in
+    rw (e, f)
 
-    pub word_put : at + 4 ≤ length s
-        → set (set (set (set s at (x % 256)) (at + 1) (x / 256 % 256)) (at + 2) (x / 256 / 256 % 256)) (at + 3) (x / 256 / 256 / 256 % 256)
-        ≡ (take at s ++ little 4 x) ++ drop (at + 4) s
-    unfolding little
-    word_put h =
-        let e : at + 1 ≡ suc at = omega arith in
-        let f : at + 2 ≡ suc (suc at) = omega arith in
-        let g : at + 3 ≡ suc (suc (suc at)) = omega arith in
-        rw (e, f, g) (sets-eq (little 4 x) s at (omega arith))
+pub half_bytes_are : (x : ℕ) → take 2 (to_le_bytes w32 x) ≡ little 2 x
+unfolding little
+half_bytes_are x = refl
+
+-- a part of a list that was written
+pub part_put : (s v : List ℕ) (a b : ℕ) → a ≤ b → put_mid a (b - a) s v ≡ (take a s ++ v) ++ drop b s
+part_put s v a b h = let e : a + (b - a) ≡ b = omega arith in rw (drop-drop, e) (sym (append_assoc (take a s) v (drop b s)))
 
 -- ---- whether a block is sound
 
@@ -222,24 +220,6 @@ module _ (b₀ ws b : List ℕ) (i : ℕ) (h : i < length ws) (l : 4 + 4 * lengt
     where
       one_word : bytes_of (take i ws) ++ bytes_of (get_or ws i 0 ∷ []) ≡ bytes_of (take i ws) ++ little 4 (get_or ws i 0)
       one_word = ap (λ (z : List ℕ). bytes_of (take i ws) ++ z) (bytes_one (get_or ws i 0))
-
-zeros_one : (n : ℕ) → replicate {A = ℕ} (n + 1) 0 ≡ replicate n 0 ++ (0 ∷ [])
-zeros_one n = sym (replicate-append-replicate {A = ℕ} n 1 0)
-
--- no byte yet
-pub filler_none : (b₀ : List ℕ) (from : ℕ) → (take from b₀ ++ replicate (from - from) 0) ++ drop from b₀ ≡ b₀
-filler_none b₀ from =
-    let e : from - from ≡ 0 = omega arith in
-    rw (e, append-nil (take from b₀)) (take-append-drop from b₀)
-
--- one byte more of filler
-pub filler_put : (b₀ b : List ℕ) (from i : ℕ) → from ≤ i → i < length b₀ → b ≡ (take from b₀ ++ replicate (i - from) 0) ++ drop i b₀
-    → set b i 0 ≡ (take from b₀ ++ replicate (i + 1 - from) 0) ++ drop (i + 1) b₀
-filler_put b₀ b from i h l e =
-    let xs : List ℕ = take from b₀ ++ replicate (i - from) 0 in
-    let m : length xs ≡ i = rw (length-append, length-take, length-replicate) (omega arith) in
-    let f : i + 1 - from ≡ (i - from) + 1 = omega arith in
-    rw (e, drop-cons b₀ i 0 l, set_at xs (get_or b₀ i 0) (drop (suc i) b₀) 0 i m, f, zeros_one (i - from), add-one i) (simp append_assoc)
 
 -- a content that was written is the block's content
 pub content_put : (b c : List ℕ) (size : ℕ) → length c ≡ size → 4 + size ≤ length b

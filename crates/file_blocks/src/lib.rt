@@ -1,4 +1,6 @@
 // One block of a stored table: its numbers, whether it is sound, its rows, and the writing of it.
+#![tactic(auto)]
+
 ghost use Rattle.std.specs.Prelude.{◌≡◌, ◌++◌, ◌+◌, ◌-◌, ◌*◌, ◌≤◌, min, length, take, drop, replicate};
 ghost use Rattle.rules.specs.Text.{most_bytes};
 ghost use Rattle.rows.specs.Shape.{LengthTable, as_row};
@@ -8,8 +10,7 @@ ghost use Rattle.rules_forms.specs.declared.Form.TheVariants.{Full, Short};
 ghost use Rattle.rules_forms.specs.Shapes.{row_bytes_of};
 ghost use Rattle.file_blocks.specs.Standing.{row_from, rows_from, stand};
 
-use file_check::{check_of, is_filler, wide};
-use rows::shape;
+use file_check::{check_of, is_filler};
 use rows::shape::Row;
 use rules::{kind, limit, row};
 use rules_files::form;
@@ -22,7 +23,7 @@ fn half_at(bytes: &[u8], at: usize) -> u32
     requires { at + 2 ≤ length bytes.now }
     ensures { result ≡ number_at 2 at bytes.now }
 {
-    wide(bytes[at]) + 256 * wide(bytes[at + 1])
+    u32::from(u16::from_le_bytes([bytes[at], bytes[at + 1]]))
 }
 
 // The number in four bytes.
@@ -30,8 +31,7 @@ pub fn word_at(bytes: &[u8], at: usize) -> u32
     requires { at + 4 ≤ length bytes.now }
     ensures { result ≡ number_at 4 at bytes.now }
 {
-    wide(bytes[at])
-        + 256 * (wide(bytes[at + 1]) + 256 * (wide(bytes[at + 2]) + 256 * wide(bytes[at + 3])))
+    u32::from_le_bytes([bytes[at], bytes[at + 1], bytes[at + 2], bytes[at + 3]])
 }
 
 // A number into two bytes.
@@ -39,8 +39,7 @@ fn put_half(bytes: &mut [u8], at: usize, x: u32)
     requires { at + 2 ≤ length bytes.old }
     ensures { bytes.new ≡ (take at bytes.old ++ little 2 x) ++ drop (at + 2) bytes.old }
 {
-    bytes[at] = (x % 256) as u8;
-    bytes[at + 1] = (x / 256 % 256) as u8;
+    bytes[at..at + 2].copy_from_slice(&x.to_le_bytes()[..2]);
 }
 
 // A number into four bytes.
@@ -48,10 +47,7 @@ pub fn put_word(bytes: &mut [u8], at: usize, x: u32)
     requires { at + 4 ≤ length bytes.old }
     ensures { bytes.new ≡ (take at bytes.old ++ little 4 x) ++ drop (at + 4) bytes.old }
 {
-    bytes[at] = (x % 256) as u8;
-    bytes[at + 1] = (x / 256 % 256) as u8;
-    bytes[at + 2] = (x / 256 / 256 % 256) as u8;
-    bytes[at + 3] = (x / 256 / 256 / 256 % 256) as u8;
+    bytes[at..at + form::WORD].copy_from_slice(&x.to_le_bytes());
 }
 
 // ---- whether a block is sound
@@ -96,10 +92,7 @@ fn row_at(bytes: &[u8], at: usize) -> Row
 pub fn column_of(offset: u32) -> u32
     ensures { result ≡ 1 + min offset most_bytes }
 {
-    if limit::MOST_BYTES_U32 < offset {
-        return limit::MOST_BYTES_U32 + 1;
-    }
-    offset + 1
+    1 + offset.min(limit::MOST_BYTES_U32)
 }
 
 // The row without line and column whose bytes start at one, as it stands in a text of one line.
@@ -144,14 +137,12 @@ pub fn rows_stand(
     ensures { result ≡ stand (as_row before) (rows_from form n (drop 4 bytes.now)) }
 {
     let mut last = before;
-    let mut i = 0;
-    while i < n {
+    for i in 0..n {
         let r = row_in(form, bytes, i);
-        if !shape::stands_on(least, span, last, r) {
+        if !r.stands_on(least, span, last) {
             return false;
         }
         last = r;
-        i += 1;
     }
     true
 }
@@ -161,10 +152,8 @@ pub fn take_words(bytes: &[u8], n: usize, words: &mut [u32])
     requires { (4 + 4 * n ≤ length bytes.now) × (n ≤ length words.old) }
     ensures { words.new ≡ words_in n (drop 4 bytes.now) ++ drop n words.old }
 {
-    let mut i = 0;
-    while i < n {
-        words[i] = word_at(bytes, form::CONTENT + form::WORD * i);
-        i += 1;
+    for (i, word) in words[..n].iter_mut().enumerate() {
+        *word = word_at(bytes, form::CONTENT + form::WORD * i);
     }
 }
 
@@ -177,10 +166,8 @@ fn put_words(bytes: &mut [u8], words: &[u32])
         ≡ (take 4 bytes.old ++ bytes_of words.now) ++ drop
         (4 + 4 * length words.now) bytes.old }
 {
-    let mut i = 0;
-    while i < words.len() {
-        put_word(bytes, form::CONTENT + form::WORD * i, words[i]);
-        i += 1;
+    for (i, word) in words.iter().enumerate() {
+        put_word(bytes, form::CONTENT + form::WORD * i, *word);
     }
 }
 
@@ -190,11 +177,7 @@ fn put_filler(bytes: &mut [u8], from: usize)
     ensures { bytes.new
         ≡ (take from bytes.old ++ replicate (checked_bytes - from) 0) ++ drop checked_bytes bytes.old }
 {
-    let mut i = from;
-    while i < form::CHECKED {
-        bytes[i] = 0;
-        i += 1;
-    }
+    bytes[from..form::CHECKED].fill(0);
 }
 
 // A block whose content stands in it already: its numbers, filler and check are written.

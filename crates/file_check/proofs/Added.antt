@@ -2,11 +2,11 @@
 use mathlib.Core.Path.{◌≡◌, refl, sym, ap, ◌∙◌}
 use mathlib.Core.List.{List, [], ◌∷◌, ◌++◌}
 use Prim.Native.Nat.{ℕ, zero, suc, ◌+◌, ◌-◌, ◌*◌, ◌≤◌, ◌<◌}
-use native.Mathlib.Nat.{not-suc-le-zero, le_of_suc-le-suc, mul_comm}
+use native.Mathlib.Nat.{not-suc-le-zero, le_of_suc-le-suc}
 use native.Mathlib.Numerals.{add-one}
 use native.Mathlib.Omega.{arith}
-use lib.ListN.{length, take, drop, get_or, set, replicate, length-take, length-drop, take-append-drop, drop_of_length-le}
-use lib.Seq.{take-suc, drop-drop, get_or-take, length-take-le, take_all}
+use lib.ListN.{length, take, drop, get_or, set, replicate, length-drop, take-append-drop, drop_of_length-le}
+use lib.Seq.{take-suc, drop-drop, length-take-le, take_all}
 use Rattle.rules_files.specs.Blocks.{sum_from, check}
 use Rattle.file_check.specs.Columns.{plus, strip, total, Within}
 use Rattle.file_check.proofs.Laws.{check_more}
@@ -51,9 +51,6 @@ module _ (xs ys zs : List ℕ) (i : ℕ) (e : zs ≡ plus xs (take i ys)) where
   pub stored_within : (m : ℕ) → Within m xs → get_or zs i 0 ≤ m
   stored_within m h = rw (e, plus_front xs ys i) (h.at i)
 
-  pub stored_length : length zs ≡ length xs
-  stored_length = ap length e ∙ plus_length xs (take i ys)
-
 -- ---- bounds
 
 plus_bound : (xs ys : List ℕ) (i : ℕ) → get_or (plus xs ys) i 0 ≤ get_or xs i 0 + get_or ys i 0
@@ -76,20 +73,6 @@ get_d_zeros (suc n) (suc i) = get_d_zeros n i
 
 pub within_zeros : (m n : ℕ) → Within m (replicate n 0)
 within_zeros m n = record { at = λ i. omega (arith, get_d_zeros n i) }
-
-pub within_none : (m : ℕ) (ys : List ℕ) → Within m (take 0 ys)
-within_none m ys = record { at = λ i. omega arith }
-
-bound_more : (m : ℕ) (ys : List ℕ) (n : ℕ) → ((i : ℕ) → get_or (take n ys) i 0 ≤ m) → get_or ys n 0 ≤ m
-    → (i : ℕ) → get_or (take (suc n) ys) i 0 ≤ m
-bound_more m [] n h k i = omega arith
-bound_more m (y ∷ ys) zero h k zero = k
-bound_more m (y ∷ ys) zero h k (suc i) = omega arith
-bound_more m (y ∷ ys) (suc n) h k zero = h 0
-bound_more m (y ∷ ys) (suc n) h k (suc i) = bound_more m ys n (λ j. h (suc j)) k i
-
-pub within_more : (m : ℕ) (ys : List ℕ) (n : ℕ) → Within m (take n ys) → get_or ys n 0 ≤ m → Within m (take (suc n) ys)
-within_more m ys n h k = record { at = bound_more m ys n h.at k }
 
 -- ---- sums
 

@@ -1,5 +1,5 @@
 -- The bytes of a block in strips, lists of numbers added place by place, and bounds of their numbers.
-use Rattle.std.specs.Prelude.{◌≡◌, List, [], ◌∷◌, ℕ, zero, suc, ◌+◌, ◌≤◌, take, drop, get_or}
+use Rattle.std.specs.Prelude.{◌≡◌, List, [], ◌∷◌, ℕ, ◌+◌, ◌≤◌, take, drop, get_or}
 
 -- the 64 bytes from one on
 abbrev pub strip : ℕ → List ℕ → List ℕ

@@ -168,7 +168,7 @@ fn judge_blocks(form: Form, file: &[u8], count: u32, plain: u32) -> Blocks
 {
     let least = shape::LEAST;
     let span = shape::SPAN;
-    let mut last = shape::no_row();
+    let mut last = Row::none();
     let mut stand = true;
     let mut left = count as usize;
     let mut more = plain as usize;
@@ -211,7 +211,7 @@ fn row_before(form: Form, file: &[u8], count: u32, i: usize) -> Row
     ensures { as_row result ≡ row_before (row_words_of form file.now) i }
 {
     if i == 0 {
-        return shape::no_row();
+        return Row::none();
     }
     row_of(form, file, count, i - 1)
 }
@@ -230,7 +230,7 @@ fn last_closes(form: Form, file: &[u8], count: u32, size: u32, i: usize) -> bool
     if r.start != size {
         return false;
     }
-    shape::row_stands(&least, &span, row_before(form, file, count, i), r)
+    r.fits_behind(&least, &span, row_before(form, file, count, i))
 }
 
 // Whether a refused ending's place fits behind the last row, within the text's length.
@@ -249,7 +249,7 @@ fn place_breaks(form: Form, file: &[u8], count: u32, size: u32, p: Cursor) -> bo
         return true;
     }
     let r = row_of(form, file, count, count as usize - 1);
-    shape::place_behind(r, p)
+    r.is_before(p)
 }
 
 // Whether a table is well formed, of which it is known whether its plain rows stand.

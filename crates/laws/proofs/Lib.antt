@@ -13,3 +13,4 @@ pub mod Calls
 pub mod Spelled
 pub mod Tight
 pub mod Outcomes
+pub mod Chains

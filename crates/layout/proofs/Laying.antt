@@ -2,7 +2,7 @@
 use mathlib.Core.Path.{◌≡◌, refl, sym, ap, ◌∙◌, subst}
 use mathlib.Core.Bool.{Bool, true, false, cond, ◌&&◌, true≢false}
 use mathlib.Core.List.{List, ◌++◌}
-use Prim.Native.Nat.{ℕ, ◌+◌, ◌*◌, ◌/◌, ◌≤◌}
+use Prim.Native.Nat.{ℕ}
 use native.Mathlib.Omega.{arith}
 use lib.Dec.{eqb, ltb}
 use lib.ListN.{length, take, drop, take-append-drop}
@@ -11,17 +11,16 @@ use Rattle.rules.specs.Outcomes.{Ending, Judged}
 use Rattle.std.specs.declared.option.Option.TheVariants.{None, Some}
 use Rattle.std.specs.declared.result.Result.TheVariants.{Ok, Err}
 use Rattle.rules.specs.declared.Table.{Table}
-use Rattle.rules.specs.Text.{most_bytes, place_at, text_judged}
+use Rattle.rules.specs.Text.{place_at, text_judged}
 use Rattle.rules.specs.Rows.{Row, rows_in, words_of}
-use Rattle.rules.specs.Scan.{read_rows, read_ending, read, scan}
+use Rattle.rules.specs.Scan.{read_rows, read_ending, scan}
 use Rattle.rules.specs.Tree.{Tok, Tree, yield}
 use Rattle.rules.specs.Nodes.{size, tree_words}
 use Rattle.rules.specs.Parse.{Out, ok, no, parse}
 use Rattle.rules.specs.Calls.{judged, tokens, node_room, out_told, ending_told, parse_told, reading as rows_reading}
 use Rattle.rules_layout.specs.declared.Unlaid.{Unlaid}
 use Rattle.rules_layout.specs.declared.Unlaid.TheVariants.{NotItsTree}
-use Rattle.rules_layout.specs.declared.LaidOut.{LaidOut}
-use Rattle.rules_layout.specs.declared.LaidOut.TheVariants as out
+use Rattle.std.specs.Prelude.{Ok, Err}
 use Rattle.rules_layout.specs.Bytes.{layout}
 use Rattle.rules_layout.proofs.Told.{layout_told_by}
 use Rattle.rules_layout.specs.Layout.{is_whole, begins, is_scan, is_scanned, is_tree, is_read, reading, room_told, layout_told, laid_of, layout_leaves}
@@ -30,9 +29,8 @@ use Rattle.laws.proofs.Spelled.{same_eq}
 use Rattle.laws.proofs.Valid.{fine_text}
 use Rattle.laws.proofs.Rows.{few_rows}
 use Rattle.laws.proofs.Calls.{judged_well}
-use Rattle.theory_edits.specs.Scanned.{table_of, Scanned}
+use Rattle.theory_edits.specs.Scanned.{Scanned}
 use Rattle.theory_edits.proofs.WellFormed.{scanned_rows, scanned_well_formed, length_laid}
-use Rattle.theory_grammar.specs.Tokens.{Whole}
 use Rattle.theory_grammar.proofs.Sound.{parse_whole}
 use Rattle.theory_grammar.proofs.Tables.{table_whole, tokens_length}
 use Rattle.rows.proofs.Inside.{fine}
@@ -151,11 +149,11 @@ module _ {t ws : List ℕ} {tbl : Table} (o : Own t ws tbl) where
 -- ---- what is told and left
 
 module _ (t ws : List ℕ) (tbl : Table) (nodes : List ℕ) (count : ℕ) where
-  left_bytes : (room : List ℕ) {n : ℕ} → layout_told t ws tbl nodes count (length room) ≡ out.Bytes n → layout_leaves t ws tbl nodes count room ≡ laid_of (reading t) ++ drop n room
+  left_bytes : (room : List ℕ) {n : ℕ} → layout_told t ws tbl nodes count (length room) ≡ Ok n → layout_leaves t ws tbl nodes count room ≡ laid_of (reading t) ++ drop n room
   unfolding layout_leaves
   left_bytes room e = rw (layout_leaves, e)
 
-  left_room : (room : List ℕ) {why : Unlaid} → layout_told t ws tbl nodes count (length room) ≡ out.Refused why → layout_leaves t ws tbl nodes count room ≡ room
+  left_room : (room : List ℕ) {why : Unlaid} → layout_told t ws tbl nodes count (length room) ≡ Err why → layout_leaves t ws tbl nodes count room ≡ room
   unfolding layout_leaves
   left_room room e = rw (layout_leaves, e)
 
@@ -170,13 +168,13 @@ module _ (t ws : List ℕ) (tbl : Table) (nodes : List ℕ) (count : ℕ) where
   tests_are = sym (same_tests (is_scanned t ws tbl) refl)
 
   told_by : (room : ℕ) {b : Bool} → (is_scanned t ws tbl && is_parsed t ws tbl nodes count) ≡ b
-      → layout_told t ws tbl nodes count room ≡ cond b (room_told (laid_of (reading t)) room) (out.Refused NotItsTree)
+      → layout_told t ws tbl nodes count room ≡ cond b (room_told (laid_of (reading t)) room) (Err NotItsTree)
   told_by room h =
       layout_told_by t ws tbl nodes count room
-      ∙ ap (λ (b : Bool). cond b (room_told (laid_of (reading t)) room) (out.Refused NotItsTree)) (tests_are ∙ h)
+      ∙ ap (λ (b : Bool). cond b (room_told (laid_of (reading t)) room) (Err NotItsTree)) (tests_are ∙ h)
 
   pub refused : (room : List ℕ) → (is_scanned t ws tbl && is_parsed t ws tbl nodes count) ≡ false
-      → (out.Refused NotItsTree ≡ layout_told t ws tbl nodes count (length room)) × (room ≡ layout_leaves t ws tbl nodes count room)
+      → (Err NotItsTree ≡ layout_told t ws tbl nodes count (length room)) × (room ≡ layout_leaves t ws tbl nodes count room)
   refused room h =
       let e = told_by (length room) h in
       (sym e, sym (left_room room e))

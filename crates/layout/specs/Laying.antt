@@ -1,5 +1,5 @@
 -- What a laying out leaves in the memory that is lent to it, and what it is written from.
-use Rattle.std.specs.Prelude.{cond, ◌&&◌, List, ◌++◌, ℕ, length, drop, leb}
+use Rattle.std.specs.Prelude.{Option, Some, None, cond, ◌&&◌, List, ◌++◌, ℕ, length, drop, leb}
 use Rattle.rules.specs.declared.Table.{Table}
 use Rattle.rules.specs.Text.{most_bytes}
 use Rattle.rules.specs.Tree.{Tree}
@@ -12,6 +12,10 @@ use Rattle.rules_layout.specs.Layout.{is_scanned}
 pub record IsLent (t ws nodes : List ℕ) (count : ℕ) : Type 0 where
   pub tree : Tree
   pub lent : Lent t ws nodes count tree
+
+-- how many bytes a layout has, if it may be written at all
+abbrev pub length_of : List ℕ → Option ℕ
+length_of bytes = cond (leb (length bytes) most_bytes) (Some (length bytes)) None
 
 -- a room: the bytes and what stood behind them, or, where they have no room, what was there
 unfoldable pub room_leaves : List ℕ → List ℕ → List ℕ

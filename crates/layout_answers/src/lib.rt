@@ -4,7 +4,7 @@ ghost use Rattle.layout_answers.specs.Words.{unlaid_number, laid_words};
 
 use answers::{no_place, put};
 use rules::Cursor;
-use rules_layout::{LaidOut, Unlaid};
+use rules_layout::Unlaid;
 
 // The number of a refusal of a laying out.
 pub fn unlaid_number(why: Unlaid) -> u32
@@ -17,14 +17,14 @@ pub fn unlaid_number(why: Unlaid) -> u32
 }
 
 // What a laying out tells.
-pub fn put_laid(answer: &mut [u32; 8], told: LaidOut)
+pub fn put_laid(answer: &mut [u32; 8], told: Result<u32, Unlaid>)
     ensures { answer.new ≡ laid_words told }
 {
     match told {
-        LaidOut::Bytes(n) => {
+        Ok(n) => {
             put(answer, 0, no_place(), 0, 0, 0, n);
         }
-        LaidOut::Refused(why) => {
+        Err(why) => {
             put(answer, unlaid_number(why), Cursor::start(), 0, 0, 0, 0);
         }
     }

@@ -10,7 +10,7 @@ ghost use Rattle.parse_nodes.specs.Names.{Spans};
 ghost use Rattle.parse.specs.Program.{TopMet, ProgramMet, AsksTable, AsksEnded, AsksWhole, TopPassed, ProgramPassed, reading_of, Accepted, Final};
 
 use parse_nodes::{At, Got};
-use rows::shape;
+use rows::shape::Row;
 use rules::kind::{EOF, EVENT, MAP, UNIT};
 use rules::{Cursor, Outer, Parsed, Reason, Syntax, Table, Unparsed, fits, node, node_kind};
 
@@ -140,10 +140,10 @@ fn twice(text: &[u8], rows: &[u32], count: u32, nodes: &mut [u32]) -> Parsed
     match program_passed(text, rows, count, &mut nodes[..0]) {
         Passed::To(_) => written(text, rows, count, nodes),
         Passed::Refused(why, r) => {
-            let row = shape::row_at(rows, r);
+            let row = Row::at(rows, r);
             Err(Unparsed {
                 why: Reason::Syntax(why),
-                at: shape::row_place(row),
+                at: row.place(),
                 found: refusals::found_told(why, row.kind),
             })
         }

@@ -1,6 +1,6 @@
 -- The shapes of fields: what is found, and the node of a field.
 -- ---- answers
-use mathlib.Core.Path.{◌≡◌, refl, sym, subst}
+use mathlib.Core.Path.{◌≡◌, refl, sym, ap, ◌∙◌, subst}
 use mathlib.Core.Bool.{true, false}
 use mathlib.Core.List.{List}
 use Prim.Native.Nat.{ℕ, ◌+◌, ◌*◌, ◌≤◌, ◌<◌}
@@ -16,28 +16,24 @@ use Rattle.rules.specs.Grammar.{EventField, Is, i_plain_field, i_bytes_field, i_
 use Rattle.theory_grammar.proofs.Runs.{All, all_ok, all_both, map_all}
 use Rattle.theory_grammar.proofs.Sound.{Reads, event_field_sound}
 use Rattle.theory_grammar.proofs.Ends.{Ends, ends_event_field, wide_event_field}
-use Rattle.parse_nodes.specs.declared.Got.TheVariants as got
-use Rattle.parse_nodes.specs.Post.{state_at, Met, Stands}
+use Rattle.std.specs.Prelude.{Result, Ok, Err}
+use Rattle.parse_nodes.specs.Post.{state_at, refusal, refused_at, Met, Stands}
 use Rattle.parse_nodes.specs.declared.At.{At}
-use Rattle.parse_nodes.specs.declared.Got.{Got}
+use Rattle.parse_nodes.specs.declared.Refusal.{Refusal}
 use Rattle.parse_nodes.proofs.Turn.{Came, came}
 use Rattle.parse_nodes.proofs.Steps.{Flat, stands_at, mem_over}
 use Rattle.parse_events.specs.Shapes.{Shows, plain, bytes, array, Found}
 use Rattle.parse_events.specs.declared.Shape.{Shape}
-use Rattle.parse_events.specs.declared.Shaped.{Shaped}
-use Rattle.parse_events.specs.declared.Shaped.TheVariants.{Done, Refused}
 
-pub found_ok : (o : Out) (t : Tree) (j a b v : ℕ) → o ≡ ok t j → Shows t a b v → Found o (Done (record { row = j; form = a; element = b; length = v }))
-found_ok o t j a b v e s = subst (λ (x : Out). Found x (Done (record { row = j; form = a; element = b; length = v }))) (sym e) (a, b, v, s, refl)
+pub found_ok : (o : Out) (t : Tree) (j a b v : ℕ) → o ≡ ok t j → Shows t a b v → Found o (Ok (record { row = j; form = a; element = b; length = v }))
+found_ok o t j a b v e s = subst (λ (x : Out). Found x (Ok (record { row = j; form = a; element = b; length = v }))) (sym e) (a, b, v, s, refl)
 
-pub found_no : (o : Out) (why : Syntax) (p : ℕ) → o ≡ no why p → Found o (Refused why p)
-found_no o why p e = subst (λ (x : Out). Found x (Refused why p)) (sym e) refl
+-- a refusal that a function made, for a reason that a function gave
+pub found_err : (o : Out) (why x : Syntax) (p : ℕ) (e : Refusal) → o ≡ no why p → x ≡ why → e ≡ refusal x p → Found o (Err e)
+found_err o why x p e q s r =
+    subst (λ (y : Out). Found y (Err e)) (sym q) (ap Err r ∙ ap (λ (y : Syntax). refused_at y p) s)
 
--- the same where the refusal is what a function gave
-pub found_told : (o : Out) (why x : Syntax) (p : ℕ) → o ≡ no why p → x ≡ why → Found o (Refused x p)
-found_told o why x p e q = subst (λ (y : Syntax). Found o (Refused y p)) (sym q) (found_no o why p e)
-
-pub found_as : (o o' : Out) (r : Shaped) → o ≡ o' → Found o' r → Found o r
+pub found_as : (o o' : Out) (r : Result Shape Refusal) → o ≡ o' → Found o' r → Found o r
 found_as o o' r e h = subst (λ (x : Out). Found x r) (sym e) h
 
 -- what an answer says of the parser
@@ -46,15 +42,15 @@ pub record Gave (o : Out) (s : Shape) : Type 0 where
   pub is : o ≡ ok tree s.row
   pub shows : Shows tree s.form s.element s.length
 
-pub gave : (o : Out) (r : Shaped) (s : Shape) → Found o r → r ≡ Done s → Gave o s
+pub gave : (o : Out) (r : Result Shape Refusal) (s : Shape) → Found o r → r ≡ Ok s → Gave o s
 gave (ok t j) r s h e =
     let q : s ≡ record { row = j; form = h.0; element = h.1; length = h.2 } = cc (h.4, e) in
     subst (λ (x : Shape). Gave (ok t j) x) (sym q) (record { tree = t; is = refl; shows = h.3 })
 gave (no why p) r s h e = let z : ◌≡◌ {A = ℕ} 0 1 = cc (h, e) in absurd (omega arith)
 
-pub refuses : (o : Out) (r : Shaped) (why : Syntax) (p : ℕ) → Found o r → r ≡ Refused why p → o ≡ no why p
-refuses (ok t j) r why p h e = let z : ◌≡◌ {A = ℕ} 0 1 = cc (h.4, e) in absurd (omega arith)
-refuses (no why' p') r why p h e = cc (h, e)
+pub refuses : (o : Out) (r : Result Shape Refusal) (x : Refusal) → Found o r → r ≡ Err x → o ≡ no x.why x.row
+refuses (ok t j) r x h e = let z : ◌≡◌ {A = ℕ} 0 1 = cc (h.4, e) in absurd (omega arith)
+refuses (no why p) r x h e = let z : refusal why p ≡ x = cc (h, e) in ap (λ (y : Refusal). no y.why y.row) z
 
 -- ---- a field's node
 
@@ -83,9 +79,9 @@ shows_one (array w k v) = (refl, refl, refl, refl)
 
 -- the answer of a field whose node is written
 pub field_met : (o : Out) (i n : ℕ) (m m' : List ℕ) (s : Shape) → Gave o s → m' ≡ sets m (8 * n) (node_words (fact_node 26 i i 0 s.form s.element s.length 0))
-    → Met o i n m m' (got.Done (state_at s.row (n + 1) i))
+    → Met o i n m m' (Ok (state_at s.row (n + 1) i))
 field_met o i n m m' s g q =
-    subst (λ (x : Out). Met x i n m m' (got.Done (state_at s.row (n + 1) i))) (sym g.is)
+    subst (λ (x : Out). Met x i n m m' (Ok (state_at s.row (n + 1) i))) (sym g.is)
     (let e = shows_one g.shows in
     (rw (shows_size g.shows, shows_place i g.shows, e.0, e.1, e.2, e.3), rw (shows_words i g.shows) q))
 
@@ -107,7 +103,7 @@ field_ends ts i =
     (map_all (Reads ts EventField 64 i) (λ t j. Flat t) (Parse.event_field ts i) (event_field_sound ts i) (λ t j r. flat_field r.is))
 
 module _ (ts : List Tok) (i n : ℕ) (m : List ℕ) (s : At) (m' : List ℕ) where
-  pub field_came : (r : Got) → Met (Parse.event_field ts i) i n m m' r → r ≡ got.Done s → Came (FieldEnds ts i) ts (Parse.event_field ts i) i n m s m'
+  pub field_came : (r : Result At Refusal) → Met (Parse.event_field ts i) i n m m' r → r ≡ Ok s → Came (FieldEnds ts i) ts (Parse.event_field ts i) i n m s m'
   field_came r h e = came (FieldEnds ts i) ts (Parse.event_field ts i) i n m m' r s (field_ends ts i) (λ t j f. f.0) h e
 
   -- a field has a row or more

@@ -6,28 +6,27 @@ use Prim.Native.Nat.{ℕ, ◌+◌, ◌-◌, ◌<◌}
 use native.Mathlib.Omega.{arith}
 use lib.Dec.{eqb}
 use borrow.Author.Tests.{eq-eqb, ne_eqb}
-use Rattle.rules.specs.declared.Syntax.{Syntax}
 use Rattle.rules.specs.declared.Syntax.TheVariants.{TooDeep}
-use Rattle.rules.specs.Kinds.{Dot, Comma}
-use Rattle.rules.specs.Fits.{first_arguments, retold}
-use Rattle.rules.specs.Tree.{Tok, Tree, one, more, count}
+use Rattle.rules.specs.Kinds.{Dot, Comma, LParen, RParen}
+use Rattle.rules.specs.Fits.{only, first_arguments, retold}
+use Rattle.rules.specs.Tree.{Tok, Tree, group, one, more, count}
 use Rattle.rules.specs.Nodes.{width}
 use Rattle.rules.specs.Parse
 use Rattle.rules.specs.Parse.{ok, no, then, or, kind_at, whole}
 use Rattle.rules.specs.Grammar.{Add, Basic}
 use Rattle.theory_grammar.proofs.Laws.{is_wide}
-use Rattle.theory_grammar.proofs.Cases.{then_ok, then_no, or_ok, inner_none, inner_whole, args_is, arg_step, prim_is}
+use Rattle.theory_grammar.proofs.Cases.{then_ok, then_no, or_ok, inner_none, inner_whole, atom_paren, args_is, arg_step, prim_is}
 use Rattle.theory_grammar.proofs.Runs.{all_ok}
 use Rattle.theory_grammar.proofs.Sound.{Reads, post_sound, inner_sound}
 use Rattle.theory_grammar.proofs.Ends.{On, ends_post}
-use Rattle.parse_nodes.specs.Post.{counted_at, Met, Stands}
+use Rattle.parse_nodes.specs.Post.{counted_at, refused_at, Met, Stands}
 use Rattle.parse_nodes.specs.Fitting.{retold_at}
 use Rattle.parse_nodes.specs.declared.At.{At}
-use Rattle.parse_nodes.specs.declared.Got.{Got}
-use Rattle.parse_nodes.specs.declared.Got.TheVariants.{Done, Refused}
+use Rattle.parse_nodes.specs.declared.Refusal.{Refusal}
+use Rattle.std.specs.Prelude.{Result, Ok, Err}
 use Rattle.parse_nodes.proofs.Turn.{Any, Came, came_reads, met_ok, met_no, Turn, start, ends, fails, again}
 use Rattle.parse_expr.proofs.Trees.{stands_one, stands_more}
-use Rattle.parse_expr.proofs.Given.{refusal, Fit, turn_fit}
+use Rattle.parse_expr.proofs.Given.{was_refused, Fit, turn_fit}
 
 -- ---- fields and calls
 
@@ -48,21 +47,21 @@ module _ {ts : List Tok} {d i n : ℕ} {m : List ℕ} {s : At} {m' : List ℕ} (
   pub dotted_fit : Fit ts i n m s m'
   dotted_fit = turn_fit w.turn
 
-  pub dotted_done : (kind_at ts s.row ≡ Dot → ⊥) → Met (Parse.prim ts (Parse.inner ts d) i) i n m m' (Done s)
+  pub dotted_done : (kind_at ts s.row ≡ Dot → ⊥) → Met (Parse.prim ts (Parse.inner ts d) i) i n m m' (Ok s)
   dotted_done h =
       met_ok _ i n w.turn.tree m m' s (ends _ _ _ _ _ _ _ _ _ _ w.turn (ne_eqb (kind_at ts s.row) Dot h)) w.turn.stands
 
   -- `post` answers r, whatever tree s stands behind
-  module _ (b : kind_at ts s.row ≡ Dot) (m₂ : List ℕ) (r : Got)
+  module _ (b : kind_at ts s.row ≡ Dot) (m₂ : List ℕ) (r : Result At Refusal)
       (h : (t : Tree) → Stands i n t m s m' → Met (Parse.post ts (Parse.inner ts d) t s.row) i n m m₂ r) where
     dot : eqb (kind_at ts s.row) Dot ≡ true
     dot = eq-eqb (kind_at ts s.row) Dot b
 
-    pub dotted_fails : {why : Syntax} {q : ℕ} → r ≡ Refused why q → Met (Parse.prim ts (Parse.inner ts d) i) i n m m₂ (Refused why q)
-    dotted_fails {why} {q} e =
-        fails _ _ _ _ _ _ _ _ _ _ w.turn dot why q m₂ (refusal i n m m₂ (h w.turn.tree w.turn.stands) e)
+    pub dotted_fails : {x : Refusal} → r ≡ Err x → Met (Parse.prim ts (Parse.inner ts d) i) i n m m₂ (Err x)
+    dotted_fails {x} e =
+        fails _ _ _ _ _ _ _ _ _ _ w.turn dot x.why x.row m₂ (was_refused i n m m₂ (h w.turn.tree w.turn.stands) e)
 
-    module _ {s₂ : At} (e : r ≡ Done s₂) where
+    module _ {s₂ : At} (e : r ≡ Ok s₂) where
       dotted_came : Came (Reads ts Basic d i) ts (Parse.post ts (Parse.inner ts d) w.turn.tree s.row) i n m s₂ m₂
       dotted_came =
           came_reads ts Basic d _ i n m m₂ r s₂
@@ -83,6 +82,14 @@ module _ {ts : List Tok} {d i n : ℕ} {m : List ℕ} {s : At} {m' : List ℕ} (
                 v.is v.stands dotted_on v.inside v.counts v.known;
           }
 
+-- ---- a group, whose expression ends in front of row j
+
+pub grouped : (ts : List Tok) (d i : ℕ) (u : Tree) (j : ℕ) → kind_at ts i ≡ LParen → (d ≡ 0 → ⊥)
+    → Parse.add ts (Parse.inner ts (d - 1)) (i + 1) ≡ ok u j
+    → Parse.atom ts (Parse.inner ts d) i ≡ Parse.end_in ts (only RParen) RParen u (ok (group u)) j
+unfolding Parse.end
+grouped ts d i u j k h e = atom_paren ts (Parse.inner ts d) i k ∙ then_ok _ _ u j (inner_whole ts i d h ∙ e)
+
 -- ---- arguments, behind the parenthesis at row o
 
 -- 32 is told no set
@@ -95,20 +102,19 @@ or_deep s i r = go (eqb r i)
     go false = refl
 
 module _ (ts : List Tok) (d o n : ℕ) (m : List ℕ) where
-  pub args_deep : d ≡ 0 → Met (Parse.args ts (Parse.inner ts d) o) (o + 1) n m m (Refused TooDeep o)
+  pub args_deep : d ≡ 0 → Met (Parse.args ts (Parse.inner ts d) o) (o + 1) n m m (refused_at TooDeep o)
   args_deep e =
       met_no _ (o + 1) n TooDeep o m m
       (args_is ts (Parse.inner ts d) o ∙ then_no _ _ TooDeep o (rw (inner_none ts whole o d e) (or_deep first_arguments (o + 1) o)))
 
   -- the first one is refused
-  pub args_refused : {r : Got} {why told : Syntax} {q : ℕ} (m'' : List ℕ) → (d ≡ 0 → ⊥)
-      → Met (Parse.add ts (Parse.inner ts (d - 1)) (o + 1)) (o + 1) n m m'' r → r ≡ Refused why q
-      → told ≡ retold_at first_arguments (o + 1) why q
-      → Met (Parse.args ts (Parse.inner ts d) o) (o + 1) n m m'' (Refused told q)
+  pub args_refused : {r : Result At Refusal} {x : Refusal} (m'' : List ℕ) → (d ≡ 0 → ⊥)
+      → Met (Parse.add ts (Parse.inner ts (d - 1)) (o + 1)) (o + 1) n m m'' r → r ≡ Err x
+      → Met (Parse.args ts (Parse.inner ts d) o) (o + 1) n m m'' (refused_at (retold_at first_arguments (o + 1) x.why x.row) x.row)
   unfolding or then retold_at
-  args_refused {why = why} {told = told} {q = q} m'' h f e g =
-      let x : Parse.add ts (Parse.inner ts (d - 1)) (o + 1) ≡ no why q = refusal (o + 1) n m m'' f e in
-      met_no _ (o + 1) n told q m m'' (args_is ts (Parse.inner ts d) o ∙ rw (inner_whole ts o d h, x, g))
+  args_refused {x = x} m'' h f e =
+      let f : Parse.add ts (Parse.inner ts (d - 1)) (o + 1) ≡ no x.why x.row = was_refused (o + 1) n m m'' f e in
+      met_no _ (o + 1) n _ x.row m m'' (args_is ts (Parse.inner ts d) o ∙ rw (inner_whole ts o d h, f))
 
 -- `args` has read arguments up to s
 pub record Argued (ts : List Tok) (d o n : ℕ) (m : List ℕ) (s : At) (m' : List ℕ) : Type 0 where
@@ -134,7 +140,7 @@ module _ {ts : List Tok} {d o n : ℕ} {m : List ℕ} {s : At} {m' : List ℕ} (
   pub argued_fit : Fit ts (o + 1) n m s m'
   argued_fit = turn_fit w.turn
 
-  pub argued_done : (kind_at ts s.row ≡ Comma → ⊥) → Met (Parse.args ts (Parse.inner ts d) o) (o + 1) n m m' (Done s)
+  pub argued_done : (kind_at ts s.row ≡ Comma → ⊥) → Met (Parse.args ts (Parse.inner ts d) o) (o + 1) n m m' (Ok s)
   argued_done h =
       met_ok _ (o + 1) n w.turn.tree m m' s (ends _ _ _ _ _ _ _ _ _ _ w.turn (ne_eqb (kind_at ts s.row) Comma h)) w.turn.stands
 
@@ -142,13 +148,13 @@ module _ {ts : List Tok} {d o n : ℕ} {m : List ℕ} {s : At} {m' : List ℕ} (
     comma : eqb (kind_at ts s.row) Comma ≡ true
     comma = eq-eqb (kind_at ts s.row) Comma b
 
-    pub argued_fails : {r : Got} {why : Syntax} {q : ℕ} (m'' : List ℕ)
-        → Met (Parse.add ts (Parse.inner ts (d - 1)) (s.row + 1)) (s.row + 1) s.node m' m'' r → r ≡ Refused why q
-        → Met (Parse.args ts (Parse.inner ts d) o) (o + 1) n m m'' (Refused why q)
-    argued_fails {why = why} {q = q} m'' f e =
-        fails _ _ _ _ _ _ _ _ _ _ w.turn comma why q m''
+    pub argued_fails : {r : Result At Refusal} {x : Refusal} (m'' : List ℕ)
+        → Met (Parse.add ts (Parse.inner ts (d - 1)) (s.row + 1)) (s.row + 1) s.node m' m'' r → r ≡ Err x
+        → Met (Parse.args ts (Parse.inner ts d) o) (o + 1) n m m'' (Err x)
+    argued_fails {x = x} m'' f e =
+        fails _ _ _ _ _ _ _ _ _ _ w.turn comma x.why x.row m''
         (arg_step ts (Parse.inner ts d) w.turn.tree s.row
-        ∙ then_no _ _ why q (inner_whole ts s.row d h ∙ refusal (s.row + 1) s.node m' m'' f e))
+        ∙ then_no _ _ x.why x.row (inner_whole ts s.row d h ∙ was_refused (s.row + 1) s.node m' m'' f e))
 
     pub argued_again : {C : Tree → ℕ → Type 0} {s₂ : At} {m₂ : List ℕ} {s₃ : At}
         → Came C ts (Parse.add ts (Parse.inner ts (d - 1)) (s.row + 1)) (s.row + 1) s.node m' s₂ m₂

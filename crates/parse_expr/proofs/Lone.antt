@@ -16,7 +16,7 @@ use Rattle.theory_grammar.proofs.Laws.{either_kind}
 use Rattle.theory_grammar.proofs.Cases.{then_ok, many_stop, unary_else, prim_is, mul_is}
 use Rattle.parse_nodes.specs.Post.{Met, Stands}
 use Rattle.parse_nodes.specs.declared.At.{At}
-use Rattle.parse_nodes.specs.declared.Got.TheVariants.{Done}
+use Rattle.std.specs.Prelude.{Ok}
 use Rattle.parse_nodes.proofs.Turn.{met_ok}
 use Rattle.parse_expr.specs.Lone.{is_lone, leaf_of}
 
@@ -38,17 +38,29 @@ pub leaf_var : (x : Tok) → (kind_of x ≡ Number → ⊥) → leaf_of x ≡ va
 unfolding leaf_of
 leaf_var x h = rw (ne_eqb (kind_of x) Number h)
 
+-- no leaf is neither a variable nor a number
+pub no_leaf : (x : ℕ) → (eqb x Identifier || eqb x Number) ≡ false → (x ≡ Identifier → ⊥) × (x ≡ Number → ⊥)
+no_leaf x h =
+    (λ e. true≢false (sym (ap (λ (y : ℕ). eqb y Identifier || eqb y Number) e) ∙ h), λ e. true≢false (sym (ap (λ (y : ℕ). eqb y Identifier || eqb y Number) e) ∙ h))
+
 -- ---- the parser
 
 module _ (ts : List Tok) (g : Sort → P) (i : ℕ) where
   -- a variable or a number is what `atom` reads
-  atom_leaf : (eqb (kind_at ts i) Identifier || eqb (kind_at ts i) Number) ≡ true → Parse.atom ts g i ≡ ok (leaf_of (tok_at ts i)) (i + 1)
+  pub atom_leaf : (eqb (kind_at ts i) Identifier || eqb (kind_at ts i) Number) ≡ true → Parse.atom ts g i ≡ ok (leaf_of (tok_at ts i)) (i + 1)
   unfolding Parse.atom Parse.atom_by Parse.lead leaf_of
   atom_leaf b =
       either_kind
       (λ x. Parse.atom_by ts g (Parse.lead x) i
       ≡ ok (cond (eqb x Number) (num (bits_in (tok_at ts i))) (var (spelling_of (tok_at ts i)))) (i + 1))
       (kind_at ts i) Identifier Number b refl refl
+
+  -- and so it answers with the state behind it
+  pub met_leaf : (n : ℕ) (m m' : List ℕ) (s : At) → (eqb (kind_at ts i) Identifier || eqb (kind_at ts i) Number) ≡ true
+      → Stands i n (leaf_of (tok_at ts i)) m s m' → Met (Parse.atom ts g i) i n m m' (Ok s)
+  met_leaf n m m' s e h =
+      let r : i + 1 ≡ s.row = omega (arith, h.rows, leaf_width (tok_at ts i)) in
+      met_ok (Parse.atom ts g i) i n (leaf_of (tok_at ts i)) m m' s (atom_leaf e ∙ ap (ok (leaf_of (tok_at ts i))) r) h
 
   -- an atom with neither a dot nor an operator behind it
   mul_stops : (t : Tree) (j : ℕ) → Parse.atom ts g i ≡ ok t j → eqb (kind_at ts i) Star ≡ false → eqb (kind_at ts j) Dot ≡ false
@@ -77,7 +89,7 @@ module _ (ts : List Tok) (g : Sort → P) (i : ℕ) where
 
   -- and so `mul` answers with the state behind it
   pub met_lone : (n : ℕ) (m m' : List ℕ) (s : At) → is_lone (kind_at ts i) (kind_at ts (i + 1)) ≡ true
-      → Stands i n (leaf_of (tok_at ts i)) m s m' → Met (Parse.mul ts g i) i n m m' (Done s)
+      → Stands i n (leaf_of (tok_at ts i)) m s m' → Met (Parse.mul ts g i) i n m m' (Ok s)
   met_lone n m m' s e h =
       let r : i + 1 ≡ s.row = omega (arith, h.rows, leaf_width (tok_at ts i)) in
       met_ok (Parse.mul ts g i) i n (leaf_of (tok_at ts i)) m m' s (mul_lone e ∙ ap (ok (leaf_of (tok_at ts i))) r) h

@@ -12,11 +12,11 @@ use Rattle.rules.specs.Tree.{Tok, bits_in, Tree, none, num, var, star, group, fi
 use Rattle.rules.specs.Nodes.{NodeVariable, NodeNumber, NodeDereference, NodeCall, node, fact_node, missing, width, size, place_of, node_words}
 use Rattle.rules.specs.Parse
 use Rattle.rules.specs.Parse.{ok, no, pick, tok_at}
-use Rattle.theory_grammar.proofs.Laws.{words_none, words_num, words_var, words_star, words_group, words_field, words_call}
-use Rattle.theory_grammar.proofs.Laws.{words_bin, words_one, words_more}
+use Rattle.theory_grammar.proofs.Laws.{words_none, words_num, words_var, words_star, words_group, words_field, words_call, words_bin, words_one, words_more}
 use Rattle.parse_nodes.specs.Post.{kind_word, Tells, state_at, variable_at, counted_at, Met, Stands}
 use Rattle.parse_nodes.specs.declared.At.{At}
-use Rattle.parse_nodes.specs.declared.Got.{Got}
+use Rattle.parse_nodes.specs.declared.Refusal.{Refusal}
+use Rattle.std.specs.Prelude.{Result}
 use Rattle.parse_nodes.proofs.Rows.{tells_value, word_at_lem, word_here, low_word, high_word}
 use Rattle.parse_nodes.proofs.Turn.{met_ok}
 use Rattle.parse_nodes.proofs.Steps.{stands_at, mem_over, mem_both, mem_join}
@@ -123,7 +123,7 @@ module _ (i n : ℕ) (m m₁ : List ℕ) (s : At) where
 -- ---- a call's end
 
 -- what `call_end` answers is what the parser says of a call's end
-pub met_called : (ts : List Tok) (i n : ℕ) (t : Tree) (w : List ℕ) (a : Tree) (m₀ m₁ m₂ m₃ : List ℕ) (s : At) (k count' next : ℕ) (r : Got)
+pub met_called : (ts : List Tok) (i n : ℕ) (t : Tree) (w : List ℕ) (a : Tree) (m₀ m₁ m₂ m₃ : List ℕ) (s : At) (k count' next : ℕ) (r : Result At Refusal)
     → Stands i n t m₀ s m₁
     → (m₃ ≡ sets m₂ (8 * k) (node_words (node NodeCall s.place (s.row + 1) (count' + 1)))
     → Stands i n (call t w a) m₀ (state_at next (k + 1) s.place) m₃)

@@ -1,6 +1,6 @@
 -- The number of a map type, spelling by spelling.
-use mathlib.Core.Path.{◌≡◌, refl, ◌∙◌}
-use mathlib.Core.Bool.{Bool, true, false, cond}
+use mathlib.Core.Path.{◌≡◌}
+use mathlib.Core.Bool.{true, false}
 use mathlib.Core.List.{List, [], ◌∷◌}
 use Prim.Native.Nat.{ℕ, suc}
 use lib.ListN.{get_or, drop}
@@ -10,13 +10,14 @@ use Rattle.rules.specs.Tree.{map_types}
 unfoldable pub type_at : ℕ → Spelt
 type_at k = get_or map_types k (record { spelling = []; kind = 0 })
 
--- the number by spelling k and those behind it
-pub number_by : (k : ℕ) (w : List ℕ) {r o : ℕ} → r ≡ cond (same_bytes (type_at k).spelling w) (type_at k).kind o →
-    o ≡ kind_in (drop (suc k) map_types) 0 w → r ≡ kind_in (type_at k ∷ drop (suc k) map_types) 0 w
-unfolding kind_in
-number_by k w {r} {o} e h = e ∙ pick (same_bytes (type_at k).spelling w)
-  where
-    pick : (p : Bool) →
-        cond p (type_at k).kind o ≡ elim p as (λ _. ℕ) [ true ↦ (type_at k).kind | false ↦ kind_in (drop (suc k) map_types) 0 w ]
-    pick true = refl
-    pick false = h
+module _ (w : List ℕ) (k : ℕ) where
+  -- the number by spelling k
+  pub type_here : same_bytes (type_at k).spelling w ≡ true → kind_in (type_at k ∷ drop (suc k) map_types) 0 w ≡ (type_at k).kind
+  unfolding kind_in same_bytes type_at map_types
+  type_here e = rw e
+
+  -- the number by those behind it
+  pub type_next : same_bytes (type_at k).spelling w ≡ false
+      → kind_in (type_at k ∷ drop (suc k) map_types) 0 w ≡ kind_in (drop (suc k) map_types) 0 w
+  unfolding kind_in same_bytes type_at map_types
+  type_next e = rw e

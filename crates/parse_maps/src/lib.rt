@@ -1,35 +1,31 @@
 // Maps: fields repeat freely, the last holds; after `}` the required ones are asked for.
+#![tactic(auto)]
+
 ghost use Rattle.std.specs.Prelude.{◌≡◌, true, ◌+◌, ◌*◌, ◌≤◌, length};
 ghost use Rattle.rules.specs.Kinds.{KeywordType, KeywordMax};
-ghost use Rattle.rules.specs.Tree.{map_type_number, lacking, shift_bits};
+ghost use Rattle.rules.specs.Tree.{map_type_number, shift_bits};
 ghost use Rattle.rules.specs.Parse.{is_typed};
 ghost use Rattle.parse_nodes.specs.Post.{Asks, AsksOpen, most_rows};
 ghost use Rattle.parse_nodes.specs.Names.{Spans};
 ghost use Rattle.parse_maps.specs.Steps.{bits_at, AsksRow, ShiftFound, ChainFound, FieldFound, RowsFound, FieldsFound};
-ghost use Rattle.parse_maps.specs.Steps.{map_written, MapMet};
+ghost use Rattle.parse_maps.specs.Steps.{told, Lacks, map_written, MapMet};
 
-use parse_nodes::{At, Got, Words};
+use parse_nodes::{At, Refusal, Words};
+use parse_signs::is_shift;
 use rules::kind::{
-    COLON, DOT, EOF, IDENTIFIER, KEY, MAX, NUMBER, RBRACE, SEMICOLON, SHL, SHR, TYPE, TYPE_I64,
+    COLON, DOT, EOF, IDENTIFIER, KEY, MAX, NUMBER, RBRACE, SEMICOLON, SHL, TYPE, TYPE_I64,
     TYPE_U32, VALUE,
 };
 use rules::{Syntax, fact, fits, limit, node_kind, row};
 
-// What the fields so far give, 0 for none, `limit` one more than max; and the next row.
+// What the fields so far give, and the next row.
 #[derive(Clone, Copy)]
 pub struct Facts {
     pub row: u32,
-    pub maptype: u32,
-    pub key: u32,
-    pub value: u32,
-    pub limit: u64,
-}
-
-// What the fields give with one field more, or why not and the row where.
-#[derive(Clone, Copy)]
-pub enum Found {
-    Done(Facts),
-    Refused(Syntax, u32),
+    pub maptype: Option<u32>,
+    pub key: Option<u32>,
+    pub value: Option<u32>,
+    pub max: Option<u32>,
 }
 
 // The value of a max so far, and the next row.
@@ -37,13 +33,6 @@ pub enum Found {
 pub struct Sum {
     pub row: u32,
     pub bits: u64,
-}
-
-// The value of a max with one shift more, or why not and the row where.
-#[derive(Clone, Copy)]
-pub enum Summed {
-    Done(Sum),
-    Refused(Syntax, u32),
 }
 
 // The value's bits of the number at a row of the table.
@@ -69,251 +58,225 @@ fn shifted(kind: u32, x: u64, c: u64) -> u64
     limit::ALL_BITS - ((limit::ALL_BITS - x) >> c)
 }
 
-// A shift whose sign is at the sum's row.
-fn shift_step(rows: &[u32], count: u32, s: Sum, kind: u32) -> Summed
+// The value of a max with one shift more, whose sign is at the sum's row.
+fn shift_step(rows: &[u32], count: u32, s: Sum, kind: u32) -> Result<Sum, Refusal>
     requires { AsksRow rows.now count s.row kind }
     ensures { ShiftFound rows.now count s result }
 {
     let number = s.row + 1;
     if parse_nodes::kind_at(rows, count, number) != NUMBER {
-        return Summed::Refused(parse_nodes::wanted(NUMBER), number);
+        return Err(Refusal::new(parse_nodes::wanted(NUMBER), number));
     }
     let c = bits_at(rows, number);
     if limit::MOST_SHIFT < c {
-        return Summed::Refused(Syntax::ShiftCount, number);
+        return Err(Refusal::new(Syntax::ShiftCount, number));
     }
-    Summed::Done(Sum {
+    Ok(Sum {
         row: number + 1,
         bits: shifted(kind, s.bits, c),
     })
 }
 
 // A number and shifts by numbers, from the row on.
-fn chain(rows: &[u32], count: u32, row: u32) -> Summed
+fn chain(rows: &[u32], count: u32, row: u32) -> Result<Sum, Refusal>
     requires { Asks rows.now count row 0 0 }
     ensures { ChainFound rows.now count row result }
 {
     if parse_nodes::kind_at(rows, count, row) != NUMBER {
-        return Summed::Refused(parse_nodes::wanted(NUMBER), row);
+        return Err(Refusal::new(parse_nodes::wanted(NUMBER), row));
     }
     let mut s = Sum {
         row: row + 1,
         bits: bits_at(rows, row),
     };
+    // Stays: a loop, which goes on behind what was read; a for has no such step.
     loop {
-        let at = s.row;
-        let sign = parse_nodes::kind_at(rows, count, at);
-        if (sign == SHL) | (sign == SHR) {
-            match shift_step(rows, count, s, sign) {
-                Summed::Done(t) => {
-                    s = t;
-                }
-                Summed::Refused(why, r) => {
-                    return Summed::Refused(why, r);
-                }
-            }
-        } else {
-            return Summed::Done(s);
+        let sign = parse_nodes::kind_at(rows, count, s.row);
+        if !is_shift(sign) {
+            return Ok(s);
         }
+        s = shift_step(rows, count, s, sign)?;
     }
 }
 
-// `max` at the fields' row.
-fn max_field(rows: &[u32], count: u32, f: Facts) -> Found
+// The facts with `max` at their row.
+fn max_field(rows: &[u32], count: u32, f: Facts) -> Result<Facts, Refusal>
     requires { AsksRow rows.now count f.row KeywordMax }
     ensures { RowsFound rows.now count f result }
 {
     let colon = f.row + 1;
     if parse_nodes::kind_at(rows, count, colon) != COLON {
-        return Found::Refused(parse_nodes::wanted(COLON), colon);
+        return Err(Refusal::new(parse_nodes::wanted(COLON), colon));
     }
-    match chain(rows, count, colon + 1) {
-        Summed::Done(s) => {
-            let j = s.row;
-            if limit::SIGN_BIT <= s.bits {
-                return Found::Refused(Syntax::MaxNegative, j);
-            }
-            if limit::MOST_WORD < s.bits {
-                return Found::Refused(Syntax::OutOfRange, j - 1);
-            }
-            if parse_nodes::kind_at(rows, count, j) != SEMICOLON {
-                return Found::Refused(parse_nodes::wrong(fits::MAX_ENDS), j);
-            }
-            Found::Done(Facts {
-                row: j + 1,
-                maptype: f.maptype,
-                key: f.key,
-                value: f.value,
-                limit: s.bits + 1,
-            })
-        }
-        Summed::Refused(why, r) => Found::Refused(why, r),
+    let s = chain(rows, count, colon + 1)?;
+    let end = s.row;
+    if limit::SIGN_BIT <= s.bits {
+        return Err(Refusal::new(Syntax::MaxNegative, end));
     }
+    if limit::MOST_WORD < s.bits {
+        return Err(Refusal::new(Syntax::OutOfRange, end - 1));
+    }
+    if parse_nodes::kind_at(rows, count, end) != SEMICOLON {
+        return Err(Refusal::new(parse_nodes::wrong(fits::MAX_ENDS), end));
+    }
+    Ok(Facts {
+        row: end + 1,
+        max: Some(s.bits as u32),
+        ..f
+    })
 }
 
-// `key` or `value`, which the kind says, at the fields' row.
-fn typed_field(rows: &[u32], count: u32, f: Facts, kind: u32) -> Found
+// The facts with `key` or `value`, which the kind says, at their row.
+fn typed_field(rows: &[u32], count: u32, f: Facts, kind: u32) -> Result<Facts, Refusal>
     requires { AsksRow rows.now count f.row kind × (is_typed kind ≡ true) }
     ensures { RowsFound rows.now count f result }
 {
     let colon = f.row + 1;
     if parse_nodes::kind_at(rows, count, colon) != COLON {
-        return Found::Refused(parse_nodes::wanted(COLON), colon);
+        return Err(Refusal::new(parse_nodes::wanted(COLON), colon));
     }
     let at = colon + 1;
     let t = parse_nodes::kind_at(rows, count, at);
     if t == EOF {
-        return Found::Refused(Syntax::NotType, at);
+        return Err(Refusal::new(Syntax::NotType, at));
     }
     let end = at + 1;
-    let known = (TYPE_U32 <= t) & (t <= TYPE_I64);
-    if !known {
-        return Found::Refused(Syntax::NotType, end);
+    if !matches!(t, TYPE_U32..=TYPE_I64) {
+        return Err(Refusal::new(Syntax::NotType, end));
     }
     if parse_nodes::kind_at(rows, count, end) != SEMICOLON {
-        return Found::Refused(parse_nodes::wanted(SEMICOLON), end);
+        return Err(Refusal::new(parse_nodes::wanted(SEMICOLON), end));
     }
-    let number = parse_nodes::type_number(t);
-    let next = end + 1;
+    let number = Some(parse_nodes::type_number(t));
+    let row = end + 1;
     if kind == KEY {
-        return Found::Done(Facts {
-            row: next,
-            maptype: f.maptype,
+        return Ok(Facts {
+            row,
             key: number,
-            value: f.value,
-            limit: f.limit,
+            ..f
         });
     }
-    Found::Done(Facts {
-        row: next,
-        maptype: f.maptype,
-        key: f.key,
+    Ok(Facts {
+        row,
         value: number,
-        limit: f.limit,
+        ..f
     })
 }
 
-// A map type's number, 1 to 5, or 0. Bytes are compared where they stand.
-fn type_number(word: &[u8]) -> u32
-    ensures { result ≡ map_type_number word.now }
+// A map type's number, 1 to 5. Bytes are compared where they stand.
+fn type_number(word: &[u8]) -> Option<u32>
+    ensures { result ≡ told (map_type_number word.now) }
 {
-    let prog_array = names::spelt(word, b"prog_array", fact::MAP_PROG_ARRAY, 0);
-    let lru_hash = names::spelt(word, b"lru_hash", fact::MAP_LRU_HASH, prog_array);
-    let ringbuf = names::spelt(word, b"ringbuf", fact::MAP_RINGBUF, lru_hash);
-    let array = names::spelt(word, b"array", fact::MAP_ARRAY, ringbuf);
-    names::spelt(word, b"hash", fact::MAP_HASH, array)
+    if check::same(word, b"hash") {
+        return Some(fact::MAP_HASH);
+    }
+    if check::same(word, b"array") {
+        return Some(fact::MAP_ARRAY);
+    }
+    if check::same(word, b"ringbuf") {
+        return Some(fact::MAP_RINGBUF);
+    }
+    if check::same(word, b"lru_hash") {
+        return Some(fact::MAP_LRU_HASH);
+    }
+    if check::same(word, b"prog_array") {
+        return Some(fact::MAP_PROG_ARRAY);
+    }
+    None
 }
 
-// `type` at the fields' row. The rows' spellings lie inside the text.
-fn type_field(text: &[u8], rows: &[u32], count: u32, f: Facts) -> Found
+// The facts with `type` at their row. The rows' spellings lie inside the text.
+fn type_field(text: &[u8], rows: &[u32], count: u32, f: Facts) -> Result<Facts, Refusal>
     requires { AsksRow rows.now count f.row KeywordType × Spans text.now rows.now count }
     ensures { FieldFound text.now rows.now count f result }
 {
     let colon = f.row + 1;
     if parse_nodes::kind_at(rows, count, colon) != COLON {
-        return Found::Refused(parse_nodes::wanted(COLON), colon);
+        return Err(Refusal::new(parse_nodes::wanted(COLON), colon));
     }
     let dot = colon + 1;
     if parse_nodes::kind_at(rows, count, dot) != DOT {
-        return Found::Refused(parse_nodes::wanted(DOT), dot);
+        return Err(Refusal::new(parse_nodes::wanted(DOT), dot));
     }
     let name = dot + 1;
     if parse_nodes::kind_at(rows, count, name) != IDENTIFIER {
-        return Found::Refused(parse_nodes::wanted(IDENTIFIER), name);
+        return Err(Refusal::new(parse_nodes::wanted(IDENTIFIER), name));
     }
     let words = (name as usize) * row::WORDS;
     let a = rows[words + row::START] as usize;
     let e = rows[words + row::END] as usize;
-    let number = type_number(&text[a..e]);
     let end = name + 1;
-    if number == 0 {
-        return Found::Refused(Syntax::MapTypeUnknown, end);
+    let maptype = type_number(&text[a..e]);
+    if maptype.is_none() {
+        return Err(Refusal::new(Syntax::MapTypeUnknown, end));
     }
     if parse_nodes::kind_at(rows, count, end) != SEMICOLON {
-        return Found::Refused(parse_nodes::wanted(SEMICOLON), end);
+        return Err(Refusal::new(parse_nodes::wanted(SEMICOLON), end));
     }
-    Found::Done(Facts {
+    Ok(Facts {
         row: end + 1,
-        maptype: number,
-        key: f.key,
-        value: f.value,
-        limit: f.limit,
+        maptype,
+        ..f
     })
 }
 
-// A field at the fields' row.
-fn field(text: &[u8], rows: &[u32], count: u32, f: Facts) -> Found
+// The facts with the field at their row.
+fn field(text: &[u8], rows: &[u32], count: u32, f: Facts) -> Result<Facts, Refusal>
     requires { Asks rows.now count f.row 0 0 × Spans text.now rows.now count }
     ensures { FieldFound text.now rows.now count f result }
 {
-    let at = f.row;
-    let k = parse_nodes::kind_at(rows, count, at);
-    if k == TYPE {
-        return type_field(text, rows, count, f);
+    let k = parse_nodes::kind_at(rows, count, f.row);
+    match k {
+        TYPE => type_field(text, rows, count, f),
+        KEY | VALUE => typed_field(rows, count, f, k),
+        MAX => max_field(rows, count, f),
+        _ => Err(Refusal::new(Syntax::NotMapField, f.row)),
     }
-    if (k == KEY) | (k == VALUE) {
-        return typed_field(rows, count, f, k);
-    }
-    if k == MAX {
-        return max_field(rows, count, f);
-    }
-    Found::Refused(Syntax::NotMapField, at)
 }
 
 // Fields from the row on, up to `}`, which is not taken.
-fn fields(text: &[u8], rows: &[u32], count: u32, row: u32) -> Found
+fn fields(text: &[u8], rows: &[u32], count: u32, row: u32) -> Result<Facts, Refusal>
     requires { Asks rows.now count row 0 0 × Spans text.now rows.now count }
     ensures { FieldsFound text.now rows.now count row result }
 {
     let mut f = Facts {
         row,
-        maptype: 0,
-        key: 0,
-        value: 0,
-        limit: 0,
+        maptype: None,
+        key: None,
+        value: None,
+        max: None,
     };
-    loop {
+    // Stays: a while loop, which goes on behind what was read; a for has no such step.
+    while parse_nodes::kind_at(rows, count, f.row) != RBRACE {
         let at = f.row;
-        if parse_nodes::kind_at(rows, count, at) == RBRACE {
-            return Found::Done(f);
-        }
-        match field(text, rows, count, f) {
-            Found::Done(g) => {
-                f = g;
-            }
-            Found::Refused(why, r) => {
-                let told = parse_nodes::instead(why, r as usize, at, fits::MAP_FIELDS);
-                return Found::Refused(told, r);
-            }
-        }
+        f = field(text, rows, count, f).map_err(|e: Refusal| e.instead(at, fits::MAP_FIELDS))?;
     }
+    Ok(f)
 }
 
-// The field that a map lacks, 1 to 4, or 0.
-fn lacks(f: Facts) -> u32
-    ensures { result ≡ lacking f.maptype f.key f.value f.limit }
+// The field that a map lacks, 1 to 4.
+fn lacks(f: Facts) -> Option<u32>
+    ensures { Lacks f result }
 {
-    if f.maptype == 0 {
-        return fact::FIELD_TYPE;
+    let Some(maptype) = f.maptype else {
+        return Some(fact::FIELD_TYPE);
+    };
+    let keyed = maptype != fact::MAP_RINGBUF;
+    if keyed & f.key.is_none() {
+        return Some(fact::FIELD_KEY);
     }
-    if f.maptype == fact::MAP_RINGBUF {
-        if f.limit == 0 {
-            return fact::FIELD_MAX;
-        }
-        return 0;
+    if keyed & f.value.is_none() {
+        return Some(fact::FIELD_VALUE);
     }
-    if f.key == 0 {
-        return fact::FIELD_KEY;
+    if f.max.is_none() {
+        return Some(fact::FIELD_MAX);
     }
-    if f.value == 0 {
-        return fact::FIELD_VALUE;
-    }
-    if f.limit == 0 { fact::FIELD_MAX } else { 0 }
+    None
 }
 
-// The map's node, whose name is at a row, from fields that lack nothing.
+// The map's node, whose name is at a row, from its fields.
 fn map_node(nodes: &mut [u32], node: u32, name: u32, f: Facts)
-    requires { (node ≤ most_rows) × ((1 ≤ f.limit) × (f.limit ≤ 4294967296)) }
+    requires { node ≤ most_rows }
     ensures { nodes.new ≡ map_written name node nodes.old f }
 {
     parse_nodes::store(
@@ -324,44 +287,33 @@ fn map_node(nodes: &mut [u32], node: u32, name: u32, f: Facts)
             place: name,
             name,
             children: 0,
-            fact0: f.maptype,
-            fact1: f.key,
-            fact2: f.value,
-            fact3: (f.limit - 1) as u32,
+            fact0: f.maptype.unwrap_or(0),
+            fact1: f.key.unwrap_or(0),
+            fact2: f.value.unwrap_or(0),
+            fact3: f.max.unwrap_or(0),
         },
     );
 }
 
 // The map whose word is at the row.
-pub fn map(text: &[u8], rows: &[u32], count: u32, nodes: &mut [u32], row: u32, node: u32) -> Got
+pub fn map(
+    text: &[u8],
+    rows: &[u32],
+    count: u32,
+    nodes: &mut [u32],
+    row: u32,
+    node: u32,
+) -> Result<At, Refusal>
     requires { AsksOpen rows.now count row node 0 × Spans text.now rows.now count }
     ensures { MapMet text.now rows.now count row node nodes.old nodes.new result }
 {
-    let first = match parse_nodes::opened(rows, count, row, node) {
-        Got::Done(s) => s.row,
-        Got::Refused(why, r) => {
-            return Got::Refused(why, r);
-        }
-    };
-    let name = row + 1;
-    match fields(text, rows, count, first) {
-        Found::Done(f) => {
-            let next = f.row + 1;
-            let missing = lacks(f);
-            if missing != 0 {
-                return Got::Refused(Syntax::MapLacks(missing), next as usize);
-            }
-            map_node(nodes, node, name, f);
-            Got::Done(At {
-                row: next,
-                node: node + 1,
-                place: name,
-                things: 0,
-                variable: false,
-                summed: false,
-                hanging: false,
-            })
-        }
-        Found::Refused(why, r) => Got::Refused(why, r as usize),
+    let start = parse_nodes::opened(rows, count, row, node)?;
+    let f = fields(text, rows, count, start.row)?;
+    let next = f.row + 1;
+    if let Some(missing) = lacks(f) {
+        return Err(Refusal::new(Syntax::MapLacks(missing), next));
     }
+    let name = row + 1;
+    map_node(nodes, node, name, f);
+    Ok(At::new(next, node + 1, name))
 }

@@ -4,19 +4,19 @@ use mathlib.Core.Bool.{Bool, true, false, cond}
 use mathlib.Core.List.{List}
 use Prim.Native.Nat.{ℕ, ◌+◌, ◌-◌, ◌^◌, ◌<◌}
 use native.Mathlib.Omega.{arith}
+use Rattle.std.specs.Prelude.{Result, Ok, Err}
 use Rattle.rules.specs.Kinds.{Identifier, LBrace, RBrace, LParen}
 use Rattle.rules.specs.Fits.{only, ons, shifts, wrong}
 use Rattle.rules.specs.Tree.{Tok, Tree, spelling_of, is_sum}
 use Rattle.rules.specs.Parse
 use Rattle.rules.specs.Parse.{no, P, then, tok_at}
 use Rattle.theory_grammar.proofs.Cases.{end_in_yes, end_in_no, want_yes, want_no, named_yes, named_no, braced_is}
-use Rattle.rules.specs.declared.Syntax.{Syntax}
 use Rattle.parse_nodes.specs.Post.{kind_word, state_at, Tells}
 use Rattle.parse_nodes.specs.declared.At.{At}
-use Rattle.parse_nodes.specs.declared.Got.{Got}
-use Rattle.parse_nodes.specs.declared.Got.TheVariants.{Done, Refused}
+use Rattle.parse_nodes.specs.declared.Refusal.{Refusal}
 use Rattle.parse_nodes.specs.Fitting.{dotted_words, onward_words, Header, no_name, no_brace, opens}
 use Rattle.parse_nodes.proofs.Rows.{tells_kind}
+use Rattle.parse_nodes.proofs.Turn.{told}
 
 -- every such set has kinds below 53 alone
 pub onward_low : (ws : List ℕ) (n : ℕ) (b : Bool) (i : ℕ) → onward_words ws n b i < 2 ^ 53
@@ -70,16 +70,14 @@ pub record Opens (ws : List ℕ) (n i nd : ℕ) (s : At) : Type 0 where
   pub brace : kind_word ws n (i + 1 + 1) ≡ LBrace
   pub state : s ≡ state_at (i + 1 + 1 + 1) nd (i + 1 + 1 + 1)
 
-module _ (ws : List ℕ) (n i nd : ℕ) (r : Got) where
-  pub header_gave : (s : At) → Header ws n i nd r → r ≡ Done s → Opens ws n i nd s
+module _ (ws : List ℕ) (n i nd : ℕ) (r : Result At Refusal) where
+  pub header_gave : (s : At) → Header ws n i nd r → r ≡ Ok s → Opens ws n i nd s
   header_gave s (no_name a q) e = let z : ◌≡◌ {A = ℕ} 0 1 = cc (q, e) in absurd (omega arith)
   header_gave s (no_brace a b q) e = let z : ◌≡◌ {A = ℕ} 0 1 = cc (q, e) in absurd (omega arith)
   header_gave s (opens a b q) e = record { name = a; brace = b; state = cc (q, e) }
 
-  pub header_refused : (ts : List Tok) → Tells ts ws n → (why : Syntax) (x : ℕ) → Header ws n i nd r → r ≡ Refused why x
-      → (s : ℕ) (p : P) (f : List ℕ → Tree → P) → Parse.braced ts s p f i ≡ no why x
-  header_refused ts tells why x (no_name a q) e s p f =
-      let d : no (wrong (only Identifier)) (i + 1) ≡ no why x = cc (q, e) in nameless ts ws n tells s p f i a ∙ d
-  header_refused ts tells why x (no_brace a b q) e s p f =
-      let d : no (wrong (only LBrace)) (i + 1 + 1) ≡ no why x = cc (q, e) in braceless ts ws n tells s p f i a b ∙ d
-  header_refused ts tells why x (opens a b q) e s p f = let z : ◌≡◌ {A = ℕ} 0 1 = cc (q, e) in absurd (omega arith)
+  pub header_refused : (ts : List Tok) → Tells ts ws n → (x : Refusal) → Header ws n i nd r → r ≡ Err x
+      → (s : ℕ) (p : P) (f : List ℕ → Tree → P) → Parse.braced ts s p f i ≡ no x.why x.row
+  header_refused ts tells x (no_name a q) e s p f = nameless ts ws n tells s p f i a ∙ told _ _ x (sym q ∙ e)
+  header_refused ts tells x (no_brace a b q) e s p f = braceless ts ws n tells s p f i a b ∙ told _ _ x (sym q ∙ e)
+  header_refused ts tells x (opens a b q) e s p f = let z : ◌≡◌ {A = ℕ} 0 1 = cc (q, e) in absurd (omega arith)

@@ -5,4 +5,5 @@ pub mod Told
 pub mod Seen
 pub mod Turn
 pub mod Steps
+pub mod Errs
 pub mod Fitting

@@ -16,10 +16,9 @@ use Rattle.rules.specs.Nodes.{width, size, place_of, tree_words}
 use Rattle.rules.specs.Parse
 use Rattle.rules.specs.Parse.{Out, ok, no, P, then, kind_at}
 use Rattle.theory_grammar.proofs.Laws.{sets_tree, words_none, words_seq}
-use Rattle.parse_nodes.specs.Post.{state_at, counted_at, Met, Stands}
+use Rattle.parse_nodes.specs.Post.{state_at, counted_at, refused_at, Met, Stands}
 use Rattle.parse_nodes.specs.Fitting.{retold_at}
 use Rattle.parse_nodes.specs.declared.At.{At}
-use Rattle.parse_nodes.specs.declared.Got.TheVariants.{Refused}
 use Rattle.parse_nodes.proofs.Turn.{Came, Turn, start, ends, fails, again}
 
 -- the state by its parts
@@ -107,16 +106,16 @@ module _ (Q : Tree → Type 0) (ts : List Tok) (stop a : ℕ) (p : P) (whole : O
       goes_on = rw (ne_eqb (kind_at ts s.row) stop e)
 
       pub list_fails : (why : Syntax) (q : ℕ) (m'' : List ℕ) → p s.row ≡ no why q
-          → Met whole i n m m'' (Refused (retold_at (a + cond s.hanging (only KeywordElse) 0) s.row why q) q)
+          → Met whole i n m m'' (refused_at (retold_at (a + cond s.hanging (only KeywordElse) 0) s.row why q) q)
       unfolding Parse.list_step Parse.else_behind Parse.or then retold_at
       list_fails why q m'' f = fails (Listed i Q) ts _ _ whole i n m s m' c goes_on _ q m'' (rw (f, c.stands.hanging))
 
       -- the same behind a thing without an open `if`
       pub list_fails_flat : s.hanging ≡ false → (why : Syntax) (q : ℕ) (m'' : List ℕ) → p s.row ≡ no why q
-          → Met whole i n m m'' (Refused (retold_at a s.row why q) q)
+          → Met whole i n m m'' (refused_at (retold_at a s.row why q) q)
       list_fails_flat g why q m'' f =
           let e : a + cond s.hanging (only KeywordElse) 0 ≡ a = ap (λ (b : Bool). a + cond b (only KeywordElse) 0) g ∙ omega arith in
-          subst (λ (x : ℕ). Met whole i n m m'' (Refused (retold_at x s.row why q) q)) e (list_fails why q m'' f)
+          subst (λ (x : ℕ). Met whole i n m m'' (refused_at (retold_at x s.row why q) q)) e (list_fails why q m'' f)
 
       -- one thing more, with which the list has the property R
       pub list_again : (R : Tree → Type 0) (C : Tree → ℕ → Type 0) (s₂ : At) (m₂ : List ℕ) (s₃ : At) → (v : Came C ts (p s.row) s.row s.node m' s₂ m₂) → s.row < s₂.row

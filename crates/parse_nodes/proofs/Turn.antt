@@ -6,6 +6,7 @@ use Prim.Native.Nat.{ℕ, zero, suc, ◌+◌, ◌*◌, ◌≤◌, ◌<◌}
 use native.Mathlib.Omega.{arith}
 use lib.ListN.{length}
 use lib.Seq.{length-sets}
+use Rattle.std.specs.Prelude.{Result, Ok, Err}
 use Rattle.rules.specs.declared.Syntax.{Syntax}
 use Rattle.rules.specs.Tree.{Tok, Tree, count}
 use Rattle.rules.specs.Nodes.{width, size, place_of, tree_words}
@@ -15,10 +16,9 @@ use Rattle.theory_grammar.proofs.Laws.{nodes_within_rows, place_width, is_count}
 use Rattle.theory_grammar.proofs.Runs.{All}
 use Rattle.theory_grammar.proofs.Sound.{Reads}
 use Rattle.theory_grammar.proofs.Ends.{Ends}
-use Rattle.parse_nodes.specs.Post.{behind, Met, Stands}
+use Rattle.parse_nodes.specs.Post.{behind, refusal, refused_at, Met, Stands}
 use Rattle.parse_nodes.specs.declared.At.{At}
-use Rattle.parse_nodes.specs.declared.Got.{Got}
-use Rattle.parse_nodes.specs.declared.Got.TheVariants.{Done, Refused}
+use Rattle.parse_nodes.specs.declared.Refusal.{Refusal}
 
 -- the node memory keeps its length
 pub same_len : (i n : ℕ) (t : Tree) (m : List ℕ) (s : At) (m' : List ℕ) → Stands i n t m s m' → length m' ≡ length m
@@ -37,8 +37,8 @@ pub record Came (C : Tree → ℕ → Type 0) (ts : List Tok) (o : Out) (i n : �
   pub counts : count tree ≤ width tree
   pub known : C tree s.row
 
-pub came : (C : Tree → ℕ → Type 0) (ts : List Tok) (o : Out) (i n : ℕ) (m m' : List ℕ) (r : Got) (s : At) → All C o → ((t : Tree) (j : ℕ) → C t j → Ends ts i t j)
-    → Met o i n m m' r → r ≡ Done s → Came C ts o i n m s m'
+pub came : (C : Tree → ℕ → Type 0) (ts : List Tok) (o : Out) (i n : ℕ) (m m' : List ℕ) (r : Result At Refusal) (s : At) → All C o → ((t : Tree) (j : ℕ) → C t j → Ends ts i t j)
+    → Met o i n m m' r → r ≡ Ok s → Came C ts o i n m s m'
 came C ts (ok t j) i n m m' r s a g h e =
     let f : Ends ts i t j = g t j a in
     let q : s ≡ behind i n t j = cc (h.0, e) in
@@ -65,22 +65,26 @@ came C ts (ok t j) i n m m' r s a g h e =
 came C ts (no why p) i n m m' r s a g h e = let z : ◌≡◌ {A = ℕ} 0 1 = cc (h, e) in absurd (omega arith)
 
 -- the same where only its end is known, and where it is a tree of the grammar
-pub came_ends : (ts : List Tok) (o : Out) (i n : ℕ) (m m' : List ℕ) (r : Got) (s : At) → All (Ends ts i) o → Met o i n m m' r → r ≡ Done s → Came (Ends ts i) ts o i n m s m'
+pub came_ends : (ts : List Tok) (o : Out) (i n : ℕ) (m m' : List ℕ) (r : Result At Refusal) (s : At) → All (Ends ts i) o → Met o i n m m' r → r ≡ Ok s → Came (Ends ts i) ts o i n m s m'
 came_ends ts o i n m m' r s a h e = came (Ends ts i) ts o i n m m' r s a (λ t j f. f) h e
 
-pub came_reads : (ts : List Tok) (N : Nt) (d : ℕ) (o : Out) (i n : ℕ) (m m' : List ℕ) (r : Got) (s : At) → All (Reads ts N d i) o → Met o i n m m' r → r ≡ Done s
+pub came_reads : (ts : List Tok) (N : Nt) (d : ℕ) (o : Out) (i n : ℕ) (m m' : List ℕ) (r : Result At Refusal) (s : At) → All (Reads ts N d i) o → Met o i n m m' r → r ≡ Ok s
     → Came (Reads ts N d i) ts o i n m s m'
 came_reads ts N d o i n m m' r s a h e = came (Reads ts N d i) ts o i n m m' r s a (λ t j f. (f.next, f.inside, is_count f.is)) h e
 
-pub refused : (o : Out) (i n : ℕ) (m m' : List ℕ) (r : Got) (why : Syntax) (p : ℕ) → Met o i n m m' r → r ≡ Refused why p → o ≡ no why p
-refused (ok t j) i n m m' r why p h e = let z : ◌≡◌ {A = ℕ} 0 1 = cc (h.0, e) in absurd (omega arith)
-refused (no why' p') i n m m' r why p h e = cc (h, e)
+-- a refusal by its parts
+pub told : (why : Syntax) (p : ℕ) (e : Refusal) → refused_at {A = At} why p ≡ Err e → no why p ≡ no e.why e.row
+told why p e q = let z : refusal why p ≡ e = cc q in ap (λ (x : Refusal). no x.why x.row) z
+
+pub refused : (o : Out) (i n : ℕ) (m m' : List ℕ) (r : Result At Refusal) (e : Refusal) → Met o i n m m' r → r ≡ Err e → o ≡ no e.why e.row
+refused (ok t j) i n m m' r e h q = let z : ◌≡◌ {A = ℕ} 0 1 = cc (h.0, q) in absurd (omega arith)
+refused (no why p) i n m m' r e h q = told why p e (sym h ∙ q)
 
 -- an answer, from what the parser says
-pub met_ok : (o : Out) (i n : ℕ) (t : Tree) (m m' : List ℕ) (s : At) → o ≡ ok t s.row → Stands i n t m s m' → Met o i n m m' (Done s)
+pub met_ok : (o : Out) (i n : ℕ) (t : Tree) (m m' : List ℕ) (s : At) → o ≡ ok t s.row → Stands i n t m s m' → Met o i n m m' (Ok s)
 met_ok o i n t m m' s e h =
-    subst (λ (x : Out). Met x i n m m' (Done s)) (sym e) (
-      ap Done
+    subst (λ (x : Out). Met x i n m m' (Ok s)) (sym e) (
+      ap Ok
           (λ j. record {
             row = s.row;
             node = h.nodes j;
@@ -93,15 +97,15 @@ met_ok o i n t m m' s e h =
       h.mem,
     )
 
-pub met_no : (o : Out) (i n : ℕ) (why : Syntax) (p : ℕ) (m m' : List ℕ) → o ≡ no why p → Met o i n m m' (Refused why p)
-met_no o i n why p m m' e = subst (λ (x : Out). Met x i n m m' (Refused why p)) (sym e) refl
+pub met_no : (o : Out) (i n : ℕ) (why : Syntax) (p : ℕ) (m m' : List ℕ) → o ≡ no why p → Met o i n m m' (refused_at why p)
+met_no o i n why p m m' e = subst (λ (x : Out). Met x i n m m' (refused_at why p)) (sym e) refl
 
 -- the same where the refusal is what a function gave
-pub met_told : (o : Out) (i n : ℕ) (why x : Syntax) (p : ℕ) (m m' : List ℕ) → o ≡ no why p → x ≡ why → Met o i n m m' (Refused x p)
-met_told o i n why x p m m' e q = subst (λ (y : Syntax). Met o i n m m' (Refused y p)) (sym q) (met_no o i n why p m m' e)
+pub met_told : (o : Out) (i n : ℕ) (why x : Syntax) (p : ℕ) (m m' : List ℕ) → o ≡ no why p → x ≡ why → Met o i n m m' (refused_at x p)
+met_told o i n why x p m m' e q = subst (λ (y : Syntax). Met o i n m m' (refused_at y p)) (sym q) (met_no o i n why p m m' e)
 
 -- the same of another answer that is equal
-pub met_as : (o o' : Out) (i n : ℕ) (m m' : List ℕ) (r : Got) → o ≡ o' → Met o' i n m m' r → Met o i n m m' r
+pub met_as : (o o' : Out) (i n : ℕ) (m m' : List ℕ) (r : Result At Refusal) → o ≡ o' → Met o' i n m m' r → Met o i n m m' r
 met_as o o' i n m m' r e h = subst (λ (x : Out). Met x i n m m' r) (sym e) h
 
 -- ---- a loop
@@ -149,7 +153,7 @@ module _ (Q : Tree → Type 0) (ts : List Tok) (test : ℕ → Bool) (step : Tre
         go (suc f) false e = refl
         go (suc f) true e = absurd (true≢false e)
 
-    pub done : test s.row ≡ false → Met whole i n m m' (Done s)
+    pub done : test s.row ≡ false → Met whole i n m m' (Ok s)
     done b = met_ok whole i n c.tree m m' s (ends b) c.stands
 
     -- the test holds: a step, and on
@@ -161,7 +165,7 @@ module _ (Q : Tree → Type 0) (ts : List Tok) (test : ℕ → Bool) (step : Tre
         go zero e = absurd (omega (arith, c.enough, c.inside))
         go (suc f) e = (f, e, c.rest ∙ rw (e, b))
 
-    pub fails : test s.row ≡ true → (why : Syntax) (p : ℕ) (m'' : List ℕ) → step c.tree s.row ≡ no why p → Met whole i n m m'' (Refused why p)
+    pub fails : test s.row ≡ true → (why : Syntax) (p : ℕ) (m'' : List ℕ) → step c.tree s.row ≡ no why p → Met whole i n m m'' (refused_at why p)
     unfolding then
     fails b why p m'' e = met_no whole i n why p m m'' ((steps b).2 ∙ rw e)
 

@@ -1,11 +1,11 @@
 -- What refusals tell would have fitted, over the words of rows; and the header of a declaration.
-use Rattle.std.specs.Prelude.{◌≡◌, Bool, cond, ◌&&◌, List, ℕ, ◌+◌, ◌-◌, eqb}
+use Rattle.std.specs.Prelude.{◌≡◌, Bool, cond, ◌&&◌, List, ℕ, ◌+◌, ◌-◌, eqb, Result, Ok}
 use Rattle.rules.specs.declared.Syntax.{Syntax}
 use Rattle.rules.specs.Kinds.{Identifier, Dot, LBrace, LParen}
 use Rattle.rules.specs.Fits.{only, ons, shifts, wrong, retold}
-use Rattle.parse_nodes.specs.declared.Got.{Got}
-use Rattle.parse_nodes.specs.declared.Got.TheVariants.{Done, Refused}
-use Rattle.parse_nodes.specs.Post.{kind_word, state_at}
+use Rattle.parse_nodes.specs.declared.At.{At}
+use Rattle.parse_nodes.specs.declared.Refusal.{Refusal}
+use Rattle.parse_nodes.specs.Post.{kind_word, state_at, refused_at}
 
 -- a refusal at a row, where the set s is told if that is the first row
 unfoldable pub retold_at : (s first : ℕ) → Syntax → ℕ → Syntax
@@ -20,9 +20,9 @@ unfoldable pub onward_words : List ℕ → ℕ → Bool → ℕ → ℕ
 onward_words ws n summed i = ons + cond summed 0 shifts + cond (dotted_words ws n i) (only LParen) 0
 
 -- the header of the declaration whose word is at row i, its first node at nd
-pub data Header (ws : List ℕ) (n i nd : ℕ) (r : Got) : Type 0 where
-  no_name : (kind_word ws n (i + 1) ≡ Identifier → ⊥) → r ≡ Refused (wrong (only Identifier)) (i + 1) → Header ws n i nd r
-  no_brace : kind_word ws n (i + 1) ≡ Identifier → (kind_word ws n (i + 1 + 1) ≡ LBrace → ⊥) → r ≡ Refused (wrong (only LBrace)) (i + 1 + 1)
+pub data Header (ws : List ℕ) (n i nd : ℕ) (r : Result At Refusal) : Type 0 where
+  no_name : (kind_word ws n (i + 1) ≡ Identifier → ⊥) → r ≡ refused_at (wrong (only Identifier)) (i + 1) → Header ws n i nd r
+  no_brace : kind_word ws n (i + 1) ≡ Identifier → (kind_word ws n (i + 1 + 1) ≡ LBrace → ⊥) → r ≡ refused_at (wrong (only LBrace)) (i + 1 + 1)
       → Header ws n i nd r
   opens : kind_word ws n (i + 1) ≡ Identifier → kind_word ws n (i + 1 + 1) ≡ LBrace
-      → r ≡ Done (state_at (i + 1 + 1 + 1) nd (i + 1 + 1 + 1)) → Header ws n i nd r
+      → r ≡ Ok (state_at (i + 1 + 1 + 1) nd (i + 1 + 1 + 1)) → Header ws n i nd r

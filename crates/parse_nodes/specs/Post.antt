@@ -1,14 +1,14 @@
 -- What the parser's functions promise: the parser's answer as a function, the state behind a tree, and node memory.
-use Rattle.std.specs.Prelude.{◌≡◌, Bool, true, false, cond, List, ℕ, ◌+◌, ◌*◌, ◌^◌, ◌≤◌, ◌<◌, length, get_or, ltb}
+use Rattle.std.specs.Prelude.{◌≡◌, Bool, true, false, cond, List, ℕ, ◌+◌, ◌*◌, ◌^◌, ◌≤◌, ◌<◌, length, get_or, ltb, Result, Ok, Err}
 use Rattle.std.proofs.lemmas.List.Edits.{sets}
+use Rattle.rules.specs.declared.Syntax.{Syntax}
 use Rattle.rules.specs.Rows.{at_high, at_low, words_per_row}
 use Rattle.rules.specs.Kinds.{Number, Eof}
 use Rattle.rules.specs.Tree.{Tok, sign, kind_of, bits_in, Tree, is_variable, is_sum, hangs, count}
 use Rattle.rules.specs.Nodes.{width, size, place_of, tree_words}
 use Rattle.rules.specs.Parse.{Out, ok, no}
 use Rattle.parse_nodes.specs.declared.At.{At}
-use Rattle.parse_nodes.specs.declared.Got.{Got}
-use Rattle.parse_nodes.specs.declared.Got.TheVariants.{Done, Refused}
+use Rattle.parse_nodes.specs.declared.Refusal.{Refusal}
 
 -- the most rows that a text has, Eof's among them, and so the most nodes
 abbrev pub most_rows : ℕ
@@ -50,13 +50,20 @@ abbrev pub behind : ℕ → ℕ → Tree → ℕ → At
 behind i n t j =
     record { row = j; node = n + size t; place = place_of i t; things = count t; variable = is_variable t; summed = is_sum t; hanging = hangs t }
 
+-- the refusal for a reason at a row, and the answer that it is
+abbrev pub refusal : Syntax → ℕ → Refusal
+refusal why p = record { why = why; row = p }
+
+abbrev pub refused_at : {A : Type 0} → Syntax → ℕ → Result A Refusal
+refused_at why p = Err (refusal why p)
+
 -- what a function that reads at row i with its first node at n answers, and what node memory is then
-abbrev pub Met : Out → ℕ → ℕ → List ℕ → List ℕ → Got → Type 0
-Met (ok t j) i n m m' r = (r ≡ Done (behind i n t j)) × (m' ≡ sets m (8 * n) (tree_words i t))
-Met (no why p) i n m m' r = r ≡ Refused why p
+abbrev pub Met : Out → ℕ → ℕ → List ℕ → List ℕ → Result At Refusal → Type 0
+Met (ok t j) i n m m' r = (r ≡ Ok (behind i n t j)) × (m' ≡ sets m (8 * n) (tree_words i t))
+Met (no why p) i n m m' r = r ≡ refused_at why p
 
 -- the same for every list of tokens that the rows tell
-abbrev pub Answers : (List Tok → Out) → List ℕ → ℕ → ℕ → ℕ → List ℕ → List ℕ → Got → Type 0
+abbrev pub Answers : (List Tok → Out) → List ℕ → ℕ → ℕ → ℕ → List ℕ → List ℕ → Result At Refusal → Type 0
 Answers f ws n i nd m m' r = (ts : List Tok) → Tells ts ws n → Met (f ts) i nd m m' r
 
 -- what each asks: the rows are lent, the row is in the table, no more nodes than rows, the table is not too long, nor the nesting
@@ -95,6 +102,6 @@ pub record Stands (i n : ℕ) (t : Tree) (m : List ℕ) (s : At) (m' : List ℕ)
   pub mem : m' ≡ sets m (8 * n) (tree_words i t)
 
 -- what a function that goes on from a state answers, whatever was read before
-abbrev pub Onward : (List Tok → Tree → Out) → List ℕ → ℕ → At → List ℕ → List ℕ → Got → Type 0
+abbrev pub Onward : (List Tok → Tree → Out) → List ℕ → ℕ → At → List ℕ → List ℕ → Result At Refusal → Type 0
 Onward f ws n s m m' r =
     (ts : List Tok) → Tells ts ws n → (i nd : ℕ) (t : Tree) (m₀ : List ℕ) → Stands i nd t m₀ s m → Met (f ts t) i nd m₀ m' r

@@ -1,11 +1,13 @@
 // Where the parser stands, what it answers, and the nodes it writes. Nothing here reads the grammar.
-ghost use Rattle.std.specs.Prelude.{◌≡◌, true, ◌+◌, ◌-◌, ◌*◌, ◌^◌, ◌≤◌, ◌<◌, length, set};
+#![tactic(auto)]
+
+ghost use Rattle.std.specs.Prelude.{◌≡◌, ◌≢◌, OnOk, IfErr, true, ◌+◌, ◌-◌, ◌*◌, ◌^◌, ◌≤◌, ◌<◌, length, set};
 ghost use Rattle.std.proofs.lemmas.List.Edits.{sets};
 ghost use Rattle.rules.specs.Kinds.{last_unmade};
 ghost use Rattle.rules.specs.Tree.{type_number};
 ghost use Rattle.rules.specs.Nodes.{NodeVariable, NodeNumber, node, fact_node, node_words, missing};
 ghost use Rattle.rules.specs.Fits.{only, wrong, retold};
-ghost use Rattle.parse_nodes.specs.Post.{kind_word, state_at, variable_at, counted_at, AsksOpen, most_rows};
+ghost use Rattle.parse_nodes.specs.Post.{kind_word, state_at, variable_at, counted_at, refusal, AsksOpen, most_rows};
 ghost use Rattle.parse_nodes.specs.Fitting.{retold_at, dotted_words, onward_words, Header};
 
 use rules::kind::{DOT, EOF, IDENTIFIER, LAST_UNMADE, LBRACE};
@@ -25,12 +27,88 @@ pub struct At {
     pub hanging: bool,
 }
 
-// What was read, or why not and the row where. That row is as wide as the last two fields of a state, so that both answers are passed on
-// by the same moves.
+impl At {
+    // The state at a row and a node, behind what is no variable, no sum, no list and no `if` without `else`.
+    pub fn new(row: u32, node: u32, place: u32) -> At
+        ensures { result ≡ state_at row node place }
+    {
+        At {
+            row,
+            node,
+            place,
+            things: 0,
+            variable: false,
+            summed: false,
+            hanging: false,
+        }
+    }
+
+    // The same state as one behind a list of so many things, with another place.
+    pub fn counted(self, place: u32, things: u32) -> At
+        ensures { result ≡ counted_at self place things }
+    {
+        At {
+            place,
+            things,
+            variable: false,
+            ..self
+        }
+    }
+
+    // The state behind a nameless node that is written here, over what was read.
+    pub fn shut(self, nodes: &mut [u32], kind: u32, place: u32, children: u32) -> At
+        requires { self.node ≤ most_rows }
+        ensures { (result ≡ state_at self.row (self.node + 1) place)
+            × (nodes.new
+            ≡ sets nodes.old (8 * self.node) (node_words (node kind place missing children))) }
+    {
+        close(nodes, self.node, kind, place, MISSING, children);
+        At::new(self.row, self.node + 1, place)
+    }
+
+    // The state behind a nameless node over what was read, and behind the row that ends it.
+    pub fn ended(self, nodes: &mut [u32], kind: u32, place: u32, children: u32) -> At
+        requires { (self.node ≤ most_rows) × (self.row ≤ most_rows) }
+        ensures { (result ≡ state_at (self.row + 1) (self.node + 1) place)
+            × (nodes.new
+            ≡ sets nodes.old (8 * self.node) (node_words (node kind place missing children))) }
+    {
+        close(nodes, self.node, kind, place, MISSING, children);
+        At::new(self.row + 1, self.node + 1, place)
+    }
+}
+
+// Why nothing was read, and the row where. That row is as wide as the last two fields of a state, so that a state and a refusal are passed
+// on by the same moves.
 #[derive(Clone, Copy)]
-pub enum Got {
-    Done(At),
-    Refused(Syntax, usize),
+pub struct Refusal {
+    pub why: Syntax,
+    pub row: usize,
+}
+
+impl Refusal {
+    // The refusal at a row.
+    pub fn new(why: Syntax, row: u32) -> Refusal
+        ensures { result ≡ refusal why row }
+    {
+        Refusal {
+            why,
+            row: row as usize,
+        }
+    }
+
+    // The same, with the set that is told where the first row itself is refused with 21.
+    pub fn instead(self, first: u32, set: u64) -> Refusal
+        ensures { result ≡ refusal (retold_at set first self.why self.row) self.row }
+    {
+        if self.row != first as usize {
+            return self;
+        }
+        Refusal {
+            why: retold(set, self.why),
+            ..self
+        }
+    }
 }
 
 // The words of a node.
@@ -154,45 +232,6 @@ pub fn close(nodes: &mut [u32], n: u32, kind: u32, place: u32, name: u32, childr
     );
 }
 
-// The state behind a nameless node that is written at t, over what was read up to t.
-pub fn shut(nodes: &mut [u32], t: At, kind: u32, place: u32, children: u32) -> At
-    requires { t.node ≤ most_rows }
-    ensures { (result ≡ state_at t.row (t.node + 1) place)
-        × (nodes.new
-        ≡ sets nodes.old (8 * t.node) (node_words (node kind place missing children))) }
-{
-    let n = t.node;
-    close(nodes, n, kind, place, MISSING, children);
-    At {
-        row: t.row,
-        node: n + 1,
-        place,
-        things: 0,
-        variable: false,
-        summed: false,
-        hanging: false,
-    }
-}
-
-// The state behind a nameless node over what was read up to t, and behind the row that ends it.
-pub fn ended(nodes: &mut [u32], t: At, kind: u32, place: u32, children: u32) -> At
-    requires { (t.node ≤ most_rows) × (t.row ≤ most_rows) }
-    ensures { (result ≡ state_at (t.row + 1) (t.node + 1) place)
-        × (nodes.new
-        ≡ sets nodes.old (8 * t.node) (node_words (node kind place missing children))) }
-{
-    let s = shut(nodes, t, kind, place, children);
-    At {
-        row: s.row + 1,
-        node: s.node,
-        place: s.place,
-        things: s.things,
-        variable: s.variable,
-        summed: s.summed,
-        hanging: s.hanging,
-    }
-}
-
 // The state behind a variable at a row.
 pub fn variable(nodes: &mut [u32], row: u32, n: u32) -> At
     requires { (row ≤ most_rows) × (n ≤ most_rows) }
@@ -201,13 +240,8 @@ pub fn variable(nodes: &mut [u32], row: u32, n: u32) -> At
 {
     close(nodes, n, node_kind::VARIABLE, row, row, 0);
     At {
-        row: row + 1,
-        node: n + 1,
-        place: row,
-        things: 0,
         variable: true,
-        summed: false,
-        hanging: false,
+        ..At::new(row + 1, n + 1, row)
     }
 }
 
@@ -232,30 +266,7 @@ pub fn number(nodes: &mut [u32], row: u32, n: u32, low: u32, high: u32) -> At
             fact3: 0,
         },
     );
-    At {
-        row: row + 1,
-        node: n + 1,
-        place: row,
-        things: 0,
-        variable: false,
-        summed: false,
-        hanging: false,
-    }
-}
-
-// The state t as one behind a list of so many things, with another place.
-pub fn counted(t: At, place: u32, things: u32) -> At
-    ensures { result ≡ counted_at t place things }
-{
-    At {
-        row: t.row,
-        node: t.node,
-        place,
-        things,
-        variable: false,
-        summed: t.summed,
-        hanging: t.hanging,
-    }
+    At::new(row + 1, n + 1, row)
 }
 
 // ---- refusals with what would have fitted
@@ -278,34 +289,27 @@ pub fn wanted(kind: u32) -> Syntax
     wrong(1 << kind)
 }
 
+// That a row is of a kind, or else its refusal, with that kind alone.
+pub fn want(rows: &[u32], count: u32, row: u32, kind: u32) -> Result<(), Refusal>
+    requires { (count * 8 ≤ length rows.now) × (kind ≤ 52) }
+    ensures ok { OnOk result (kind_word rows.now count row ≡ kind) }
+    ensures err { IfErr result (λ e. (kind_word rows.now count row ≢ kind)
+        × (e ≡ refusal (wrong (only kind)) row)) }
+{
+    if kind_at(rows, count, row) != kind {
+        return Err(Refusal::new(wanted(kind), row));
+    }
+    Ok(())
+}
+
 // A refusal, 21 with another set.
 fn retold(set: u64, why: Syntax) -> Syntax
     ensures { result ≡ retold set why }
 {
     match why {
         Syntax::Wanted(_, _) => wrong(set),
-        Syntax::NotTopLevel => Syntax::NotTopLevel,
-        Syntax::NotMapField => Syntax::NotMapField,
-        Syntax::MapTypeUnknown => Syntax::MapTypeUnknown,
-        Syntax::NotType => Syntax::NotType,
-        Syntax::MaxNegative => Syntax::MaxNegative,
-        Syntax::OutOfRange => Syntax::OutOfRange,
-        Syntax::ShiftCount => Syntax::ShiftCount,
-        Syntax::MapLacks(field) => Syntax::MapLacks(field),
-        Syntax::NotEventType => Syntax::NotEventType,
-        Syntax::CallOnOther => Syntax::CallOnOther,
-        Syntax::TooDeep => Syntax::TooDeep,
+        _ => why,
     }
-}
-
-// A refusal at a row, with the set that is told where the first row itself is refused with 21.
-pub fn instead(why: Syntax, at: usize, first: u32, set: u64) -> Syntax
-    ensures { result ≡ retold_at set first why at }
-{
-    if at == first as usize {
-        return retold(set, why);
-    }
-    why
 }
 
 // The kind so many rows before one, or that of the first row where there are fewer.
@@ -356,26 +360,14 @@ pub fn unended(rows: &[u32], count: u32, s: At, ends: u64) -> Syntax
 }
 
 // The header of the declaration whose word is at the row, a name and `{`: the state at the first thing in its braces.
-pub fn opened(rows: &[u32], count: u32, row: u32, node: u32) -> Got
+pub fn opened(rows: &[u32], count: u32, row: u32, node: u32) -> Result<At, Refusal>
     requires { AsksOpen rows.now count row node 0 }
     ensures { Header rows.now count row node result }
 {
     let name = row + 1;
-    if kind_at(rows, count, name) != IDENTIFIER {
-        return Got::Refused(wanted(IDENTIFIER), name as usize);
-    }
+    want(rows, count, name, IDENTIFIER)?;
     let open = name + 1;
-    if kind_at(rows, count, open) != LBRACE {
-        return Got::Refused(wanted(LBRACE), open as usize);
-    }
+    want(rows, count, open, LBRACE)?;
     let first = open + 1;
-    Got::Done(At {
-        row: first,
-        node,
-        place: first,
-        things: 0,
-        variable: false,
-        summed: false,
-        hanging: false,
-    })
+    Ok(At::new(first, node, first))
 }

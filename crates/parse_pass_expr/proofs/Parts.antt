@@ -2,14 +2,11 @@
 use mathlib.Core.Path.{◌≡◌, refl, subst}
 use mathlib.Core.Bool.{true}
 use mathlib.Core.List.{List}
-use Prim.Native.Nat.{ℕ, suc, ◌+◌, ◌-◌}
-use native.Mathlib.Omega.{arith}
+use Prim.Native.Nat.{ℕ, suc, ◌+◌}
 use Rattle.rules.specs.Kinds.{LParen, RParen, Dot, Comma, Star, Identifier, Number}
 use Rattle.rules.specs.Tree.{Tok, Tree, bin, yield, is_variable}
 use Rattle.rules.specs.Parse.{is_add, is_shift, is_mul, kind_at}
-use Rattle.rules.specs.Grammar.{Nt, Add, Shift, Mul, Unary, Basic, Args, Is}
-use Rattle.rules.specs.Grammar.{i_num, i_var, i_group, i_field, i_bare, i_call, i_one, i_more}
-use Rattle.rules.specs.Grammar.{i_prim, i_star, i_unary, i_mul, i_lone, i_shift, i_up, i_add}
+use Rattle.rules.specs.Grammar.{Nt, Add, Shift, Mul, Unary, Basic, Args, Is, i_num, i_var, i_group, i_field, i_bare, i_call, i_one, i_more, i_prim, i_star, i_unary, i_mul, i_lone, i_shift, i_up, i_add}
 use Rattle.theory_grammar.proofs.Leads.{add_mark, shift_mark, mul_mark}
 use Rattle.theory_grammar.proofs.Runs.{is_mark, row, name_row, value_row, ◌▸◌}
 use Rattle.parse_pass_expr.specs.Seen.{Read}
@@ -57,28 +54,28 @@ module _ {ts : List Tok} {d i : ℕ} where
       (name_row ts i v ▸ row ts (i + 1) Dot e refl ▸ name_row ts (i + 1 + 1) f ▸ row ts (i + 1 + 1 + 1) LParen h refl
       ▸ row ts (i + 1 + 1 + 1 + 1) RParen c refl)
 
--- ---- what opens a construct, where d more may be opened
+-- ---- what opens a construct: one more is open than in it
 
--- what holds with one construct more than d - 1
-opened : {ts : List Tok} {N : Nt} {d i j : ℕ} → (d ≡ 0 → ⊥) → Read ts N (suc (d - 1)) i j → Read ts N d i j
-opened {ts} {N} {d} {i} {j} z r = let e : suc (d - 1) ≡ d = omega arith in subst (λ (x : ℕ). Read ts N x i j) e r
+module _ {ts : List Tok} {d e i j : ℕ} (q : suc e ≡ d) where
+  opened : {N : Nt} → Read ts N (suc e) i j → Read ts N d i j
+  opened {N} r = subst (λ (x : ℕ). Read ts N x i j) q r
 
-module _ {ts : List Tok} {d i j : ℕ} (z : d ≡ 0 → ⊥) where
+module _ {ts : List Tok} {d e i j : ℕ} (q : suc e ≡ d) where
   pub call : kind_at ts i ≡ Identifier → kind_at ts (i + 1) ≡ Dot → kind_at ts (i + 1 + 1) ≡ Identifier → kind_at ts (i + 1 + 1 + 1) ≡ LParen
-      → Read ts Args (d - 1) (i + 1 + 1 + 1 + 1) j → kind_at ts j ≡ RParen → Read ts Basic d i (j + 1)
+      → Read ts Args e (i + 1 + 1 + 1 + 1) j → kind_at ts j ≡ RParen → Read ts Basic d i (j + 1)
   unfolding yield is_variable
-  call v e f h a c =
-      opened z (built (i_call i_var (λ _. refl) a.is)
-      (name_row ts i v ▸ row ts (i + 1) Dot e refl ▸ name_row ts (i + 1 + 1) f ▸ row ts (i + 1 + 1 + 1) LParen h refl ▸ rows_of a
+  call v k f h a c =
+      opened q (built (i_call i_var (λ _. refl) a.is)
+      (name_row ts i v ▸ row ts (i + 1) Dot k refl ▸ name_row ts (i + 1 + 1) f ▸ row ts (i + 1 + 1 + 1) LParen h refl ▸ rows_of a
       ▸ row ts j RParen c refl))
 
-  pub group : kind_at ts i ≡ LParen → Read ts Add (d - 1) (i + 1) j → kind_at ts j ≡ RParen → Read ts Basic d i (j + 1)
+  pub group : kind_at ts i ≡ LParen → Read ts Add e (i + 1) j → kind_at ts j ≡ RParen → Read ts Basic d i (j + 1)
   unfolding yield
-  group e r f = opened z (built (i_group r.is) (row ts i LParen e refl ▸ rows_of r ▸ row ts j RParen f refl))
+  group k r f = opened q (built (i_group r.is) (row ts i LParen k refl ▸ rows_of r ▸ row ts j RParen f refl))
 
-  pub star : kind_at ts i ≡ Star → Read ts Unary (d - 1) (i + 1) j → Read ts Unary d i j
+  pub star : kind_at ts i ≡ Star → Read ts Unary e (i + 1) j → Read ts Unary d i j
   unfolding yield
-  star e r = opened z (built (i_star r.is) (row ts i Star e refl ▸ rows_of r))
+  star k r = opened q (built (i_star r.is) (row ts i Star k refl ▸ rows_of r))
 
 -- ---- lists: the first, and one more behind the row j
 

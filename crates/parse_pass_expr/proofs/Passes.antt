@@ -1,8 +1,9 @@
 -- What the first pass has seen, put together: the rows that may be asked for, and what a call's answer says with the rows around it.
-use mathlib.Core.Path.{◌≡◌, refl, ap, ◌∙◌, subst}
+use mathlib.Core.Path.{◌≡◌, refl, sym, ap, ◌∙◌, subst}
 use mathlib.Core.Bool.{true, false, not, ◌||◌}
 use mathlib.Core.List.{List}
-use Prim.Native.Nat.{ℕ, ◌+◌, ◌*◌, ◌-◌, ◌≤◌, ◌<◌}
+use Prim.Native.Nat.{ℕ, suc, ◌+◌, ◌*◌, ◌≤◌, ◌<◌}
+use Rattle.std.specs.Prelude.{Option, Some, None}
 use native.Mathlib.Omega.{arith}
 use lib.Dec.{eqb}
 use lib.ListN.{length}
@@ -49,19 +50,19 @@ module _ {ws : List ℕ} {n j : ℕ} where
   on_none h = record { up = omega arith; inside = h; read = λ ts tl d i r. r }
 
   -- one more, at row k
-  pub on_field : {k : ℕ} → SeenOn ws n j k → kind_in ws k ≡ Dot → kind_in ws (k + 1) ≡ Identifier → k + 2 < n → SeenOn ws n j (k + 2)
-  on_field {k} s e f h = record {
+  pub on_field : {k r : ℕ} → SeenOn ws n j k → kind_in ws k ≡ Dot → kind_in ws (k + 1) ≡ Identifier → r ≡ k + 1 + 1 → r < n → SeenOn ws n j r
+  on_field {k} {r} s e f q h = record {
     up = omega (arith, s.up);
     inside = h;
     read = λ ts tl d i r.
-        read_to (omega arith)
+        read_to (sym q)
         (Parts.field (s.read ts tl d i r) (told_kind ws k tl s.inside e) (told_kind ws (k + 1) tl (omega arith) f));
   }
 
   -- the fields of what was seen
-  pub with_fields : {d i r : ℕ} → Seen Basic d ws n i j → SeesOn ws n j r → Sees Basic d ws n i r
-  with_fields {d} {i} s f z =
-      let g = f z in
+  pub with_fields : {d i : ℕ} (o : Option ℕ) → Seen Basic d ws n i j → SeesOn ws n j o → Sees Basic d ws n i o
+  with_fields None s g = tt
+  with_fields {d} {i} (Some r) s g =
       record { up = omega (arith, s.up, g.up); inside = g.inside; read = λ ts tl. g.read ts tl d i (s.read ts tl) }
 
 -- ---- operands, from row i on
@@ -70,6 +71,11 @@ module _ {ws : List ℕ} {n j : ℕ} where
 pub seen_as : {N M : Nt} {ws : List ℕ} {n d i r : ℕ} → ((ts : List Tok) → Read ts N d i r → Read ts M d i r) → Seen N d ws n i r
     → Seen M d ws n i r
 seen_as f s = record { up = s.up; inside = s.inside; read = λ ts tl. f ts (s.read ts tl) }
+
+-- an operand behind no star
+pub sees_prim : (ws : List ℕ) (n d i : ℕ) (o : Option ℕ) → Sees Basic d ws n i o → Sees Unary d ws n i o
+sees_prim ws n d i None s = tt
+sees_prim ws n d i (Some r) s = seen_as (λ ts r. Parts.prim r) s
 
 module _ {ws : List ℕ} {n i d : ℕ} (l : Looks ws n i d) where
   -- one row
@@ -105,58 +111,63 @@ module _ {ws : List ℕ} {n i d : ℕ} (l : Looks ws n i d) where
       pub looks_name : Looks ws n (i + 1 + 1) d
       looks_name = behind looks_dot (i + 1 + 1) refl e refl
 
-      module _ (f : kind_in ws (i + 1 + 1) ≡ Identifier) where
-        pub looks_open : Looks ws n (i + 1 + 2) d
-        looks_open = behind looks_name (i + 1 + 2) (omega arith) f refl
+      module _ (f : kind_in ws (i + 1 + 1) ≡ Identifier) {o : ℕ} (q : o ≡ i + 1 + 1 + 1) where
+        pub looks_open : Looks ws n o d
+        looks_open = behind looks_name o q f refl
 
-        pub seen_field : Seen Basic d ws n i (i + 1 + 2)
+        pub seen_field : Seen Basic d ws n i o
         seen_field =
             let s = seen_variable v in
-            let g = on_field (on_none s.inside) e f looks_open.inside in
+            let g = on_field (on_none s.inside) e f q looks_open.inside in
             record { up = omega arith; inside = g.inside; read = λ ts tl. g.read ts tl d i (s.read ts tl) }
 
         -- and a parenthesis, in which the arguments stand
-        module _ (h : kind_in ws (i + 1 + 2) ≡ LParen) where
-          pub looks_inner : Looks ws n (i + 1 + 2 + 1) d
-          looks_inner = behind looks_open (i + 1 + 2 + 1) refl h refl
+        module _ (h : kind_in ws o ≡ LParen) where
+          pub looks_inner : Looks ws n (o + 1) d
+          looks_inner = behind looks_open (o + 1) refl h refl
 
-          pub seen_bare : kind_in ws (i + 1 + 2 + 1) ≡ RParen → Seen Basic d ws n i (i + 1 + 2 + 2)
+          pub seen_bare : kind_in ws (o + 1) ≡ RParen → Seen Basic d ws n i (o + 2)
           seen_bare c = record {
             up = omega arith;
-            inside = (behind looks_inner (i + 1 + 2 + 2) (omega arith) c refl).inside;
+            inside = (behind looks_inner (o + 2) (omega arith) c refl).inside;
             read = λ ts tl.
                 read_to (omega arith)
                 (Parts.bare (told_kind ws i tl l.inside v) (told_kind ws (i + 1) tl looks_dot.inside e)
                 (told_kind ws (i + 1 + 1) tl looks_name.inside f)
-                (told_at (i + 1 + 2) (i + 1 + 1 + 1) tl (omega arith) looks_open.inside h)
-                (told_at (i + 1 + 2 + 1) (i + 1 + 1 + 1 + 1) tl (omega arith) looks_inner.inside c));
+                (told_at o (i + 1 + 1 + 1) tl (omega arith) looks_open.inside h)
+                (told_at (o + 1) (i + 1 + 1 + 1 + 1) tl (omega arith) looks_inner.inside c));
           }
 
-          pub seen_call : {j : ℕ} → (d ≡ 0 → ⊥) → Seen Args (d - 1) ws n (i + 1 + 2 + 1) j → kind_in ws j ≡ RParen
-              → Seen Basic d ws n i (j + 1)
-          seen_call {j} z s c = record {
+          pub seen_call : {u j r : ℕ} → suc u ≡ d → Seen Args u ws n (o + 1) j → kind_in ws j ≡ RParen → r ≡ j + 1
+              → Seen Basic d ws n i r
+          seen_call {u} {j} z s c p = record {
             up = omega (arith, s.up);
-            inside = (behind (looks_at l s.inside) (j + 1) refl c refl).inside;
+            inside = (behind (looks_at l s.inside) _ p c refl).inside;
             read = λ ts tl.
-                let q : i + 1 + 2 + 1 ≡ i + 1 + 1 + 1 + 1 = omega arith in
-                Parts.call z (told_kind ws i tl l.inside v) (told_kind ws (i + 1) tl looks_dot.inside e)
+                let g : o + 1 ≡ i + 1 + 1 + 1 + 1 = omega arith in
+                read_to (sym p)
+                (Parts.call z (told_kind ws i tl l.inside v) (told_kind ws (i + 1) tl looks_dot.inside e)
                 (told_kind ws (i + 1 + 1) tl looks_name.inside f)
-                (told_at (i + 1 + 2) (i + 1 + 1 + 1) tl (omega arith) looks_open.inside h)
-                (subst (λ (x : ℕ). Read ts Args (d - 1) x j) q (s.read ts tl)) (told_kind ws j tl s.inside c);
+                (told_at o (i + 1 + 1 + 1) tl (omega arith) looks_open.inside h)
+                (subst (λ (x : ℕ). Read ts Args u x j) g (s.read ts tl)) (told_kind ws j tl s.inside c));
           }
 
   -- behind a parenthesis, up to another
-  pub seen_group : {j : ℕ} → (d ≡ 0 → ⊥) → kind_in ws i ≡ LParen → Seen Add (d - 1) ws n (i + 1) j → kind_in ws j ≡ RParen
-      → Seen Basic d ws n i (j + 1)
-  seen_group {j} z e s c = record {
+  pub seen_group : {u a j r : ℕ} → suc u ≡ d → kind_in ws i ≡ LParen → a ≡ i + 1 → Seen Add u ws n a j → kind_in ws j ≡ RParen
+      → r ≡ j + 1 → Seen Basic d ws n i r
+  seen_group {u} {a} {j} z e b s c p = record {
     up = omega (arith, s.up);
-    inside = (behind (looks_at l s.inside) (j + 1) refl c refl).inside;
-    read = λ ts tl. Parts.group z (told_kind ws i tl l.inside e) (s.read ts tl) (told_kind ws j tl s.inside c);
+    inside = (behind (looks_at l s.inside) _ p c refl).inside;
+    read = λ ts tl.
+        read_to (sym p)
+        (Parts.group z (told_kind ws i tl l.inside e) (subst (λ (x : ℕ). Read ts Add u x j) b (s.read ts tl))
+        (told_kind ws j tl s.inside c));
   }
 
-  -- behind a star
-  pub seen_star : {j : ℕ} → (d ≡ 0 → ⊥) → kind_in ws i ≡ Star → Seen Unary (d - 1) ws n (i + 1) j → Seen Unary d ws n i j
-  seen_star z e s = record {
+  -- behind a star, if it is told
+  pub seen_star : {u : ℕ} (o : Option ℕ) → suc u ≡ d → kind_in ws i ≡ Star → Sees Unary u ws n (i + 1) o → Sees Unary d ws n i o
+  seen_star None z e s = tt
+  seen_star (Some r) z e s = record {
     up = omega (arith, s.up);
     inside = s.inside;
     read = λ ts tl. Parts.star z (told_kind ws i tl l.inside e) (s.read ts tl);

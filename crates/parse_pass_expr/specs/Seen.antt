@@ -1,5 +1,5 @@
 -- What the first pass asks and promises: rows that are the tokens of some tree of a nonterminal.
-use Rattle.std.specs.Prelude.{◌≡◌, Bool, true, not, ◌&&◌, ◌||◌, List, ◌++◌, ℕ, suc, ◌+◌, ◌*◌, ◌≤◌, ◌<◌, eqb, length, get_or, drop}
+use Rattle.std.specs.Prelude.{◌≡◌, Option, IfSome, Bool, true, not, ◌&&◌, ◌||◌, List, ◌++◌, ℕ, suc, ◌+◌, ◌*◌, ◌≤◌, ◌<◌, eqb, length, get_or, drop}
 use Rattle.rules.specs.Rows.{words_per_row}
 use Rattle.rules.specs.Kinds.{Dot, Identifier, Number, Eof}
 use Rattle.rules.specs.Tree.{Tok, Tree, yield}
@@ -36,9 +36,9 @@ pub record Seen (N : Nt) (d : ℕ) (ws : List ℕ) (n i r : ℕ) : Type 0 where
   pub inside : r < n
   pub read : (ts : List Tok) → Tells ts ws n → Read ts N d i r
 
--- what is answered: 0, or where such a tree ends
-abbrev pub Sees : Nt → ℕ → List ℕ → ℕ → ℕ → ℕ → Type 0
-Sees N d ws n i r = (r ≡ 0 → ⊥) → Seen N d ws n i r
+-- what is answered: where such a tree ends, if it is told
+abbrev pub Sees : Nt → ℕ → List ℕ → ℕ → ℕ → Option ℕ → Type 0
+Sees N d ws n i o = IfSome o (λ r. Seen N d ws n i r)
 
 -- behind what ends at row j, more of it is read up to row r
 pub record SeenOn (ws : List ℕ) (n j r : ℕ) : Type 0 where
@@ -46,8 +46,8 @@ pub record SeenOn (ws : List ℕ) (n j r : ℕ) : Type 0 where
   pub inside : r < n
   pub read : (ts : List Tok) → Tells ts ws n → (d i : ℕ) → Read ts Basic d i j → Read ts Basic d i r
 
-abbrev pub SeesOn : List ℕ → ℕ → ℕ → ℕ → Type 0
-SeesOn ws n j r = (r ≡ 0 → ⊥) → SeenOn ws n j r
+abbrev pub SeesOn : List ℕ → ℕ → ℕ → Option ℕ → Type 0
+SeesOn ws n j o = IfSome o (λ r. SeenOn ws n j r)
 
 -- a variable or a number, and no dot behind it
 unfoldable pub is_alone : List ℕ → ℕ → Bool

@@ -1,22 +1,21 @@
 -- What is seen of a statement, an item and a unit, from what is seen of their parts: a law for each way to build one.
-use mathlib.Core.Path.{◌≡◌, refl, sym, ◌∙◌, subst}
+use mathlib.Core.Path.{◌≡◌, refl, sym, subst}
 use mathlib.Core.Bool.{true, false}
 use mathlib.Core.List.{List, [], ◌∷◌, ◌++◌}
 use Prim.Native.Nat.{ℕ, suc, ◌+◌, ◌≤◌, ◌<◌}
+use Rattle.std.specs.Prelude.{Option, Some, None, MatchOption, ◌≢◌}
 use native.Mathlib.Omega.{arith}
 use lib.Dec.{eqb}
-use Rattle.rules.specs.Kinds.{KeywordUnit, KeywordReturn, KeywordIf, KeywordElse, KeywordGuard, Identifier, StringLiteral, Eof}
-use Rattle.rules.specs.Kinds.{LBrace, RBrace, LParen, RParen, Semicolon, Equals}
+use Rattle.rules.specs.Kinds.{KeywordUnit, KeywordReturn, KeywordIf, KeywordElse, KeywordGuard, Identifier, StringLiteral, Eof, LBrace, RBrace, LParen, RParen, Semicolon, Equals}
 use Rattle.rules.specs.Tree.{Tok, sign, name, spelling_of, Tree, none, seq, yield}
 use Rattle.rules.specs.Parse.{is_assign, is_declaring, is_text, tok_at}
-use Rattle.rules.specs.Grammar.{Nt, Add, Stmt, Stmts, Item, Items, Decl, Is}
-use Rattle.rules.specs.Grammar.{i_decl, i_ret, i_plain, i_assign, i_if, i_if_else, i_stmt, i_text, i_unit}
+use Rattle.rules.specs.Grammar.{Nt, Add, Stmt, Stmts, Item, Items, Decl, Is, i_decl, i_ret, i_plain, i_assign, i_if, i_if_else, i_stmt, i_text, i_unit}
 use Rattle.theory_grammar.proofs.Leads.{assign_mark, declaring_mark, text_mark}
 use Rattle.theory_grammar.proofs.Runs.{Run, is_mark, run_none, row, name_row, string_row, ◌▸◌}
 use Rattle.parse_nodes.specs.Post.{Tells}
-use Rattle.parse_pass_expr.specs.Seen.{kind_in, Read, Looks, Seen}
+use Rattle.parse_pass_expr.specs.Seen.{kind_in, Read, Looks, Seen, Sees}
 use Rattle.parse_pass_expr.proofs.Built.{built, rows_of, read_as, told_kind, row_behind}
-use Rattle.parse_pass_units.specs.Closed.{SeenHead, SeenBody}
+use Rattle.parse_pass_units.specs.Closed.{SeenHead, SeenBody, SeesBody}
 
 -- the last row is Eof
 abbrev pub Shut : List ℕ → ℕ → Type 0
@@ -29,9 +28,9 @@ looking p j h = record { lent = p.lent; inside = h; short = p.short; closed = p.
 pub left_with : {ws : List ℕ} {n i d : ℕ} → Looks ws n i d → (e : ℕ) → e ≤ 64 → Looks ws n i e
 left_with p e h = record { lent = p.lent; inside = p.inside; short = p.short; closed = p.closed; nest = h }
 
--- behind a row whose kind was looked at, and is not Eof, stands another
-pub step : {ws : List ℕ} {n i d : ℕ} → Looks ws n i d → (j k r : ℕ) → j < n → r ≡ kind_in ws j → r ≡ k → eqb k Eof ≡ false → j + 1 < n
-step {ws} {n} p j k r h e f b = row_behind ws n j k p.closed h (sym e ∙ f) b
+-- behind a row of a kind, which is not Eof, stands another
+pub past : {ws : List ℕ} {n i d : ℕ} → Looks ws n i d → (j k : ℕ) {r : ℕ} → j < n → kind_in ws j ≡ k → r ≡ j + 1 → eqb k Eof ≡ false → r < n
+past {ws} {n} p j k h e q b = omega (arith, row_behind ws n j k p.closed h e b)
 
 -- the part of a list that is read between rows i and j
 pub record Listed (N : Nt) (d : ℕ) (ws : List ℕ) (n i j : ℕ) : Type 0 where
@@ -122,16 +121,22 @@ module _ (ws : List ℕ) (n : ℕ) where
         (sym b.deep);
   }
 
+  -- the same, if the body behind `else` is told
+  pub else_told : (d i o j : ℕ) (r : Option ℕ) → kind_in ws i ≡ KeywordIf → SeenHead ws n i o → SeenBody d ws n o j
+      → kind_in ws j ≡ KeywordElse → SeesBody d ws n (j + 1) r → Sees Stmt d ws n i r
+  else_told d i o j None e h b f s = tt
+  else_told d i o j (Some k) e h b f s = if_elses d i o j k e h b f s
+
   module _ (shut : Shut ws n) where
     -- behind what is seen and the `;` behind it another row stands
     ended : {N : Nt} {d i j : ℕ} → Seen N d ws n i j → kind_in ws j ≡ Semicolon → j + 1 < n
     ended {j = j} s c = row_behind ws n j Semicolon shut s.inside c refl
 
     -- `reg`, `imm` or `heap`, name `=` expression `;`
-    pub declares : (d i j : ℕ) → is_declaring (kind_in ws i) ≡ true → kind_in ws (i + 1) ≡ Identifier → kind_in ws (i + 1 + 1) ≡ Equals
-        → Seen Add d ws n (i + 1 + 2) j → kind_in ws j ≡ Semicolon → Seen Stmt d ws n i (j + 1)
+    pub declares : (d i j : ℕ) {v : ℕ} → v ≡ i + 3 → is_declaring (kind_in ws i) ≡ true → kind_in ws (i + 1) ≡ Identifier → kind_in ws (i + 1 + 1) ≡ Equals
+        → Seen Add d ws n v j → kind_in ws j ≡ Semicolon → Seen Stmt d ws n i (j + 1)
     unfolding yield
-    declares d i j b e f s c = record {
+    declares d i j {v} q b e f s c = record {
       up = omega (arith, s.up);
       inside = ended s c;
       read = λ ts tl.
@@ -178,25 +183,28 @@ module _ (ws : List ℕ) (n : ℕ) where
           ▸ rows_of (u.read ts tl) ▸ mark tl k Semicolon u.inside c refl);
     }
 
-    -- `section` or `license`, string `;`
-    pub texts : (d i : ℕ) → i + 1 + 1 < n → is_text (kind_in ws i) ≡ true → kind_in ws (i + 1) ≡ StringLiteral
-        → kind_in ws (i + 1 + 1) ≡ Semicolon → Seen Item d ws n i (i + 1 + 2)
+    -- `section` or `license`, string, and `;` if row e is one
+    pub texts : (d i e : ℕ) (o : Option ℕ) → e ≡ i + 1 + 1 → e < n → is_text (kind_in ws i) ≡ true → kind_in ws (i + 1) ≡ StringLiteral
+        → MatchOption o (kind_in ws e ≢ Semicolon) (λ r. (kind_in ws e ≡ Semicolon) × (r ≡ e + 1)) → Sees Item d ws n i o
     unfolding yield
-    texts d i l b e c = record {
-      up = omega arith;
-      inside = omega (arith, row_behind ws n (i + 1 + 1) Semicolon shut l c refl);
-      read = λ ts tl.
-          built (i_text b)
-          (mark tl i (kind_in ws i) (omega arith) refl (text_mark (kind_in ws i) b)
-          ▸ string_row ts (i + 1) (told_kind ws (i + 1) tl (omega arith) e)
-          ▸ mark tl (i + 1 + 1) Semicolon l c refl
-          ▸ from (run_none ts (i + 1 + 2) (omega (arith, tl.long))) (omega arith));
-    }
+    texts d i e None q l b s c = tt
+    texts d i e (Some r) q l b s c =
+        let h : r < n = omega (arith, row_behind ws n e Semicolon shut l c.0 refl, c.1) in
+        record {
+          up = omega (arith, c.1);
+          inside = h;
+          read = λ ts tl.
+              built (i_text b)
+              (mark tl i (kind_in ws i) (omega arith) refl (text_mark (kind_in ws i) b)
+              ▸ string_row ts (i + 1) (told_kind ws (i + 1) tl (omega arith) s)
+              ▸ from (mark tl e Semicolon l c.0 refl) (omega arith)
+              ▸ from (run_none ts r (omega (arith, h, tl.long))) (omega (arith, c.1)));
+        }
 
     -- the braces around statements
-    pub braces : (d e i j : ℕ) → d ≡ suc e → kind_in ws i ≡ LBrace → Listed Stmts e ws n (i + 1) j
+    pub braces : (d e i j : ℕ) {a : ℕ} → a ≡ i + 1 → d ≡ suc e → kind_in ws i ≡ LBrace → Listed Stmts e ws n a j
         → kind_in ws j ≡ RBrace → SeenBody d ws n i (j + 1)
-    braces d e i j q b l c = record {
+    braces d e i j {a} p q b l c = record {
       up = omega (arith, l.up);
       inside = row_behind ws n j RBrace shut l.inside c refl;
       brace = b;
@@ -205,14 +213,14 @@ module _ (ws : List ℕ) (n : ℕ) where
       last = j;
       next = refl;
       close = c;
-      read = l.read;
+      read = λ ts tl. subst (λ (x : ℕ). Read ts Stmts e x j) p (l.read ts tl);
     }
 
     -- `unit` name, and things in braces
-    pub units : (d i j : ℕ) → kind_in ws i ≡ KeywordUnit → kind_in ws (i + 1) ≡ Identifier → kind_in ws (i + 1 + 1) ≡ LBrace
-        → Listed Items d ws n (i + 1 + 2) j → kind_in ws j ≡ RBrace → Seen Decl d ws n i (j + 1)
+    pub units : (d i j : ℕ) {a : ℕ} → a ≡ i + 3 → kind_in ws i ≡ KeywordUnit → kind_in ws (i + 1) ≡ Identifier
+        → kind_in ws (i + 1 + 1) ≡ LBrace → Listed Items d ws n a j → kind_in ws j ≡ RBrace → Seen Decl d ws n i (j + 1)
     unfolding yield
-    units d i j k e b l c = record {
+    units d i j {a} q k e b l c = record {
       up = omega (arith, l.up);
       inside = row_behind ws n j RBrace shut l.inside c refl;
       read = λ ts tl.
@@ -226,5 +234,7 @@ module _ (ws : List ℕ) (n : ℕ) where
     }
 
 -- a statement, as a thing that a unit holds
-pub as_item : {d : ℕ} {ws : List ℕ} {n i j : ℕ} → Seen Stmt d ws n i j → Seen Item d ws n i j
-as_item s = record { up = s.up; inside = s.inside; read = λ ts tl. read_as (λ t h. i_stmt h) (s.read ts tl) }
+pub as_item : (d : ℕ) (ws : List ℕ) (n i : ℕ) (o : Option ℕ) → Sees Stmt d ws n i o → Sees Item d ws n i o
+as_item d ws n i None s = tt
+as_item d ws n i (Some r) s =
+    record { up = s.up; inside = s.inside; read = λ ts tl. read_as (λ t h. i_stmt h) (s.read ts tl) }

@@ -1,5 +1,5 @@
 -- What stands behind an expression, an `if` and a brace.
-use Rattle.std.specs.Prelude.{◌≡◌, List, ℕ, suc, ◌+◌, ◌<◌}
+use Rattle.std.specs.Prelude.{◌≡◌, Option, IfSome, List, ℕ, suc, ◌+◌, ◌<◌}
 use Rattle.rules.specs.Kinds.{KeywordGuard, LBrace, RBrace, LParen, RParen, Semicolon, Identifier}
 use Rattle.rules.specs.Tree.{Tok}
 use Rattle.rules.specs.Grammar.{Add, Stmts}
@@ -7,8 +7,8 @@ use Rattle.parse_nodes.specs.Post.{Tells}
 use Rattle.parse_pass_expr.specs.Seen.{kind_in, Read, Seen}
 
 -- an expression from row i up to the `;` at row r
-abbrev pub SeesClosed : ℕ → List ℕ → ℕ → ℕ → ℕ → Type 0
-SeesClosed d ws n i r = (r ≡ 0 → ⊥) → Seen Add d ws n i r × (kind_in ws r ≡ Semicolon)
+abbrev pub SeesClosed : ℕ → List ℕ → ℕ → ℕ → Option ℕ → Type 0
+SeesClosed d ws n i o = IfSome o (λ r. Seen Add d ws n i r × (kind_in ws r ≡ Semicolon))
 
 -- `guard ( name )` behind row i, and row r behind it
 pub record SeenHead (ws : List ℕ) (n i r : ℕ) : Type 0 where
@@ -19,8 +19,8 @@ pub record SeenHead (ws : List ℕ) (n i r : ℕ) : Type 0 where
   pub name : kind_in ws (i + 3) ≡ Identifier
   pub close : kind_in ws (i + 4) ≡ RParen
 
-abbrev pub SeesHead : List ℕ → ℕ → ℕ → ℕ → Type 0
-SeesHead ws n i r = (r ≡ 0 → ⊥) → SeenHead ws n i r
+abbrev pub SeesHead : List ℕ → ℕ → ℕ → Option ℕ → Type 0
+SeesHead ws n i o = IfSome o (λ r. SeenHead ws n i r)
 
 -- statements in the braces at row i, row r behind the second, with d constructs left in front of them
 pub record SeenBody (d : ℕ) (ws : List ℕ) (n i r : ℕ) : Type 0 where
@@ -34,5 +34,5 @@ pub record SeenBody (d : ℕ) (ws : List ℕ) (n i r : ℕ) : Type 0 where
   pub close : kind_in ws last ≡ RBrace
   pub read : (ts : List Tok) → Tells ts ws n → Read ts Stmts under (i + 1) last
 
-abbrev pub SeesBody : ℕ → List ℕ → ℕ → ℕ → ℕ → Type 0
-SeesBody d ws n i r = (r ≡ 0 → ⊥) → SeenBody d ws n i r
+abbrev pub SeesBody : ℕ → List ℕ → ℕ → ℕ → Option ℕ → Type 0
+SeesBody d ws n i o = IfSome o (λ r. SeenBody d ws n i r)

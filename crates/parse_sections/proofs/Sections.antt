@@ -1,61 +1,59 @@
--- Sections: the first section's kind holds, and a section's text is a part of the table's text.
+-- Sections: the first section's kind holds, the last licence's row, and a section's text is a part of the table's text.
 use mathlib.Core.Path.{◌≡◌, refl, sym, ap, ◌∙◌}
-use mathlib.Core.Bool.{Bool, true, false, not, cond, ◌&&◌, and-eq-true_iff}
+use mathlib.Core.Bool.{Bool, true, false, cond}
 use mathlib.Core.List.{List, [], ◌∷◌, ◌++◌}
 use Prim.Native.Nat.{ℕ, suc, ◌+◌, ◌-◌, ◌≤◌, ◌<◌}
 use native.Mathlib.Omega.{arith}
 use lib.Dec.{eqb, ltb}
 use lib.ListN.{length, get_or, take, drop, length-drop}
 use lib.Seq.{length-take-le, take-take, take-nil, drop-drop, get_or-take, get_or-drop}
-use borrow.Author.Tests.{eqb-true, eq-eqb, ne_eqb, le-ltb, lt-ltb, not-true}
-use Rattle.rules.specs.Sets.{Section, fits, sections, kind_of_section, from_section}
+use borrow.Author.Tests.{eqb-true, eq-eqb, ne_eqb, le-ltb, lt-ltb}
 use Rattle.rules.specs.Tree.{content, section_text, kind_of_first}
 use Rattle.rules.specs.Nodes.{missing}
-use Rattle.parse_sections.specs.Sections.{unset, kind_from, first_of, last_row}
+use Rattle.parse_sections.specs.Sections.{kind_from, first_of, row_told, last_row}
+use Rattle.std.specs.Prelude.{Option, Some, None}
+use Rattle.std.specs.Option.{unwrap_or}
 
--- ---- kinds
-
-all_known : List Section → Bool
-all_known [] = true
-all_known (e ∷ es) = not (eqb e.kind unset) && all_known es
-
-kinds_known : (es : List Section) → all_known es ≡ true → (w : List ℕ) → eqb (kind_of_section es w) unset ≡ false
-unfolding kind_of_section all_known
-kinds_known [] h w = refl
-kinds_known (e ∷ es) h w =
-    let k = (and-eq-true_iff (not (eqb e.kind unset)) (all_known es)).0 h in
-    go (fits e w) (not-true (eqb e.kind unset) k.0) (kinds_known es k.1 w)
-  where
-    go : (b : Bool) → eqb e.kind unset ≡ false → eqb (kind_of_section es w) unset ≡ false
-        → eqb (elim b [ true ↦ e.kind | false ↦ kind_of_section es w ]) unset ≡ false
-    go true p q = p
-    go false p q = q
-
--- a section's kind is never unset
-section_known : (w : List ℕ) → eqb (from_section w) unset ≡ false
-unfolding from_section sections all_known
-section_known w = kinds_known sections refl w
+-- ---- kinds, and rows
 
 pub kind_append : (xs ys : List (List ℕ)) → kind_from (xs ++ ys) ≡ first_of (kind_from xs) (kind_from ys)
 unfolding kind_from
 kind_append [] ys = refl
-kind_append (w ∷ ws) ys = rw (section_known (section_text w))
+kind_append (w ∷ ws) ys = refl
 
-pub kind_known : (xs : List (List ℕ)) → kind_of_first xs ≡ cond (eqb (kind_from xs) unset) 10 (kind_from xs)
+pub kind_known : (xs : List (List ℕ)) → kind_of_first xs ≡ unwrap_or (kind_from xs) 10
 unfolding kind_from kind_of_first
 kind_known [] = refl
-kind_known (w ∷ ws) = rw (section_known (section_text w))
+kind_known (w ∷ ws) = refl
 
-pub first_unset : (x : ℕ) → first_of x unset ≡ x
-first_unset x = go (eqb x unset) refl
-  where
-    go : (b : Bool) → eqb x unset ≡ b → cond b unset x ≡ x
-    go true e = sym (eqb-true x unset e)
-    go false e = refl
+pub first_none : (x : Option ℕ) → first_of x None ≡ x
+first_none None = refl
+first_none (Some x) = refl
+
+-- the first kind of all, where one more is told
+pub first_some : (x : Option ℕ) (k : ℕ) → first_of x (Some k) ≡ Some (unwrap_or x k)
+first_some None k = refl
+first_some (Some x) k = refl
 
 -- a licence's row is a row
-pub last_here : (x i : ℕ) → i ≤ 65535 → last_row x (i + 1) ≡ i + 1
-last_here x i h = rw (ne_eqb (i + 1) missing (λ e. omega arith))
+pub row_here : (i : ℕ) → i ≤ 65535 → row_told (i + 1) ≡ Some (i + 1)
+row_here i h = rw (ne_eqb (i + 1) missing (λ e. omega arith))
+
+-- a row, or `missing`
+pub or_row : (r : ℕ) → unwrap_or (row_told r) missing ≡ r
+or_row r = go (eqb r missing) refl
+  where
+    go : (b : Bool) → eqb r missing ≡ b → unwrap_or (cond b None (Some r)) missing ≡ r
+    go true e = sym (eqb-true r missing e)
+    go false e = refl
+
+-- of two numbers the last that tells a row
+pub last_told : (x y : ℕ) → last_row (row_told x) (row_told y) ≡ row_told (cond (eqb y missing) x y)
+last_told x y = go (eqb y missing) refl
+  where
+    go : (b : Bool) → eqb y missing ≡ b → last_row (row_told x) (cond b None (Some y)) ≡ row_told (cond b x y)
+    go true e = refl
+    go false e = rw e
 
 -- ---- a section's text
 

@@ -1,26 +1,28 @@
 -- The kind that the first section gives, and the last licence's row.
-use Rattle.std.specs.Prelude.{cond, List, [], ◌∷◌, ℕ, ◌+◌, ◌-◌, ◌*◌, ◌≤◌, eqb, length, get_or, take, drop}
+use Rattle.std.specs.Prelude.{cond, Option, Some, None, List, [], ◌∷◌, ℕ, ◌+◌, ◌-◌, ◌*◌, ◌≤◌, eqb, length, get_or, take, drop}
 use Rattle.rules.specs.Rows.{at_end, at_start, words_per_row}
 use Rattle.rules.specs.Sets.{from_section}
 use Rattle.rules.specs.Tree.{section_text}
 use Rattle.rules.specs.Nodes.{missing}
 
--- no section yet
-abbrev pub unset : ℕ
-unset = 11
-
 -- the first section's kind
-unfoldable pub kind_from : List (List ℕ) → ℕ
-kind_from [] = unset
-kind_from (w ∷ ws) = from_section (section_text w)
+unfoldable pub kind_from : List (List ℕ) → Option ℕ
+kind_from [] = None
+kind_from (w ∷ ws) = Some (from_section (section_text w))
 
 -- the first of two kinds
-abbrev pub first_of : ℕ → ℕ → ℕ
-first_of x y = cond (eqb x unset) y x
+abbrev pub first_of : Option ℕ → Option ℕ → Option ℕ
+first_of None y = y
+first_of (Some x) y = Some x
+
+-- the row that a number tells
+abbrev pub row_told : ℕ → Option ℕ
+row_told r = cond (eqb r missing) None (Some r)
 
 -- the last of two rows
-abbrev pub last_row : ℕ → ℕ → ℕ
-last_row x y = cond (eqb y missing) x y
+abbrev pub last_row : Option ℕ → Option ℕ → Option ℕ
+last_row x None = x
+last_row x (Some y) = Some y
 
 -- the spelling of row i
 abbrev pub spelt : List ℕ → List ℕ → ℕ → List ℕ

@@ -1,15 +1,15 @@
-// The kind of a unit: that of its first section, and Unknown if it has none.
-ghost use Rattle.std.specs.Prelude.{◌≡◌, cond, ◌+◌, ◌-◌, ◌≤◌, eqb, length, take, drop};
+// The kind of a unit: that of its first section.
+#![tactic(auto)]
+
+ghost use Rattle.std.specs.Prelude.{◌≡◌, ◌+◌, ◌-◌, ◌≤◌, length, take, drop};
+ghost use Rattle.std.specs.Option.{unwrap_or};
 ghost use Rattle.rules.specs.Sets.{from_section};
 ghost use Rattle.rules.specs.Tree.{section_text};
-ghost use Rattle.parse_sections.specs.Sections.{unset, first_of, spelt, AsksString};
+ghost use Rattle.parse_sections.specs.Sections.{spelt, AsksString};
 
-use rules::{fact, row};
+use rules::row;
 
 const QUOTE: u8 = b'"';
-
-// The kind while no section was read.
-pub const NO_SECTION: u32 = fact::PROGRAM_UNKNOWN + 1;
 
 // The kind of the section whose string is the text from a to e, its quotes with it.
 fn kind_of_string(text: &[u8], a: usize, e: usize) -> u32
@@ -28,26 +28,16 @@ fn kind_of_string(text: &[u8], a: usize, e: usize) -> u32
     methods::section_kind(&text[from..to])
 }
 
-// The kind, if there is one, or that of the section whose string is at the row.
-pub fn first_kind(text: &[u8], rows: &[u32], row: u32, kind: u32) -> u32
+// The kind of the first section, if there was one, or else of the one whose string is at the row.
+pub fn first_kind(text: &[u8], rows: &[u32], row: u32, first: Option<u32>) -> u32
     requires { AsksString text.now rows.now row }
-    ensures { result ≡ first_of kind (from_section (section_text (spelt text.now rows.now row))) }
+    ensures { result ≡ unwrap_or first (from_section (section_text (spelt text.now rows.now row))) }
 {
-    if kind != NO_SECTION {
+    if let Some(kind) = first {
         return kind;
     }
     let at = (row as usize) * row::WORDS;
     let a = rows[at + row::START] as usize;
     let e = rows[at + row::END] as usize;
     kind_of_string(text, a, e)
-}
-
-// The kind of a unit, Unknown if it has no section.
-pub fn kind_or_unknown(kind: u32) -> u32
-    ensures { result ≡ cond (eqb kind unset) 10 kind }
-{
-    if kind == NO_SECTION {
-        return fact::PROGRAM_UNKNOWN;
-    }
-    kind
 }

@@ -5,7 +5,7 @@ ghost use Rattle.parse.specs.Program.{AsksEnded, reading_of};
 ghost use Rattle.program_alone.specs.Told.{alone_of, alone_told};
 
 use parse::Passed;
-use rows::shape;
+use rows::shape::Row;
 use rules::{Cursor, Reason, Table};
 
 // The text is a program; or why not, where, and the kind that 21 found.
@@ -24,10 +24,10 @@ fn pass(text: &[u8], rows: &[u32], count: u32) -> Alone
     match parse::program_passed(text, rows, count, &mut none[..0]) {
         Passed::To(_) => Alone::Program,
         Passed::Refused(why, r) => {
-            let row = shape::row_at(rows, r);
+            let row = Row::at(rows, r);
             Alone::Refused(
                 Reason::Syntax(why),
-                shape::row_place(row),
+                row.place(),
                 refusals::found_told(why, row.kind),
             )
         }

@@ -1,195 +1,80 @@
 // Names of two texts in order, a block at a time: the smallest names above the last one, in memory of a fixed size. No promise says that
 // they are in order or that none is left out: whoever takes them has to see to it.
-ghost use Rattle.std.specs.Prelude.{◌+◌, ◌≤◌, ◌<◌};
-ghost use Rattle.program_names.specs.Asks.{AsksBoth};
+#![tactic(auto)]
+
+ghost use Rattle.std.specs.Prelude.{◌≡◌, ◌+◌, ◌%◌, ◌≤◌, ◌<◌, length};
+
+use program_names::Both;
+use std::cmp::Ordering;
 
 // How many names a block has.
 pub const ROOM: usize = 2048;
 
-// How many first bytes of a name a key has.
+// How many first bytes of a name a key has, and how many bits of a word these leave.
 const FRONT: usize = 5;
+
+const REST: u32 = 24;
 
 // More than there are rows. A key is the first bytes of a name, as a number, times this, and the row before the name.
 const PLACES: u64 = 262144;
 
-// How a name stands to another.
-const BEFORE: u32 = 0;
-
-const SAME: u32 = 1;
-
-const AFTER: u32 = 2;
-
-// The bytes of the name after row k, or none past the last row.
-fn name_after<'a>(
-    prelude: &'a [u8],
-    prelude_rows: &[u32],
-    prelude_count: u32,
-    text: &'a [u8],
-    rows: &[u32],
-    count: u32,
-    k: u32,
-) -> &'a [u8]
-    requires { AsksBoth prelude.now prelude_rows.now prelude_count text.now rows.now count }
+// The row before a key's name.
+pub fn row_of(key: u64) -> u32
+    ensures { result ≡ key % 262144 }
 {
-    let next = (k as u64) + 1;
-    if next < (prelude_count as u64) + (count as u64) {
-        return program_names::spelling(prelude, prelude_rows, prelude_count, text, rows, k + 1);
-    }
-    &text[0..0]
+    (key % PLACES) as u32
 }
 
-// Byte i of a name, or zero.
-fn byte_at(name: &[u8], i: usize) -> u64
-    ensures { result < 256 }
+// The name after a row, or none past the last row.
+fn name_after<'a>(both: &Both<'a>, row: u32) -> &'a [u8]
+    requires { row < 4294967295 }
 {
-    if i < name.len() {
-        return name[i] as u64;
+    if row + 1 < both.rows() {
+        both.spelling(row + 1)
+    } else {
+        &[]
     }
-    0
 }
 
-// The first bytes of a name as a number.
+// The first bytes of a name as a number, with zero bytes after a short one.
 fn front(name: &[u8]) -> u64
     ensures { result < 1099511627776 }
 {
-    let a = byte_at(name, 0);
-    let b = a * 256 + byte_at(name, 1);
-    let c = b * 256 + byte_at(name, 2);
-    let d = c * 256 + byte_at(name, 3);
-    d * 256 + byte_at(name, 4)
+    let mut bytes = [0; 8];
+    let n = name.len().min(FRONT);
+    bytes[..n].copy_from_slice(&name[..n]);
+    u64::from_be_bytes(bytes) >> REST
 }
 
-// The key of the name after row k.
-fn key_of<'a>(
-    prelude: &'a [u8],
-    prelude_rows: &[u32],
-    prelude_count: u32,
-    text: &'a [u8],
-    rows: &[u32],
-    count: u32,
-    k: u32,
-) -> u64
-    requires { AsksBoth prelude.now prelude_rows.now prelude_count text.now rows.now count }
+// The key of the name after a row.
+fn key_of(both: &Both<'_>, row: u32) -> u64
+    requires { row < 4294967295 }
 {
-    let name = name_after(prelude, prelude_rows, prelude_count, text, rows, count, k);
-    front(name) * PLACES + (k as u64) % PLACES
+    front(name_after(both, row)) * PLACES + u64::from(row) % PLACES
 }
 
-// How many bytes two names share whose first ones are the same number: a zero byte is not told from none.
-fn shared(name: &[u8]) -> usize {
-    if name.len() < FRONT {
-        return 0;
+// How a key stands to another: by the names' first bytes, by the names, by the rows.
+fn order(both: &Both<'_>, x: u64, y: u64) -> Ordering {
+    let fronts = (x / PLACES).cmp(&(y / PLACES));
+    if fronts != Ordering::Equal {
+        return fronts;
     }
-    FRONT
+    let a = name_after(both, row_of(x));
+    let b = name_after(both, row_of(y));
+    a.cmp(b).then(x.cmp(&y))
 }
 
-// How a name stands to another by its bytes from an index on.
-fn order_from(a: &[u8], b: &[u8], from: usize) -> u32 {
-    let mut i = from;
-    while i < a.len() {
-        if b.len() <= i {
-            return AFTER;
-        }
-        if a[i] != b[i] {
-            if a[i] < b[i] {
-                return BEFORE;
-            }
-            return AFTER;
-        }
-        i += 1;
-    }
-    if i < b.len() {
-        return BEFORE;
-    }
-    SAME
-}
-
-// Whether a key comes before another: by the name's first bytes, by the others, by the row.
-fn less<'a>(
-    prelude: &'a [u8],
-    prelude_rows: &[u32],
-    prelude_count: u32,
-    text: &'a [u8],
-    rows: &[u32],
-    count: u32,
-    x: u64,
-    y: u64,
-) -> bool
-    requires { AsksBoth prelude.now prelude_rows.now prelude_count text.now rows.now count }
+// A key put into a heap at a free place, or above it.
+fn rise(both: &Both<'_>, heap: &mut [u64], from: usize, x: u64)
+    requires { from < length heap.old }
 {
-    if x / PLACES != y / PLACES {
-        return x < y;
-    }
-    let k = (x % PLACES) as u32;
-    let l = (y % PLACES) as u32;
-    let a = name_after(prelude, prelude_rows, prelude_count, text, rows, count, k);
-    let b = name_after(prelude, prelude_rows, prelude_count, text, rows, count, l);
-    let order = order_from(a, b, shared(a));
-    if order != SAME {
-        return order == BEFORE;
-    }
-    x < y
-}
-
-// The larger of two keys: 0 for the first, 1 for the second.
-fn larger<'a>(
-    prelude: &'a [u8],
-    prelude_rows: &[u32],
-    prelude_count: u32,
-    text: &'a [u8],
-    rows: &[u32],
-    count: u32,
-    x: u64,
-    y: u64,
-) -> usize
-    requires { AsksBoth prelude.now prelude_rows.now prelude_count text.now rows.now count }
-    ensures { result ≤ 1 }
-{
-    if less(
-        prelude,
-        prelude_rows,
-        prelude_count,
-        text,
-        rows,
-        count,
-        x,
-        y,
-    ) {
-        return 1;
-    }
-    0
-}
-
-// A key put into the heap at a free place, or above it.
-fn rise<'a>(
-    prelude: &'a [u8],
-    prelude_rows: &[u32],
-    prelude_count: u32,
-    text: &'a [u8],
-    rows: &[u32],
-    count: u32,
-    heap: &mut [u64; ROOM],
-    from: usize,
-    x: u64,
-)
-    requires { AsksBoth prelude.now prelude_rows.now prelude_count text.now rows.now count × (from < 2048) }
-{
+    // Stays a while loop: each turn goes on to the place above, and a for has no such step.
     let mut at = from;
-    while 0 < at {
+    while at > 0 {
         let up = (at - 1) / 2;
         let y = heap[up];
-        if !less(
-            prelude,
-            prelude_rows,
-            prelude_count,
-            text,
-            rows,
-            count,
-            y,
-            x,
-        ) {
-            heap[at] = x;
-            return;
+        if order(both, y, x) != Ordering::Less {
+            break;
         }
         heap[at] = y;
         at = up;
@@ -197,303 +82,66 @@ fn rise<'a>(
     heap[at] = x;
 }
 
-// A free place moved from the top of a heap of n keys to its end, the larger key below it moved up each time: where it comes to stand.
-fn sink<'a>(
-    prelude: &'a [u8],
-    prelude_rows: &[u32],
-    prelude_count: u32,
-    text: &'a [u8],
-    rows: &[u32],
-    count: u32,
-    heap: &mut [u64; ROOM],
-    n: usize,
-) -> usize
-    requires { AsksBoth prelude.now prelude_rows.now prelude_count text.now rows.now count × (n ≤ 2048) }
-    ensures { result < 2048 }
+// A free place moved from a heap's top to its end, the larger key below it moved up each time: where it comes to stand.
+fn sink(both: &Both<'_>, heap: &mut [u64]) -> usize
+    requires { 0 < length heap.old }
+    ensures { result < length heap.old }
 {
+    // Stays a while loop: each turn goes on to the larger of the two places below, and a for has no such step.
     let mut at = 0;
-    while 2 * at + 2 < n {
+    while 2 * at + 2 < heap.len() {
         let left = 2 * at + 1;
-        let x = heap[left];
-        let y = heap[left + 1];
-        let below = left
-            + larger(
-                prelude,
-                prelude_rows,
-                prelude_count,
-                text,
-                rows,
-                count,
-                x,
-                y,
-            );
+        let is_right = order(both, heap[left], heap[left + 1]) == Ordering::Less;
+        let below = left + usize::from(is_right);
         heap[at] = heap[below];
         at = below;
     }
     let last = 2 * at + 1;
-    if last < n {
+    if last < heap.len() {
         heap[at] = heap[last];
-        return last;
+        last
+    } else {
+        at
     }
-    at
 }
 
-// The key at the top of a heap of n keys replaced by another.
-fn replace<'a>(
-    prelude: &'a [u8],
-    prelude_rows: &[u32],
-    prelude_count: u32,
-    text: &'a [u8],
-    rows: &[u32],
-    count: u32,
-    heap: &mut [u64; ROOM],
-    n: usize,
-    x: u64,
-)
-    requires { AsksBoth prelude.now prelude_rows.now prelude_count text.now rows.now count × (n ≤ 2048) }
-{
-    let at = sink(
-        prelude,
-        prelude_rows,
-        prelude_count,
-        text,
-        rows,
-        count,
-        heap,
-        n,
-    );
-    rise(
-        prelude,
-        prelude_rows,
-        prelude_count,
-        text,
-        rows,
-        count,
-        heap,
-        at,
-        x,
-    );
-}
-
-// A key offered to a heap of the smallest: how many it has then.
-fn offer<'a>(
-    prelude: &'a [u8],
-    prelude_rows: &[u32],
-    prelude_count: u32,
-    text: &'a [u8],
-    rows: &[u32],
-    count: u32,
-    heap: &mut [u64; ROOM],
-    n: usize,
-    x: u64,
-) -> usize
-    requires { AsksBoth prelude.now prelude_rows.now prelude_count text.now rows.now count × (n ≤ 2048) }
+// A key offered to a heap of the n smallest: how many it has then.
+fn offer(both: &Both<'_>, keys: &mut [u64; ROOM], n: usize, x: u64) -> usize
+    requires { n ≤ 2048 }
     ensures { result ≤ 2048 }
 {
     if n < ROOM {
-        rise(
-            prelude,
-            prelude_rows,
-            prelude_count,
-            text,
-            rows,
-            count,
-            heap,
-            n,
-            x,
-        );
+        rise(both, keys, n, x);
         return n + 1;
     }
-    let top = heap[0];
-    if !less(
-        prelude,
-        prelude_rows,
-        prelude_count,
-        text,
-        rows,
-        count,
-        x,
-        top,
-    ) {
-        return n;
+    if order(both, x, keys[0]) == Ordering::Less {
+        let at = sink(both, keys);
+        rise(both, keys, at, x);
     }
-    replace(
-        prelude,
-        prelude_rows,
-        prelude_count,
-        text,
-        rows,
-        count,
-        heap,
-        n,
-        x,
-    );
     n
 }
 
-// Row k of both offered, if it is a head whose name comes after a key.
-fn offer_row<'a>(
-    prelude: &'a [u8],
-    prelude_rows: &[u32],
-    prelude_count: u32,
-    text: &'a [u8],
-    rows: &[u32],
-    count: u32,
-    heap: &mut [u64; ROOM],
-    n: usize,
-    above: u64,
-    k: u32,
-) -> usize
-    requires { AsksBoth prelude.now prelude_rows.now prelude_count text.now rows.now count
-        × ((n ≤ 2048) × (k < prelude_count + count)) }
+// The smallest names after a key, or of all, as a heap: how many there are.
+fn gather(both: &Both<'_>, keys: &mut [u64; ROOM], above: Option<u64>) -> usize
     ensures { result ≤ 2048 }
 {
-    if !program_names::is_head(prelude_rows, prelude_count, rows, k) {
-        return n;
-    }
-    let x = key_of(prelude, prelude_rows, prelude_count, text, rows, count, k);
-    if !less(
-        prelude,
-        prelude_rows,
-        prelude_count,
-        text,
-        rows,
-        count,
-        above,
-        x,
-    ) {
-        return n;
-    }
-    offer(
-        prelude,
-        prelude_rows,
-        prelude_count,
-        text,
-        rows,
-        count,
-        heap,
-        n,
-        x,
-    )
-}
-
-// The smallest names after a key, as a heap: how many there are.
-fn gather<'a>(
-    prelude: &'a [u8],
-    prelude_rows: &[u32],
-    prelude_count: u32,
-    text: &'a [u8],
-    rows: &[u32],
-    count: u32,
-    heap: &mut [u64; ROOM],
-    above: u64,
-) -> usize
-    requires { AsksBoth prelude.now prelude_rows.now prelude_count text.now rows.now count }
-    ensures { result ≤ 2048 }
-{
-    let total = prelude_count + count;
     let mut n = 0;
-    let mut k = 0;
-    while k < total {
-        n = offer_row(
-            prelude,
-            prelude_rows,
-            prelude_count,
-            text,
-            rows,
-            count,
-            heap,
-            n,
-            above,
-            k,
-        );
-        k += 1;
+    for row in 0..both.rows() {
+        if both.is_head(row) {
+            let x = key_of(both, row);
+            if above.map_or(true, |last| order(both, last, x) == Ordering::Less) {
+                n = offer(both, keys, n, x);
+            }
+        }
     }
     n
 }
 
-// A heap of n keys put in order.
-fn sort<'a>(
-    prelude: &'a [u8],
-    prelude_rows: &[u32],
-    prelude_count: u32,
-    text: &'a [u8],
-    rows: &[u32],
-    count: u32,
-    heap: &mut [u64; ROOM],
-    n: usize,
-)
-    requires { AsksBoth prelude.now prelude_rows.now prelude_count text.now rows.now count × (n ≤ 2048) }
+// The keys of the next block of names, the smallest after a key, or of all, in order.
+pub fn block<'k>(both: &Both<'_>, keys: &'k mut [u64; ROOM], above: Option<u64>) -> &'k [u64]
+    ensures { length result.now ≤ 2048 }
 {
-    let mut m = n;
-    while 1 < m {
-        m -= 1;
-        let x = heap[m];
-        heap[m] = heap[0];
-        replace(
-            prelude,
-            prelude_rows,
-            prelude_count,
-            text,
-            rows,
-            count,
-            heap,
-            m,
-            x,
-        );
-    }
-}
-
-// The next block of names, the smallest after a key, in order: how many there are.
-pub fn block<'a>(
-    prelude: &'a [u8],
-    prelude_rows: &[u32],
-    prelude_count: u32,
-    text: &'a [u8],
-    rows: &[u32],
-    count: u32,
-    heap: &mut [u64; ROOM],
-    above: u64,
-) -> usize
-    requires { AsksBoth prelude.now prelude_rows.now prelude_count text.now rows.now count }
-    ensures { result ≤ 2048 }
-{
-    let n = gather(
-        prelude,
-        prelude_rows,
-        prelude_count,
-        text,
-        rows,
-        count,
-        heap,
-        above,
-    );
-    sort(
-        prelude,
-        prelude_rows,
-        prelude_count,
-        text,
-        rows,
-        count,
-        heap,
-        n,
-    );
-    n
-}
-
-// The row before the name of key i.
-pub fn row_in(heap: &[u64; ROOM], i: usize) -> u32
-    requires { i < 2048 }
-{
-    (heap[i] % PLACES) as u32
-}
-
-// The last key of a block, or zero, which no name's key is below.
-pub fn last_in(heap: &[u64; ROOM], n: usize) -> u64
-    requires { n ≤ 2048 }
-{
-    if n == 0 {
-        return 0;
-    }
-    heap[n - 1]
+    let n = gather(both, keys, above);
+    keys[..n].sort_unstable_by(|x, y| order(both, *x, *y));
+    &keys[..n]
 }

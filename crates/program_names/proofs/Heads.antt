@@ -1,14 +1,14 @@
 -- Laws of heads: kinds of rows of both, and the rows that meet a test, one row at a time.
-use mathlib.Core.Path.{◌≡◌, refl, sym, ap, ◌∙◌}
-use mathlib.Core.Bool.{Bool, true, false, cond, ◌||◌}
-use mathlib.Core.List.{List, [], ◌∷◌, ◌++◌}
-use Prim.Native.Nat.{ℕ, zero, suc, ◌+◌, ◌-◌, ◌*◌, ◌≤◌, ◌<◌}
+use mathlib.Core.Path.{◌≡◌, sym, ap}
+use mathlib.Core.Bool.{Bool, true, false, cond}
+use mathlib.Core.List.{List, []}
+use mathlib.Core.Logic.{◌⊎◌, inl, inr}
+use Prim.Native.Nat.{ℕ, suc, ◌+◌, ◌-◌, ◌*◌, ◌≤◌, ◌<◌}
 use native.Mathlib.Omega.{arith}
 use lib.ListN.{length, get_or, length-map}
 use borrow.Author.Tests.{lt-ltb, le-ltb, eq-eqb, ne_eqb}
 use Rattle.rules.specs.Kinds.{KeywordUnit, KeywordMap, KeywordEvent}
-use Rattle.rules.specs.Nodes.{missing}
-use Rattle.rules_program.specs.Names.{Name}
+use Rattle.std.specs.Prelude.{Some, None}
 use Rattle.rules_program.specs.Find.{spelling_of_both}
 use Rattle.program_names.specs.Heads.{kept_if, rows_where, first_of, is_unit_head, kind_of_both, is_head, name_after, head_names}
 
@@ -23,20 +23,16 @@ module _ (pws : List ℕ) (count : ℕ) (ws : List ℕ) (row : ℕ) where
   unfolding kind_of_both
   kind_later l = rw (le-ltb row count l)
 
-  pub head_map : kind_of_both pws count ws row ≡ KeywordMap → is_head pws count ws row ≡ true
+  pub head_if : (kind_of_both pws count ws row ≡ KeywordMap) ⊎ (kind_of_both pws count ws row ≡ KeywordEvent) → true ≡ is_head pws count ws row
   unfolding is_head
-  head_map e = rw (eq-eqb _ _ e)
+  head_if (inl e) = rw (eq-eqb _ _ e)
+  head_if (inr e) = rw e
 
-  pub head_else : (kind_of_both pws count ws row ≡ KeywordMap → ⊥) → is_head pws count ws row ≡ lib.Dec.eqb (kind_of_both pws count ws row) KeywordEvent
+  pub head_unless : (kind_of_both pws count ws row ≡ KeywordMap → ⊥) → (kind_of_both pws count ws row ≡ KeywordEvent → ⊥) → false ≡ is_head pws count ws row
   unfolding is_head
-  head_else h = rw (ne_eqb _ _ h)
+  head_unless h g = rw (ne_eqb _ _ h, ne_eqb _ _ g)
 
 -- ---- rows that meet a test
-
-kept_parts : (t : Bool) (k : ℕ) (xs ys : List ℕ) → kept_if t k (xs ++ ys) ≡ kept_if t k xs ++ ys
-unfolding kept_if
-kept_parts true k xs ys = refl
-kept_parts false k xs ys = refl
 
 module _ (p : ℕ → Bool) where
   -- no row, and one row more
@@ -48,43 +44,27 @@ module _ (p : ℕ → Bool) where
   unfolding rows_where
   where_one i n l = let e : n - i ≡ suc (n - (i + 1)) = omega arith in rw e
 
-  -- all of the rows, as the rows from the first on
-  pub where_all : (n : ℕ) → rows_where p 0 (n - 0) ≡ rows_where p 0 n
-  where_all n = let e : n - 0 ≡ n = omega arith in rw e
-
-  -- rows in two parts
-  pub where_parts : (i a b : ℕ) → rows_where p i (a + b) ≡ rows_where p i a ++ rows_where p (i + a) b
-  unfolding rows_where
-  where_parts i zero b =
-      let e : 0 + b ≡ b = omega arith in
-      let f : i + 0 ≡ i = omega arith in
-      rw (e, f)
-  where_parts i (suc a) b =
-      let e : suc a + b ≡ suc (a + b) = omega arith in
-      let f : i + suc a ≡ i + 1 + a = omega arith in
-      rw (e, f) (ap (kept_if (p i) i) (where_parts (i + 1) a b) ∙ kept_parts (p i) i (rows_where p (i + 1) a) (rows_where p (i + 1 + a) b))
-
 pub kept_length : (t : Bool) (i : ℕ) (rows : List ℕ) → length (kept_if t i rows) ≡ cond t 1 0 + length rows
 unfolding kept_if
 kept_length true i rows = let e : 1 + length rows ≡ suc (length rows) = omega arith in sym e
 kept_length false i rows = let e : 0 + length rows ≡ length rows = omega arith in sym e
 
 -- a count of rows that goes on
-pub bit_small : (t : Bool) → cond t 1 0 ≤ 1
-bit_small true = omega arith
-bit_small false = omega arith
-
-module _ (p : ℕ → Bool) (n : ℕ) where
-  pub count_none : 0 + length (rows_where p 0 (n - 0)) ≡ length (rows_where p 0 n)
-  count_none = omega (arith, ap length (where_all p n))
-
-  pub count_one : (i names total : ℕ) → i < n → names + length (rows_where p i (n - i)) ≡ total →
-      names + cond (p i) 1 0 + length (rows_where p (i + 1) (n - (i + 1))) ≡ total
-  count_one i names total l e =
+module _ (p : ℕ → Bool) (n i names total : ℕ) where
+  pub count_here : i < n → p i ≡ true → names + length (rows_where p i (n - i)) ≡ total →
+      names + 1 + length (rows_where p (i + 1) (n - (i + 1))) ≡ total
+  count_here l h e =
+      let k : ◌≡◌ {A = ℕ} (cond (p i) 1 0) 1 = rw h in
       omega (arith, ap length (where_one p i n l), kept_length (p i) i (rows_where p (i + 1) (n - (i + 1))))
 
-  pub count_all : (i names total : ℕ) → n ≤ i → names + length (rows_where p i (n - i)) ≡ total → names ≡ total
-  count_all i names total l e = omega (arith, ap length (where_none p i n l))
+  pub count_past : i < n → p i ≡ false → names + length (rows_where p i (n - i)) ≡ total →
+      names + length (rows_where p (i + 1) (n - (i + 1))) ≡ total
+  count_past l h e =
+      let k : ◌≡◌ {A = ℕ} (cond (p i) 1 0) 0 = rw h in
+      omega (arith, ap length (where_one p i n l), kept_length (p i) i (rows_where p (i + 1) (n - (i + 1))))
+
+  pub count_all : n ≤ i → names + length (rows_where p i (n - i)) ≡ total → names ≡ total
+  count_all l e = omega (arith, ap length (where_none p i n l))
 
 -- ---- names
 
@@ -95,22 +75,17 @@ names_length prelude pws count text ws n =
 
 -- ---- units
 
-pub unit_true : (ws : List ℕ) (i : ℕ) → get_or ws (i * 8) 0 ≡ KeywordUnit → is_unit_head ws i ≡ true
-unfolding is_unit_head
-unit_true ws i e = eq-eqb _ _ e
+module _ (ws : List ℕ) (n i : ℕ) where
+  -- what is found from row i on: that row, or what is found after it
+  pub unit_here : i < n → get_or ws (i * 8) 0 ≡ KeywordUnit → first_of (rows_where (is_unit_head ws) i (n - i)) ≡ Some i
+  unfolding is_unit_head kept_if first_of
+  unit_here l e = rw (where_one (is_unit_head ws) i n l, eq-eqb _ _ e)
 
-pub unit_false : (ws : List ℕ) (i : ℕ) → (get_or ws (i * 8) 0 ≡ KeywordUnit → ⊥) → is_unit_head ws i ≡ false
-unfolding is_unit_head
-unit_false ws i h = ne_eqb _ _ h
+  pub unit_later : i < n → (get_or ws (i * 8) 0 ≡ KeywordUnit → ⊥) →
+      first_of (rows_where (is_unit_head ws) i (n - i)) ≡ first_of (rows_where (is_unit_head ws) (i + 1) (n - (i + 1)))
+  unfolding is_unit_head kept_if
+  unit_later l h = rw (where_one (is_unit_head ws) i n l, ne_eqb _ _ h)
 
-pub first_none : first_of [] ≡ missing
-unfolding first_of
-first_none = refl
-
-pub first_here : (t : Bool) (i : ℕ) (rows : List ℕ) → t ≡ true → first_of (kept_if t i rows) ≡ i
-unfolding kept_if first_of
-first_here t i rows e = rw e
-
-pub first_later : (t : Bool) (i : ℕ) (rows : List ℕ) → t ≡ false → first_of (kept_if t i rows) ≡ first_of rows
-unfolding kept_if
-first_later t i rows e = rw e
+  pub unit_none : n ≤ i → first_of (rows_where (is_unit_head ws) i (n - i)) ≡ None
+  unfolding first_of
+  unit_none l = rw (where_none (is_unit_head ws) i n l)

@@ -1,44 +1,28 @@
--- Laws of the order of names, byte by byte: what is left of two names from an index on.
-use mathlib.Core.Path.{◌≡◌, refl, sym, ap, ◌∙◌}
-use mathlib.Core.Bool.{Bool, true, false, cond}
+-- Names compared by the library answer as the definitions do.
+use mathlib.Core.Path.{◌≡◌, refl, ap, ◌∙◌}
+use mathlib.Core.Bool.{Bool, ◌&&◌}
 use mathlib.Core.List.{List, [], ◌∷◌}
-use Prim.Native.Nat.{ℕ, zero, suc, ◌+◌, ◌-◌, ◌≤◌, ◌<◌}
-use native.Mathlib.Numerals.{add-one}
+use Prim.Native.Nat.{ℕ}
 use native.Mathlib.Omega.{arith}
-use lib.ListN.{length, drop, get_or, drop_of_length-le}
-use lib.Seq.{drop-cons}
-use lib.Dec.{eqb, ltb}
-use borrow.Author.Tests.{eq-eqb, ne_eqb, lt-ltb, le-ltb}
+use lib.Dec.{eqb}
+use Rattle.std.specs.Prelude.{Some}
+use Rattle.std.specs.Ordering.{nat_cmp, is_lt, is_some_and}
+use Rattle.std.specs.Cmp.Lexicographic.{slice_partial_cmp, pointwise}
+use Rattle.std.proofs.lemmas.Cmp.{same_from_slice_cmp_tested}
+use Rattle.std.proofs.lemmas.Bool.Decides.{nat_tests}
+use Rattle.rules.specs.Kinds.{same_bytes}
 use Rattle.rules_program.specs.Names.{comes_before}
 
-before_nothing : (b : List ℕ) → comes_before [] b ≡ ltb 0 (length b)
+pub less_says : (a b : List ℕ) (r : Bool) → r ≡ is_some_and is_lt (slice_partial_cmp (λ x y. Some (nat_cmp x y)) a b) → r ≡ comes_before a b
 unfolding comes_before
-before_nothing [] = sym (le-ltb 0 0 (omega arith))
-before_nothing (y ∷ ys) = sym (lt-ltb 0 (suc (length ys)) (omega arith))
+less_says = same_from_slice_cmp_tested nat_cmp is_lt comes_before refl (λ _ _. refl) (λ _ _. refl) (λ x y xs ys o h. grind (arith, nat_tests))
 
-module _ (a b : List ℕ) (i : ℕ) where
-  -- both have a byte
-  before_one : i < length a → i < length b →
-      comes_before (drop i a) (drop i b)
-      ≡ cond (eqb (get_or a i 0) (get_or b i 0)) (comes_before (drop (i + 1) a) (drop (i + 1) b)) (ltb (get_or a i 0) (get_or b i 0))
-  unfolding comes_before
-  before_one l m = rw (drop-cons a i 0 l, drop-cons b i 0 m, add-one i)
+same_along : (a b : List ℕ) → pointwise eqb a b ≡ same_bytes a b
+unfolding same_bytes
+same_along [] [] = refl
+same_along [] (y ∷ ys) = refl
+same_along (x ∷ xs) [] = refl
+same_along (x ∷ xs) (y ∷ ys) = ap (λ (t : Bool). eqb x y && t) (same_along xs ys)
 
-  pub before_same : i < length a → i < length b → get_or a i 0 ≡ get_or b i 0 → comes_before (drop i a) (drop i b) ≡ comes_before (drop (i + 1) a) (drop (i + 1) b)
-  before_same l m e = before_one l m ∙ rw (eq-eqb _ _ e)
-
-  pub before_other : i < length a → i < length b → (get_or a i 0 ≡ get_or b i 0 → ⊥) → comes_before (drop i a) (drop i b) ≡ ltb (get_or a i 0) (get_or b i 0)
-  before_other l m h = before_one l m ∙ rw (ne_eqb _ _ h)
-
-  -- one has ended
-  pub before_short : i < length a → length b ≤ i → comes_before (drop i a) (drop i b) ≡ false
-  unfolding comes_before
-  before_short l m = rw (drop-cons a i 0 l, drop_of_length-le b m)
-
-  pub before_ended : length a ≤ i → i ≤ length b → comes_before (drop i a) (drop i b) ≡ ltb i (length b)
-  before_ended l m =
-      rw (drop_of_length-le a l) (before_nothing (drop i b) ∙ by (length (drop i b)) (lib.ListN.length-drop i b))
-    where
-      by : (n : ℕ) → n ≡ length b - i → ltb 0 n ≡ ltb i (length b)
-      by zero e = le-ltb 0 0 (omega arith) ∙ sym (le-ltb i (length b) (omega arith))
-      by (suc n) e = lt-ltb 0 (suc n) (omega arith) ∙ sym (lt-ltb i (length b) (omega arith))
+pub same_says : (a b : List ℕ) (r : Bool) → r ≡ pointwise eqb a b → r ≡ same_bytes a b
+same_says a b r e = e ∙ same_along a b

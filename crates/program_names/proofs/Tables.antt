@@ -2,26 +2,17 @@
 use Prim.Native.Nat.{ℕ, ◌+◌, ◌-◌, ◌*◌, ◌≤◌, ◌<◌}
 use mathlib.Core.List.{List}
 use native.Mathlib.Omega.{arith}
-use mathlib.Core.Path.{◌≡◌}
-use lib.ListN.{length, take, drop, get_or}
+use mathlib.Core.Path.{◌≡◌, ◌∙◌}
+use mathlib.Core.Bool.{true, false, true≢false}
+use lib.ListN.{take, drop, get_or}
 use borrow.Author.Tests.{lt-ltb, le-ltb}
 use Rattle.laws.proofs.Rows.{start_word, end_word}
 use Rattle.rules.specs.Rows.{row_no, spelling}
 use Rattle.rules_program.specs.Find.{spelling_of_both}
-use Rattle.parse_nodes.specs.Names.{Spans}
-use Rattle.parse.specs.Program.{AsksTable}
-use Rattle.program_names.specs.Asks.{AsksKind, AsksRow, AsksKinds, AsksBoth}
-
-pub fewer : (t ws : List ℕ) (m n : ℕ) → m ≤ n → AsksTable t ws n → AsksTable t ws m
-fewer t ws m n l a = record {
-  lent = let h : n * 8 ≤ length ws = a.lent in omega arith;
-  short = let h : n ≤ 65537 = a.short in omega arith;
-  spans = record {
-    order = λ i h. a.spans.order i (omega arith);
-    inside = λ i h. a.spans.inside i (omega arith);
-    quotes = λ i h. a.spans.quotes i (omega arith);
-  };
-}
+use Rattle.rules.specs.Kinds.{Eof}
+use Rattle.parse.specs.Program.{AsksEnded}
+use Rattle.program_names.specs.Heads.{kind_of_both, is_head}
+use Rattle.program_names.proofs.Heads.{kind_later}
 
 -- the part of a text between a row's start and end
 pub part_says : (t ws : List ℕ) (row : ℕ) →
@@ -39,23 +30,16 @@ module _ (prelude pws : List ℕ) (count : ℕ) (text ws : List ℕ) (row : ℕ)
   unfolding spelling_of_both
   spelled_later l = rw (le-ltb row count l)
 
--- what is asked of both tables serves for each row of both
-module _ {prelude pws : List ℕ} {count : ℕ} {text ws : List ℕ} {more : ℕ} (a : AsksBoth prelude pws count text ws more) where
-  pub row_of : (row : ℕ) → row < count + more → AsksRow prelude pws count text ws row
-  row_of row l = record {
-    of_prelude = a.of_prelude.table;
-    of_probe = fewer text ws (row + 1 - count) more (omega arith) a.of_probe.table;
-  }
+-- no head is the last row of both, which is Eof
+last_no_head : (pws : List ℕ) (count : ℕ) (ws : List ℕ) (row : ℕ) → kind_of_both pws count ws row ≡ Eof → is_head pws count ws row ≡ false
+unfolding is_head
+last_no_head pws count ws row e = rw e
 
-  pub kind_of_lem : (row : ℕ) → row < count + more → AsksKind pws count ws row
-  kind_of_lem row l = record {
-    of_prelude = a.of_prelude.table.lent;
-    of_probe = let h : more * 8 ≤ length ws = a.of_probe.table.lent in omega arith;
-  }
-
-  pub kinds_of : AsksKinds pws count ws more
-  kinds_of = record {
-    of_prelude = a.of_prelude.table.lent;
-    of_probe = a.of_probe.table.lent;
-    short = omega (arith, a.of_prelude.table.short, a.of_probe.table.short);
-  }
+pub head_inside : (text pws : List ℕ) (count : ℕ) (ws : List ℕ) (row most : ℕ) → AsksEnded text ws most → true ≡ is_head pws count ws row →
+    row < count + most → row + 1 < count + most
+head_inside text pws count ws row most a h l =
+    let some : 0 < most = a.some in
+    let ne : row + 1 ≡ count + most → ⊥ =
+    λ e. true≢false
+    (h ∙ last_no_head pws count ws row (kind_later pws count ws row (omega arith) ∙ a.closed (row - count) (omega arith))) in
+    omega arith

@@ -1,9 +1,8 @@
 -- "A site prelude", names by the kinds of rows. The rows are those of the prelude and then those of the probe. In a program the keywords of
 -- a map and of an event stand at its head alone, and the name in the row after it.
-use Rattle.std.specs.Prelude.{Bool, true, false, cond, ◌||◌, List, [], ◌∷◌, map, ℕ, zero, suc, ◌+◌, ◌-◌, ◌*◌, get_or, eqb, ltb}
+use Rattle.std.specs.Prelude.{Bool, true, false, cond, ◌||◌, List, [], ◌∷◌, map, ℕ, zero, suc, ◌+◌, ◌-◌, ◌*◌, get_or, eqb, ltb, Option, None, Some}
 use Rattle.rules.specs.Kinds.{KeywordUnit, KeywordMap, KeywordEvent}
 use Rattle.rules.specs.Rows.{words_per_row}
-use Rattle.rules.specs.Nodes.{missing}
 use Rattle.rules_program.specs.Names.{Name}
 use Rattle.rules_program.specs.Find.{spelling_of_both}
 
@@ -19,10 +18,10 @@ unfoldable pub rows_where : (ℕ → Bool) → (i n : ℕ) → List ℕ
 rows_where p i zero = []
 rows_where p i (suc n) = kept_if (p i) i (rows_where p (i + 1) n)
 
--- the first of some rows, or missing
-unfoldable pub first_of : List ℕ → ℕ
-first_of [] = missing
-first_of (row ∷ rows) = row
+-- the first of some rows
+unfoldable pub first_of : List ℕ → Option ℕ
+first_of [] = None
+first_of (row ∷ rows) = Some row
 
 -- ---- units of one table
 

@@ -1,3 +1,4 @@
 -- Names over the rows of two texts, as definitions.
 pub mod Heads
 pub mod Asks
+pub mod Both

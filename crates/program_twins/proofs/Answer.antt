@@ -2,18 +2,18 @@
 use mathlib.Core.Path.{◌≡◌, refl, sym, ap, ◌∙◌}
 use mathlib.Core.Bool.{Bool, true, false, cond, ◌||◌, true≢false}
 use mathlib.Core.List.{List, [], ◌∷◌, map}
-use mathlib.Core.Logic.{◌⊎◌, inl, inr}
 use Prim.Native.Nat.{ℕ, zero, suc, ◌+◌, ◌≤◌, ◌<◌}
 use native.Mathlib.Decide.{ℕ_discrete}
 use native.Mathlib.Omega.{arith}
 use Rattle.rules.specs.Kinds.{same_bytes}
-use Rattle.rules.specs.Nodes.{missing}
+use Rattle.std.specs.Prelude.{Option, None, Some, IfSome}
 use Rattle.rules_program.specs.Names.{Name, has_name, twin_rows}
-use Rattle.rules_program.specs.Find.{spelling_of_both}
 use Rattle.laws.proofs.Tests.{either}
 use Rattle.laws.proofs.Spelled.{same_eq, same_self}
-use Rattle.program_names.specs.Heads.{kept_if, rows_where, first_of, is_head, name_after, head_names}
-use Rattle.program_twins.specs.Given.{Before, Twin, TwinRow, First, first_twin}
+use Rattle.program_names.specs.declared.Both.{Both}
+use Rattle.program_names.specs.Heads.{kept_if, rows_where, first_of, name_after, head_names}
+use Rattle.program_names.specs.Both.{heads, spelled, rows_of}
+use Rattle.program_twins.specs.Given.{Before, Twin, TwinRow, AtMost, First, twin_of}
 
 -- the names seen are those of the heads before row i
 record Seen (head : ℕ → Bool) (spelled : ℕ → List ℕ) (i : ℕ) (seen : List Name) : Type 0 where
@@ -78,30 +78,29 @@ module _ (head : ℕ → Bool) (spelled : ℕ → List ℕ) where
             (s.whole w (record { row = b.row; earlier = omega arith; is = b.is; spells = b.spells }))
 
   -- one row: what is told of the rows after it, r, is what is told of all
-  module _ (i n r : ℕ) (seen : List Name) (s : Seen head spelled i seen)
-      (small : i + suc n < missing)
-      (lower : Twin head spelled i → r ≤ i + 1)
-      (is : (r ≡ missing) ⊎ Ahead head spelled i (suc n) r)
+  module _ (i n : ℕ) (r : Option ℕ) (seen : List Name) (s : Seen head spelled i seen)
+      (lower : Twin head spelled i → AtMost r (i + 1))
+      (is : IfSome r (Ahead head spelled i (suc n)))
       (rest : List ℕ)
-      (onward : (more : List Name) → Seen head spelled (i + 1) more → ((r ≡ missing) ⊎ Ahead head spelled (i + 1) n r) →
+      (onward : (more : List Name) → Seen head spelled (i + 1) more → IfSome r (Ahead head spelled (i + 1) n) →
       first_of (twin_rows more (map (name_after spelled) rest)) ≡ r) where
-    later : (Twin head spelled i → ⊥) → (r ≡ missing) ⊎ Ahead head spelled (i + 1) n r
-    later h = go is
+    later : (Twin head spelled i → ⊥) → IfSome r (Ahead head spelled (i + 1) n)
+    later h = go r is
       where
-        go : (r ≡ missing) ⊎ Ahead head spelled i (suc n) r → (r ≡ missing) ⊎ Ahead head spelled (i + 1) n r
-        go (inl e) = inl e
-        go (inr a) =
+        go : (o : Option ℕ) → IfSome o (Ahead head spelled i (suc n)) → IfSome o (Ahead head spelled (i + 1) n)
+        go None e = e
+        go (Some x) a =
             let ne : a.row ≡ i → ⊥ = λ e. h (rw e at a.twin) in
             let l = a.low in
             let m = a.below in
-            inr (record { row = a.row; low = omega arith; below = omega arith; told = a.told; twin = a.twin })
+            record { row = a.row; low = omega arith; below = omega arith; told = a.told; twin = a.twin }
 
-    here : Twin head spelled i → i + 1 ≡ r
-    here t = go is
+    here : Twin head spelled i → Some (i + 1) ≡ r
+    here t = go r is (lower t)
       where
-        go : (r ≡ missing) ⊎ Ahead head spelled i (suc n) r → i + 1 ≡ r
-        go (inl e) = let l = lower t in absurd (omega arith)
-        go (inr a) = let l = lower t in let m = a.low in omega (arith, a.told)
+        go : (o : Option ℕ) → IfSome o (Ahead head spelled i (suc n)) → AtMost o (i + 1) → Some (i + 1) ≡ o
+        go None e l = absurd l
+        go (Some x) a l = let m = a.low in ap Some (omega (arith, a.told, l))
 
     at_head : head i ≡ true → (u : Bool) → has_name (spelled (i + 1)) seen ≡ u →
         first_of (cond u ((i + 1) ∷ twin_rows (name_after spelled i ∷ seen) (map (name_after spelled) rest)) (twin_rows (name_after spelled i ∷ seen) (map (name_after spelled) rest))) ≡ r
@@ -116,27 +115,25 @@ module _ (head : ℕ → Bool) (spelled : ℕ → List ℕ) where
     at_row true d = at_head d (has_name (spelled (i + 1)) seen) refl
     at_row false d = onward seen (seen_skip i seen s d) (later (λ t. true≢false (sym t.is ∙ d)))
 
-  answer : (n i r : ℕ) (seen : List Name) → i + n < missing → Seen head spelled i seen →
-      ((j : ℕ) → i ≤ j → j < i + n → Twin head spelled j → r ≤ j + 1) → ((r ≡ missing) ⊎ Ahead head spelled i n r) →
+  answer : (n i : ℕ) (r : Option ℕ) (seen : List Name) → Seen head spelled i seen →
+      ((j : ℕ) → i ≤ j → j < i + n → Twin head spelled j → AtMost r (j + 1)) → IfSome r (Ahead head spelled i n) →
       first_of (twin_rows seen (map (name_after spelled) (rows_where head i n))) ≡ r
   unfolding rows_where twin_rows first_of
-  answer zero i r seen small s lower (inl e) = sym e
-  answer zero i r seen small s lower (inr a) = let l = a.low in let m = a.below in absurd (omega arith)
-  answer (suc n) i r seen small s lower is =
-      at_row i n r seen s small (lower i (omega arith) (omega arith)) is (rows_where head (i + 1) n)
-      (λ more t f. answer n (i + 1) r more (omega arith) t (λ j l m w. lower j (omega arith) (omega arith) w) f)
+  answer zero i None seen s lower is = refl
+  answer zero i (Some x) seen s lower a = let l = a.low in let m = a.below in absurd (omega arith)
+  answer (suc n) i r seen s lower is =
+      at_row i n r seen s (lower i (omega arith) (omega arith)) is (rows_where head (i + 1) n)
+      (λ more t f. answer n (i + 1) r more t (λ j l m w. lower j (omega arith) (omega arith) w) f)
       (head i) refl
 
-  pub first_answer : (n r : ℕ) → n < missing → First head spelled n r → first_of (twin_rows [] (map (name_after spelled) (rows_where head 0 n))) ≡ r
-  first_answer n r small f = answer n 0 r [] (omega arith) seen_none (λ j l m t. f.lower j (omega arith) t) (go f.is)
+  pub first_answer : (n : ℕ) (r : Option ℕ) → First head spelled n r → first_of (twin_rows [] (map (name_after spelled) (rows_where head 0 n))) ≡ r
+  first_answer n r f = answer n 0 r [] seen_none (λ j l m t. f.lower j (omega arith) t) (go r f.is)
     where
-      go : (r ≡ missing) ⊎ TwinRow head spelled n r → (r ≡ missing) ⊎ Ahead head spelled 0 n r
-      go (inl e) = inl e
-      go (inr t) = let l = t.below in inr (record { row = t.row; low = omega arith; below = omega arith; told = t.told; twin = t.twin })
+      go : (o : Option ℕ) → IfSome o (TwinRow head spelled n) → IfSome o (Ahead head spelled 0 n)
+      go None e = e
+      go (Some x) t = let l = t.below in record { row = t.row; low = omega arith; below = omega arith; told = t.told; twin = t.twin }
 
 -- of two texts
-pub twin_answer : (prelude pws : List ℕ) (count : ℕ) (text ws : List ℕ) (rest r : ℕ) → count + rest < missing →
-    First (is_head pws count ws) (spelling_of_both prelude pws count text ws) (count + rest) r → r ≡ first_twin prelude pws count text ws rest
+pub twin_answer : (b : Both) (r : Option ℕ) → First (heads b) (spelled b) (rows_of b) r → r ≡ twin_of b
 unfolding head_names
-twin_answer prelude pws count text ws rest r small f =
-    sym (first_answer (is_head pws count ws) (spelling_of_both prelude pws count text ws) (count + rest) r small f)
+twin_answer b r f = sym (first_answer (heads b) (spelled b) (rows_of b) r f)

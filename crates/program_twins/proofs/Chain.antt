@@ -3,7 +3,7 @@ use mathlib.Core.Path.{◌≡◌, refl, sym, ap, ◌∙◌}
 use mathlib.Core.Bool.{Bool, true, false, ◌||◌, true≢false}
 use mathlib.Core.List.{List, [], ◌∷◌}
 use mathlib.Core.Logic.{◌⊎◌, inl, inr}
-use Prim.Native.Nat.{ℕ, suc, ◌+◌, ◌≤◌, ◌<◌}
+use Prim.Native.Nat.{ℕ, ◌+◌, ◌<◌}
 use native.Mathlib.Omega.{arith}
 use lib.ListN.{length}
 use lib.Dec.{eqb}
@@ -11,7 +11,8 @@ use borrow.Author.Tests.{eqb-true, eq-eqb}
 use Rattle.laws.proofs.Tests.{either}
 use Rattle.rules_program.specs.Names.{comes_before}
 use Rattle.program_names.specs.Heads.{rows_where}
-use Rattle.program_twins.specs.Given.{Twin, First, HeadAt, After, higher, again, Rising, none, one, more, Listed}
+use Rattle.std.specs.Prelude.{Option, None, Some, MatchOption}
+use Rattle.program_twins.specs.Given.{Twin, AtMost, First, After, higher, again, Rising, one, more, Listed}
 use Rattle.program_twins.proofs.Strict.{before_irrefl, before_trans, before_not_same}
 use Rattle.program_twins.proofs.Pigeon.{without, without_other, Apart, few}
 use Rattle.program_twins.proofs.Answer.{or_left, or_right}
@@ -27,7 +28,7 @@ data Less (spelled : ℕ → List ℕ) (l k : ℕ) : Type 0 where
   equal : spelled (l + 1) ≡ spelled (k + 1) → l < k → Less spelled l k
 
 module _ (spelled : ℕ → List ℕ) where
-  after_less : {least l k : ℕ} → After spelled least l k → Less spelled l k
+  after_less : {least : Option ℕ} {l k : ℕ} → After spelled least l k → Less spelled l k
   after_less (higher h) = lower h
   after_less (again e l m) = equal e l
 
@@ -41,11 +42,10 @@ module _ (spelled : ℕ → List ℕ) where
   less_trans x l k (equal e m) (lower g) = lower (rw e g)
   less_trans x l k (equal e m) (equal f n) = equal (e ∙ f) (omega arith)
 
-module _ (head : ℕ → Bool) (spelled : ℕ → List ℕ) (n least : ℕ) where
+module _ (head : ℕ → Bool) (spelled : ℕ → List ℕ) (n : ℕ) (least : Option ℕ) where
   -- what came stands before the last, or is it
   up_to : (x : ℕ) {k : ℕ} {g : List ℕ} → Rising head spelled n least k g → is_in x g ≡ true → (x ≡ k) ⊎ Less spelled x k
   unfolding is_in
-  up_to x none e = absurd (true≢false (sym e))
   up_to x (one {k = k} h) e = either (eqb x k) false e (λ d. inl (eqb-true x k d)) (λ d. absurd (true≢false (sym d)))
   up_to x (more {k = k} {l = l} {g = g} h a r) e =
       either (eqb x k) (is_in x g) e (λ d. inl (eqb-true x k d)) (λ d. inr (on (up_to x r d)))
@@ -57,7 +57,6 @@ module _ (head : ℕ → Bool) (spelled : ℕ → List ℕ) (n least : ℕ) wher
   -- what came is a head
   is_head : (x : ℕ) {k : ℕ} {g : List ℕ} → Rising head spelled n least k g → is_in x g ≡ true → head x ≡ true
   unfolding is_in
-  is_head x none e = absurd (true≢false (sym e))
   is_head x (one {k = k} h) e =
       either (eqb x k) false e (λ d. ap head (eqb-true x k d) ∙ h.is) (λ d. absurd (true≢false (sym d)))
   is_head x (more {k = k} {g = g} h a r) e =
@@ -70,7 +69,6 @@ module _ (head : ℕ → Bool) (spelled : ℕ → List ℕ) (n least : ℕ) wher
 
   apart_from : (p : ℕ → Bool) {k : ℕ} {g : List ℕ} → Rising head spelled n least k g → ((x : ℕ) → is_in x g ≡ true → p x ≡ true) → Apart n p g
   unfolding is_in
-  apart_from p none f = Apart.none
   apart_from p (one {k = k} h) f =
       let b = h.below in
       Apart.more {k = k} (f k (or_left (eqb k k) false (eq-eqb k k refl))) (omega arith) Apart.none
@@ -81,8 +79,8 @@ module _ (head : ℕ → Bool) (spelled : ℕ → List ℕ) (n least : ℕ) wher
       (λ x e. without_other k p x (other_row x k l a (up_to x r e)) ∙ f x (or_right (eqb x k) (is_in x g) e)))
 
   -- two heads with one name that came: the later one came right after its twin, or after another of that name
-  at_top : (i j k m : ℕ) → After spelled least m k → (i ≡ m) ⊎ Less spelled i m → j ≡ k → spelled (i + 1) ≡ spelled (j + 1) → least ≤ j + 1
-  at_top i j k m (again f w le) u d e = omega arith
+  at_top : (i j k m : ℕ) → After spelled least m k → (i ≡ m) ⊎ Less spelled i m → j ≡ k → spelled (i + 1) ≡ spelled (j + 1) → AtMost least (j + 1)
+  at_top i j k m (again f w le) u d e = rw d le
   at_top i j k m (higher f) u d e = absurd (go u)
     where
       same : spelled (i + 1) ≡ spelled (k + 1)
@@ -106,9 +104,8 @@ module _ (head : ℕ → Bool) (spelled : ℕ → List ℕ) (n least : ℕ) wher
       clash (equal f w) = omega arith
 
   side_by_side : (i j : ℕ) {k : ℕ} {g : List ℕ} → Rising head spelled n least k g → is_in i g ≡ true → is_in j g ≡ true →
-      spelled (i + 1) ≡ spelled (j + 1) → i < j → least ≤ j + 1
+      spelled (i + 1) ≡ spelled (j + 1) → i < j → AtMost least (j + 1)
   unfolding is_in
-  side_by_side i j none p q e l = absurd (true≢false (sym p))
   side_by_side i j (one {k = k} h) p q e l =
       either (eqb i k) false p
       (λ c. either (eqb j k) false q (λ d. absurd (omega (arith, eqb-true i k c, eqb-true j k d))) (λ d. absurd (true≢false (sym d))))
@@ -136,15 +133,17 @@ module _ (head : ℕ → Bool) (spelled : ℕ → List ℕ) (n least : ℕ) wher
           absurd (omega (arith, b))
 
 -- The certificate: as many names came, in order, as there are heads. Then `least` is the first that was declared before.
-pub settled : (head : ℕ → Bool) (spelled : ℕ → List ℕ) (n last count least : ℕ) → Listed head spelled n last count least →
-    count ≡ length (rows_where head 0 n) → First head spelled n least
-settled head spelled n last count least s e = record {
-  lower = λ j l t.
-      let b = t.before in
-      let m = b.earlier in
-      side_by_side head spelled n least b.row j s.rising
-      (came head spelled n least s.rising (s.long ∙ e) b.row b.is (omega arith))
-      (came head spelled n least s.rising (s.long ∙ e) j t.is l)
-      b.spells m;
-  is = s.is;
-}
+pub settled : (head : ℕ → Bool) (spelled : ℕ → List ℕ) (n : ℕ) (last : Option ℕ) (count : ℕ) (least : Option ℕ) →
+    Listed head spelled n last count least → count ≡ length (rows_where head 0 n) → First head spelled n least
+settled head spelled n last count least s e = record { lower = go last s.order; is = s.is }
+  where
+    go : (o : Option ℕ) → MatchOption o (s.given ≡ []) (λ k. Rising head spelled n least k s.given) →
+        (j : ℕ) → j < n → Twin head spelled j → AtMost least (j + 1)
+    go None z j l t = let b = few {p = head} (Apart.more {k = j} t.is l Apart.none) in absurd (omega (arith, b, ap length z, s.long))
+    go (Some k) r j l t =
+        let b = t.before in
+        let m = b.earlier in
+        side_by_side head spelled n least b.row j r
+        (came head spelled n least r (s.long ∙ e) b.row b.is (omega arith))
+        (came head spelled n least r (s.long ∙ e) j t.is l)
+        b.spells m

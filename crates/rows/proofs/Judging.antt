@@ -12,7 +12,7 @@ use Rattle.rules.specs.Rows.{spelling}
 use Rattle.rules.specs.Calls.{judged, spelling_judged, spelling_part}
 use Rattle.rows.specs.Shape.{row_no}
 use Rattle.laws.proofs.Calls.{test_fine, judged_fine}
-use Rattle.rows.proofs.Inside.{Fine, fine, row_sound, within}
+use Rattle.rows.proofs.Inside.{fine, row_sound, within}
 
 module _ (t ws : List ℕ) (tbl : Table) where
   module _ (row : ℕ) where

@@ -5,8 +5,7 @@ use native.Mathlib.Decide.{ℕ_discrete, dec_le}
 use borrow.Author.Tests.{lt-leb, not-true}
 use Rattle.rules.specs.Text.{within}
 use Rattle.rules.specs.Kinds.{Number, Eof, is_made}
-use Rattle.rules.specs.Rows.{Row, row_in, row_place, length_fits, spans_fit, value_fits, value_bits, place_fits, lines_fit}
-use Rattle.rules.specs.Rows.{row_fits, follows, gap_fits, is_eof}
+use Rattle.rules.specs.Rows.{Row, row_in, row_place, length_fits, spans_fit, value_fits, value_bits, place_fits, lines_fit, row_fits, follows, gap_fits, is_eof}
 use Rattle.rows.specs.Shape.{LengthTable, fits_after, stands_on}
 use Rattle.laws.proofs.Tests.{false_by, both_true, same_bool}
 use Rattle.rows.proofs.Inside.{sound, plain_kind}
@@ -70,6 +69,10 @@ module _ (x y r : ℕ) (small : x < 2 ^ 33) (lesser : y < 2 ^ 33) (word : r < 2 
         go : Dec (y ≤ x) → ltb r z ≡ (leb y x && ltb (x - y) z)
         go (yes p) = rw (le-leb y x p, over_is p)
         go (no p) = rw (lt-leb y x (omega arith), le-ltb r z (omega (arith, over_large (omega arith))))
+
+-- a difference around 2^64 and what was taken away make up what it was taken from
+pub wraps : (x y : ℕ) → x < 2 ^ 64 → y < 2 ^ 64 → ((x + (2 ^ 64 - y)) % 2 ^ 64 + y) % 2 ^ 64 ≡ x
+wraps x y h k = omega arith
 
 -- a difference from 1, not over z, tells that a word is 1 or more and at most z + 1
 pub from_one : (x r z : ℕ) → x < 2 ^ 32 → z < 2 ^ 32 → r < 2 ^ 64 → (r + 1) % 2 ^ 64 ≡ x → leb r z ≡ (leb 1 x && leb x (z + 1))
@@ -183,7 +186,7 @@ module _ (ws : List ℕ) (i : ℕ) where
 
   -- the eight words of row i
   pub row_words : record {
-    kind = get_or ws (i * 8) 0;
+    kind = get_or ws (i * 8 + 0) 0;
     start = get_or ws (i * 8 + 1) 0;
     end = get_or ws (i * 8 + 2) 0;
     line = get_or ws (i * 8 + 3) 0;
@@ -194,7 +197,7 @@ module _ (ws : List ℕ) (i : ℕ) where
   } ≡ row_in (drop (8 * i) ws)
   unfolding row_in
   row_words j = record {
-    kind = word 0 (i * 8) (omega arith) j;
+    kind = word 0 (i * 8 + 0) (omega arith) j;
     start = word 1 (i * 8 + 1) (omega arith) j;
     end = word 2 (i * 8 + 2) (omega arith) j;
     line = word 3 (i * 8 + 3) (omega arith) j;

@@ -1,4 +1,6 @@
 // Row tables: the words of a row, when a table is well formed, what a call over a table is told, and spellings.
+#![tactic(auto)]
+
 ghost use Rattle.std.specs.Prelude.{◌≡◌, ◌+◌, ◌*◌, ◌≤◌, length};
 ghost use Rattle.rules.specs.Rows.{well_formed};
 ghost use Rattle.rules.specs.declared.Outer.TheVariants.{NotWellFormed};
@@ -19,9 +21,10 @@ fn row_before(rows: &[u32], i: usize) -> Row
     ensures { as_row result ≡ row_before rows.now i }
 {
     if i == 0 {
-        return shape::no_row();
+        Row::none()
+    } else {
+        Row::at(rows, i - 1)
     }
-    shape::row_at(rows, i - 1)
 }
 
 // Whether the first n rows fit where they stand, none of them Eof: two rows a turn, so that the second finds the first at hand.
@@ -29,24 +32,19 @@ fn rows_stand(least: &[u32; kind::KINDS], span: &[u32; kind::KINDS], rows: &[u32
     requires { (n * 8 ≤ length rows.now) × LengthTable least.now span.now }
     ensures { result ≡ all_below (stands rows.now) n }
 {
-    let mut last = shape::no_row();
-    let mut i = 0;
-    while i + 1 < n {
-        let r = shape::row_at(rows, i);
-        if !shape::stands_on(least, span, last, r) {
+    let mut last = Row::none();
+    for pair in 0..n / 2 {
+        let r = Row::at(rows, 2 * pair);
+        if !r.stands_on(least, span, last) {
             return false;
         }
-        let q = shape::row_at(rows, i + 1);
-        if !shape::stands_on(least, span, r, q) {
+        let q = Row::at(rows, 2 * pair + 1);
+        if !q.stands_on(least, span, r) {
             return false;
         }
         last = q;
-        i += 2;
     }
-    if i < n {
-        return shape::stands_on(least, span, last, shape::row_at(rows, i));
-    }
-    true
+    n % 2 == 0 || Row::at(rows, n - 1).stands_on(least, span, last)
 }
 
 // Whether row i fits where it stands, and is Eof at the text's size.
@@ -60,14 +58,8 @@ fn row_closes(
     requires { (i * 8 + 8 ≤ length rows.now) × LengthTable least.now span.now }
     ensures { result ≡ closes rows.now size i }
 {
-    let r = shape::row_at(rows, i);
-    if r.kind != kind::EOF {
-        return false;
-    }
-    if r.start != size {
-        return false;
-    }
-    shape::row_stands(least, span, row_before(rows, i), r)
+    let r = Row::at(rows, i);
+    r.kind == kind::EOF && r.start == size && r.fits_behind(least, span, row_before(rows, i))
 }
 
 // Whether a refused ending's place fits behind so many rows, within the text's size.
@@ -75,18 +67,9 @@ fn place_breaks(rows: &[u32], size: u32, count: usize, p: Cursor) -> bool
     requires { count * 8 ≤ length rows.now }
     ensures { result ≡ breaks rows.now size count p }
 {
-    let offset = p.offset.0;
-    if size < offset {
-        return false;
-    }
-    if !shape::place_fits(p) {
-        return false;
-    }
-    if count == 0 {
-        return true;
-    }
-    let r = shape::row_at(rows, count - 1);
-    shape::place_behind(r, p)
+    p.offset.0 <= size
+        && shape::place_fits(p)
+        && (count == 0 || Row::at(rows, count - 1).is_before(p))
 }
 
 // Whether a table is well formed.
@@ -165,7 +148,7 @@ pub fn spelling<'a>(text: &'a [u8], rows: &[u32], table: Table, row: u32) -> &'a
 {
     match spelling_judge(text, rows, table, row) {
         Ok(()) => {
-            let r = shape::row_at(rows, row as usize);
+            let r = Row::at(rows, row as usize);
             let start = r.start as usize;
             let end = r.end as usize;
             &text[start..end]

@@ -1,6 +1,6 @@
 -- Worked cases: maps by their facts, and texts, where an easy misreading would tell another rule. Each table is under one theorem that the
 -- checker computes.
-use Rattle.std.specs.Prelude.{◌≡◌, refl, List, [], ◌∷◌, ◌++◌, map, ℕ, ◌+◌, ◌^◌, length}
+use Rattle.std.specs.Prelude.{◌≡◌, refl, List, [], ◌∷◌, map, ℕ, ◌+◌, ◌^◌, length, Ok}
 use Rattle.rules.specs.declared.Table.{Table}
 use Rattle.rules.specs.declared.Syntax.TheVariants.{NotTopLevel}
 use Rattle.rules.specs.declared.Outer.TheVariants.{NoNodeRoom}
@@ -25,12 +25,10 @@ use Rattle.rules_program.specs.Program
 use Rattle.rules_kernel.specs.declared.Breach.{Breach}
 use Rattle.rules_kernel.specs.declared.Breach.TheVariants.{MaxZero, RingbufTyped, RingbufSize, KeySize, ValueSize}
 use Rattle.rules_kernel.specs.declared.Unloaded.TheVariants as why
-use Rattle.rules_kernel.specs.declared.Profiled.{Profiled}
-use Rattle.rules_kernel.specs.declared.Profiled.TheVariants as out
 use Rattle.rules_kernel.specs.Rules
 use Rattle.rules_kernel.specs.Rules.{Map, breaches}
 use Rattle.rules_kernel.specs.Profile
-use Rattle.rules_kernel.specs.Profile.{profile_told}
+use Rattle.rules_kernel.specs.Profile.{Profiled, refused, profile_told}
 
 -- ---- maps by their facts
 
@@ -93,14 +91,14 @@ on t told = record { text = t; kernel = 1; room = 90; told = told }
 
 -- a rule broken, at a place of the first line
 abbrev pub at : ℕ → Breach → Profiled
-at n b = out.Refused (why.Broken b) (place n 1 (n + 1)) 0
+at n b = refused (why.Broken b) (place n 1 (n + 1)) 0
 
 abbrev pub cases : List Case
 cases =
-    on (bytes "map m{type:.ringbuf;max:4096;}") (out.Nodes 2)
+    on (bytes "map m{type:.ringbuf;max:4096;}") (Ok 2)
     ∷ on (bytes "map m{type:.ringbuf;max:1;}") (at 4 RingbufSize)
     -- off, and on by another number
-    ∷ record { text = bytes "map m{type:.ringbuf;max:1;}"; kernel = 0; room = 90; told = out.Nodes 2 }
+    ∷ record { text = bytes "map m{type:.ringbuf;max:1;}"; kernel = 0; room = 90; told = Ok 2 }
     ∷ record { text = bytes "map m{type:.ringbuf;max:0;}"; kernel = 7; room = 90; told = at 4 MaxZero }
     -- the first map that breaks a rule, not the smallest number of all
     ∷ on (bytes "map m{type:.ringbuf;max:1;}map n{type:.ringbuf;max:0;}") (at 4 RingbufSize)
@@ -108,10 +106,10 @@ cases =
     -- the facts decide, not the fields that a later one replaced
     ∷ on (bytes "map m{type:.ringbuf;key:u64;value:u64;type:.array;max:1;}") (at 4 KeySize)
     ∷ on (bytes "map m{type:.hash;key:u32;type:.ringbuf;max:4096;}") (at 4 RingbufTyped)
-    ∷ on (bytes "map m{type:.ringbuf;max:1;max:8192;}") (out.Nodes 2)
+    ∷ on (bytes "map m{type:.ringbuf;max:1;max:8192;}") (Ok 2)
     -- the rules stand behind every other refusal, a later declaration's and 5 among them
-    ∷ on (bytes "map m{type:.ringbuf;max:0;};") (out.Refused (why.Unread (reason.Syntax NotTopLevel)) (place 27 1 28) 0)
-    ∷ record { text = bytes "map m{type:.ringbuf;max:0;}"; kernel = 1; room = 0; told = out.Refused (why.Unread (reason.Outer NoNodeRoom)) start_place 0 }
+    ∷ on (bytes "map m{type:.ringbuf;max:0;};") (refused (why.Unread (reason.Syntax NotTopLevel)) (place 27 1 28) 0)
+    ∷ record { text = bytes "map m{type:.ringbuf;max:0;}"; kernel = 1; room = 0; told = refused (why.Unread (reason.Outer NoNodeRoom)) start_place 0 }
     ∷ []
 
 pub right : (map breaches maps ≡ breach) × (map answer cases ≡ cases)

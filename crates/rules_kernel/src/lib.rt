@@ -1,5 +1,7 @@
 // The plain data that the definitions and the code of the kernel's map rules share: which rule a map breaks, and what a parse under them
 // tells.
+#![tactic(auto)]
+
 use rules::{Cursor, Reason};
 
 // The rules: 60, max is zero; 61, a ringbuf has a key or a value; 62, a ringbuf's size; 63, a key's size; 64, a value's size.
@@ -19,9 +21,10 @@ pub enum Unloaded {
     Broken(Breach),
 }
 
-// So many nodes are written; or why none is, where, and the kind that 21 found.
+// Why no node is written, where, and the kind that 21 found.
 #[derive(Clone, Copy)]
-pub enum Profiled {
-    Nodes(u32),
-    Refused(Unloaded, Cursor, u32),
+pub struct Refused {
+    pub why: Unloaded,
+    pub at: Cursor,
+    pub found: u32,
 }

@@ -1,6 +1,6 @@
 -- Worked cases: the layouts of small texts byte by byte, and what the call tells and leaves where an easy misreading would do another
 -- thing. Each table is under one theorem that the checker computes.
-use Rattle.std.specs.Prelude.{◌≡◌, refl, List, [], ◌∷◌, ◌++◌, map, ℕ, length, set, replicate, None}
+use Rattle.std.specs.Prelude.{◌≡◌, refl, List, [], ◌∷◌, ◌++◌, map, ℕ, length, set, replicate, None, Result, Ok, Err}
 use Rattle.rules.specs.declared.Table.{Table}
 use Rattle.rules.specs.Text
 use Rattle.rules.specs.Text.{bytes}
@@ -19,8 +19,7 @@ use Rattle.rules.specs.Parse
 use Rattle.rules.specs.Parse.{Out, ok, no}
 use Rattle.rules.specs.Calls
 use Rattle.rules_decimal.specs.Decimal
-use Rattle.rules_layout.specs.declared.LaidOut.{LaidOut}
-use Rattle.rules_layout.specs.declared.LaidOut.TheVariants as out
+use Rattle.rules_layout.specs.declared.Unlaid.{Unlaid}
 use Rattle.rules_layout.specs.declared.Unlaid.TheVariants.{NotItsTree, NoRoom}
 use Rattle.rules_layout.specs.Rows as Written
 use Rattle.rules_layout.specs.Bytes
@@ -100,7 +99,7 @@ right = refl
 
 -- what a call tells, and how it leaves the room
 pub record Does : Type 0 where
-  pub told : LaidOut
+  pub told : Result ℕ Unlaid
   pub room : List ℕ
 
 -- the table of a text, and its nodes
@@ -143,10 +142,10 @@ abbrev pub does_with : List ℕ → Table → List ℕ → ℕ → Does
 does_with ws tbl ns n = does_of probe ws tbl ns n
 
 abbrev pub refused : Does
-refused = record { told = out.Refused NotItsTree; room = replicate 20 7 }
+refused = record { told = Err NotItsTree; room = replicate 20 7 }
 
 abbrev pub done : Does
-done = record { told = out.Bytes 15; room = bytes "unit u {\nx ;\n}\n" ++ replicate 5 7 }
+done = record { told = Ok 15; room = bytes "unit u {\nx ;\n}\n" ++ replicate 5 7 }
 
 abbrev pub calls : List Does
 calls =
@@ -172,12 +171,12 @@ calls =
 
 pub calls_right :
     calls
-    ≡ (record { told = out.Bytes 0; room = [] }
-    ∷ record { told = out.Bytes 15; room = bytes "unit u {\nx ;\n}\n" }
-    ∷ record { told = out.Refused NoRoom; room = replicate 14 7 }
-    ∷ record { told = out.Refused NotItsTree; room = [] }
-    ∷ record { told = out.Refused NotItsTree; room = [] }
-    ∷ record { told = out.Refused NotItsTree; room = [] }
+    ≡ (record { told = Ok 0; room = [] }
+    ∷ record { told = Ok 15; room = bytes "unit u {\nx ;\n}\n" }
+    ∷ record { told = Err NoRoom; room = replicate 14 7 }
+    ∷ record { told = Err NotItsTree; room = [] }
+    ∷ record { told = Err NotItsTree; room = [] }
+    ∷ record { told = Err NotItsTree; room = [] }
     ∷ refused
     ∷ done
     ∷ refused ∷ refused ∷ refused ∷ refused ∷ refused ∷ [])

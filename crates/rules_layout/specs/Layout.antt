@@ -1,20 +1,18 @@
 -- "Lay out a probe", the call: what it tells, and what it leaves in the lent room. Lent are a text, rows and their table, nodes and their
 -- count, and a room of bytes.
-use Rattle.std.specs.Prelude.{Bool, true, false, cond, ◌&&◌, List, [], ◌++◌, ℕ, ◌*◌, length, take, drop, eqb, leb, Ok, Err, None, Some}
+use Rattle.std.specs.Prelude.{Bool, true, false, cond, ◌&&◌, List, [], ◌++◌, ℕ, length, take, drop, eqb, leb, None, Some, Result, Ok, Err}
 use Rattle.rules.specs.Outcomes.{Ending}
 use Rattle.rules.specs.declared.Table.{Table}
 use Rattle.rules.specs.Text.{most_bytes, text_judged}
 use Rattle.rules.specs.Kinds.{same_bytes}
-use Rattle.rules.specs.Rows.{words_per_row, words_of}
+use Rattle.rules.specs.Rows.{words_of}
 use Rattle.rules.specs.Scan.{read_rows, read_ending, scan}
 use Rattle.rules.specs.Tree.{Tree}
-use Rattle.rules.specs.Nodes.{words_per_node, size, tree_words}
+use Rattle.rules.specs.Nodes.{size, tree_words}
 use Rattle.rules.specs.Parse.{Out, ok, no, parse}
 use Rattle.rules.specs.Calls.{tokens}
 use Rattle.rules_layout.specs.declared.Unlaid.{Unlaid}
 use Rattle.rules_layout.specs.declared.Unlaid.TheVariants.{NotItsTree, NoRoom}
-use Rattle.rules_layout.specs.declared.LaidOut.{LaidOut}
-use Rattle.rules_layout.specs.declared.LaidOut.TheVariants as out
 use Rattle.rules_layout.specs.Bytes.{layout}
 
 -- ---- "the lent text's tree"
@@ -59,18 +57,18 @@ laid_of (no why r) = []
 -- ---- what the call tells: "3 for nodes that aren't the lent text's tree, 4 exactly if the layout is longer than the lent room or than
 -- 65,536 bytes"
 
-unfoldable pub room_told : List ℕ → ℕ → LaidOut
-room_told bytes room = cond (leb (length bytes) room && leb (length bytes) most_bytes) (out.Bytes (length bytes)) (out.Refused NoRoom)
+unfoldable pub room_told : List ℕ → ℕ → Result ℕ Unlaid
+room_told bytes room = cond (leb (length bytes) room && leb (length bytes) most_bytes) (Ok (length bytes)) (Err NoRoom)
 
-unfoldable pub tree_told : Out → List ℕ → ℕ → ℕ → LaidOut
-tree_told (ok u j) nodes count room = cond (is_tree u nodes count) (room_told (layout u) room) (out.Refused NotItsTree)
-tree_told (no why r) nodes count room = out.Refused NotItsTree
+unfoldable pub tree_told : Out → List ℕ → ℕ → ℕ → Result ℕ Unlaid
+tree_told (ok u j) nodes count room = cond (is_tree u nodes count) (room_told (layout u) room) (Err NotItsTree)
+tree_told (no why r) nodes count room = Err NotItsTree
 
-unfoldable pub layout_told : List ℕ → List ℕ → Table → List ℕ → ℕ → ℕ → LaidOut
+unfoldable pub layout_told : List ℕ → List ℕ → Table → List ℕ → ℕ → ℕ → Result ℕ Unlaid
 layout_told t ws tbl nodes count room =
     elim (text_judged t) [
-      | Ok _ ↦ cond (is_scan t ws tbl) (tree_told (reading t) nodes count room) (out.Refused NotItsTree)
-      | Err e ↦ out.Refused NotItsTree
+      | Ok _ ↦ cond (is_scan t ws tbl) (tree_told (reading t) nodes count room) (Err NotItsTree)
+      | Err e ↦ Err NotItsTree
     ]
 
 -- ---- what it leaves: the layout, and then what was there; "the room is then untouched"
@@ -78,6 +76,6 @@ layout_told t ws tbl nodes count room =
 unfoldable pub layout_leaves : List ℕ → List ℕ → Table → List ℕ → ℕ → List ℕ → List ℕ
 layout_leaves t ws tbl nodes count room =
     elim (layout_told t ws tbl nodes count (length room)) [
-      | out.Bytes n ↦ laid_of (reading t) ++ drop n room
-      | out.Refused why ↦ room
+      | Ok n ↦ laid_of (reading t) ++ drop n room
+      | Err why ↦ room
     ]

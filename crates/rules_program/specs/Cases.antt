@@ -3,8 +3,8 @@
 use Rattle.std.specs.Prelude.{◌≡◌, refl, List, [], ◌∷◌, ◌++◌, map, ℕ, ◌+◌, length, replicate}
 use Rattle.rules.specs.declared.Table.{Table}
 use Rattle.rules.specs.declared.Cursor.{Cursor}
-use Rattle.rules.specs.declared.Outer.TheVariants.{BadByte, NotWellFormed, NoNodeRoom}
-use Rattle.rules.specs.declared.Syntax.TheVariants.{Wanted, NotTopLevel, NotMapField}
+use Rattle.rules.specs.declared.Outer.TheVariants.{BadByte, NoNodeRoom}
+use Rattle.rules.specs.declared.Syntax.TheVariants.{NotTopLevel, NotMapField}
 use Rattle.rules.specs.declared.Reason.TheVariants as reason
 use Rattle.rules.specs.Text
 use Rattle.rules.specs.Text.{bytes, place, start_place}
@@ -23,12 +23,10 @@ use Rattle.rules.specs.Parse
 use Rattle.rules.specs.Calls
 use Rattle.rules_program.specs.declared.Which.TheVariants.{Prelude, Probe}
 use Rattle.rules_program.specs.declared.Unjoined.TheVariants as why
-use Rattle.rules_program.specs.declared.Joined.{Joined}
-use Rattle.rules_program.specs.declared.Joined.TheVariants as out
 use Rattle.rules_program.specs.Both
 use Rattle.rules_program.specs.Names
 use Rattle.rules_program.specs.Program
-use Rattle.rules_program.specs.Program.{program_told, program_leaves_nodes, program_leaves_index}
+use Rattle.rules_program.specs.Program.{Told, joined, refused, program_told, program_leaves_nodes, program_leaves_index}
 
 -- a text's own rows and table
 abbrev pub rows_of : List ℕ → List ℕ
@@ -43,7 +41,7 @@ pub record Case : Type 0 where
   pub probe : List ℕ
   pub nodes : ℕ
   pub entries : ℕ
-  pub told : Joined
+  pub told : Told
 
 abbrev pub answer : Case → Case
 answer c =
@@ -56,7 +54,7 @@ answer c =
           c.entries;
     }
 
-abbrev pub pair : (prelude probe : List ℕ) (nodes entries : ℕ) → Joined → Case
+abbrev pub pair : (prelude probe : List ℕ) (nodes entries : ℕ) → Told → Case
 pair prelude probe nodes entries told =
     record { prelude = prelude; probe = probe; nodes = nodes; entries = entries; told = told }
 
@@ -67,25 +65,25 @@ in_line n = place n 1 (n + 1)
 abbrev pub cases : List Case
 cases =
     -- nothing at all: two rows, one node
-    pair [] [] 2 0 (out.Program 1 0)
+    pair [] [] 2 0 (joined 1 0)
     -- an event of the prelude, and the units of the probe
-    ∷ pair (bytes "event e{}") (bytes "unit u{}") 10 1 (out.Program 3 1)
+    ∷ pair (bytes "event e{}") (bytes "unit u{}") 10 1 (joined 3 1)
     -- the prelude's own refusal comes first, then the probe's; 5 after both
-    ∷ pair (bytes "map a{") (0xFF ∷ []) 0 0 (out.Refused (why.Own (reason.Syntax NotMapField)) (in_line 6) 0 Prelude)
-    ∷ pair [] (0xFF ∷ []) 0 0 (out.Refused (why.Own (reason.Outer BadByte)) (in_line 0) 0 Probe)
-    ∷ pair (bytes ";") [] 0 0 (out.Refused (why.Own (reason.Syntax NotTopLevel)) (in_line 0) 0 Prelude)
-    ∷ pair [] (bytes ";") 0 0 (out.Refused (why.Own (reason.Syntax NotTopLevel)) (in_line 0) 0 Probe)
-    ∷ pair [] [] 1 0 (out.Refused (why.Own (reason.Outer NoNodeRoom)) start_place 0 Prelude)
+    ∷ pair (bytes "map a{") (0xFF ∷ []) 0 0 (refused (why.Own (reason.Syntax NotMapField)) (in_line 6) 0 Prelude)
+    ∷ pair [] (0xFF ∷ []) 0 0 (refused (why.Own (reason.Outer BadByte)) (in_line 0) 0 Probe)
+    ∷ pair (bytes ";") [] 0 0 (refused (why.Own (reason.Syntax NotTopLevel)) (in_line 0) 0 Prelude)
+    ∷ pair [] (bytes ";") 0 0 (refused (why.Own (reason.Syntax NotTopLevel)) (in_line 0) 0 Probe)
+    ∷ pair [] [] 1 0 (refused (why.Own (reason.Outer NoNodeRoom)) start_place 0 Prelude)
     -- 50 at the unit's keyword, before 51
-    ∷ pair (bytes "event a{} event a{} unit u{}") [] 40 0 (out.Refused why.UnitInPrelude (in_line 20) 0 Prelude)
+    ∷ pair (bytes "event a{} event a{} unit u{}") [] 40 0 (refused why.UnitInPrelude (in_line 20) 0 Prelude)
     -- 51 at the later name, before 4; maps and events share their names, units have none
-    ∷ pair (bytes "event e{}") (bytes "event e{}") 40 0 (out.Refused why.DeclaredTwice (in_line 6) 0 Probe)
-    ∷ pair (bytes "event e{}map e{type:.ringbuf;max:1;}") [] 40 1 (out.Refused why.DeclaredTwice (in_line 13) 0 Prelude)
-    ∷ pair (bytes "event u{}") (bytes "unit u{}unit u{}") 40 1 (out.Program 4 1)
+    ∷ pair (bytes "event e{}") (bytes "event e{}") 40 0 (refused why.DeclaredTwice (in_line 6) 0 Probe)
+    ∷ pair (bytes "event e{}map e{type:.ringbuf;max:1;}") [] 40 1 (refused why.DeclaredTwice (in_line 13) 0 Prelude)
+    ∷ pair (bytes "event u{}") (bytes "unit u{}unit u{}") 40 1 (joined 4 1)
     -- of a, b, b, a it is the third
-    ∷ pair (bytes "event a{}event b{}") (bytes "event b{}event a{}") 40 0 (out.Refused why.DeclaredTwice (in_line 6) 0 Probe)
+    ∷ pair (bytes "event a{}event b{}") (bytes "event b{}event a{}") 40 0 (refused why.DeclaredTwice (in_line 6) 0 Probe)
     -- 4 last
-    ∷ pair (bytes "event e{}") (bytes "event f{}") 40 1 (out.Refused why.NoIndexRoom start_place 0 Prelude)
+    ∷ pair (bytes "event e{}") (bytes "event f{}") 40 1 (refused why.NoIndexRoom start_place 0 Prelude)
     ∷ []
 
 -- ---- what is left: nodes, then index

@@ -1,22 +1,37 @@
 -- "A site prelude": the bytes of a row of either text, and a name looked up in the index.
-use Rattle.std.specs.Prelude.{Bool, true, cond, ◌&&◌, List, ℕ, suc, zero, ◌+◌, ◌-◌, ◌*◌, length, get_or, leb, ltb, Ok, Err}
+use Rattle.std.specs.Prelude.{Bool, true, cond, ◌&&◌, List, ℕ, suc, zero, ◌+◌, ◌-◌, ◌*◌, length, get_or, leb, ltb, Option, None, Some, Result, Ok, Err}
+use Rattle.rules.specs.declared.Cursor.{Cursor}
 use Rattle.rules.specs.declared.Table.{Table}
+use Rattle.rules.specs.declared.Outer.{Outer}
 use Rattle.rules.specs.declared.Outer.TheVariants.{NotWellFormed}
 use Rattle.rules.specs.Text.{start_place}
 use Rattle.rules.specs.Kinds.{same_bytes}
 use Rattle.rules.specs.Rows.{row_no, spelling}
 use Rattle.rules.specs.Calls.{judged}
+use Rattle.rules_program.specs.declared.Which.{Which}
 use Rattle.rules_program.specs.declared.Which.TheVariants.{Prelude, Probe}
-use Rattle.rules_program.specs.declared.Named.{Named}
-use Rattle.rules_program.specs.declared.Named.TheVariants as part
-use Rattle.rules_program.specs.declared.Found.{Found}
-use Rattle.rules_program.specs.declared.Found.TheVariants as found
+use Rattle.rules_program.specs.declared.Part.{Part}
+use Rattle.rules_program.specs.declared.Untold.{Untold}
 use Rattle.rules_program.specs.Names.{comes_before, words_per_entry}
 
 -- the spelling of a row of both, in whichever text it stands; the prelude has `count` rows
 unfoldable pub spelling_of_both : (prelude pws : List ℕ) (count : ℕ) (text ws : List ℕ) (row : ℕ) → List ℕ
 spelling_of_both prelude pws count text ws row =
     cond (ltb row count) (spelling prelude (row_no pws row)) (spelling text (row_no ws (row - count)))
+
+-- ---- what is told of a row, and of a name: its part, its node if the index has it, or why neither is told
+
+abbrev pub Named : Type 0
+Named = Result Part Untold
+
+abbrev pub Found : Type 0
+Found = Result (Option ℕ) Untold
+
+abbrev pub part : Which → (start end : ℕ) → Named
+part which start end = Ok (record { which = which; start = start; end = end })
+
+abbrev pub untold : {A : Type 0} → Outer → Cursor → Which → Result A Untold
+untold y at which = Err (record { why = y; at = at; which = which })
 
 -- a prelude and a probe, each with its rows and its table
 module _ (prelude pws : List ℕ) (ptable : Table) (text ws : List ℕ) (table : Table) where
@@ -30,17 +45,17 @@ module _ (prelude pws : List ℕ) (ptable : Table) (text ws : List ℕ) (table :
 
   unfoldable pub part_told : ℕ → Named
   part_told row =
-      cond (ltb row ptable.count) (part.Part Prelude (row_no pws row).start (row_no pws row).end)
-      (cond (is_row row) (part.Part Probe (row_no ws (row - ptable.count)).start (row_no ws (row - ptable.count)).end)
-      (part.Refused NotWellFormed start_place Prelude))
+      cond (ltb row ptable.count) (part Prelude (row_no pws row).start (row_no pws row).end)
+      (cond (is_row row) (part Probe (row_no ws (row - ptable.count)).start (row_no ws (row - ptable.count)).end)
+      (untold NotWellFormed start_place Prelude))
 
   -- the prelude's 1, 2, 3; the probe's; 3 for a row past both tables
   unfoldable pub name_told : ℕ → Named
   name_told row =
       elim (judged prelude pws ptable) [
-        | Err e ↦ part.Refused e.why e.at Prelude
+        | Err e ↦ untold e.why e.at Prelude
         | Ok _ ↦ elim (judged text ws table) [
-          | Err e ↦ part.Refused e.why e.at Probe
+          | Err e ↦ untold e.why e.at Probe
           | Ok _ ↦ part_told row
         ]
       ]
@@ -72,17 +87,17 @@ module _ (prelude pws : List ℕ) (ptable : Table) (text ws : List ℕ) (table :
 
   -- the last of the first n entries that is spelled so; where the spellings rise there is at most one
   unfoldable pub entry_told : List ℕ → ℕ → List ℕ → Found
-  entry_told index zero name = found.Nothing
+  entry_told index zero name = Ok None
   entry_told index (suc n) name =
-      cond (same_bytes (spelled_by (entry_row index n)) name) (found.Node (entry_node index n)) (entry_told index n name)
+      cond (same_bytes (spelled_by (entry_row index n)) name) (Ok (Some (entry_node index n))) (entry_told index n name)
 
   -- the prelude's 1, 2, 3; the probe's; 3 for what is no index; else the node of the entry that is spelled so
   unfoldable pub find_told : List ℕ → ℕ → List ℕ → Found
   find_told index entries name =
       elim (judged prelude pws ptable) [
-        | Err e ↦ found.Refused e.why e.at Prelude
+        | Err e ↦ untold e.why e.at Prelude
         | Ok _ ↦ elim (judged text ws table) [
-          | Err e ↦ found.Refused e.why e.at Probe
-          | Ok _ ↦ cond (is_index index entries) (entry_told index entries name) (found.Refused NotWellFormed start_place Prelude)
+          | Err e ↦ untold e.why e.at Probe
+          | Ok _ ↦ cond (is_index index entries) (entry_told index entries name) (untold NotWellFormed start_place Prelude)
         ]
       ]

@@ -1,5 +1,7 @@
 // The plain data that the definitions and the code of a site prelude share: what reading two texts as one program tells, and what finding
 // a name tells.
+#![tactic(auto)]
+
 use rules::{Cursor, Outer, Reason};
 
 // Which of two texts.
@@ -19,24 +21,34 @@ pub enum Unjoined {
     NoIndexRoom,
 }
 
-// So many nodes and so many entries are written; or why none is, where and in which text, and the kind that 21 found.
+// Two texts are one program: so many nodes and so many entries are written.
 #[derive(Clone, Copy)]
-pub enum Joined {
-    Program(u32, u32),
-    Refused(Unjoined, Cursor, u32, Which),
+pub struct Joined {
+    pub nodes: u32,
+    pub entries: u32,
 }
 
-// The part of a text that a row spells, from its first byte to the one after it, and which text; or why it is not told.
+// Why they are none, where and in which text, and the kind that 21 found.
 #[derive(Clone, Copy)]
-pub enum Named {
-    Part(Which, u32, u32),
-    Refused(Outer, Cursor, Which),
+pub struct Refused {
+    pub why: Unjoined,
+    pub at: Cursor,
+    pub found: u32,
+    pub which: Which,
 }
 
-// The node of a name, or that the index does not have it; or why it is not told.
+// The part of a text that a row spells, from its first byte to the one after it.
 #[derive(Clone, Copy)]
-pub enum Found {
-    Node(u32),
-    Nothing,
-    Refused(Outer, Cursor, Which),
+pub struct Part {
+    pub which: Which,
+    pub start: u32,
+    pub end: u32,
+}
+
+// Why a row's part or a name's node is not told, where and in which text.
+#[derive(Clone, Copy)]
+pub struct Untold {
+    pub why: Outer,
+    pub at: Cursor,
+    pub which: Which,
 }

@@ -1,27 +1,33 @@
 -- "Fleet figures", the calls: what a tallying of lent nodes and a joining of two tallies give, and a tally in C's words.
-use Rattle.std.specs.Prelude.{ℕ, ◌+◌, ◌*◌, ◌^◌, Bool, true, cond, ◌&&◌, List, [], ◌∷◌, ◌++◌, map, eqb, leb, ltb, length, get_or}
+use Rattle.std.specs.Prelude.{Result, Ok, Err, ℕ, ◌+◌, ◌*◌, ◌^◌, Bool, true, cond, ◌&&◌, List, [], ◌∷◌, ◌++◌, map, eqb, leb, ltb, length, get_or}
 use Rattle.rules.specs.Text.{most_bytes}
 use Rattle.rules.specs.Sets.{Unknown}
 use Rattle.rules.specs.Tree.{MapHash, MapProgArray}
 use Rattle.rules.specs.Nodes.{Node, words_per_node, NodeVariable, NodeUnit, NodeMap, NodeProgram}
 use Rattle.rules_tally.specs.declared.Tally.{Tally}
-use Rattle.rules_tally.specs.declared.Counting.{Counting}
-use Rattle.rules_tally.specs.declared.Counting.TheVariants as counting
-use Rattle.rules_tally.specs.declared.Tallied.{Tallied}
-use Rattle.rules_tally.specs.declared.Joining.{Joining}
-use Rattle.rules_tally.specs.declared.Joining.TheVariants as joining
-use Rattle.rules_tally.specs.declared.Joined.{Joined}
+use Rattle.rules_tally.specs.declared.NotNodes.{NotNodes}
+use Rattle.rules_tally.specs.declared.CountTooLarge.{CountTooLarge}
 use Rattle.rules_tally.specs.Tally.{nodes_in, nodes_tally, empty}
 
 -- ---- numbers: 3 and 70
 
-abbrev pub counting_number : Counting → ℕ
-counting_number counting.Whole = 0
-counting_number counting.NotNodes = 3
+abbrev pub counting_number : Result Tally NotNodes → ℕ
+counting_number (Ok t) = 0
+counting_number (Err e) = 3
 
-abbrev pub joining_number : Joining → ℕ
-joining_number joining.Whole = 0
-joining_number joining.CountTooLarge = 70
+abbrev pub joining_number : Result Tally CountTooLarge → ℕ
+joining_number (Ok t) = 0
+joining_number (Err e) = 70
+
+-- ---- the tally that is told beside the number: that of nothing beside 3, the first beside 70
+
+abbrev pub counted : Result Tally NotNodes → Tally
+counted (Ok t) = t
+counted (Err e) = empty
+
+abbrev pub joined_counts : Result Tally CountTooLarge → Tally
+joined_counts (Ok t) = t
+joined_counts (Err e) = e.first
 
 -- ---- tallying: "3 for over 131,074 nodes or a kind or type out of range, with an empty tally"
 
@@ -47,14 +53,12 @@ abbrev pub are_lent : List ℕ → ℕ → Bool
 are_lent ws n = leb (words_per_node * n) (length ws)
 
 -- 3
-abbrev pub untallied : Tallied
-untallied = record { how = counting.NotNodes; tally = empty }
+abbrev pub untallied : Result Tally NotNodes
+untallied = Err (record {})
 
-unfoldable pub tallied : List ℕ → ℕ → Tallied
+unfoldable pub tallied : List ℕ → ℕ → Result Tally NotNodes
 tallied ws n =
-    cond (leb n most_nodes && (are_lent ws n && are_countable (nodes_in n ws)))
-    (record { how = counting.Whole; tally = nodes_tally (nodes_in n ws) })
-    untallied
+    cond (leb n most_nodes && (are_lent ws n && are_countable (nodes_in n ws))) (Ok (nodes_tally (nodes_in n ws))) untallied
 
 -- ---- joining: "adds them", "70 if a joined count passes 64 bits, and then the first tally is returned"
 
@@ -86,9 +90,8 @@ all_fit (x ∷ xs) = ltb x (2 ^ 64) && all_fit xs
 abbrev pub fits : Tally → Bool
 fits t = all_fit (counts_of t)
 
-unfoldable pub joined : Tally → Tally → Joined
-joined a b =
-    cond (fits (sum a b)) (record { how = joining.Whole; tally = sum a b }) (record { how = joining.CountTooLarge; tally = a })
+unfoldable pub joined : Tally → Tally → Result Tally CountTooLarge
+joined a b = cond (fits (sum a b)) (Ok (sum a b)) (Err (record { first = a }))
 
 -- ---- in C's words: twenty of 64 bits, units by their kind, maps by their type from 1 on, events, statements, max, methods
 

@@ -1,6 +1,6 @@
 -- Worked cases: the tallies of small texts, of lent nodes, and of joinings, where an easy misreading would give another. Each table is under
 -- one theorem that the checker computes.
-use Rattle.std.specs.Prelude.{◌≡◌, refl, List, [], ◌∷◌, ◌++◌, map, ℕ, ◌-◌, ◌^◌, length, set, replicate}
+use Rattle.std.specs.Prelude.{Result, Ok, Err, ◌≡◌, refl, List, [], ◌∷◌, ◌++◌, map, ℕ, ◌-◌, ◌^◌, set, replicate}
 use Rattle.rules.specs.Text
 use Rattle.rules.specs.Text.{bytes}
 use Rattle.rules.specs.Kinds
@@ -20,10 +20,8 @@ use Rattle.rules.specs.Parse.{Out, ok, no, parse}
 use Rattle.rules.specs.Calls
 use Rattle.rules.specs.Calls.{tokens}
 use Rattle.rules_tally.specs.declared.Tally.{Tally}
-use Rattle.rules_tally.specs.declared.Counting.TheVariants as counting
-use Rattle.rules_tally.specs.declared.Tallied.{Tallied}
-use Rattle.rules_tally.specs.declared.Joining.TheVariants as joining
-use Rattle.rules_tally.specs.declared.Joined.{Joined}
+use Rattle.rules_tally.specs.declared.NotNodes.{NotNodes}
+use Rattle.rules_tally.specs.declared.CountTooLarge.{CountTooLarge}
 use Rattle.rules_tally.specs.Tally
 use Rattle.rules_tally.specs.Tally.{empty, tally_of}
 use Rattle.rules_tally.specs.Calls as Figures
@@ -35,19 +33,19 @@ use Rattle.rules_tally.specs.Calls.{tallied, untallied, joined}
 pub record Case : Type 0 where
   pub text : List ℕ
   pub tree : Tally
-  pub nodes : Tallied
+  pub nodes : Result Tally NotNodes
 
-abbrev pub whole : Tally → Tallied
-whole t = record { how = counting.Whole; tally = t }
+abbrev pub whole : Tally → Result Tally NotNodes
+whole t = Ok t
 
-abbrev pub refused : Tallied
+abbrev pub refused : Result Tally NotNodes
 refused = untallied
 
 abbrev pub tree_in : Out → Tally
 tree_in (ok t j) = tally_of t
 tree_in (no why r) = empty
 
-abbrev pub nodes_in : Out → Tallied
+abbrev pub nodes_in : Out → Result Tally NotNodes
 nodes_in (ok t j) = tallied (tree_words 0 t) (size t)
 nodes_in (no why r) = refused
 
@@ -140,7 +138,7 @@ a_node kind first last = node_words (fact_node kind 9 9 9 first 9 9 last)
 abbrev pub statements : ℕ → Tally
 statements n = record { units = none; maps = no_maps; events = 0; statements = n; max = 0; methods = 0 }
 
-abbrev pub calls : List Tallied
+abbrev pub calls : List (Result Tally NotNodes)
 calls =
     -- no node at all
     tallied [] 0
@@ -193,7 +191,7 @@ most = 2 ^ 64 - 1
 abbrev pub ends : ℕ → ℕ → Tally
 ends u m = record { units = set none 0 u; maps = no_maps; events = 0; statements = 0; max = 0; methods = m }
 
-abbrev pub joinings : List Joined
+abbrev pub joinings : List (Result Tally CountTooLarge)
 joinings =
     joined (ends 1 2) (ends 3 4)
     -- the largest count and 0, on either side
@@ -207,11 +205,11 @@ joinings =
 
 pub joinings_right :
     joinings
-    ≡ (record { how = joining.Whole; tally = ends 4 6 }
-    ∷ record { how = joining.Whole; tally = ends most most }
-    ∷ record { how = joining.CountTooLarge; tally = ends most 1 }
-    ∷ record { how = joining.CountTooLarge; tally = ends 1 1 }
-    ∷ record { how = joining.CountTooLarge; tally = ends 2 most }
+    ≡ (Ok (ends 4 6)
+    ∷ Ok (ends most most)
+    ∷ Err (record { first = ends most 1 })
+    ∷ Err (record { first = ends 1 1 })
+    ∷ Err (record { first = ends 2 most })
     ∷ [])
 unfolding Tally.unit_of Tally.map_of Tally.event_of Tally.statement_of Tally.max_of Tally.methods_of Tally.tally_by Tally.total Tally.tally_of
     Tally.node_in Tally.nodes_in Tally.node_total Tally.nodes_total Tally.nodes_tally Figures.is_countable Figures.are_countable Figures.tallied

@@ -1,4 +1,5 @@
-// The plain data that the definitions and the code of figures share: a tally, and what tallying and joining tell.
+// The plain data that the definitions and the code of figures share: a tally, and why none is given.
+#![tactic(auto)]
 
 // Twenty counts of a program, or of several together: units of each of the eleven kinds, maps of each of the five types, events,
 // statements, the sum of all max values, and the methods that each unit's kind allows, added up.
@@ -12,30 +13,12 @@ pub struct Tally {
     pub methods: u64,
 }
 
-// How a tallying went: all is counted, or 3.
+// Why nodes have no tally, 3: they are too many, not all lent, or one is of no kind.
 #[derive(Clone, Copy)]
-pub enum Counting {
-    Whole,
-    NotNodes,
-}
+pub struct NotNodes;
 
-// The nodes' tally, which is empty beside 3.
+// Why two tallies are not joined, 70: a count of both together passes 64 bits. The first is given back as it was.
 #[derive(Clone, Copy)]
-pub struct Tallied {
-    pub how: Counting,
-    pub tally: Tally,
-}
-
-// How a joining went: all is added, or 70.
-#[derive(Clone, Copy)]
-pub enum Joining {
-    Whole,
-    CountTooLarge,
-}
-
-// Both tallies together, or beside 70 the first.
-#[derive(Clone, Copy)]
-pub struct Joined {
-    pub how: Joining,
-    pub tally: Tally,
+pub struct CountTooLarge {
+    pub first: Tally,
 }

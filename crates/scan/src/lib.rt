@@ -4,33 +4,22 @@ ghost use Rattle.rules.specs.Outcomes.{Ending as Endings};
 ghost use Rattle.rules.specs.Rows.{Row};
 ghost use Rattle.rules.specs.Scan.{told as told_of, room_of, scan_told, scan_leaves};
 ghost use Rattle.scan_stop.specs.declared.Stop.TheVariants.{Over};
+ghost use Rattle.scan_stop.specs.Stop.{IsOver};
 
-use rules::{Cursor, Ending, Outer, Table, Told, Unread, limit, row};
+use rules::{Cursor, Outer, Table, Told, Unread, limit, row};
 use scan_meet::Olds;
 use scan_place::judge_text;
-use scan_stop::{Stop, Walked};
+use scan_stop::Walked;
 use scan_walk::walk;
-
-// The ending at which a walk stopped.
-fn ending_of(stop: Stop) -> Ending
-    ensures { (e : Endings) → stop ≡ Over e → result ≡ e }
-{
-    match stop {
-        Stop::Over(ending) => ending,
-        Stop::Met(_, _, _) => None,
-        Stop::Short => None,
-    }
-}
 
 // What a scan of so many bytes tells of a walk over them, with room for so many rows.
 fn told(bytes: usize, room: usize, walked: Walked) -> Told
-    requires { (bytes < 2 ^ 32) × (walked.count < 2 ^ 32) }
+    requires { (bytes < 2 ^ 32) × (walked.count < 2 ^ 32) × IsOver walked.stop }
     ensures { (rs : List Row) (e : Endings)
         → walked ≡ record { count = length rs; stop = Over e }
         → result ≡ told_of bytes room rs e }
 {
     let count = walked.count;
-    let stop = walked.stop;
     if room < count {
         return Err(Unread {
             why: Outer::NoRowRoom,
@@ -41,7 +30,7 @@ fn told(bytes: usize, room: usize, walked: Walked) -> Told
     Ok(Table {
         count: count as u32,
         length: bytes as u32,
-        ending: ending_of(stop),
+        ending: walked.stop.ending(),
     })
 }
 

@@ -9,7 +9,7 @@ use native.Mathlib.Omega.{arith}
 use lib.Dec.{eqb, leb, ltb}
 use lib.ListN.{length, drop, get_or, length-drop, drop_of_length-le}
 use lib.Seq.{drop-cons}
-use borrow.Author.Tests.{eqb-true, lt-ltb, le-ltb, leb-true, le-leb, lt-leb}
+use borrow.Author.Tests.{eqb-true, ne_eqb, lt-ltb, le-ltb, leb-true, le-leb, lt-leb}
 use Rattle.rules.specs.Text.{front, within, Range, is_tail, utf8, met, line_in, line_of, char_at, is_cut}
 use Rattle.laws.specs.Tests.{all_below}
 use Rattle.laws.proofs.Tests.{below, both_true, true_both, false_by}
@@ -72,6 +72,14 @@ module _ (b : ℕ) (h : b < 256) where
 
   pub high_is : (second (line_of b)).hi ≡ high_of b
   high_is = eqb-true _ _ (both_true (eqb (second (line_of b)).lo (low_of b)) _ seconds).1
+
+  module _ (n : b ≡ 0xE0 → ⊥) (m : b ≡ 0xF0 → ⊥) where
+    pub low_other : 0x80 ≡ (second (line_of b)).lo
+    low_other = rw (low_is, ne_eqb b 0xE0 n, ne_eqb b 0xF0 m)
+
+  module _ (n : b ≡ 0xED → ⊥) (m : b ≡ 0xF4 → ⊥) where
+    pub high_other : 0xBF ≡ (second (line_of b)).hi
+    high_other = rw (high_is, ne_eqb b 0xED n, ne_eqb b 0xF4 m)
 
 -- ---- how many bytes lie in a line
 
@@ -212,6 +220,9 @@ module _ (t : List ℕ) (i : ℕ) (h : i < length t) where
   -- the ways of the code through a line
   pub met_one : length at ≤ 1 → length at ≡ met at (drop i t)
   met_one l = rw (drop-cons t i 0 h) (sym (one_in first (drop (suc i) t) l))
+
+  pub char_none : length at ≡ 0 → char_at (drop i t) ≡ 0
+  char_none e = let m : length at ≤ 1 = omega arith in sym (char_yes (sym (met_one m))) ∙ e
 
   pub met_end : 1 ≤ length at → length t ≤ i + 1 → 1 ≡ met at (drop i t)
   met_end l e = rw (drop-cons t i 0 h, drop_of_length-le t {i = suc i} (omega arith)) (sym (end_in first l))

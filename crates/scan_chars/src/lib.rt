@@ -1,5 +1,7 @@
 // Characters by RFC 3629's table: the one that stands at an index of a text, whole or cut by the text's end.
-ghost use Rattle.std.specs.Prelude.{◌≡◌, min, ◌≤◌, ◌<◌, length, get_or, drop};
+#![tactic(auto)]
+
+ghost use Rattle.std.specs.Prelude.{◌≡◌, min, ◌≤◌, ◌<◌, length, get_or, drop, MatchOption};
 ghost use Rattle.rules.specs.Text.{front, is_tail, met, line_of, char_at, is_cut};
 ghost use Rattle.scan_chars.specs.Lines.{second};
 
@@ -34,77 +36,50 @@ const HIGH_SURROGATE: u8 = 0x9F;
 
 const HIGH_FOUR: u8 = 0x8F;
 
-// How many bytes a character has that begins with b; 0 if none does.
-fn line_bytes(b: u8) -> usize
-    ensures { result ≡ length (line_of b) }
+// How many bytes a character has that begins with b, if one does.
+fn line_bytes(b: u8) -> Option<usize>
+    ensures { MatchOption result (length (line_of b) ≡ 0) (λ n. (n ≡ length (line_of b)) × (0 < n)) }
 {
-    if b < FIRST_HIGH {
-        return 1;
+    match b {
+        ..FIRST_HIGH => Some(1),
+        FIRST_TWO..FIRST_THREE => Some(2),
+        FIRST_THREE..FIRST_FOUR => Some(3),
+        FIRST_FOUR..ABOVE_FOUR => Some(4),
+        _ => None,
     }
-    if b < FIRST_TWO {
-        return 0;
-    }
-    if b < FIRST_THREE {
-        return 2;
-    }
-    if b < FIRST_FOUR {
-        return 3;
-    }
-    if b < ABOVE_FOUR {
-        return 4;
-    }
-    0
-}
-
-// The least byte that may stand behind b.
-fn second_low(b: u8) -> u8
-    ensures { result ≡ (second (line_of b)).lo }
-{
-    if b == FIRST_THREE {
-        return LOW_THREE;
-    }
-    if b == FIRST_FOUR {
-        return LOW_FOUR;
-    }
-    TAIL_LOW
-}
-
-// The greatest byte that may stand behind b.
-fn second_high(b: u8) -> u8
-    ensures { result ≡ (second (line_of b)).hi }
-{
-    if b == SURROGATE {
-        return HIGH_SURROGATE;
-    }
-    if b == LAST_FOUR {
-        return HIGH_FOUR;
-    }
-    TAIL_HIGH
 }
 
 // Whether a byte may stand behind a first one.
 fn is_tail(b: u8) -> bool
     ensures { result ≡ is_tail b }
 {
-    (TAIL_LOW <= b) & (b <= TAIL_HIGH)
+    matches!(b, TAIL_LOW..=TAIL_HIGH)
 }
 
-// How many such bytes stand from an index on, n at most.
+// The least and the greatest byte that may stand second in a character of several bytes that begins with b.
+fn second(b: u8) -> (u8, u8)
+    ensures low { result.0 ≡ (second (line_of b)).lo }
+    ensures high { result.1 ≡ (second (line_of b)).hi }
+{
+    match b {
+        FIRST_THREE => (LOW_THREE, TAIL_HIGH),
+        SURROGATE => (TAIL_LOW, HIGH_SURROGATE),
+        FIRST_FOUR => (LOW_FOUR, TAIL_HIGH),
+        LAST_FOUR => (TAIL_LOW, HIGH_FOUR),
+        _ => (TAIL_LOW, TAIL_HIGH),
+    }
+}
+
+// How many tails stand from an index on, n at most.
 fn tails(text: &[u8], from: usize, n: usize) -> usize
     requires { (from ≤ length text.now) × (n ≤ 2) }
     ensures { result ≡ min n (front is_tail (drop from text.now)) }
 {
-    let mut k = 0;
-    while k < n {
-        if text.len() - from <= k {
-            return k;
-        }
-        if !is_tail(text[from + k]) {
-            return k;
-        }
-        k += 1;
-    }
-    k
+    text[from..]
+        .iter()
+        .take(n)
+        .take_while(|b| is_tail(**b))
+        .count()
 }
 
 // How many bytes from an index on lie in the line of n bytes that the one there begins.
@@ -115,30 +90,24 @@ fn met_at(text: &[u8], i: usize, n: usize) -> usize
     if n <= 1 {
         return n;
     }
-    if text.len() - i <= 1 {
+    if text.len() - i == 1 {
         return 1;
     }
-    let b = text[i];
+    let (low, high) = second(text[i]);
     let c = text[i + 1];
-    if c < second_low(b) {
-        return 1;
-    }
-    if second_high(b) < c {
+    if c < low || high < c {
         return 1;
     }
     2 + tails(text, i + 2, n - 2)
 }
 
-// How many bytes the character at an index has; 0 if none stands there.
-pub fn char_at(text: &[u8], i: usize) -> usize
+// How many bytes the character at an index has, if one stands there.
+pub fn char_at(text: &[u8], i: usize) -> Option<usize>
     requires { i < length text.now }
-    ensures { result ≡ char_at (drop i text.now) }
+    ensures { MatchOption result (char_at (drop i text.now) ≡ 0) (λ n. (n ≡ char_at (drop i text.now)) × (0 < n)) }
 {
-    let n = line_bytes(text[i]);
-    if met_at(text, i, n) != n {
-        return 0;
-    }
-    n
+    let n = line_bytes(text[i])?;
+    (met_at(text, i, n) == n).then_some(n)
 }
 
 // Whether the bytes from an index on are a proper beginning of some character.
@@ -150,9 +119,8 @@ pub fn is_cut(text: &[u8], i: usize) -> bool
     if left == 0 {
         return true;
     }
-    let n = line_bytes(text[i]);
-    if n <= left {
-        return false;
+    match line_bytes(text[i]) {
+        Some(n) if left < n => met_at(text, i, n) == left,
+        _ => false,
     }
-    met_at(text, i, n) == left
 }

@@ -1,7 +1,7 @@
 -- Laws of the end of a word: how many bits stand below the first mark, and what eight bytes at an index say of it.
 use mathlib.Core.Path.{◌≡◌, refl, sym, ap, ap₂, ◌∙◌}
 use mathlib.Core.Bool.{Bool, true, false, cond}
-use mathlib.Core.List.{List, [], ◌∷◌, map}
+use mathlib.Core.List.{List, [], ◌∷◌, ◌++◌, map}
 use Prim.Native.Nat.{ℕ, zero, suc, ◌+◌, ◌*◌, ◌/◌, ◌^◌, ◌≤◌, ◌<◌}
 use native.Mathlib.Nat.{add-suc, suc-add, mul-one, mul-suc, add-zero, zero-add}
 use native.Mathlib.Decide.{dec_lt}
@@ -16,6 +16,10 @@ use lib.Count.{under, count_trailing_zeros, trailing_of_zero}
 use Rattle.rules.specs.Text.{front}
 use Rattle.rules.specs.Lex.{is_word}
 use Rattle.laws.proofs.Fronts.{front_drop, front_first, front_part}
+use Rattle.laws.specs.Bounds.{Bytes}
+use Rattle.laws.proofs.Bounds.{below_take, below_drop}
+use Rattle.laws.proofs.Chains.{block_is}
+use Rattle.std.proofs.lemmas.List.{length-take}
 use Rattle.scan_eights.specs.Eights.{number_of, end_mark}
 
 -- a front with the byte before it, by the test of that byte
@@ -89,3 +93,20 @@ module _ (t : List ℕ) (i : ℕ) (h : i + 8 ≤ length t) where
     eight_stop z =
         front_first is_word 8 (drop i t) (omega (arith, some_mark (take 8 (drop i t)) (λ n. z (e ∙ n)), eight_long))
         ∙ sym (mark_ends (take 8 (drop i t))) ∙ rw (eight_long, e)
+
+-- what a number of marks tells of eight bytes with r behind them
+pub record Told (t : List ℕ) (i m : ℕ) (r : List ℕ) : Type 0 where
+  pub inside : i + 8 ≤ length t
+  pub behind : r ≡ drop (i + 8) t
+  pub marked : m ≡ number_of (map end_mark (take 8 (drop i t)))
+
+pub eight_told : (t : List ℕ) (i : ℕ) (x r : List ℕ) → drop i t ≡ x ++ r → length x ≡ 8 → Bytes t → {n m : ℕ} → n ≡ number_of x
+    → ((s : List ℕ) → length s ≡ 8 → Bytes s → n ≡ number_of s → m ≡ number_of (map end_mark s)) → Told t i m r
+eight_told t i x r e h u n m =
+    let b = block_is t i 8 x r e h in
+    let l : i + 8 ≤ length t = omega (arith, ap length b.0, length-take 8 (drop i t), length-drop i t) in
+    record {
+      inside = l;
+      behind = b.1;
+      marked = m (take 8 (drop i t)) (eight_long t i l) (below_take 8 (below_drop i u)) (n ∙ ap number_of b.0);
+    }

@@ -9,14 +9,6 @@ ghost use Rattle.scan_eights.specs.Eights.{number_of, end_mark};
 use rules::limit;
 use scan_words::classes;
 
-// A byte as a number that eight of them fit.
-fn wide(text: &[u8], at: usize) -> u64
-    requires { at < length text.now }
-    ensures { (result ≡ get_or text.now at 0) × (result < 256) }
-{
-    text[at] as u64
-}
-
 // What the second to the eighth byte are worth beside the first.
 const BYTE_1: u64 = 256;
 
@@ -32,15 +24,15 @@ const BYTE_6: u64 = BYTE_5 * 256;
 
 const BYTE_7: u64 = BYTE_6 * 256;
 
-// The eight bytes from an index on as one number, the first lowest.
-fn eight(text: &[u8], at: usize) -> u64
-    requires { at + 8 ≤ length text.now }
-    ensures { result ≡ number_of (take 8 (drop at text.now)) }
+// Eight bytes as one number, the first lowest.
+fn eight(bytes: &[u8]) -> u64
+    requires { length bytes.now ≡ 8 }
+    ensures { result ≡ number_of bytes.now }
 {
-    let first = (wide(text, at) + wide(text, at + 1) * BYTE_1)
-        + (wide(text, at + 2) * BYTE_2 + wide(text, at + 3) * BYTE_3);
-    let second = (wide(text, at + 4) * BYTE_4 + wide(text, at + 5) * BYTE_5)
-        + (wide(text, at + 6) * BYTE_6 + wide(text, at + 7) * BYTE_7);
+    let first = (u64::from(bytes[0]) + u64::from(bytes[1]) * BYTE_1)
+        + (u64::from(bytes[2]) * BYTE_2 + u64::from(bytes[3]) * BYTE_3);
+    let second = (u64::from(bytes[4]) * BYTE_4 + u64::from(bytes[5]) * BYTE_5)
+        + (u64::from(bytes[6]) * BYTE_6 + u64::from(bytes[7]) * BYTE_7);
     first + second
 }
 
@@ -65,15 +57,13 @@ fn end_by_one(classes: &[u8; 256], text: &[u8], at: usize) -> usize
     requires { Classes classes.now × (at ≤ length text.now) }
     ensures { result ≡ at + front is_word (drop at text.now) }
 {
-    let mut i = at;
-    while i < text.len() {
+    for i in at..text.len() {
         let class = classes[text[i] as usize];
         if classes::DIGIT < class {
             return i;
         }
-        i += 1;
     }
-    i
+    text.len()
 }
 
 // Where the letters, digits and underscores from an index on end.
@@ -82,10 +72,10 @@ pub fn word_end(classes: &[u8; 256], text: &[u8], at: usize) -> usize
     ensures { result ≡ at + front is_word (drop at text.now) }
 {
     let mut i = at;
-    while 8 <= text.len() - i {
-        let m = marks(eight(text, i));
+    for bytes in text[at..].chunks_exact(8) {
+        let m = marks(eight(bytes));
         if m != 0 {
-            return i + (u64::trailing_zeros(m) / 8) as usize;
+            return i + (m.trailing_zeros() / 8) as usize;
         }
         i += 8;
     }

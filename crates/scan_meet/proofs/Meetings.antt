@@ -1,6 +1,7 @@
 -- The old rows from a start on, by a pointer that only moves forward.
 use mathlib.Core.Path.{◌≡◌, refl, sym, ap, ◌∙◌}
-use mathlib.Core.Bool.{Bool, true, false, ◌&&◌, and-false}
+use mathlib.Core.Bool.{true, false, ◌&&◌, and-false}
+use Rattle.std.specs.Prelude.{Ok, Err}
 use mathlib.Core.List.{List, [], ◌∷◌}
 use Prim.Native.Nat.{ℕ, zero, suc, ◌+◌, ◌-◌, ◌≤◌, ◌<◌}
 use native.Mathlib.Nat.{le_of_suc-le-suc}
@@ -9,7 +10,7 @@ use native.Mathlib.Omega.{arith}
 use lib.ListN.{length, drop, get_or, length-drop}
 use lib.Seq.{drop-cons, get_or-drop}
 use lib.Dec.{eqb, ltb}
-use borrow.Author.Tests.{eq-eqb, ne_eqb, ltb-true, ltb-false, eqb-true, eqb-false, le-leb, lt-leb, lt-ltb, le-ltb}
+use borrow.Author.Tests.{eq-eqb, ne_eqb, eqb-false, le-leb, lt-leb, lt-ltb, le-ltb}
 use Rattle.rules.specs.Rows.{Row, row_in, rows_in}
 use Rattle.rules.specs.Edit.{from, some, opens}
 use Rattle.rows.specs.Shape.{row_no}
@@ -107,7 +108,7 @@ not_lt h e = omega arith
 
 module _ (ws : List ℕ) (count least b row k : ℕ) (u : List ℕ) (passed : Passed ws least b row k) where
   -- nothing meets
-  stays : row ≤ count → stops_at (rows_in count ws) least b k u ≡ false → Finds ws count least b row k u (record { row = row; met = false })
+  stays : row ≤ count → stops_at (rows_in count ws) least b k u ≡ false → Finds ws count least b row k u (Err row)
   stays h e =
       record {
         low = omega arith;
@@ -118,12 +119,12 @@ module _ (ws : List ℕ) (count least b row k : ℕ) (u : List ℕ) (passed : Pa
       }
 
   -- before least nothing meets
-  pub finds_early : row ≤ count → k < least → Finds ws count least b row k u (record { row = row; met = false })
+  pub finds_early : row ≤ count → k < least → Finds ws count least b row k u (Err row)
   unfolding meets_at stops_at
   finds_early h l = stays h (rw (lt-leb least k l) (and-false (ltb 0 (length u))))
 
   -- nor behind the bytes
-  pub finds_late : row ≤ count → length u ≤ 0 → Finds ws count least b row k u (record { row = row; met = false })
+  pub finds_late : row ≤ count → length u ≤ 0 → Finds ws count least b row k u (Err row)
   unfolding stops_at
   finds_late h l = stays h (rw (le-ltb 0 (length u) l))
 
@@ -142,7 +143,7 @@ module _ (ws : List ℕ) (count least b row k : ℕ) (u : List ℕ) (passed : Pa
     passed_on = record { below = λ j m h e f. omega (arith, all_below j h) }
 
     -- a gap goes on
-    pub finds_gap : opens u ≡ true → Finds ws count least b row k u (record { row = r; met = false })
+    pub finds_gap : opens u ≡ true → Finds ws count least b row k u (Err r)
     unfolding stops_at
     finds_gap o =
         record {
@@ -154,7 +155,8 @@ module _ (ws : List ℕ) (count least b row k : ℕ) (u : List ℕ) (passed : Pa
         }
 
     module _ (o : opens u ≡ false) (rising : Rising ws count) where
-      finds_there : r < count → (row_no ws r).start ≡ k + b - least → Finds ws count least b row k u (record { row = r; met = true })
+      -- row r meets
+      pub finds_there : r < count → (row_no ws r).start ≡ k + b - least → Finds ws count least b row k u (Ok r)
       unfolding meets_at stops_at
       finds_there h e =
           let q = from_row ws count (k + b - least) r s.high all_below h e in
@@ -166,7 +168,8 @@ module _ (ws : List ℕ) (count least b row k : ℕ) (u : List ℕ) (passed : Pa
             there = λ z. q;
           }
 
-      finds_none : (r < count → k + b - least < (row_no ws r).start) → Finds ws count least b row k u (record { row = r; met = false })
+      -- no row does
+      finds_none : (r < count → k + b - least < (row_no ws r).start) → Finds ws count least b row k u (Err r)
       unfolding meets_at stops_at some
       finds_none h =
           record {
@@ -177,12 +180,10 @@ module _ (ws : List ℕ) (count least b row k : ℕ) (u : List ℕ) (passed : Pa
             there = λ z. absurd (let y : ◌≡◌ {A = ℕ} 0 1 = cc in omega arith);
           }
 
-      -- no gap goes on, and row r says whether it meets
-      pub finds_row : (x : Bool) → x ≡ (ltb r count && eqb (row_no ws r).start (k + b - least)) → Finds ws count least b row k u (record { row = r; met = x })
-      finds_row x e = rw e (pick (ltb r count) refl (eqb (row_no ws r).start (k + b - least)) refl)
+      -- no gap goes on, and row r is not there or starts elsewhere
+      pub finds_no_row : (ltb r count && eqb (row_no ws r).start (k + b - least)) ≡ false → Finds ws count least b row k u (Err r)
+      finds_no_row e = finds_none above
         where
-          pick : (p : Bool) → ltb r count ≡ p → (q : Bool) → eqb (row_no ws r).start (k + b - least) ≡ q → Finds ws count least b row k u (record { row = r; met = (p && q) })
-          pick true g true h = finds_there (ltb-true r count g) (eqb-true (row_no ws r).start (k + b - least) h)
-          pick true g false h =
-              finds_none (λ f. lt_of (s.stop f) (eqb-false (row_no ws r).start (k + b - least) h))
-          pick false g q h = finds_none (λ f. absurd (not_lt f (ltb-false r count g)))
+          above : r < count → k + b - least < (row_no ws r).start
+          above f =
+              lt_of (s.stop f) (eqb-false (row_no ws r).start (k + b - least) (rw (lt-ltb r count f) at e))

@@ -1,9 +1,8 @@
 -- The old rows that a walk may meet: what stood at x stands at x + least - b, from least on.
-use Rattle.std.specs.Prelude.{Bool, true, not, ◌&&◌, List, ◌≡◌, ℕ, ◌+◌, ◌-◌, ◌≤◌, ◌<◌, length, drop, leb, ltb}
+use Rattle.std.specs.Prelude.{Bool, true, not, ◌&&◌, List, Result, Ok, Err, ◌≡◌, ℕ, ◌+◌, ◌-◌, ◌≤◌, ◌<◌, length, drop, leb, ltb, is_ok}
 use Rattle.rules.specs.Rows.{Row, rows_in}
 use Rattle.rules.specs.Edit.{from, some, opens}
 use Rattle.rows.specs.Shape.{row_no}
-use Rattle.scan_meet.specs.declared.Found.{Found}
 
 -- the starts of rows do not fall
 pub record Rising (ws : List ℕ) (count : ℕ) : Type 0 where
@@ -28,10 +27,15 @@ meets_at rows least b m = leb least m && some (from (m + b - least) rows)
 unfoldable pub stops_at : List Row → (least b : ℕ) → ℕ → List ℕ → Bool
 stops_at rows least b m s = ltb 0 (length s) && (meets_at rows least b m && not (opens s))
 
--- where a row is looked for at offset k, before the bytes s: the rows before r.row are passed, and r.met says whether that row meets there
-pub record Finds (ws : List ℕ) (count least b row k : ℕ) (s : List ℕ) (r : Found) : Type 0 where
-  pub low : row ≤ r.row
-  pub high : r.row ≤ count
-  pub passed : Passed ws least b r.row k
-  pub tells : r.met ≡ stops_at (rows_in count ws) least b k s
-  pub there : r.met ≡ true → from (k + b - least) (rows_in count ws) ≡ drop r.row (rows_in count ws)
+-- how many rows are passed: those before the row that meets, or as many as are told
+abbrev pub passed_by : Result ℕ ℕ → ℕ
+passed_by (Ok r) = r
+passed_by (Err r) = r
+
+-- where a row is looked for at offset k, before the bytes s: so many rows are passed, and r is `Ok` where the next one meets there
+pub record Finds (ws : List ℕ) (count least b row k : ℕ) (s : List ℕ) (r : Result ℕ ℕ) : Type 0 where
+  pub low : row ≤ passed_by r
+  pub high : passed_by r ≤ count
+  pub passed : Passed ws least b (passed_by r) k
+  pub tells : is_ok r ≡ stops_at (rows_in count ws) least b k s
+  pub there : is_ok r ≡ true → from (k + b - least) (rows_in count ws) ≡ drop (passed_by r) (rows_in count ws)

@@ -4,7 +4,6 @@ ghost use Rattle.rules.specs.Edit.{opens};
 ghost use Rattle.rows.specs.Shape.{row_no};
 ghost use Rattle.scan_meet.specs.Meeting.{Rising, Passed, Sought, Finds};
 
-use rows::shape::wide;
 use rules::row;
 use scan_blanks::is_blank;
 use scan_reader::Spot;
@@ -18,28 +17,19 @@ pub struct Olds {
     pub b: u32,
 }
 
-// So many old rows are passed, and whether the next one meets.
-#[derive(Clone, Copy)]
-pub struct Found {
-    pub row: usize,
-    pub met: bool,
-}
-
 // Whether a gap goes on at an index: a blank, or the first two bytes of a comment.
 fn gap_opens(text: &[u8], at: usize) -> bool
     requires { at < length text.now }
     ensures { result ≡ opens (drop at text.now) }
 {
     let b = text[at];
-    if b == b'/' {
-        let behind = at + 1;
-        if behind < text.len() {
-            let c = text[behind];
-            return (c == b'/') | (c == b'*');
-        }
-        return false;
+    if b != b'/' {
+        return is_blank(b);
     }
-    is_blank(b)
+    match text.get(at + 1) {
+        Some(&c) => (c == b'/') | (c == b'*'),
+        None => false,
+    }
 }
 
 // The first row from `row` on that starts at an offset or behind it.
@@ -47,14 +37,12 @@ fn seek(old: &[u32], count: usize, row: usize, target: u64) -> usize
     requires { (count * 8 ≤ length old.now) × (row ≤ count) }
     ensures { Sought old.now count row target result }
 {
-    let mut i = row;
-    while i < count {
-        if target <= wide(old[i * row::WORDS + row::START]) {
+    for i in row..count {
+        if target <= u64::from(old[i * row::WORDS + row::START]) {
             return i;
         }
-        i += 1;
     }
-    i
+    count
 }
 
 // Whether row i is there and starts at an offset.
@@ -62,37 +50,30 @@ fn starts(old: &[u32], count: usize, i: usize, target: u64) -> bool
     requires { count * 8 ≤ length old.now }
     ensures { result ≡ (ltb i count && eqb (row_no old.now i).start target) }
 {
-    if i < count {
-        return wide(old[i * row::WORDS + row::START]) == target;
-    }
-    false
+    i < count && u64::from(old[i * row::WORDS + row::START]) == target
 }
 
-// The old rows up to a spot, of which `row` are passed, and whether the next one meets there.
-pub fn find(old: &[u32], olds: Olds, row: usize, text: &[u8], here: Spot) -> Found
+// The old rows up to a spot, of which `row` are passed: the row that meets there, or as an error how many are passed now.
+pub fn find(
+    old: &[u32],
+    olds: Olds,
+    row: usize,
+    text: &[u8],
+    here: Spot,
+) -> Result<usize, usize>
     requires { ((olds.count * 8 ≤ length old.now) × (row ≤ olds.count))
         × (Rising old.now olds.count × Passed old.now olds.least olds.b row here.cursor.offset.0) }
     ensures { Finds old.now olds.count olds.least olds.b row here.cursor.offset.0
         (drop here.at text.now) result }
 {
-    let offset = wide(here.cursor.offset.0);
-    let at = here.at;
-    if offset < olds.least {
-        return Found { row, met: false };
+    let offset = u64::from(here.cursor.offset.0);
+    if offset < olds.least || text.len() <= here.at {
+        return Err(row);
     }
-    if text.len() <= at {
-        return Found { row, met: false };
-    }
-    let target = offset + wide(olds.b) - olds.least;
+    let target = offset + u64::from(olds.b) - olds.least;
     let next = seek(old, olds.count, row, target);
-    if gap_opens(text, at) {
-        return Found {
-            row: next,
-            met: false,
-        };
+    if gap_opens(text, here.at) || !starts(old, olds.count, next, target) {
+        return Err(next);
     }
-    Found {
-        row: next,
-        met: starts(old, olds.count, next, target),
-    }
+    Ok(next)
 }

@@ -27,7 +27,7 @@ use Rattle.scan_stop.specs.declared.Stop.TheVariants as stop
 use Rattle.scan_stop.specs.declared.Walked.{Walked}
 use Rattle.scan_blanks.specs.Blanks.{blanks}
 use Rattle.scan_puts.specs.Put.{row_of, placed}
-use Rattle.scan_stop.specs.Stop.{Last, Finished}
+use Rattle.scan_stop.specs.Stop.{Last, Finished, IsOver}
 use Rattle.scan_walk.specs.Walk.{Passable}
 use Rattle.scan_puts.proofs.Laid.{laid_more}
 use Rattle.scan_part.specs.declared.Next.{Next}
@@ -283,6 +283,16 @@ module _ {t : List ℕ} {k most : ℕ} {lent us : List ℕ} {here : Spot} {n c :
             rw (o (Some (halt b.why (along here.cursor r.size))) (rw z.0), u)
             (over_with [] (Some (halt b.why (along here.cursor r.size))) vs (omega arith) room
             (ap read_rows s) (ap read_ending s ∙ rw p) (z.1 ∙ g.words ∙ rw append-nil))
+
+    -- the walk is over there
+    pub going_over : End ≤ r.kind → (x : Walked) (vs : List ℕ) → Finished n here.cursor c r x us vs → IsOver x.stop
+    going_over h x vs f = by (ℕ_discrete r.kind End)
+      where
+        by : Dec (r.kind ≡ End) → IsOver x.stop
+        by (yes e) = rw (f.end e).0 tt
+        by (no e) =
+            let b = by_refused true (drop i t) r q (is_refusal h e) in
+            rw (f.refused b.why b.code).0 tt
 
     -- ---- it is passed
 

@@ -1,8 +1,6 @@
 // The rows of a text, so many at a time: a scan that stops behind so many rows and goes on later, so that its rows take room for one part.
 ghost use Rattle.std.specs.Prelude.{◌≡◌, ◌++◌, ◌*◌, ◌≤◌, length, drop};
-ghost use Rattle.rules.specs.Outcomes.{Ending as Endings};
 ghost use Rattle.rules.specs.Rows.{words_of, words_per_row};
-ghost use Rattle.scan_stop.specs.declared.Stop.TheVariants as stops;
 ghost use Rattle.scan_part.specs.Part.{Begun, PartOf, part_rows};
 
 use rules::Ending;
@@ -10,10 +8,11 @@ use scan_blanks::past_blanks;
 use scan_puts::put_behind;
 use scan_reader::front::brief;
 use scan_reader::{Spot, codes};
-use scan_stop::{Stop, finish};
+use scan_stop::finish;
 use scan_walk::spots::behind;
 
 // Where the reading goes on behind a part, or the ending that the text has.
+// Stays an enum of its own: neither is a failure of the other, and a `Result` would call the ending of a sound text an error.
 #[derive(Clone, Copy)]
 pub enum Next {
     On(Spot),
@@ -25,17 +24,6 @@ pub enum Next {
 pub struct Part {
     pub count: usize,
     pub next: Next,
-}
-
-// The ending at which a walk stopped comes behind its rows.
-fn over_at(stop: Stop) -> Next
-    ensures { (e : Endings) → stop ≡ stops.Over e → result ≡ Next.Over e }
-{
-    match stop {
-        Stop::Over(ending) => Next::Over(ending),
-        Stop::Met(_, _, _) => Next::Over(None),
-        Stop::Short => Next::Over(None),
-    }
 }
 
 // The rows of a text from a spot on, so many at most, and what comes behind them.
@@ -50,20 +38,19 @@ pub fn read_part(text: &[u8], from: Spot, most: usize, rows: &mut [u32]) -> Part
     let mut here = from;
     let mut count = 0;
     let mut comments: u32 = 0;
+    // Stays a while loop: a comment takes a turn and is no row, so that the turns are not the numbers below `most`.
     while count < most {
         let spot = past_blanks(text, here);
         let told = brief(&classes, text, spot.at, true);
-        let cursor = spot.cursor;
         if codes::END <= told.kind {
-            let last = finish(rows, count, cursor, comments, told);
-            let stop = last.stop;
+            let last = finish(rows, count, spot.cursor, comments, told);
             return Part {
                 count: last.count,
-                next: over_at(stop),
+                next: Next::Over(last.stop.ending()),
             };
         }
         if told.kind < codes::BLANK {
-            put_behind(rows, count, cursor, comments, told);
+            put_behind(rows, count, spot.cursor, comments, told);
             count += 1;
             comments = 0;
         } else {

@@ -2,11 +2,16 @@
 use mathlib.Core.Path.{◌≡◌, refl, ap, sym, ◌∙◌}
 use mathlib.Core.Bool.{true}
 use mathlib.Core.List.{List}
-use Prim.Native.Nat.{ℕ, ◌+◌, ◌-◌, ◌≤◌, ◌<◌}
+use Prim.Native.Nat.{ℕ, ◌+◌, ◌≤◌, ◌<◌}
 use native.Mathlib.Omega.{arith}
 use lib.ListN.{length, drop, take, get_or, length-drop, take-append-drop}
 use lib.Seq.{length-take-le, drop-drop}
-use Rattle.rules.specs.Text.{char_at, valid_bytes, valid}
+use lib.Dec.{ltb}
+use borrow.Author.Tests.{ltb-true}
+use Rattle.std.proofs.lemmas.List.{length-take, get_or-take}
+use Rattle.rules.specs.Text.{front, char_at, valid_bytes, valid}
+use Rattle.laws.proofs.Fronts.{front_le}
+use Rattle.laws.proofs.Chains.{front_holds}
 use Rattle.laws.proofs.Chars.{char_le}
 use Rattle.laws.proofs.Valid.{valid_none, is_valid, valid_end, valid_low, valid_char, all_low, valid_join}
 use Rattle.scan_place.specs.Passed.{Passed}
@@ -22,18 +27,27 @@ module _ (t : List ℕ) where
   pub passed_low : (i : ℕ) → i < length t → get_or t i 0 < 128 → Passed t i (i + 1)
   passed_low i h l = record { behind = omega arith; inside = omega arith; valid = omega (arith, valid_low t i h l) }
 
-  pub passed_run : (i j : ℕ) → i ≤ j → j ≤ length t
-      → ((k : ℕ) → k < length (take (j - i) (drop i t)) → get_or (take (j - i) (drop i t)) k 0 < 128) → Passed t i j
-  passed_run i j h l low =
-      let n : length (take (j - i) (drop i t)) ≡ j - i = length-take-le (j - i) (drop i t) (omega (arith, length-drop i t)) in
-      let v : valid (take (j - i) (drop i t)) ≡ true
-      = is_valid (take (j - i) (drop i t)) (omega (arith, all_low (take (j - i) (drop i t)) low)) in
-      let e : i + (j - i) ≡ j = omega arith in
-      let f : drop (j - i) (drop i t) ≡ drop j t = drop-drop (j - i) i t ∙ ap (λ (k : ℕ). drop k t) e in
-      let g : valid_bytes (drop i t) ≡ length (take (j - i) (drop i t)) + valid_bytes (drop j t)
-      = ap valid_bytes (sym (take-append-drop (j - i) (drop i t)))
-      ∙ valid_join (take (j - i) (drop i t)) (drop (j - i) (drop i t)) v ∙ rw f in
-      record { behind = h; inside = l; valid = omega arith }
+  pub passed_block : (i n : ℕ) (x : List ℕ) → x ≡ take n (drop i t) → length x ≡ n → i ≤ length t → ((k : ℕ) → k < length x → get_or x k 0 < 128)
+      → Passed t i (i + n)
+  passed_block i n x e m h low =
+      let v : valid x ≡ true = is_valid x (omega (arith, all_low x low)) in
+      let g : valid_bytes (drop i t) ≡ length x + valid_bytes (drop (i + n) t)
+      = ap valid_bytes (sym (take-append-drop n (drop i t)))
+      ∙ rw (← e, drop-drop n i t) (valid_join x (drop (i + n) t) v) in
+      record {
+        behind = omega arith;
+        inside = omega (arith, ap length e, length-take n (drop i t), length-drop i t);
+        valid = omega arith;
+      }
+
+  pub passed_front : (i : ℕ) → i ≤ length t → Passed t i (i + front (λ b. ltb b 128) (drop i t))
+  passed_front i h =
+      let n = front (λ (b : ℕ). ltb b 128) (drop i t) in
+      let m : length (take n (drop i t)) ≡ n = length-take-le n (drop i t) (front_le (λ b. ltb b 128) (drop i t)) in
+      passed_block i n (take n (drop i t)) refl m h
+      (λ k l.
+      let q : k < n = omega arith in
+      rw (get_or-take n (drop i t) k 0 q) (ltb-true _ _ (front_holds (λ b. ltb b 128) (drop i t) k q)))
 
   -- a character
   pub passed_char : (i n : ℕ) → i ≤ length t → n ≡ char_at (drop i t) → 0 < n → Passed t i (i + n)

@@ -1,4 +1,6 @@
 // Places in a text: how far its bytes are valid, the cursor behind some of them, and what a text is told before it is read.
+#![tactic(auto)]
+
 ghost use Rattle.std.specs.Prelude.{◌≡◌, ℕ, ◌≤◌, ◌<◌, length, get_or, take};
 ghost use Rattle.rules.specs.Text.{valid_bytes, over, text_judged, Roomy};
 ghost use Rattle.rules.specs.Edit.{window_bytes};
@@ -7,22 +9,13 @@ ghost use Rattle.scan_place.specs.Passed.{Passed};
 use rules::{Cursor, Outer, Unfit, limit};
 use scan_chars::{FIRST_HIGH, char_at, is_cut};
 
-// The larger of two bytes.
-fn larger(a: u8, b: u8) -> u8
-    ensures { (a ≤ result) × (b ≤ result) }
-{
-    if a < b { b } else { a }
-}
-
 // A number that no byte is above.
 fn highest(text: &[u8]) -> u8
     ensures { (k : ℕ) → k < length text.now → get_or text.now k 0 ≤ result }
 {
     let mut most = 0;
-    let mut i = 0;
-    while i < text.len() {
-        most = larger(most, text[i]);
-        i += 1;
+    for b in text {
+        most = most.max(*b);
     }
     most
 }
@@ -36,15 +29,11 @@ fn low_blocks(text: &[u8], from: usize) -> usize
     ensures { Passed text.now from result }
 {
     let mut i = from;
-    while BLOCK <= text.len() - i {
-        if FIRST_HIGH <= text[i] {
+    for block in text[from..].chunks_exact(BLOCK) {
+        if FIRST_HIGH <= block[0] || FIRST_HIGH <= highest(block) {
             return i;
         }
-        let next = i + BLOCK;
-        if FIRST_HIGH <= highest(&text[i..next]) {
-            return i;
-        }
-        i = next;
+        i += BLOCK;
     }
     i
 }
@@ -54,14 +43,9 @@ fn low_end(text: &[u8], from: usize) -> usize
     requires { from ≤ length text.now }
     ensures { Passed text.now from result }
 {
-    let mut i = low_blocks(text, from);
-    while i < text.len() {
-        if FIRST_HIGH <= text[i] {
-            return i;
-        }
-        i += 1;
-    }
-    i
+    let i = low_blocks(text, from);
+    let low = text[i..].iter().take_while(|b| **b < FIRST_HIGH).count();
+    i + low
 }
 
 // How long a text's longest valid beginning is.
@@ -76,10 +60,9 @@ pub fn valid_bytes(text: &[u8]) -> usize
         if text[i] < FIRST_HIGH {
             i = low_end(text, i + 1);
         } else {
-            let n = char_at(text, i);
-            if n == 0 {
+            let Some(n) = char_at(text, i) else {
                 return i;
-            }
+            };
             i += n;
         }
     }
@@ -91,10 +74,7 @@ pub fn window_bytes(window: &[u8], whole: bool) -> usize
     ensures { result ≡ window_bytes whole window.now }
 {
     let valid = valid_bytes(window);
-    if whole {
-        return valid;
-    }
-    if is_cut(window, valid) {
+    if !whole && is_cut(window, valid) {
         return window.len();
     }
     valid
@@ -106,10 +86,8 @@ pub fn pass(text: &[u8], from: Cursor, n: usize) -> Cursor
     ensures { result ≡ over from (take n text.now) }
 {
     let mut here = from;
-    let mut i = 0;
-    while i < n {
-        here = here.advance(text[i]);
-        i += 1;
+    for b in &text[..n] {
+        here = here.advance(*b);
     }
     here
 }

@@ -18,10 +18,10 @@ use Rattle.rules.specs.declared.Lexical.TheVariants.{LoneSign, NoRowBegins, NoHe
 use Rattle.laws.proofs.Tests.{both_true}
 use Rattle.laws.proofs.Fronts.{front_le, front_more, front_in_line, inside}
 use Rattle.laws.proofs.Spelled.{same_eq}
-use Rattle.scan_runs.specs.declared.Quoted.{Quoted}
-use Rattle.scan_runs.specs.declared.Quoted.TheVariants.{Closed, Open, Escape}
+use Rattle.scan_runs.specs.declared.Unclosed.TheVariants.{Open, Escape}
 use Rattle.scan_runs.specs.declared.Digits.{Digits}
-use Rattle.scan_runs.specs.Leaf.{digits_of}
+use Rattle.std.proofs.Common.{Ok, Err}
+use Rattle.scan_runs.specs.Leaf.{Quoted, digits_of}
 use Rattle.scan_runs.proofs.Quotes.{string_piece, reach_of}
 use Rattle.scan_runs.proofs.Bodies.{body_line}
 use Rattle.scan_reader.specs.declared.Brief.{Brief}
@@ -232,9 +232,9 @@ module _ (s : List ℕ) (m : ℕ) (l : m ≤ front not_newline s) (negative : Bo
 module _ (s : List ℕ) (h : 0 < length s) (e : get_or s 0 0 ≡ 34) where
   quoted_sound : (q : Quoted) → quoted_at s 0 ≡ q → Sound s (string_piece 0 q)
   unfolding string_piece reach_of
-  quoted_sound (Closed x) r = of_row StringLiteral (x + 1 - 0) 0 (x - 0) (omega arith) (omega arith) (string_line s 0 h e (Closed x) r)
-  quoted_sound (Open x) r = of_refused OpenString (x - 0) (x - 0) (string_line s 0 h e (Open x) r)
-  quoted_sound (Escape x) r = of_refused BadEscape (x - 0) (x + 1 - 0) (string_line s 0 h e (Escape x) r)
+  quoted_sound (Ok x) r = of_row StringLiteral (x + 1 - 0) 0 (x - 0) (omega arith) (omega arith) (string_line s 0 h e (Ok x) r)
+  quoted_sound (Err (Open x)) r = of_refused OpenString (x - 0) (x - 0) (string_line s 0 h e (Err (Open x)) r)
+  quoted_sound (Err (Escape x)) r = of_refused BadEscape (x - 0) (x + 1 - 0) (string_line s 0 h e (Err (Escape x)) r)
 
   string_sound : Sound s (string false 1 (drop 1 s))
   string_sound = rw (string_is s 0 h e (quoted_at s 0) refl) (quoted_sound (quoted_at s 0) refl)

@@ -8,7 +8,7 @@ ghost use Rattle.scan_reader.specs.Brief.{settled};
 
 use crate::{Brief, codes};
 use rules::{kind, limit};
-use scan_runs::{Quoted, body_end, line_end, peek, read_digits, read_quoted, read_word, shown};
+use scan_runs::{Unclosed, body_end, line_end, peek, read_digits, read_quoted, read_word, shown};
 use scan_words::slots::kind_of;
 
 // A kind or a code with a size, and no bits.
@@ -84,8 +84,7 @@ pub fn sign(text: &[u8], at: usize, whole: bool) -> Brief
         return told(codes::UNKNOWN, 0);
     }
     let b = text[at];
-    let kind = scan_words::two_sign(b, peek(text, next));
-    if kind != kind::EOF {
+    if let Some(kind) = scan_words::two_sign(b, peek(text, next)) {
         return told(kind, 2);
     }
     if (b == b'<') | (b == b'>') {
@@ -163,15 +162,10 @@ pub fn string(text: &[u8], at: usize, whole: bool) -> Brief
     requires { (at < length text.now) × (get_or text.now at 0 ≡ byte "\"") }
     ensures { result ≡ settled whole text.now at (lex.string false 1 (drop 1 (drop at text.now))) }
 {
-    let q = read_quoted(text, at + 1);
-    match q {
-        Quoted::Closed(e) => told(kind::STRING, e + 1 - at),
-        Quoted::Open(e) => {
-            if !shown(text, e, whole) {
-                return told(codes::UNKNOWN, 0);
-            }
-            told(codes::OPEN_STRING, e - at)
-        }
-        Quoted::Escape(e) => told(codes::BAD_ESCAPE, e - at),
+    match read_quoted(text, at + 1) {
+        Ok(e) => told(kind::STRING, e + 1 - at),
+        Err(Unclosed::Open(e)) if shown(text, e, whole) => told(codes::OPEN_STRING, e - at),
+        Err(Unclosed::Open(_)) => told(codes::UNKNOWN, 0),
+        Err(Unclosed::Escape(e)) => told(codes::BAD_ESCAPE, e - at),
     }
 }

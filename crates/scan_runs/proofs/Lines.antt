@@ -3,6 +3,7 @@ use mathlib.Core.Path.{◌≡◌, refl, ap, sym, ◌∙◌}
 use mathlib.Core.Bool.{Bool, true, false, ◌||◌}
 use mathlib.Core.List.{List}
 use Prim.Native.Nat.{ℕ, ◌+◌, ◌-◌, ◌≤◌, ◌<◌}
+use native.Mathlib.Nat.{zero-add}
 use native.Mathlib.Omega.{arith}
 use lib.ListN.{length, drop, get_or, length-drop}
 use lib.Seq.{drop-drop}
@@ -52,3 +53,8 @@ module _ (t : List ℕ) (a k : ℕ) (l : a + k < length t) where
           pick : (p : Bool) → eqb y x ≡ p → eqb x y ≡ p
           pick true f = eq-eqb x y (sym (eqb-true y x f))
           pick false f = ne_eqb x y (λ z. eqb-false y x f (sym z))
+
+-- the same of a list's own bytes
+pub line_on : (s : List ℕ) (k : ℕ) → k < length s → (q : Bool) → q ≡ ltb (front not_newline s) k
+    → (q || eqb (get_or s k 0) 10) ≡ ltb (front not_newline s) (k + 1)
+line_on s k l q e = rw (zero-add k) at (block_on s 0 k (omega arith) q e)

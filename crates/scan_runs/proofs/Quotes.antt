@@ -15,53 +15,53 @@ use Rattle.rules.specs.Kinds.{StringLiteral}
 use Rattle.rules.specs.Lex.{Piece, row, refused, is_escape, string}
 use Rattle.rules.specs.declared.Lexical.TheVariants.{OpenString, BadEscape}
 use Rattle.laws.proofs.Fronts.{met_in_line}
-use Rattle.scan_runs.specs.Leaf.{quoted_from}
-use Rattle.scan_runs.specs.declared.Quoted.{Quoted}
-use Rattle.scan_runs.specs.declared.Quoted.TheVariants.{Closed, Open, Escape}
+use Rattle.scan_runs.specs.Leaf.{Quoted, quoted_from}
+use Rattle.std.proofs.Common.{Ok, Err}
+use Rattle.scan_runs.specs.declared.Unclosed.TheVariants.{Open, Escape}
 
 -- ---- at an index of the text
 
-pub quoted_end : (t : List ℕ) (i : ℕ) → length t ≤ i → quoted_from false i (drop i t) ≡ Open i
+pub quoted_end : (q : Bool) (t : List ℕ) (i : ℕ) → length t ≤ i → quoted_from q i (drop i t) ≡ Err (Open i)
 unfolding quoted_from
-quoted_end t i h = rw (drop_of_length-le t h)
+quoted_end true t i h = rw (drop_of_length-le t h)
+quoted_end false t i h = rw (drop_of_length-le t h)
 
 module _ (t : List ℕ) (i : ℕ) (h : i < length t) where
-  pub quoted_close : get_or t i 0 ≡ 34 → quoted_from false i (drop i t) ≡ Closed i
+  pub quoted_close : get_or t i 0 ≡ 34 → quoted_from false i (drop i t) ≡ Ok i
   unfolding quoted_from
   quoted_close e = rw (drop-cons t i 0 h, e)
 
-  pub quoted_line : get_or t i 0 ≡ 10 → quoted_from false i (drop i t) ≡ Open i
+  pub quoted_line : get_or t i 0 ≡ 10 → quoted_from false i (drop i t) ≡ Err (Open i)
   unfolding quoted_from
   quoted_line e = rw (drop-cons t i 0 h, e)
 
-  pub quoted_on : (get_or t i 0 ≡ 34 → ⊥) → (get_or t i 0 ≡ 10 → ⊥) → (get_or t i 0 ≡ 92 → ⊥) → quoted_from false i (drop i t) ≡ quoted_from false (i + 1) (drop (i + 1) t)
+  -- any other byte, which may be a backslash
+  pub quoted_on : (get_or t i 0 ≡ 34 → ⊥) → (get_or t i 0 ≡ 10 → ⊥)
+      → quoted_from false i (drop i t) ≡ quoted_from (eqb (get_or t i 0) 92) (i + 1) (drop (i + 1) t)
   unfolding quoted_from
-  quoted_on a b d = rw (drop-cons t i 0 h, add-one i) (rw (quoted_from, ne_eqb _ _ a, ne_eqb _ _ b, ne_eqb _ _ d))
+  quoted_on a b = rw (drop-cons t i 0 h, add-one i) (rw (quoted_from, ne_eqb _ _ a, ne_eqb _ _ b) (by (eqb (get_or t i 0) 92)))
+    where
+      by : (q : Bool)
+          → elim q as (λ _. Quoted) [ true ↦ quoted_from true (suc i) (drop (suc i) t) | false ↦ quoted_from false (suc i) (drop (suc i) t) ]
+          ≡ quoted_from q (suc i) (drop (suc i) t)
+      by true = refl
+      by false = refl
 
-  quoted_slash : get_or t i 0 ≡ 92 → quoted_from false i (drop i t) ≡ quoted_from true (i + 1) (drop (i + 1) t)
+  -- the byte behind a backslash
+  pub quoted_escape : is_escape (get_or t i 0) ≡ true → quoted_from true i (drop i t) ≡ quoted_from false (i + 1) (drop (i + 1) t)
   unfolding quoted_from
-  quoted_slash e = rw (drop-cons t i 0 h, add-one i, e)
+  quoted_escape p = rw (drop-cons t i 0 h, add-one i) (rw (quoted_from, p))
 
-  -- a backslash, and the byte that it escapes
-  module _ (e : get_or t i 0 ≡ 92) where
-    pub quoted_cut : length t ≤ i + 1 → quoted_from false i (drop i t) ≡ Open (i + 1)
-    unfolding quoted_from
-    quoted_cut k = quoted_slash e ∙ rw (drop_of_length-le t k)
-
-    pub quoted_escape : i + 1 < length t → is_escape (get_or t (i + 1) 0) ≡ true → quoted_from false i (drop i t) ≡ quoted_from false (i + 1 + 1) (drop (i + 1 + 1) t)
-    unfolding quoted_from
-    quoted_escape k p = quoted_slash e ∙ rw (drop-cons t (i + 1) 0 k, add-one (i + 1)) (rw (quoted_from, p))
-
-    pub quoted_bad : i + 1 < length t → is_escape (get_or t (i + 1) 0) ≡ false → quoted_from false i (drop i t) ≡ Escape i
-    unfolding quoted_from
-    quoted_bad k p = quoted_slash e ∙ rw (drop-cons t (i + 1) 0 k) (rw (quoted_from, p) (ap Escape (omega arith)))
+  pub quoted_bad : is_escape (get_or t i 0) ≡ false → quoted_from true i (drop i t) ≡ Err (Escape (i - 1))
+  unfolding quoted_from
+  quoted_bad p = rw (drop-cons t i 0 h) (rw (quoted_from, p))
 
 -- ---- the rules' string: a counts the bytes before the opening quote
 
 unfoldable pub string_piece : ℕ → Quoted → Piece
-string_piece a (Closed e) = row StringLiteral (e + 1 - a) 0 (e - a)
-string_piece a (Open e) = refused OpenString (e - a) (e - a)
-string_piece a (Escape e) = refused BadEscape (e - a) (e + 1 - a)
+string_piece a (Ok e) = row StringLiteral (e + 1 - a) 0 (e - a)
+string_piece a (Err (Open e)) = refused OpenString (e - a) (e - a)
+string_piece a (Err (Escape e)) = refused BadEscape (e - a) (e + 1 - a)
 
 module _ (a : ℕ) where
   same : (n : ℕ) → n ≡ a + n - a
@@ -89,9 +89,9 @@ module _ (a : ℕ) where
               | false ↦ elim r as (λ _. Piece) [ true ↦ string true (suc n) s | false ↦ string false (suc n) s ]
             ]
           ] ≡ string_piece a (elim p as (λ _. Quoted) [
-            | true ↦ Closed (a + n)
+            | true ↦ Ok (a + n)
             | false ↦ elim q as (λ _. Quoted) [
-              | true ↦ Open (a + n)
+              | true ↦ Err (Open (a + n))
               | false ↦ elim r as (λ _. Quoted) [ true ↦ quoted_from true (suc (a + n)) s | false ↦ quoted_from false (suc (a + n)) s ]
             ]
           ])
@@ -104,7 +104,7 @@ module _ (a : ℕ) where
       pick : (p : Bool) →
           string false (suc n) s ≡ string_piece a (quoted_from false (a + suc n) s) →
           elim p as (λ _. Piece) [ true ↦ string false (suc n) s | false ↦ refused BadEscape (n - 1) n ]
-          ≡ string_piece a (elim p as (λ _. Quoted) [ true ↦ quoted_from false (suc (a + n)) s | false ↦ Escape (a + n - 1) ])
+          ≡ string_piece a (elim p as (λ _. Quoted) [ true ↦ quoted_from false (suc (a + n)) s | false ↦ Err (Escape (a + n - 1)) ])
       pick true u = u ∙ rw add-suc
       pick false u =
           let k : 0 < n = h refl in
@@ -116,9 +116,9 @@ module _ (a : ℕ) where
 
 -- the index behind the bytes that belong to it
 unfoldable pub reach_of : Quoted → ℕ
-reach_of (Closed e) = e + 1
-reach_of (Open e) = e
-reach_of (Escape e) = e
+reach_of (Ok e) = e + 1
+reach_of (Err (Open e)) = e
+reach_of (Err (Escape e)) = e
 
 -- a byte that escapes or closes is no newline
 escape_line : (b : ℕ) → is_escape b ≡ true → not_newline b ≡ true
@@ -137,9 +137,9 @@ quoted_in_line false i (b ∷ s) = pick (eqb b 34) (eqb b 10) (eqb b 92) (quote_
         reach_of (quoted_from true (suc i) s) ≤ suc i + front not_newline s →
         reach_of (quoted_from false (suc i) s) ≤ suc i + front not_newline s →
         reach_of (elim p as (λ _. Quoted) [
-          | true ↦ Closed i
+          | true ↦ Ok i
           | false ↦ elim q as (λ _. Quoted) [
-            | true ↦ Open i
+            | true ↦ Err (Open i)
             | false ↦ elim r as (λ _. Quoted) [ true ↦ quoted_from true (suc i) s | false ↦ quoted_from false (suc i) s ]
           ]
         ]) ≤ i + elim (not q) as (λ _. ℕ) [ true ↦ suc (front not_newline s) | false ↦ 0 ]
@@ -150,7 +150,7 @@ quoted_in_line false i (b ∷ s) = pick (eqb b 34) (eqb b 10) (eqb b 92) (quote_
 quoted_in_line true i (b ∷ s) = pick (is_escape b) (escape_line b) (quoted_in_line false (suc i) s)
   where
     pick : (p : Bool) → (p ≡ true → not_newline b ≡ true) → reach_of (quoted_from false (suc i) s) ≤ suc i + front not_newline s →
-        reach_of (elim p as (λ _. Quoted) [ true ↦ quoted_from false (suc i) s | false ↦ Escape (i - 1) ])
+        reach_of (elim p as (λ _. Quoted) [ true ↦ quoted_from false (suc i) s | false ↦ Err (Escape (i - 1)) ])
         ≤ i + elim (not_newline b) as (λ _. ℕ) [ true ↦ suc (front not_newline s) | false ↦ 0 ]
     pick true h u = rw (h refl) (omega arith)
     pick false h u = omega arith
@@ -166,9 +166,9 @@ quoted_from_lem false i (b ∷ s) = pick (eqb b 34) (eqb b 10) (eqb b 92) (quote
         suc i ≤ reach_of (quoted_from true (suc i) s) + 1 →
         suc i ≤ reach_of (quoted_from false (suc i) s) + 0 →
         i ≤ reach_of (elim p as (λ _. Quoted) [
-          | true ↦ Closed i
+          | true ↦ Ok i
           | false ↦ elim q as (λ _. Quoted) [
-            | true ↦ Open i
+            | true ↦ Err (Open i)
             | false ↦ elim r as (λ _. Quoted) [ true ↦ quoted_from true (suc i) s | false ↦ quoted_from false (suc i) s ]
           ]
         ]) + 0
@@ -179,15 +179,15 @@ quoted_from_lem false i (b ∷ s) = pick (eqb b 34) (eqb b 10) (eqb b 92) (quote
 quoted_from_lem true i (b ∷ s) = pick (is_escape b) (quoted_from_lem false (suc i) s)
   where
     pick : (p : Bool) → suc i ≤ reach_of (quoted_from false (suc i) s) + 0 →
-        i ≤ reach_of (elim p as (λ _. Quoted) [ true ↦ quoted_from false (suc i) s | false ↦ Escape (i - 1) ]) + 1
+        i ≤ reach_of (elim p as (λ _. Quoted) [ true ↦ quoted_from false (suc i) s | false ↦ Err (Escape (i - 1)) ]) + 1
     pick true u = omega arith
     pick false u = omega arith
 
 -- the index behind the bytes that were looked at
 unfoldable pub seen_of : Quoted → ℕ
-seen_of (Closed e) = e + 1
-seen_of (Open e) = e
-seen_of (Escape e) = e + 2
+seen_of (Ok e) = e + 1
+seen_of (Err (Open e)) = e
+seen_of (Err (Escape e)) = e + 2
 
 pub quoted_seen : (e : Bool) (i : ℕ) (s : List ℕ) → (e ≡ true → 0 < i) → seen_of (quoted_from e i s) ≤ i + length s
 unfolding quoted_from seen_of
@@ -198,9 +198,9 @@ quoted_seen false i (b ∷ s) h = pick (eqb b 34) (eqb b 10) (eqb b 92) (quoted_
         seen_of (quoted_from true (suc i) s) ≤ suc i + length s →
         seen_of (quoted_from false (suc i) s) ≤ suc i + length s →
         seen_of (elim p as (λ _. Quoted) [
-          | true ↦ Closed i
+          | true ↦ Ok i
           | false ↦ elim q as (λ _. Quoted) [
-            | true ↦ Open i
+            | true ↦ Err (Open i)
             | false ↦ elim r as (λ _. Quoted) [ true ↦ quoted_from true (suc i) s | false ↦ quoted_from false (suc i) s ]
           ]
         ]) ≤ i + suc (length s)
@@ -211,6 +211,6 @@ quoted_seen false i (b ∷ s) h = pick (eqb b 34) (eqb b 10) (eqb b 92) (quoted_
 quoted_seen true i (b ∷ s) h = pick (is_escape b) (quoted_seen false (suc i) s (λ _. omega arith))
   where
     pick : (p : Bool) → seen_of (quoted_from false (suc i) s) ≤ suc i + length s →
-        seen_of (elim p as (λ _. Quoted) [ true ↦ quoted_from false (suc i) s | false ↦ Escape (i - 1) ]) ≤ i + suc (length s)
+        seen_of (elim p as (λ _. Quoted) [ true ↦ quoted_from false (suc i) s | false ↦ Err (Escape (i - 1)) ]) ≤ i + suc (length s)
     pick true u = omega arith
     pick false u = omega (arith, h refl)

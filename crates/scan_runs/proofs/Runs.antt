@@ -153,3 +153,7 @@ module _ (hex : Bool) (t : List ℕ) (i₀ v i : ℕ) (r : Counted hex t i₀ v 
 
   pub counted_end : length t ≤ i → ◌≡◌ {A = Digits} (record { end = i; value = v }) (digits_of hex i₀ (drop i₀ t))
   counted_end h = answer (omega (arith, front_end (digit_in hex) t i h, r.ends)) (sym r.spells ∙ spelt_end hex v t i h ∙ clipped_least v r.small)
+
+pub base_most : (hex : Bool) → base_of hex ≤ 16
+base_most true = omega arith
+base_most false = omega arith

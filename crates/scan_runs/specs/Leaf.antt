@@ -1,12 +1,12 @@
 -- What the leaves of the token reader answer: words packed, digits with what they spell, and strings by the index that settles them.
-use Rattle.std.specs.Prelude.{Bool, true, false, cond, List, [], ◌∷◌, ℕ, suc, ◌+◌, ◌-◌, min, take, eqb}
+use Rattle.std.specs.Prelude.{Bool, true, false, cond, List, [], ◌∷◌, Result, Ok, Err, ℕ, suc, ◌+◌, ◌-◌, min, take, eqb}
 use Rattle.rules.specs.Text.{front, byte}
 use Rattle.rules.specs.Lex.{is_word, is_digit, is_hex_digit, digit_value, spelt, largest, is_escape}
 use Rattle.scan_words.specs.Words.{packed_of, packable}
 use Rattle.scan_runs.specs.declared.Word.{Word}
 use Rattle.scan_runs.specs.declared.Digits.{Digits}
-use Rattle.scan_runs.specs.declared.Quoted.{Quoted}
-use Rattle.scan_runs.specs.declared.Quoted.TheVariants.{Closed, Open, Escape}
+use Rattle.scan_runs.specs.declared.Unclosed.{Unclosed}
+use Rattle.scan_runs.specs.declared.Unclosed.TheVariants.{Open, Escape}
 
 -- ---- a word
 
@@ -47,15 +47,19 @@ digits_of hex at s = record { end = at + front (digit_in hex) s; value = spelt_f
 
 -- ---- a string behind its opening quote
 
+-- where it closes, or why it does not
+abbrev pub Quoted : Type 0
+Quoted = Result ℕ Unclosed
+
 -- i: the index of the first byte of s; escaped: the byte before it is a backslash that escapes it
 unfoldable pub quoted_from : (escaped : Bool) → ℕ → List ℕ → Quoted
-quoted_from escaped i [] = Open i
+quoted_from escaped i [] = Err (Open i)
 quoted_from false i (b ∷ s) =
     elim (eqb b (byte "\"")) [
-      | true ↦ Closed i
+      | true ↦ Ok i
       | false ↦ elim (eqb b (byte "\n")) [
-        | true ↦ Open i
+        | true ↦ Err (Open i)
         | false ↦ elim (eqb b (byte "\\")) [ true ↦ quoted_from true (suc i) s | false ↦ quoted_from false (suc i) s ]
       ]
     ]
-quoted_from true i (b ∷ s) = elim (is_escape b) [ true ↦ quoted_from false (suc i) s | false ↦ Escape (i - 1) ]
+quoted_from true i (b ∷ s) = elim (is_escape b) [ true ↦ quoted_from false (suc i) s | false ↦ Err (Escape (i - 1)) ]

@@ -1,5 +1,5 @@
 // Leaves over the lent bytes and an index into them: where runs end, what digits are worth, and how a string closes.
-ghost use Rattle.std.specs.Prelude.{◌≡◌, ◌||◌, ◌+◌, ◌*◌, ◌≤◌, ◌<◌, length, get_or, drop, ltb, false};
+ghost use Rattle.std.specs.Prelude.{◌≡◌, ◌||◌, ◌+◌, ◌*◌, ◌≤◌, ◌<◌, length, get_or, drop, ltb, false, MatchOption};
 ghost use Rattle.rules.specs.Text.{front, not_newline};
 ghost use Rattle.rules.specs.Lex.{is_escape, before_close};
 ghost use Rattle.scan_words.specs.Class.{Classes};
@@ -10,24 +10,18 @@ use scan_eights::word_end;
 use scan_words::classes;
 use scan_words::words::{ABOVE_BYTE, BEFORE_LAST};
 
-// The byte at an index, and 0 behind the end.
+// The byte at an index, and 0 behind the end, as the rules read it, to whom 0 is in no sign, comment or number.
 pub fn peek(text: &[u8], at: usize) -> u8
     ensures { result ≡ get_or text.now at 0 }
 {
-    if at < text.len() {
-        return text[at];
-    }
-    0
+    if at < text.len() { text[at] } else { 0 }
 }
 
 // Whether the byte at an index is shown, or the text ends with the bytes.
 pub fn shown(text: &[u8], at: usize, whole: bool) -> bool
     ensures { result ≡ (whole || ltb at (length text.now)) }
 {
-    if whole {
-        return true;
-    }
-    at < text.len()
+    whole || at < text.len()
 }
 
 // A word: where it ends, and its first eight bytes at most, packed into one number, which tells its slot.
@@ -45,39 +39,38 @@ pub fn read_word(classes: &[u8; 256], text: &[u8], at: usize) -> Word
     requires { Classes classes.now × (at ≤ length text.now) }
     ensures { result ≡ word_of at (drop at text.now) }
 {
-    let mut i = at;
     let mut packed: u64 = 0;
-    while i < text.len() {
+    for i in at..text.len() {
         let b = text[i];
         let class = classes[b as usize];
         if classes::DIGIT < class {
             return Word { end: i, packed };
         }
         packed = packed % BEFORE_LAST * ABOVE_BYTE + b as u64;
-        i += 1;
-        if i - at == EIGHT {
+        let next = i + 1;
+        if next - at == EIGHT {
             return Word {
-                end: word_end(classes, text, i),
+                end: word_end(classes, text, next),
                 packed,
             };
         }
     }
-    Word { end: i, packed }
+    Word {
+        end: text.len(),
+        packed,
+    }
 }
 
 // So many bytes are looked at together.
 const BLOCK: usize = 16;
 
-// Whether one of a block of bytes from an index on is a newline.
-fn block_ends_line(text: &[u8], at: usize) -> bool
-    requires { at + 16 ≤ length text.now }
-    ensures { result ≡ ltb (front not_newline (drop at text.now)) 16 }
+// Whether one of some bytes is a newline.
+fn ends_line(bytes: &[u8]) -> bool
+    ensures { result ≡ ltb (front not_newline bytes.now) (length bytes.now) }
 {
     let mut found = false;
-    let mut k = 0;
-    while k < BLOCK {
-        found = found | (text[at + k] == b'\n');
-        k += 1;
+    for b in bytes {
+        found |= *b == b'\n';
     }
     found
 }
@@ -88,8 +81,8 @@ fn past_blocks(text: &[u8], at: usize) -> usize
     ensures { (at ≤ result) × (result ≤ at + front not_newline (drop at text.now)) }
 {
     let mut i = at;
-    while BLOCK <= text.len() - i {
-        if block_ends_line(text, i) {
+    for bytes in text[at..].chunks_exact(BLOCK) {
+        if ends_line(bytes) {
             return i;
         }
         i += BLOCK;
@@ -102,14 +95,9 @@ pub fn line_end(text: &[u8], at: usize) -> usize
     requires { at ≤ length text.now }
     ensures { result ≡ at + front not_newline (drop at text.now) }
 {
-    let mut i = past_blocks(text, at);
-    while i < text.len() {
-        if text[i] == b'\n' {
-            return i;
-        }
-        i += 1;
-    }
-    i
+    let from = past_blocks(text, at);
+    let more = text[from..].iter().take_while(|b| **b != b'\n').count();
+    from + more
 }
 
 // Where a comment's body ends: at its two closing bytes, or with the bytes.
@@ -117,16 +105,12 @@ pub fn body_end(text: &[u8], at: usize) -> usize
     requires { at ≤ length text.now }
     ensures { result ≡ at + before_close (drop at text.now) }
 {
-    let mut i = at;
-    while i < text.len() {
-        if text[i] == b'*' {
-            if peek(text, i + 1) == b'/' {
-                return i;
-            }
+    for i in at..text.len() {
+        if text[i] == b'*' && peek(text, i + 1) == b'/' {
+            return i;
         }
-        i += 1;
     }
-    i
+    text.len()
 }
 
 // What a digit of a run is worth: behind `0`, `A` and `a` the bytes count on, from 0 and from ten.
@@ -134,32 +118,16 @@ const UPPER: u8 = b'A' - 10;
 
 const LOWER: u8 = b'a' - 10;
 
-// What is worth more than any digit.
-const NO_DIGIT: u8 = 16;
-
-// What a byte is worth as a hex digit, and more than any digit for any other.
-fn digit_of(b: u8) -> u8
-    ensures { result ≡ digit_of b }
+// What a byte is worth as a hex digit, if it is one.
+fn digit_of(b: u8) -> Option<u8>
+    ensures { MatchOption result (digit_of b ≡ 16) (λ d. (d ≡ digit_of b) × (d < 16)) }
 {
-    if b < b'0' {
-        return NO_DIGIT;
+    match b {
+        b'0'..=b'9' => Some(b - b'0'),
+        b'A'..=b'F' => Some(b - UPPER),
+        b'a'..=b'f' => Some(b - LOWER),
+        _ => None,
     }
-    if b <= b'9' {
-        return b - b'0';
-    }
-    if b < b'A' {
-        return NO_DIGIT;
-    }
-    if b <= b'F' {
-        return b - UPPER;
-    }
-    if b < b'a' {
-        return NO_DIGIT;
-    }
-    if b <= b'f' {
-        return b - LOWER;
-    }
-    NO_DIGIT
 }
 
 // The base of hex digits or of decimal ones.
@@ -210,16 +178,16 @@ fn digits_in(text: &[u8], at: usize, hex: bool) -> Digits
 {
     let base = base_of(hex);
     let mut value: u64 = 0;
-    let mut i = at;
-    while i < text.len() {
-        let digit = digit_of(text[i]);
-        if base <= digit {
-            return Digits { end: i, value };
+    for i in at..text.len() {
+        match digit_of(text[i]) {
+            Some(digit) if digit < base => value = longer(value, digit, hex),
+            _ => return Digits { end: i, value },
         }
-        value = longer(value, digit, hex);
-        i += 1;
     }
-    Digits { end: i, value }
+    Digits {
+        end: text.len(),
+        value,
+    }
 }
 
 // The digits from an index on: by one branch for each base, so that the compiler makes a loop for each.
@@ -228,52 +196,47 @@ pub fn read_digits(text: &[u8], at: usize, hex: bool) -> Digits
     ensures { result ≡ digits_of hex at (drop at text.now) }
 {
     if hex {
-        return digits_in(text, at, true);
+        digits_in(text, at, true)
+    } else {
+        digits_in(text, at, false)
     }
-    digits_in(text, at, false)
 }
 
 // Whether a byte may follow a backslash.
+#[tactic(auto, unfolding(rules::specs::Lex::is_escape))]
 fn escapes(b: u8) -> bool
     ensures { result ≡ is_escape b }
 {
-    (b == b'"') | (b == b'\\') | (b == b'n')
+    matches!(b, b'"' | b'\\' | b'n')
 }
 
-// A string behind its opening quote: closed by the quote at an index; open at a newline or the end; or a backslash that escapes nothing.
+// Why a string is not closed: it is open at a newline or the end, or a backslash escapes nothing.
 #[derive(Clone, Copy)]
-pub enum Quoted {
-    Closed(usize),
+pub enum Unclosed {
     Open(usize),
     Escape(usize),
 }
 
-// How the string whose opening quote stands before an index goes on.
-pub fn read_quoted(text: &[u8], at: usize) -> Quoted
+// The index of the quote that closes the string whose opening quote stands before an index.
+pub fn read_quoted(text: &[u8], at: usize) -> Result<usize, Unclosed>
     requires { at ≤ length text.now }
     ensures { result ≡ quoted_from false at (drop at text.now) }
 {
-    let mut i = at;
-    while i < text.len() {
+    let mut escaped = false;
+    for i in at..text.len() {
         let b = text[i];
-        if b == b'"' {
-            return Quoted::Closed(i);
-        }
-        if b == b'\n' {
-            return Quoted::Open(i);
-        }
-        if b == b'\\' {
-            let next = i + 1;
-            if text.len() <= next {
-                return Quoted::Open(next);
+        if escaped {
+            if !escapes(b) {
+                return Err(Unclosed::Escape(i - 1));
             }
-            if !escapes(text[next]) {
-                return Quoted::Escape(i);
-            }
-            i = next + 1;
+            escaped = false;
         } else {
-            i += 1;
+            match b {
+                b'"' => return Ok(i),
+                b'\n' => return Err(Unclosed::Open(i)),
+                _ => escaped = b == b'\\',
+            }
         }
     }
-    Quoted::Open(i)
+    Err(Unclosed::Open(text.len()))
 }

@@ -13,10 +13,16 @@ use Rattle.scan_stop.specs.declared.Stop.TheVariants.{Met, Over, Short}
 use Rattle.scan_stop.specs.declared.Walked.{Walked}
 
 -- it stopped for want of bytes
-unfoldable pub is_lacking : Stop → Bool
+abbrev pub is_lacking : Stop → Bool
 is_lacking (Met p r c) = false
 is_lacking (Over e) = false
 is_lacking Short = true
+
+-- it stopped at the text's end or a refusal
+abbrev pub IsOver : Stop → Type 0
+IsOver (Met p r c) = ⊥
+IsOver (Over e) = Unit
+IsOver Short = ⊥
 
 -- what was told last, behind n rows: the text's end, that more bytes must be shown, or a refusal
 pub record Last (n : ℕ) (at : Cursor) (r : Brief) : Type 0 where

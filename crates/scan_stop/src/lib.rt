@@ -1,6 +1,7 @@
 // How a walk stops, and what it then writes and tells.
 ghost use Rattle.std.specs.Prelude.{◌≡◌};
-ghost use Rattle.scan_stop.specs.Stop.{Last, Finished, is_lacking};
+ghost use Rattle.scan_stop.specs.declared.Stop.TheVariants.{Over};
+ghost use Rattle.scan_stop.specs.Stop.{Last, Finished, IsOver, is_lacking};
 
 use rules::{Cursor, Ending, Halt, kind};
 use scan_puts::put_behind;
@@ -14,6 +15,26 @@ pub enum Stop {
     Met(Cursor, usize, u32),
     Over(Ending),
     Short,
+}
+
+impl Stop {
+    // Whether it stopped since more bytes must be shown.
+    pub fn lacks(self) -> bool
+        ensures { result ≡ is_lacking self }
+    {
+        matches!(self, Stop::Short)
+    }
+
+    // The ending of the text, where the walk can stop at nothing else.
+    pub fn ending(self) -> Ending
+        requires { IsOver self }
+        ensures { self ≡ Over result }
+    {
+        match self {
+            Stop::Over(ending) => ending,
+            Stop::Met(..) | Stop::Short => unreachable!(),
+        }
+    }
 }
 
 // How many rows were passed, and how the walk stopped.
@@ -55,16 +76,5 @@ pub fn finish(rows: &mut [u32], n: usize, at: Cursor, comments: u32, told: Brief
             why: reason(kind),
             at: place,
         })),
-    }
-}
-
-// Whether a walk stopped since more bytes must be shown.
-pub fn lacks(stop: Stop) -> bool
-    ensures { result ≡ is_lacking stop }
-{
-    match stop {
-        Stop::Met(_, _, _) => false,
-        Stop::Over(_) => false,
-        Stop::Short => true,
     }
 }

@@ -25,12 +25,12 @@ use Rattle.scan_reader.proofs.Moves.{onward_more}
 use Rattle.scan_reader.specs.declared.Brief.{Brief}
 use Rattle.scan_reader.specs.Brief.{Blank, Line, End, Unknown, told}
 use Rattle.scan_reader.proofs.Told.{CommentTold, by_row, by_blank, by_comment, by_end, by_unknown, by_refused}
-use Rattle.scan_meet.specs.declared.Found.{Found}
+use Rattle.std.specs.Prelude.{Result, is_ok}
 use Rattle.scan_meet.specs.declared.Olds.{Olds}
 use Rattle.scan_stop.specs.declared.Stop.{Stop}
 use Rattle.scan_stop.specs.declared.Stop.TheVariants.{Met, Over, Short}
 use Rattle.scan_stop.specs.declared.Walked.{Walked}
-use Rattle.scan_meet.specs.Meeting.{Passed, Finds, meets_at, stops_at}
+use Rattle.scan_meet.specs.Meeting.{Passed, Finds, passed_by, meets_at, stops_at}
 use Rattle.scan_blanks.specs.Blanks.{blanks}
 use Rattle.scan_puts.specs.Put.{row_of, placed}
 use Rattle.scan_stop.specs.Stop.{Last, Finished}
@@ -198,8 +198,8 @@ module _ {ws : List ℕ} {o : Olds} {t : List ℕ} {p : Cursor} {whole : Bool} {
 
   -- ---- an old row is looked for
 
-  module _ (r : Found) (f : Finds ws o.count o.least o.b row here.cursor.offset.0 (drop here.at t) r) where
-    pub walking_found : Stands us here i r.row n c
+  module _ (r : Result ℕ ℕ) (f : Finds ws o.count o.least o.b row here.cursor.offset.0 (drop here.at t) r) where
+    pub walking_found : Stands us here i (passed_by r) n c
     walking_found =
         record {
           done = g.done;
@@ -215,7 +215,7 @@ module _ {ws : List ℕ} {o : Olds} {t : List ℕ} {p : Cursor} {whole : Bool} {
           stops = g.stops;
         }
 
-    pub tells : r.met ≡ stops_at olds o.least o.b (p.offset.0 + i) (drop i t)
+    pub tells : is_ok r ≡ stops_at olds o.least o.b (p.offset.0 + i) (drop i t)
     tells = rw (at_index, at_offset) at f.tells
 
   -- ---- the answers
@@ -236,17 +236,17 @@ module _ {ws : List ℕ} {o : Olds} {t : List ℕ} {p : Cursor} {whole : Bool} {
       let l : length (g.done ++ (r ∷ [])) ≡ n + 1 = rw (length-append, g.counted) in
       (rw (q, l, g.stops, f), rw (q, g.words) (laid_more g.done r lent n g.counted))
 
-  pub walking_met : (r : Found) → Finds ws o.count o.least o.b row here.cursor.offset.0 (drop here.at t) r →
-      r.met ≡ true → Answers (record { count = n; stop = Met here.cursor r.row c }) us
+  pub walking_met : (r : Result ℕ ℕ) → Finds ws o.count o.least o.b row here.cursor.offset.0 (drop here.at t) r →
+      is_ok r ≡ true → Answers (record { count = n; stop = Met here.cursor (passed_by r) c }) us
   unfolding stop_seen rows_seen stops_at
   walking_met r f e =
       let k = p.offset.0 in
       let s : seen_at c i ≡ met (k + i) c = look_met (place_in p t) meet whole (drop i t) c (k + i) (sym (tells r f) ∙ e) in
       let q = rw at_offset at (f.there e) in
       let m : k + i - k ≡ i = omega arith in
-      let d : length olds - length (drop r.row olds) ≡ r.row =
-      omega (arith, length-drop r.row olds, rows_length o.count ws, f.high) in
-      over_with (Met here.cursor r.row c) (rw s) (ap stop_of s ∙ rw (q, d, m, g.spot))
+      let d : length olds - length (drop (passed_by r) olds) ≡ passed_by r =
+      omega (arith, length-drop (passed_by r) olds, rows_length o.count ws, f.high) in
+      over_with (Met here.cursor (passed_by r) c) (rw s) (ap stop_of s ∙ rw (q, d, m, g.spot))
 
   -- ---- nothing meets, no blank stands there, and r was told
 

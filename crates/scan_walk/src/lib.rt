@@ -36,38 +36,31 @@ pub fn walk(
         at: 0,
         cursor: begin,
     };
-    let mut i = 0;
     let mut row = olds.first;
     let mut count = 0;
     let mut comments: u32 = 0;
-    while i <= text.len() {
+    loop {
         let spot = past_blanks(text, here);
-        let found = find(old, olds, row, text, spot);
-        row = found.row;
-        if found.met {
-            let place = spot.cursor;
-            return Walked {
-                count,
-                stop: Stop::Met(place, row, comments),
-            };
-        }
+        row = match find(old, olds, row, text, spot) {
+            Ok(met) => {
+                return Walked {
+                    count,
+                    stop: Stop::Met(spot.cursor, met, comments),
+                };
+            }
+            Err(passed) => passed,
+        };
         let told = brief(&classes, text, spot.at, whole);
-        let cursor = spot.cursor;
         if codes::END <= told.kind {
-            return finish(rows, count, cursor, comments, told);
+            return finish(rows, count, spot.cursor, comments, told);
         }
         if told.kind < codes::BLANK {
-            put_behind(rows, count, cursor, comments, told);
+            put_behind(rows, count, spot.cursor, comments, told);
             count += 1;
             comments = 0;
         } else {
             comments += 1;
         }
         here = behind(text, spot, told);
-        i = here.at;
-    }
-    Walked {
-        count,
-        stop: Stop::Short,
     }
 }

@@ -2,17 +2,18 @@
 use mathlib.Core.Path.{◌≡◌, refl, sym, ap, ◌∙◌}
 use mathlib.Core.Bool.{Bool, true, false, not, cond, ◌&&◌, ◌||◌}
 use mathlib.Core.List.{List, [], ◌∷◌, map}
-use Prim.Native.Nat.{ℕ, suc, ◌+◌, ◌-◌, ◌*◌, ◌/◌, ◌%◌, ◌^◌, ◌≤◌, ◌<◌}
+use Prim.Native.Nat.{ℕ, zero, suc, ◌+◌, ◌-◌, ◌*◌, ◌/◌, ◌%◌, ◌^◌, ◌≤◌, ◌<◌}
 use native.Mathlib.Decide.{dec_le}
 use native.Mathlib.Numerals.{add-one}
 use native.Mathlib.Omega.{arith}
 use lib.ListN.{length, take, drop, get_or, drop_of_length-le, length-drop}
 use lib.Seq.{take_all, drop-cons, length-take-le}
+use Rattle.std.proofs.lemmas.List.{length-take, get_or-take, get_or-drop}
 use lib.Dec.{eqb, ltb}
 use borrow.Author.Tests.{eqb-true, eqb-false, ltb-true, eq-eqb, ne_eqb, not-true}
 use Rattle.rules.specs.Kinds.{Spelt, Identifier, reserved, same_bytes, kind_in}
 use Rattle.scan_words.specs.declared.words.Held.{Held}
-use Rattle.scan_words.specs.Words.{padded, packed_of, packable, held_of}
+use Rattle.scan_words.specs.Words.{padded, long, kind_of, packed_of, packable, held_of, held_at}
 use Rattle.scan_words.specs.Slots.{slot_of, held_in, spells}
 use Rattle.laws.specs.Tests.{all_below}
 use Rattle.laws.proofs.Tests.{below, both_true, neither}
@@ -49,6 +50,37 @@ eight_tests = refl
 pub padded_eight : (i : ℕ) → i < 21 → length (get_or (map padded reserved) i []) ≡ 8
 unfolding eight_test
 padded_eight i h = eqb-true _ _ (below eight_test 21 eight_tests i h)
+
+-- ---- the table: of each word its padded spelling, its length and its kind
+
+abbrev Entry : Type 0
+Entry = List ℕ × ℕ × ℕ
+
+abbrev entry : Spelt → Entry
+entry e = (padded e, long e, kind_of e)
+
+entry_at : (es : List Spelt) (i : ℕ) (d : Entry) → i < length es
+    → ((get_or (map entry es) i d).0 ≡ get_or (map padded es) i [])
+    × (((get_or (map entry es) i d).1 ≡ get_or (map long es) i 0) × ((get_or (map entry es) i d).2 ≡ get_or (map kind_of es) i 0))
+entry_at [] i d h = absurd (let y : ⊥ = omega arith in y)
+entry_at (e ∷ es) zero d h = (refl, (refl, refl))
+entry_at (e ∷ es) (suc i) d h = entry_at es i d (omega arith)
+
+words_in : 21 ≡ length reserved
+unfolding reserved
+words_in = refl
+
+pub table_at : (i : ℕ) (d : Entry) → i < 21 → {v : ℕ} → v ≡ packed_of 0 (get_or (map entry reserved) i d).0
+    → ◌≡◌ {A = Held} (record {
+      spelling = v;
+      length = (get_or (map entry reserved) i d).1;
+      kind = (get_or (map entry reserved) i d).2;
+    }) (held_at i)
+unfolding held_at
+table_at i d h e =
+    let n : 21 ≡ length reserved = words_in in
+    let a = entry_at reserved i d (omega arith) in
+    rw (e, a.0, a.1.0, a.1.1)
 
 -- ---- a loop that packs bytes, which has come to k with the number v
 
@@ -89,6 +121,13 @@ module _ (t : List ℕ) (a e v₀ v i : ℕ) (r : Comparing t a e v₀ v i) wher
   pub compare_end : e ≤ i → true ≡ spells v₀ (take (e - a) (drop a t))
   unfolding spells
   compare_end l = let n : e - i ≡ 0 = omega arith in rw n at r.same
+
+-- byte k of those from a to e
+pub byte_at : (t : List ℕ) (a e k : ℕ) → e ≤ length t → k < length (take (e - a) (drop a t))
+    → (a + k < e) × (get_or (take (e - a) (drop a t)) k 0 ≡ get_or t (a + k) 0)
+byte_at t a e k h l =
+    let m : k < e - a = omega (arith, length-take (e - a) (drop a t)) in
+    (omega arith, get_or-take (e - a) (drop a t) k 0 m ∙ get_or-drop a t k 0)
 
 -- ---- a table of words by slot
 

@@ -1,5 +1,5 @@
 -- The reserved words, by slot: a word packed into a number, and each in the slot that its number says.
-use Rattle.std.specs.Prelude.{Bool, true, cond, ◌&&◌, List, [], ◌∷◌, ℕ, ◌+◌, ◌*◌, ◌/◌, ◌%◌, ◌^◌, eqb}
+use Rattle.std.specs.Prelude.{Bool, true, cond, ◌&&◌, List, [], ◌∷◌, ℕ, ◌*◌, ◌/◌, ◌%◌, ◌^◌, eqb}
 use Rattle.rules.specs.Kinds.{Spelt, Identifier}
 use Rattle.scan_words.specs.declared.words.Held.{Held}
 use Rattle.scan_words.specs.Words.{packed_of, held_of}

@@ -1,19 +1,22 @@
 // Bytes and words: what a byte begins, the kinds of signs, and the reserved words.
+#![tactic(auto)]
+
 pub mod classes;
 pub mod slots;
 pub mod words;
 
-ghost use Rattle.std.specs.Prelude.{◌≡◌, [], ◌∷◌, true, false, cond, eqb};
+ghost use Rattle.std.specs.Prelude.{◌≡◌, ◌≢◌, [], ◌∷◌, true, false, cond, eqb, Some, None, MatchOption};
 ghost use Rattle.rules.specs.Kinds.{Eof, signs, kind_in};
 ghost use Rattle.rules.specs.Lex.{is_digit, is_lone, maybe_two};
 
 use rules::kind;
 
 // Whether a byte is a decimal digit.
+#[tactic(auto, unfolding(rules::specs::Lex::is_digit))]
 pub fn is_digit(b: u8) -> bool
     ensures { result ≡ is_digit b }
 {
-    (b'0' <= b) & (b <= b'9')
+    matches!(b, b'0'..=b'9')
 }
 
 // The kind of a sign of one byte that may be the first of two.
@@ -30,19 +33,18 @@ pub fn one_sign(b: u8) -> u32
     }
 }
 
-// A kind where a byte is the wanted one, or Eof's.
-fn followed(x: u8, wanted: u8, kind: u32) -> u32
-    ensures { result ≡ cond (eqb wanted x) kind Eof }
+// A kind where a byte is the wanted one.
+fn followed(x: u8, wanted: u8, kind: u32) -> Option<u32>
+    ensures { result ≡ cond (eqb wanted x) (Some kind) None }
 {
-    if x == wanted {
-        return kind;
-    }
-    kind::EOF
+    (wanted == x).then_some(kind)
 }
 
-// The kind of a sign of two bytes, or Eof's.
-pub fn two_sign(b: u8, x: u8) -> u32
-    ensures { result ≡ kind_in signs Eof (b ∷ x ∷ []) }
+// The kind of a sign of two bytes, if they are one.
+pub fn two_sign(b: u8, x: u8) -> Option<u32>
+    ensures { MatchOption result
+        (kind_in signs Eof (b ∷ x ∷ []) ≡ Eof)
+        (λ k. (k ≡ kind_in signs Eof (b ∷ x ∷ [])) × (k ≢ Eof)) }
 {
     match b {
         b'+' => followed(x, b'=', kind::PLUS_EQUALS),
@@ -52,6 +54,6 @@ pub fn two_sign(b: u8, x: u8) -> u32
         b'%' => followed(x, b'=', kind::PERCENT_EQUALS),
         b'>' => followed(x, b'>', kind::SHR),
         b'<' => followed(x, b'<', kind::SHL),
-        _ => kind::EOF,
+        _ => None,
     }
 }

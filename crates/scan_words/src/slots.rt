@@ -54,13 +54,11 @@ fn same(spelling: u64, text: &[u8], at: usize, end: usize) -> bool
     ensures { result ≡ spells spelling (take (end - at) (drop at text.now)) }
 {
     let mut left = spelling;
-    let mut i = at;
-    while i < end {
-        if text[i] as u64 != left / BEFORE_LAST {
+    for b in &text[at..end] {
+        if u64::from(*b) != left / BEFORE_LAST {
             return false;
         }
         left = left % BEFORE_LAST * ABOVE_BYTE;
-        i += 1;
     }
     true
 }
@@ -73,10 +71,7 @@ pub fn kind_of(packed: u64, text: &[u8], at: usize, end: usize) -> u32
     ensures { result ≡ kind_in reserved Identifier (take (end - at) (drop at text.now)) }
 {
     let word = held(packed / HALF % COUNT);
-    if word.length != end - at {
-        return kind::IDENTIFIER;
-    }
-    if same(word.spelling, text, at, end) {
+    if word.length == end - at && same(word.spelling, text, at, end) {
         return word.kind;
     }
     kind::IDENTIFIER

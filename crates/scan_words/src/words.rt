@@ -1,60 +1,32 @@
-// The reserved words as one table: spellings padded to eight bytes, their lengths and their kinds. The lookup takes each
-// word from here (`slots::held`).
+// The reserved words as one table: the lookup takes each word from here (`slots::held`).
 ghost use Rattle.std.specs.Prelude.{◌≡◌, ◌<◌};
 ghost use Rattle.scan_words.specs.Words.{packed_of, held_at};
 
 use rules::kind;
 
-const SPELLINGS: [[u8; 8]; 21] = [
-    *b"unit    ",
-    *b"section ",
-    *b"license ",
-    *b"return  ",
-    *b"reg     ",
-    *b"imm     ",
-    *b"map     ",
-    *b"type    ",
-    *b"key     ",
-    *b"value   ",
-    *b"max     ",
-    *b"if      ",
-    *b"else    ",
-    *b"guard   ",
-    *b"heap    ",
-    *b"event   ",
-    *b"bytes   ",
-    *b"u32     ",
-    *b"u64     ",
-    *b"i32     ",
-    *b"i64     ",
-];
-
-const LENGTHS: [usize; 21] = [
-    4, 7, 7, 6, 3, 3, 3, 4, 3, 5, 3, 2, 4, 5, 4, 5, 5, 3, 3, 3, 3,
-];
-
-const KINDS: [u32; 21] = [
-    kind::UNIT,
-    kind::SECTION,
-    kind::LICENSE,
-    kind::RETURN,
-    kind::REG,
-    kind::IMM,
-    kind::MAP,
-    kind::TYPE,
-    kind::KEY,
-    kind::VALUE,
-    kind::MAX,
-    kind::IF,
-    kind::ELSE,
-    kind::GUARD,
-    kind::HEAP,
-    kind::EVENT,
-    kind::BYTES,
-    kind::TYPE_U32,
-    kind::TYPE_U64,
-    kind::TYPE_I32,
-    kind::TYPE_I64,
+// Each word's spelling, padded to eight bytes, its length and its kind.
+const WORDS: [([u8; 8], usize, u32); 21] = [
+    (*b"unit    ", 4, kind::UNIT),
+    (*b"section ", 7, kind::SECTION),
+    (*b"license ", 7, kind::LICENSE),
+    (*b"return  ", 6, kind::RETURN),
+    (*b"reg     ", 3, kind::REG),
+    (*b"imm     ", 3, kind::IMM),
+    (*b"map     ", 3, kind::MAP),
+    (*b"type    ", 4, kind::TYPE),
+    (*b"key     ", 3, kind::KEY),
+    (*b"value   ", 5, kind::VALUE),
+    (*b"max     ", 3, kind::MAX),
+    (*b"if      ", 2, kind::IF),
+    (*b"else    ", 4, kind::ELSE),
+    (*b"guard   ", 5, kind::GUARD),
+    (*b"heap    ", 4, kind::HEAP),
+    (*b"event   ", 5, kind::EVENT),
+    (*b"bytes   ", 5, kind::BYTES),
+    (*b"u32     ", 3, kind::TYPE_U32),
+    (*b"u64     ", 3, kind::TYPE_U64),
+    (*b"i32     ", 3, kind::TYPE_I32),
+    (*b"i64     ", 3, kind::TYPE_I64),
 ];
 
 // What a number of eight bytes keeps of those before its last, and what they are worth beside it.
@@ -74,11 +46,9 @@ pub struct Held {
 fn number(s: &[u8]) -> u64
     ensures { result ≡ packed_of 0 s.now }
 {
-    let mut v: u64 = 0;
-    let mut k = 0;
-    while k < s.len() {
-        v = v % BEFORE_LAST * ABOVE_BYTE + s[k] as u64;
-        k += 1;
+    let mut v = 0;
+    for b in s {
+        v = v % BEFORE_LAST * ABOVE_BYTE + u64::from(*b);
     }
     v
 }
@@ -88,13 +58,11 @@ pub fn word_at(i: usize) -> Held
     requires { i < 21 }
     ensures { result ≡ held_at i }
 {
-    let spellings = SPELLINGS;
-    let lengths = LENGTHS;
-    let kinds = KINDS;
-    let spelling = spellings[i];
+    let words = WORDS;
+    let (spelling, length, kind) = words[i];
     Held {
         spelling: number(&spelling),
-        length: lengths[i],
-        kind: kinds[i],
+        length,
+        kind,
     }
 }

@@ -1,19 +1,18 @@
 -- The loop of a tallying: behind i nodes the tally is theirs, and each of them can be counted.
-use Prim.Native.Nat.{ℕ, zero, suc, ◌+◌, ◌*◌, ◌-◌, ◌^◌, ◌≤◌, ◌<◌}
+use Prim.Native.Nat.{ℕ, zero, suc, ◌+◌, ◌*◌, ◌^◌, ◌≤◌, ◌<◌}
 use mathlib.Core.Bool.{Bool, true, false, cond, ◌&&◌}
 use mathlib.Core.List.{List, [], ◌∷◌, ◌++◌}
 use mathlib.Core.Path.{◌≡◌, refl, ap, sym, ◌∙◌}
 use native.Mathlib.Omega.{arith}
 use native.Mathlib.Numerals.{add-one}
 use lib.Dec.{eqb, leb}
-use lib.ListN.{length, drop, get_or}
+use lib.ListN.{drop, get_or}
 use lib.Seq.{drop-drop, get_or-drop}
-use borrow.Author.Tests.{leb-true, le-leb, lt-leb, eq-eqb, eqb-true, ne_eqb}
+use borrow.Author.Tests.{leb-true, eqb-true, ne_eqb}
 use Rattle.laws.proofs.Tests.{both_true, true_both}
-use Rattle.rules.specs.Sets.{set_size}
 use Rattle.rules.specs.Nodes.{Node, NodeUnit, NodeMap, NodeEvent}
 use Rattle.rules_tally.specs.declared.Tally.{Tally}
-use Rattle.rules_tally.specs.Tally.{Thing, a_unit, a_map, an_event, a_statement, unit_of, map_of, event_of, statement_of, max_of, methods_of, tally_by, empty, is_statement, node_in, nodes_in, node_total, nodes_total, nodes_tally}
+use Rattle.rules_tally.specs.Tally.{Thing, a_unit, a_map, an_event, a_statement, unit_of, map_of, event_of, statement_of, methods_of, tally_by, empty, is_statement, node_in, nodes_in, node_total, nodes_total, nodes_tally}
 use Rattle.rules_tally.specs.Calls.{most_nodes, is_countable, are_countable}
 use Rattle.theory_tally.proofs.Totals.{nodes_last, tally_same}
 use Rattle.theory_tally.proofs.Reading.{node_no, read_next}

@@ -9,9 +9,8 @@ use lib.Dec.{eqb}
 use lib.ListN.{get_or}
 use Rattle.rules.specs.Sets.{program_kinds}
 use Rattle.rules.specs.Tree.{map_type_numbers}
-use Rattle.rules.specs.Nodes.{Node}
 use Rattle.rules_tally.specs.declared.Tally.{Tally}
-use Rattle.rules_tally.specs.Tally.{Thing, a_unit, a_map, an_event, a_statement, unit_of, map_of, event_of, statement_of, max_of, methods_of, tally_by, is_statement, node_total}
+use Rattle.rules_tally.specs.Tally.{Thing, a_unit, a_map, an_event, a_statement, unit_of, map_of, event_of, statement_of, max_of, methods_of, tally_by}
 use Rattle.tally_steps.specs.Steps.{one_more, with_unit, with_map}
 
 -- ---- lists of counts

@@ -1,10 +1,12 @@
 // Two tallies joined: all counts are tried before any is added.
+#![tactic(auto)]
+
 ghost use Rattle.std.specs.Prelude.{◌≡◌, true, ◌+◌, ◌^◌, ltb, length};
 ghost use Rattle.rules_tally.specs.Calls.{add_each, all_fit, fits, sum, joined};
 ghost use Rattle.tally_join.specs.Adding.{Addable};
 
 use rules::limit;
-use rules_tally::{Joined, Joining, Tally};
+use rules_tally::{CountTooLarge, Tally};
 
 // Whether the sum of two counts fits 64 bits.
 fn fit(a: u64, b: u64) -> bool
@@ -14,91 +16,65 @@ fn fit(a: u64, b: u64) -> bool
 }
 
 // Whether the sums of counts side by side all fit.
+#[tactic(auto, using(crate::proofs::Adds::tried_start, crate::proofs::Adds::tried_next, crate::proofs::Adds::tried_all, crate::proofs::Adds::tried_none))]
 fn all_fit(a: &[u64], b: &[u64]) -> bool
     requires { length a.now ≡ length b.now }
     ensures { result ≡ all_fit (add_each a.now b.now) }
 {
-    let mut i: usize = 0;
-    while i < a.len() {
-        if !fit(a[i], b[i]) {
+    for (i, x) in a.iter().enumerate() {
+        if !fit(*x, b[i]) {
             return false;
         }
-        i += 1;
     }
     true
 }
 
 // Each count of b added to that of a.
+#[tactic(auto, using(crate::proofs::Adds::adding_fits, crate::proofs::Adds::adding_next, crate::proofs::Adds::adding_end))]
 fn add_each(a: &mut [u64], b: &[u64])
     requires { Addable a.old b.now }
     ensures { a.new ≡ add_each a.old b.now }
 {
-    let mut i: usize = 0;
-    while i < b.len() {
-        a[i] = a[i] + b[i];
-        i += 1;
+    for (i, y) in b.iter().enumerate() {
+        a[i] += *y;
     }
 }
 
 // Whether all twenty sums fit.
-fn sums_fit(a: Tally, b: Tally) -> bool
-    ensures { result ≡ fits (sum a b) }
+#[tactic(auto, using(crate::proofs::Adds::parts_fit))]
+fn sums_fit(a: &Tally, b: &Tally) -> bool
+    ensures { result ≡ fits (sum a.now b.now) }
 {
-    let units = a.units;
-    let more_units = b.units;
-    if !all_fit(&units, &more_units) {
-        return false;
-    }
-    let maps = a.maps;
-    let more_maps = b.maps;
-    if !all_fit(&maps, &more_maps) {
-        return false;
-    }
-    if !fit(a.events, b.events) {
-        return false;
-    }
-    if !fit(a.statements, b.statements) {
-        return false;
-    }
-    if !fit(a.max, b.max) {
-        return false;
-    }
-    fit(a.methods, b.methods)
+    all_fit(&a.units, &b.units)
+        && all_fit(&a.maps, &b.maps)
+        && fit(a.events, b.events)
+        && fit(a.statements, b.statements)
+        && fit(a.max, b.max)
+        && fit(a.methods, b.methods)
 }
 
 // Count by count.
-fn added(a: Tally, b: Tally) -> Tally
-    requires { fits (sum a b) ≡ true }
-    ensures { result ≡ sum a b }
+#[tactic(auto, unfolding(rules_tally::specs::Calls::sum))]
+fn added(mut a: Tally, b: &Tally) -> Tally
+    requires { fits (sum a b.now) ≡ true }
+    ensures { result ≡ sum a b.now }
 {
-    let mut units = a.units;
-    let more_units = b.units;
-    add_each(&mut units, &more_units);
-    let mut maps = a.maps;
-    let more_maps = b.maps;
-    add_each(&mut maps, &more_maps);
-    Tally {
-        units,
-        maps,
-        events: a.events + b.events,
-        statements: a.statements + b.statements,
-        max: a.max + b.max,
-        methods: a.methods + b.methods,
-    }
+    add_each(&mut a.units, &b.units);
+    add_each(&mut a.maps, &b.maps);
+    a.events += b.events;
+    a.statements += b.statements;
+    a.max += b.max;
+    a.methods += b.methods;
+    a
 }
 
 // Both tallies together; where a count passes 64 bits, 70 and the first as it was.
-pub fn join(first: Tally, second: Tally) -> Joined
+#[tactic(auto, unfolding(rules_tally::specs::Calls::joined))]
+pub fn join(first: Tally, second: Tally) -> Result<Tally, CountTooLarge>
     ensures { result ≡ joined first second }
 {
-    if !sums_fit(first, second) {
-        return Joined {
-            how: Joining::CountTooLarge,
-            tally: first,
-        };
+    if !sums_fit(&first, &second) {
+        return Err(CountTooLarge { first });
     }
-    Joined {
-        how: Joining::Whole,
-        tally: added(first, second),
-    }
+    Ok(added(first, &second))
 }

@@ -1,4 +1,6 @@
 // What a tallying does with one node: whether it can be counted, and the tally with one thing more.
+#![tactic(auto)]
+
 ghost use Rattle.std.specs.Prelude.{◌≡◌, cond, eqb};
 ghost use Rattle.rules.specs.Nodes.{NodeEvent};
 ghost use Rattle.rules.specs.Sets.{set_size};
@@ -10,42 +12,29 @@ use rules::{fact, node_kind};
 use rules_tally::Tally;
 
 // Whether a node's kind is one, and so a unit's kind or a map's type, which is the node's first fact.
+#[tactic(auto, unfolding(rules_tally::specs::Calls::is_countable))]
 pub fn is_countable(kind: u32, fact: u32) -> bool
     ensures { result ≡ is_countable kind fact }
 {
-    if kind < node_kind::VARIABLE {
-        return false;
+    match kind {
+        node_kind::UNIT => fact <= fact::PROGRAM_UNKNOWN,
+        node_kind::MAP => matches!(fact, fact::MAP_HASH..=fact::MAP_PROG_ARRAY),
+        _ => matches!(kind, node_kind::VARIABLE..=node_kind::PROGRAM),
     }
-    if node_kind::PROGRAM < kind {
-        return false;
-    }
-    if kind == node_kind::UNIT {
-        return fact <= fact::PROGRAM_UNKNOWN;
-    }
-    if kind == node_kind::MAP {
-        return (fact::MAP_HASH <= fact) & (fact <= fact::MAP_PROG_ARRAY);
-    }
-    true
 }
 
 // 1 for an event, else 0.
 pub fn events_in(kind: u32) -> u64
     ensures { result ≡ cond (eqb kind NodeEvent) 1 0 }
 {
-    if kind == node_kind::EVENT { 1 } else { 0 }
+    u64::from(kind == node_kind::EVENT)
 }
 
 // 1 for a statement, else 0.
 pub fn statements_in(kind: u32) -> u64
     ensures { result ≡ cond (is_statement kind) 1 0 }
 {
-    if kind < node_kind::EXPRESSION {
-        return 0;
-    }
-    if node_kind::IF < kind {
-        return 0;
-    }
-    1
+    u64::from(matches!(kind, node_kind::EXPRESSION..=node_kind::IF))
 }
 
 // How many methods a unit's kind allows.
@@ -59,6 +48,7 @@ pub fn methods_in(kind: u32) -> u64
 }
 
 // The tally of nothing.
+#[tactic(auto, unfolding(rules_tally::specs::Tally::tally_by))]
 pub fn nothing() -> Tally
     ensures { result ≡ empty }
 {
@@ -73,23 +63,23 @@ pub fn nothing() -> Tally
 }
 
 // A unit more, with the methods that its kind allows.
+#[tactic(auto, unfolding(crate::specs::Steps::with_unit))]
 pub fn with_unit(mut t: Tally, kind: u32) -> Tally
     requires { UnitFits t kind }
     ensures { result ≡ with_unit t kind }
 {
-    let at = kind as usize;
-    t.units[at] = t.units[at] + 1;
-    t.methods = t.methods + methods_in(kind);
+    t.units[kind as usize] += 1;
+    t.methods += methods_in(kind);
     t
 }
 
 // A map more, with its max.
+#[tactic(auto, unfolding(crate::specs::Steps::with_map))]
 pub fn with_map(mut t: Tally, kind: u32, max: u32) -> Tally
     requires { MapFits t kind max }
     ensures { result ≡ with_map t kind max }
 {
-    let at = (kind - fact::MAP_HASH) as usize;
-    t.maps[at] = t.maps[at] + 1;
-    t.max = t.max + max as u64;
+    t.maps[(kind - fact::MAP_HASH) as usize] += 1;
+    t.max += u64::from(max);
     t
 }

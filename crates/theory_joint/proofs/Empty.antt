@@ -1,10 +1,10 @@
 -- An empty prelude has one row. Then both calls give the same kinds, children and facts, with rows moved by one, and refusals are alike short
 -- of 5, 51 and 4.
-use Prim.Native.Nat.{ℕ, suc, pred, ◌+◌, ◌≤◌, ◌<◌}
+use Prim.Native.Nat.{ℕ, suc, pred, ◌+◌, ◌≤◌}
 use native.Mathlib.Omega.{arith}
 use mathlib.Core.Bool.{true}
 use mathlib.Core.List.{List, [], ◌∷◌, ◌++◌, map}
-use mathlib.Core.Path.{◌≡◌, refl, sym, ap, ◌∙◌, subst}
+use mathlib.Core.Path.{◌≡◌, refl, sym, ap, ◌∙◌}
 use lib.ListN.{length}
 use Rattle.rules.specs.declared.Cursor.{Cursor}
 use Rattle.rules.specs.declared.Reason.{Reason}
@@ -18,11 +18,10 @@ use Rattle.rules.specs.Calls.{parse_told}
 use Rattle.theory_grammar.proofs.Laws.{is_wide}
 use Rattle.rules_program.specs.declared.Which.TheVariants.{Probe}
 use Rattle.rules_program.specs.declared.Unjoined.TheVariants as why
-use Rattle.rules_program.specs.declared.Joined.TheVariants as out
 use Rattle.rules_program.specs.Both.{declarations, rows_of_all, nodes_of_all, nodes_of_both}
-use Rattle.rules_program.specs.Program.{program_told}
+use Rattle.rules_program.specs.Program.{refused, program_told}
 use Rattle.theory_moved.specs.Moved.{moved}
-use Rattle.theory_program.specs.Lists.{Listed, AllDecls, no_more, and_more}
+use Rattle.theory_program.specs.Lists.{AllDecls, no_more, and_more}
 use Rattle.theory_program.proofs.Lists.{program_listed, program_all}
 use Rattle.theory_program.proofs.Nodes.{ended, end_moved}
 
@@ -55,6 +54,6 @@ empty_nodes p q h k e b =
 pub empty_refused : (prelude pws : List ℕ) (ptable : Table) (text ws : List ℕ) (table : Table) (nodes entries n : ℕ)
     {y : Reason} {at : Cursor} {found : ℕ}
     → parse_told prelude pws ptable ptable.count ≡ Ok n → parse_told text ws table table.count ≡ Err (unparsed y at found)
-    → program_told prelude pws ptable text ws table nodes entries ≡ out.Refused (why.Own y) at found Probe
+    → program_told prelude pws ptable text ws table nodes entries ≡ refused (why.Own y) at found Probe
 unfolding program_told
 empty_refused prelude pws ptable text ws table nodes entries n e f = rw (program_told, e, f) refl

@@ -1,26 +1,21 @@
 -- Lent what two scans left and told, the call reads a prelude and a probe as one program exactly if both are programs, the prelude has no
 -- unit, and no map's or event's name is declared twice.
-use Prim.Native.Nat.{ℕ, ◌+◌, ◌*◌, ◌/◌, ◌≤◌, ◌<◌}
+use Prim.Native.Nat.{ℕ, ◌+◌, ◌*◌}
 use native.Mathlib.Omega.{arith}
-use mathlib.Core.Bool.{Bool, true, false, cond}
-use mathlib.Core.List.{List, [], ◌∷◌, ◌++◌}
+use mathlib.Core.Bool.{Bool, true, false}
+use mathlib.Core.List.{List, [], ◌∷◌}
 use mathlib.Core.Path.{◌≡◌, refl, sym, ap, ◌∙◌, subst}
 use lib.Dec.{ltb}
-use lib.ListN.{length, drop, replicate, length-replicate}
-use borrow.Author.Tests.{ltb-true, ltb-false, lt-ltb, le-ltb}
+use lib.ListN.{length, replicate, length-replicate}
+use borrow.Author.Tests.{ltb-true, ltb-false}
 use Rattle.rules.specs.declared.Cursor.{Cursor}
-use Rattle.rules.specs.declared.Outer.TheVariants.{NoNodeRoom}
 use Rattle.rules.specs.declared.Reason.{Reason}
-use Rattle.rules.specs.declared.Reason.TheVariants as reason
 use Rattle.rules.specs.declared.Table.{Table}
 use Rattle.rules.specs.Outcomes.{Parsed, unparsed}
 use Rattle.std.specs.declared.result.Result.TheVariants.{Ok, Err}
-use Rattle.rules.specs.Text.{start_place}
-use Rattle.rules.specs.Rows.{rows_in}
 use Rattle.rules.specs.Tree.{Tree}
-use Rattle.rules.specs.Nodes.{size, words_of_nodes}
-use Rattle.rules.specs.Parse.{Out, ok, no, parse}
-use Rattle.rules.specs.Calls.{tokens, node_room, place_of_row, reading, parse_told, parse_leaves}
+use Rattle.rules.specs.Parse.{Out, ok, parse}
+use Rattle.rules.specs.Calls.{tokens, node_room, reading, parse_told, parse_leaves}
 use Rattle.theory_edits.specs.Scanned.{Scanned}
 use Rattle.theory_edits.proofs.WellFormed.{scanned_rows, scanned_well_formed}
 use Rattle.theory_grammar.specs.Tokens.{Whole}
@@ -30,17 +25,13 @@ use Rattle.theory_calls.specs.Demand2.{rows_of, tokens_of, ScansFully, ProgramOf
 use Rattle.theory_calls.specs.Demand2 as one
 use Rattle.theory_calls.proofs.Demand2.{demand_2}
 use Rattle.rules_program.specs.declared.Which.{Which}
-use Rattle.rules_program.specs.declared.Which.TheVariants.{Prelude, Probe}
 use Rattle.rules_program.specs.declared.Unjoined.{Unjoined}
 use Rattle.rules_program.specs.declared.Unjoined.TheVariants as why
-use Rattle.rules_program.specs.declared.Joined.{Joined}
-use Rattle.rules_program.specs.declared.Joined.TheVariants as out
 use Rattle.rules_program.specs.Both.{Declared, declarations, declared_in, declared_both, nodes_of_both}
-use Rattle.rules_program.specs.Names.{unit_rows, named, names_of, twin_rows, rising, entry_words}
-use Rattle.rules_program.specs.Program.{which_text, place_of_both, tree_in, entry_room, prelude_tree, probe_tree, index_told, twin_told, unit_told, room_told, program_told, nodes_left, index_left, program_leaves_nodes, program_leaves_index}
-use Rattle.theory_program.specs.Index.{IsIndex, Differ, FirstTwin}
+use Rattle.rules_program.specs.Names.{unit_rows, named, names_of, twin_rows, rising}
+use Rattle.rules_program.specs.Program.{Told, joined, refused, which_text, place_of_both, tree_in, entry_room, prelude_tree, probe_tree, index_told, twin_told, unit_told, room_told, program_told, nodes_left, index_left, program_leaves_nodes, program_leaves_index}
 use Rattle.theory_program.proofs.Twins.{untwinned, first_twin, rising_index}
-use Rattle.theory_joint.specs.Joint.{IsProgram, Own, too_long, bad_byte, ends_refused, no_program, Refuses, Programs, Roomy, Writes, Joint, prelude_refused, probe_refused, few_nodes, has_unit, has_twin, few_entries, accepted}
+use Rattle.theory_joint.specs.Joint.{IsProgram, Own, too_long, bad_byte, ends_refused, no_program, Refuses, Programs, Roomy, Joint, prelude_refused, probe_refused, few_nodes, has_unit, has_twin, few_entries, accepted}
 
 -- ---- one text in enough room
 
@@ -85,7 +76,7 @@ module _ (t ws : List ℕ) (table : Table) (g : Lent t ws table) where
 -- ---- two texts
 
 module _ (prelude pws : List ℕ) (ptable : Table) (text ws : List ℕ) (table : Table) (nodes index : List ℕ) where
-  abbrev told : Joined
+  abbrev told : Told
   told = program_told prelude pws ptable text ws table (node_room nodes) (entry_room index)
 
   abbrev left_nodes : List ℕ
@@ -106,14 +97,14 @@ module _ (prelude pws : List ℕ) (ptable : Table) (text ws : List ℕ) (table :
   abbrev both : List Declared
   both = named (declared_both p q)
 
-  refuses : {y : Unjoined} {at : Cursor} {found : ℕ} {which : Which} → told ≡ out.Refused y at found which
+  refuses : {y : Unjoined} {at : Cursor} {found : ℕ} {which : Which} → told ≡ refused y at found which
       → Refuses prelude pws text ws nodes index told left_nodes left_index y at found which
   unfolding program_leaves_nodes program_leaves_index nodes_left index_left
   refuses e =
       record {
         told = e;
-        nodes_left = ap (λ (o : Joined). nodes_left prelude pws ptable text ws table o nodes) e;
-        index_left = ap (λ (o : Joined). index_left prelude pws ptable text ws table o index) e;
+        nodes_left = ap (λ (o : Told). nodes_left prelude pws ptable text ws table o nodes) e;
+        index_left = ap (λ (o : Told). index_left prelude pws ptable text ws table o index) e;
       }
 
   -- both are programs, and so many rows are counted
@@ -140,14 +131,14 @@ module _ (prelude pws : List ℕ) (ptable : Table) (text ws : List ℕ) (table :
         by_entries true f =
             few_entries roomy units (untwinned both twins) (ltb-true (entry_room index) (length both) f) (refuses (then_index ∙ rw (index_told, f) refl))
         by_entries false f =
-            let t : told ≡ out.Program (length (nodes_of_both p q)) (length both) = then_index ∙ rw (index_told, f) refl in
+            let t : told ≡ joined (length (nodes_of_both p q)) (length both) = then_index ∙ rw (index_told, f) refl in
             accepted roomy units (untwinned both twins) (ltb-false (entry_room index) (length both) f)
             (record {
               told = t;
-              nodes_left = ap (λ (o : Joined). nodes_left prelude pws ptable text ws table o nodes) t;
+              nodes_left = ap (λ (o : Told). nodes_left prelude pws ptable text ws table o nodes) t;
               entries = rising both;
               are = rising_index both (untwinned both twins);
-              index_left = ap (λ (o : Joined). index_left prelude pws ptable text ws table o index) t;
+              index_left = ap (λ (o : Told). index_left prelude pws ptable text ws table o index) t;
             })
 
       by_twins : unit_rows (declared_in 0 0 (declarations p)) ≡ [] → (ks : List ℕ) → twin_rows [] (names_of both) ≡ ks → Answers

@@ -19,11 +19,9 @@ use Rattle.rules_program.specs.declared.Which.{Which}
 use Rattle.rules_program.specs.declared.Which.TheVariants.{Prelude, Probe}
 use Rattle.rules_program.specs.declared.Unjoined.{Unjoined}
 use Rattle.rules_program.specs.declared.Unjoined.TheVariants as why
-use Rattle.rules_program.specs.declared.Joined.{Joined}
-use Rattle.rules_program.specs.declared.Joined.TheVariants as out
 use Rattle.rules_program.specs.Both.{Declared, declarations, declared_in, declared_both, nodes_of_both}
 use Rattle.rules_program.specs.Names.{unit_rows, named, entry_words}
-use Rattle.rules_program.specs.Program.{which_text, place_of_both, entry_room}
+use Rattle.rules_program.specs.Program.{Told, joined, refused, which_text, place_of_both, entry_room}
 use Rattle.theory_program.specs.Index.{IsIndex, Differ, FirstTwin}
 
 -- ---- one text
@@ -47,10 +45,10 @@ pub data Own (t : List ℕ) : Reason → Cursor → ℕ → Type 0 where
 -- ---- two texts
 
 -- The rows that are lent with a prelude and a probe; the nodes and the index that are lent; what was told; and what is left of both.
-module _ (prelude pws text ws nodes index : List ℕ) (r : Joined) (m x : List ℕ) where
+module _ (prelude pws text ws nodes index : List ℕ) (r : Told) (m x : List ℕ) where
   -- why, where and in which text is told, and no word of nodes or index is touched
   pub record Refuses (y : Unjoined) (at : Cursor) (found : ℕ) (which : Which) : Type 0 where
-    pub told : r ≡ out.Refused y at found which
+    pub told : r ≡ refused y at found which
     pub nodes_left : m ≡ nodes
     pub index_left : x ≡ index
 
@@ -66,7 +64,7 @@ module _ (prelude pws text ws nodes index : List ℕ) (r : Joined) (m x : List �
 
   -- the nodes of the program of both and its index are told and written, and no word after them is touched
   pub record Writes (p q : Tree) : Type 0 where
-    pub told : r ≡ out.Program (length (nodes_of_both p q)) (length (named (declared_both p q)))
+    pub told : r ≡ joined (length (nodes_of_both p q)) (length (named (declared_both p q)))
     pub nodes_left : m ≡ words_of_nodes (nodes_of_both p q) ++ drop (8 * length (nodes_of_both p q)) nodes
     pub entries : List Declared
     pub are : IsIndex (named (declared_both p q)) entries

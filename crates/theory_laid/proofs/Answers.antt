@@ -12,8 +12,7 @@ use borrow.Author.Tests.{leb-true, leb-false}
 use Rattle.rules.specs.Text.{most_bytes}
 use Rattle.rules.specs.Tree.{Tree}
 use Rattle.rules.specs.Parse.{Out, ok, no}
-use Rattle.rules_layout.specs.declared.LaidOut.{LaidOut}
-use Rattle.rules_layout.specs.declared.LaidOut.TheVariants as out
+use Rattle.std.specs.Prelude.{Result, Ok, Err}
 use Rattle.rules_layout.specs.declared.Unlaid.{Unlaid}
 use Rattle.rules_layout.specs.declared.Unlaid.TheVariants.{NotItsTree, NoRoom}
 use Rattle.rules_layout.specs.Bytes.{layout}
@@ -27,7 +26,7 @@ use Rattle.theory_laid.proofs.Trees.{its_scanned, its_read, is_its_tree, one_tre
 -- ---- what is told, and then what is left
 
 module _ (text rows table nodes : List ℕ) (count : ℕ) (room : List ℕ) where
-  abbrev tells : LaidOut
+  abbrev tells : Result ℕ Unlaid
   tells = layout_told text rows (table_of table) nodes count (length room)
 
   abbrev leaves : List ℕ
@@ -36,24 +35,24 @@ module _ (text rows table nodes : List ℕ) (count : ℕ) (room : List ℕ) wher
   abbrev Answers : Type 0
   Answers = LayoutAnswer text rows table nodes count room (laid_words tells) leaves
 
-  left_room : {why : Unlaid} → tells ≡ out.Refused why → leaves ≡ room
+  left_room : {why : Unlaid} → tells ≡ Err why → leaves ≡ room
   unfolding layout_leaves
   left_room e = rw (layout_leaves, e)
 
-  left_bytes : {n : ℕ} → tells ≡ out.Bytes n → leaves ≡ laid_of (reading text) ++ drop n room
+  left_bytes : {n : ℕ} → tells ≡ Ok n → leaves ≡ laid_of (reading text) ++ drop n room
   unfolding layout_leaves
   left_bytes e = rw (layout_leaves, e)
 
-  says : {x : LaidOut} → tells ≡ x → laid_words tells ≡ laid_words x
-  says e = ap (λ (x : LaidOut). laid_words x) e
+  says : {x : Result ℕ Unlaid} → tells ≡ x → laid_words tells ≡ laid_words x
+  says e = ap (λ (x : Result ℕ Unlaid). laid_words x) e
 
-  none : tells ≡ out.Refused NotItsTree → ((p : Tree) → ItsTree text rows table nodes count p → ⊥) → Answers
+  none : tells ≡ Err NotItsTree → ((p : Tree) → ItsTree text rows table nodes count p → ⊥) → Answers
   none e h = layout_3 h (says e) (left_room e)
 
   -- ---- by the tests
 
   told_by : {a b : Bool} → is_scanned text rows (table_of table) ≡ a → is_read (reading text) nodes count ≡ b
-      → tells ≡ cond (a && b) (room_told (laid_of (reading text)) (length room)) (out.Refused NotItsTree)
+      → tells ≡ cond (a && b) (room_told (laid_of (reading text)) (length room)) (Err NotItsTree)
   told_by e f = layout_told_by text rows (table_of table) nodes count (length room) ∙ rw (e, f)
 
   -- the text's tree, and its layout in the room
@@ -69,7 +68,7 @@ module _ (text rows table nodes : List ℕ) (count : ℕ) (room : List ℕ) wher
     by_room : (a b : Bool) → leb (length (layout u)) (length room) ≡ a → leb (length (layout u)) most_bytes ≡ b → Answers
     unfolding room_told
     by_room true true f g =
-        let t : tells ≡ out.Bytes (length (layout u)) = told_room ∙ rw (f, g) in
+        let t : tells ≡ Ok (length (layout u)) = told_room ∙ rw (f, g) in
         layout_0 (record {
           tree = u;
           its = x;
@@ -79,10 +78,10 @@ module _ (text rows table nodes : List ℕ) (count : ℕ) (room : List ℕ) wher
           left = left_bytes t ∙ ap (λ (bytes : List ℕ). bytes ++ drop (length (layout u)) room) bytes_are;
         })
     by_room true false f g =
-        let t : tells ≡ out.Refused NoRoom = told_room ∙ rw (f, g) in
+        let t : tells ≡ Err NoRoom = told_room ∙ rw (f, g) in
         layout_4 u x (inr (leb-false (length (layout u)) most_bytes g)) (says t) (left_room t)
     by_room false b f g =
-        let t : tells ≡ out.Refused NoRoom = told_room ∙ rw f in
+        let t : tells ≡ Err NoRoom = told_room ∙ rw f in
         layout_4 u x (inl (leb-false (length (layout u)) (length room) f)) (says t) (left_room t)
 
   by_reading : is_scanned text rows (table_of table) ≡ true → is_read (reading text) nodes count ≡ true → (o : Out) → reading text ≡ o

@@ -19,11 +19,11 @@ use Rattle.laws.proofs.Rows.{few_rows}
 use Rattle.theory_grammar.proofs.Laws.{nodes_within_rows, yield_width}
 use Rattle.theory_calls.specs.Demand2.{rows_of, tokens_of, ScansFully, ProgramOf}
 use Rattle.rules_tally.specs.declared.Tally.{Tally}
-use Rattle.rules_tally.specs.declared.Tallied.{Tallied}
-use Rattle.rules_tally.specs.declared.Counting.TheVariants as counting
-use Rattle.rules_tally.specs.declared.Joined.{Joined}
+use Rattle.std.specs.Prelude.{Result, Ok, Err}
+use Rattle.rules_tally.specs.declared.NotNodes.{NotNodes}
+use Rattle.rules_tally.specs.declared.CountTooLarge.{CountTooLarge}
 use Rattle.rules_tally.specs.Tally.{tally_by, tally_of, nodes_in}
-use Rattle.rules_tally.specs.Calls.{counting_number, joining_number, most_nodes, are_lent, are_countable, tallied, sum, fits, joined, tally_words, tally_in}
+use Rattle.rules_tally.specs.Calls.{counting_number, joining_number, counted, joined_counts, most_nodes, are_lent, are_countable, tallied, sum, fits, joined, tally_words, tally_in}
 use Rattle.theory_tally.proofs.Sums.{whole, join_order, join_groups, join_empty, join_refused}
 use Rattle.theory_tally.proofs.Words.{in_shaped, told_sum, told_empty, words_same, words_fit}
 use Rattle.theory_tally.proofs.Told.{program_told}
@@ -36,12 +36,12 @@ use Rattle.theory_outer.proofs.Edits.{parse_answers}
 -- ---- what the contracts say
 
 pub tally_says : {nodes : List ℕ} {n r : ℕ} {counts : List ℕ} → TallyCall nodes n r counts
-    → (r ≡ counting_number (tallied nodes n).how) × (counts ≡ tally_words (tallied nodes n).tally)
+    → (r ≡ counting_number (tallied nodes n)) × (counts ≡ tally_words (counted (tallied nodes n)))
 tally_says (call.tallied κs a r e p) = p
 
 pub join_says : {first second : List ℕ} {r : ℕ} {counts : List ℕ} → JoinCall first second r counts
-    → (r ≡ joining_number (joined (tally_in first) (tally_in second)).how)
-    × (counts ≡ tally_words (joined (tally_in first) (tally_in second)).tally)
+    → (r ≡ joining_number (joined (tally_in first) (tally_in second)))
+    × (counts ≡ tally_words (joined_counts (joined (tally_in first) (tally_in second))))
 join_says (call.joined κs a r e p) = p
 
 -- ---- tallying
@@ -82,13 +82,13 @@ parse_then_tally {text} {lent} {rows} {answer} {new} {told} {nodes} g e z {r} {c
     by (outer_ending f l why at q w) = absurd (omega (arith, first {n = lexical_number why} w.told refl, lexical_some why))
     by (outer_5 f l m w) = absurd (omega (arith, first {n = 5} w.told refl))
     by (outer_nodes f l m p is only w) =
-        let t : tallied nodes (get_or told 6 0) ≡ record { how = counting.Whole; tally = tally_of p }
+        let t : tallied nodes (get_or told 6 0) ≡ Ok (tally_of p)
         = rw (w.told, w.left) (program_told 0 p (drop (8 * size p) new) is.is (few_nodes text p f is)) in
         record {
           tree = p;
           program = is;
-          number = (tally_says c).0 ∙ ap (λ (x : Tallied). counting_number x.how) t;
-          told = (tally_says c).1 ∙ ap (λ (x : Tallied). tally_words x.tally) t;
+          number = (tally_says c).0 ∙ ap counting_number t;
+          told = (tally_says c).1 ∙ ap (λ (x : Result Tally NotNodes). tally_words (counted x)) t;
         }
     by (outer_syntax f l m lacks why row s w) = absurd (omega (arith, first w.told refl, s.number.0))
 
@@ -99,18 +99,18 @@ tally_refused {nodes} {n} {r} {counts} c e = by (leb n most_nodes && (are_lent n
   where
     by : (b : Bool) → (leb n most_nodes && (are_lent nodes n && are_countable (nodes_in n nodes))) ≡ b → counts ≡ replicate 20 0
     by true q =
-        let z : counting_number (tallied nodes n).how ≡ 0 = rw q in
+        let z : counting_number (tallied nodes n) ≡ 0 = rw q in
         absurd (omega (arith, e, (tally_says c).0, z))
     by false q =
-        let z : tally_words (tallied nodes n).tally ≡ replicate 20 0 = rw q in
+        let z : tally_words (counted (tallied nodes n)) ≡ replicate 20 0 = rw q in
         (tally_says c).1 ∙ z
 
 -- ---- joining
 
 module _ {a b : List ℕ} {r : ℕ} {x : List ℕ} (j : JoinCall a b r x) where
   -- what a joining tells by what is joined
-  told : {o : Joined} → joined (tally_in a) (tally_in b) ≡ o → (r ≡ joining_number o.how) × (x ≡ tally_words o.tally)
-  told e = ((join_says j).0 ∙ ap (λ (o : Joined). joining_number o.how) e, (join_says j).1 ∙ ap (λ (o : Joined). tally_words o.tally) e)
+  told : {o : Result Tally CountTooLarge} → joined (tally_in a) (tally_in b) ≡ o → (r ≡ joining_number o) × (x ≡ tally_words (joined_counts o))
+  told e = ((join_says j).0 ∙ ap joining_number e, (join_says j).1 ∙ ap (λ (o : Result Tally CountTooLarge). tally_words (joined_counts o)) e)
 
   -- 70 where a sum passes 64 bits, and the first tally.
   pub joins_refused : fits (sum (tally_in a) (tally_in b)) ≡ false → length a ≡ 20 → (r ≡ 70) × (x ≡ a)
@@ -122,8 +122,8 @@ module _ {a b : List ℕ} {r : ℕ} {x : List ℕ} (j : JoinCall a b r x) where
       let o = join_order (tally_in a) (tally_in b) f in
       let t = told o.0 in (
         t.0,
-        (join_says k).0 ∙ ap (λ (z : Joined). joining_number z.how) o.1,
-        t.1 ∙ sym ((join_says k).1 ∙ ap (λ (z : Joined). tally_words z.tally) o.1),
+        (join_says k).0 ∙ ap joining_number o.1,
+        t.1 ∙ sym ((join_says k).1 ∙ ap (λ (z : Result Tally CountTooLarge). tally_words (joined_counts z)) o.1),
       )
 
 -- Where the sums of all three fit, both groupings are answered, and leave the same.

@@ -11,7 +11,7 @@ use Rattle.rules.specs.Kinds.{Spelt, same_bytes, kind_in, KeywordReg, KeywordImm
 use Rattle.rules.specs.Sets.{Section, Unknown, sections, kind_of_section, from_section}
 use Rattle.rules.specs.Sets as Sets
 use Rattle.rules.specs.Tree.{Tree, sections_of, section_text, kind_of_first, unit_kind, map_types, map_type_number, last_of, type_of, typed_by, limit_of, lacking}
-use Rattle.rules.specs.Nodes.{Node, node, missing, place_of, width, binary_node, decl_node, assign_node, text_node, nodes_of}
+use Rattle.rules.specs.Nodes.{Node, width, binary_node, decl_node, assign_node, text_node, nodes_of}
 use Rattle.rules.specs.Grammar.{Is, MapField, MapFields, Nt, i_num, i_var, i_group, i_field, i_bare, i_call, i_one, i_more, i_prim, i_star, i_unary, i_mul, i_lone, i_shift, i_up, i_add, i_decl, i_ret, i_plain, i_assign, i_if, i_if_else, i_no_stmts, i_stmts, i_stmt, i_text, i_no_items, i_items, i_first, i_shifted, i_type, i_typed, i_limit, i_no_fields, i_fields, i_plain_field, i_bytes_field, i_array_field, i_no_event_fields, i_event_fields, i_unit, i_map, i_event, i_no_decls, i_decls, i_program}
 use Rattle.rules_tally.specs.Calls.{is_countable, are_countable}
 

@@ -1,7 +1,8 @@
 -- Joining: where the sum of all fits, both groupings and both orders are answered, and are the same; the tally of nothing changes nothing.
 use Prim.Native.Nat.{ℕ, suc, ◌+◌, ◌^◌, ◌<◌}
-use mathlib.Core.Bool.{Bool, true, false, cond, ◌&&◌, true≢false}
+use mathlib.Core.Bool.{Bool, true, false, ◌&&◌}
 use mathlib.Core.List.{List, [], ◌∷◌, ◌++◌}
+use Rattle.std.specs.Prelude.{Result, Ok, Err}
 use mathlib.Core.Path.{◌≡◌, refl, ap, sym, subst, ◌∙◌}
 use native.Mathlib.Omega.{arith}
 use native.Mathlib.Nat.{add_comm, add_assoc, add-zero}
@@ -10,8 +11,7 @@ use lib.ListN.{length, replicate, length-append}
 use borrow.Author.Tests.{ltb-true, lt-ltb}
 use Rattle.laws.proofs.Tests.{both_true, true_both}
 use Rattle.rules_tally.specs.declared.Tally.{Tally}
-use Rattle.rules_tally.specs.declared.Joining.TheVariants as joining
-use Rattle.rules_tally.specs.declared.Joined.{Joined}
+use Rattle.rules_tally.specs.declared.CountTooLarge.{CountTooLarge}
 use Rattle.rules_tally.specs.Tally.{tally_by, empty}
 use Rattle.rules_tally.specs.Calls.{add_each, sum, counts_of, all_fit, fits, joined}
 
@@ -129,15 +129,15 @@ fits_part a b h l e =
 -- ---- joining
 
 -- all is added
-abbrev pub whole : Tally → Joined
-whole t = record { how = joining.Whole; tally = t }
+abbrev pub whole : Tally → Result Tally CountTooLarge
+whole t = Ok t
 
 pub join_whole : (a b : Tally) → fits (sum a b) ≡ true → joined a b ≡ whole (sum a b)
 unfolding joined
 join_whole a b e = rw e
 
 -- 70, and the first tally
-pub join_refused : (a b : Tally) → fits (sum a b) ≡ false → joined a b ≡ record { how = joining.CountTooLarge; tally = a }
+pub join_refused : (a b : Tally) → fits (sum a b) ≡ false → joined a b ≡ Err (record { first = a })
 unfolding joined
 join_refused a b e = rw e
 

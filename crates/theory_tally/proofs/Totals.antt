@@ -1,13 +1,11 @@
 -- Totals of nodes one after the other, and tallies by what is added up.
-use Prim.Native.Nat.{ℕ, ◌+◌, ◌*◌, ◌≤◌}
+use Prim.Native.Nat.{ℕ, ◌+◌, ◌≤◌}
 use mathlib.Core.Bool.{Bool, true, false, cond}
 use mathlib.Core.List.{List, [], ◌∷◌, ◌++◌}
 use mathlib.Core.Path.{◌≡◌, refl, ap, sym, fun_ext, ◌∙◌}
 use native.Mathlib.Omega.{arith}
 use lib.Dec.{eqb}
-use lib.ListN.{length}
 use Rattle.rules.specs.Nodes.{Node, NodeUnit, NodeMap, NodeEvent, NodeProgram}
-use Rattle.rules_tally.specs.declared.Tally.{Tally}
 use Rattle.rules_tally.specs.Tally.{Thing, a_unit, a_map, an_event, a_statement, max_of, tally_by, is_statement, node_total, nodes_total, nodes_tally}
 use Rattle.rules_tally.specs.Calls.{add_each, sum}
 

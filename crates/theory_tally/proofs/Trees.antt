@@ -1,12 +1,12 @@
 -- Over the nodes of a tree, whichever row is its first, everything adds up as over the tree.
-use Prim.Native.Nat.{ℕ, pred, ◌+◌, ◌*◌, ◌≤◌}
+use Prim.Native.Nat.{ℕ, ◌+◌}
 use mathlib.Core.Bool.{Bool, true, false, cond}
 use mathlib.Core.List.{List, [], ◌∷◌, ◌++◌}
 use mathlib.Core.Path.{◌≡◌, refl, ◌∙◌}
 use native.Mathlib.Omega.{arith}
 use lib.Dec.{eqb}
 use Rattle.rules.specs.Kinds.{KeywordReg, KeywordImm, KeywordSection, Equals, Plus, Minus, Star, Slash, Percent, Shl}
-use Rattle.rules.specs.Tree.{Tree, none, num, var, star, group, field, call, bin, one, more, decl, ret, plain, assign, guard, then_body, else_body, seq, text, unit, map_type, typed, limit, first, shifted, map_decl, plain_field, bytes_field, array_field, event, program, count}
+use Rattle.rules.specs.Tree.{Tree, none, num, var, star, group, field, call, bin, one, more, decl, ret, plain, assign, guard, then_body, else_body, seq, text, unit, map_type, typed, limit, first, shifted, map_decl, plain_field, bytes_field, array_field, event, program}
 use Rattle.rules.specs.Nodes.{Node, node, missing, NodeProgram, place_of, binary_node, decl_node, assign_node, text_node, nodes_of, size, tree_words, width}
 use Rattle.rules_tally.specs.Tally.{Thing, a_statement, total, tally_of, node_total, nodes_total, nodes_tally, nodes_in}
 use Rattle.rules_tally.specs.Calls.{sum}

@@ -1,16 +1,14 @@
 -- Tallies in C's words: twenty words tell a tally, and it is told in those words again.
-use Prim.Native.Nat.{ℕ, suc, ◌+◌, ◌^◌, ◌<◌}
-use mathlib.Core.Bool.{Bool, true}
+use Prim.Native.Nat.{ℕ, suc, ◌^◌, ◌<◌}
+use mathlib.Core.Bool.{true}
 use mathlib.Core.List.{List, [], ◌∷◌}
 use mathlib.Core.Path.{◌≡◌, refl, ap, sym, ◌∙◌}
 use native.Mathlib.Omega.{arith}
-use lib.Dec.{ltb}
 use lib.ListN.{length, drop, get_or, replicate, drop_of_length-le}
 use lib.Seq.{drop-cons}
 use borrow.Author.Tests.{lt-ltb}
 use Rattle.laws.specs.Bounds.{Below, none, some}
 use Rattle.laws.proofs.Tests.{true_both}
-use Rattle.rules_tally.specs.declared.Tally.{Tally}
 use Rattle.rules_tally.specs.Tally.{Thing, tally_by, empty}
 use Rattle.rules_tally.specs.Calls.{add_each, sum, counts_of, all_fit, fits, each, tally_words, tally_in}
 use Rattle.theory_tally.proofs.Sums.{Shaped}

@@ -1,1 +1,3 @@
+#![tactic(auto)]
+
 // Figures: no code, theorems in proofs/.

@@ -20,7 +20,6 @@ copy_rows_requires c κs =
     (omega (arith, c.before.if-room-kept.true, few_kept s.requires.ready, lent_old s.requires.ready), omega arith)
 
 tell_requires : tie.Need-tell-requires
-unfolding TellsFit
 tell_requires c κs =
     let s = c.before.before.before.before.before.before.before.before in
     omega (arith, c.before.before.before.before.if-room-kept.true, few_kept s.requires.ready)

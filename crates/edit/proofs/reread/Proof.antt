@@ -28,19 +28,19 @@ start c = c.before.before.before.before.before.before.before.before.before
 abbrev flag : tie.After-struct_known-1 → Bool
 flag c =
     let w = c.before.before in
-    eqb (w.wide.result + length (start c).args.window.now) w.before.new_length-size.result
+    eqb (w.from.result + length (start c).args.window.now) w.before.new_length-size.result
 
 is_whole : (c : tie.After-struct_known-1) → flag c ≡ whole_of (start c).requires
 is_whole c =
     let w = c.before.before in
-    whole_by (start c).requires w.wide.result w.before.new_length-size.result w.wide.ensures w.before.new_length-size.ensures
+    whole_by (start c).requires w.from.result w.before.new_length-size.result w.from.ensures w.before.new_length-size.ensures
 
 -- whether the window shows too little to be judged
 is_early : (c : tie.After-struct_known-1) →
-    let o = c.before in (ltb (o.before.wide.result + length (start c).args.window.now) (o.olds_of-olds.result.least + 4) && not (flag c)) ≡ early (start c).requires
+    let o = c.before in (ltb (o.before.from.result + length (start c).args.window.now) (o.olds-olds.result.least + 4) && not (flag c)) ≡ early (start c).requires
 is_early c =
     let o = c.before in
-    early_by (start c).requires o.before.wide.result o.olds_of-olds.result.least (flag c) o.before.wide.ensures (ap (λ (x : Olds). x.least) o.olds_of-olds.ensures) (is_whole c)
+    early_by (start c).requires o.before.from.result o.olds-olds.result.least (flag c) o.before.from.ensures (ap (λ (x : Olds). x.least) o.olds-olds.ensures) (is_whole c)
 
 abbrev at_bytes : tie.After-window_bytes-valid → tie.After-struct_known-1
 at_bytes c = c.before.before
@@ -55,20 +55,20 @@ is_valid c = omega (arith, c.if-valid-window.false, c.before.window_bytes-valid.
 new_length_requires : tie.Need-new_length-size-requires
 new_length_requires c κs = search rules
 
-wide_requires : tie.Need-wide-requires
+wide_requires : tie.Need-from-requires
 wide_requires c κs = search rules
 
 add_end : tie.Need-overflow_add-end
 add_end c = search rules
 
-olds_of_requires : tie.Need-olds_of-olds-requires
+olds_of_requires : tie.Need-olds-olds-requires
 olds_of_requires c κs = search rules
 
 add_if1 : tie.Need-overflow_add-olds
 unfolding new_length
 add_if1 c =
     let p = (start c).requires in
-    omega (arith, p.short, p.order, p.inside, ap (λ (x : Olds). x.least) c.before.olds_of-olds.ensures)
+    omega (arith, p.short, p.order, p.inside, ap (λ (x : Olds). x.least) c.before.olds-olds.ensures)
 
 refused_requires : tie.Need-refused-requires
 refused_requires c κs = search rules

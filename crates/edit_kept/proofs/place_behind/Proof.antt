@@ -20,21 +20,21 @@ returns c = rw c.before.if-n-eq0.true c.start.ensures
 sub_row_at : tie.Need-overflow_sub-n
 sub_row_at c = search rules
 
-row_at_requires : tie.Need-row_at-last-requires
+row_at_requires : tie.Need-at-last-requires
 row_at_requires c κs = search rules
 
 sub_t8 : tie.Need-overflow_sub-result
 sub_t8 c =
     let s = c.before.before.before.before in
     let e : suc (s.args.n - 1) ≡ s.args.n = omega arith in
-    let q = c.before.row_at-last.ensures in
+    let q = c.before.at-last.ensures in
     omega (arith, (s.requires.1 (s.args.n - 1) e).ordered, ap (λ (r : Row). r.start) q, ap (λ (r : Row). r.end) q)
 
 add_t9 : tie.Need-overflow_add-result
 add_t9 c =
     let s = c.before.before.before.before.before in
     let e : suc (s.args.n - 1) ≡ s.args.n = omega arith in
-    let q = c.before.before.row_at-last.ensures in
+    let q = c.before.before.at-last.ensures in
     omega (arith, (s.requires.1 (s.args.n - 1) e).room, ap (λ (r : Row). r.start) q, ap (λ (r : Row). r.end) q, ap (λ (r : Row). r.column) q)
 
 returns_2 : tie.Need-returns
@@ -42,7 +42,7 @@ unfolding end_place
 returns_2 c =
     let s = c.before.before.before.before.before in
     let e : suc (s.args.n - 1) ≡ s.args.n = omega arith in
-    ap end_place c.before.before.row_at-last.ensures
+    ap end_place c.before.before.at-last.ensures
     ∙ sym (behind_rows (s.args.n - 1) s.args.old.now start_place)
     ∙ ap (λ (k : ℕ). last_end start_place (rows_in k s.args.old.now)) e
 

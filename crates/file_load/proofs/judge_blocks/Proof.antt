@@ -9,8 +9,7 @@ use Rattle.rows.proofs.Lengths.{length_table}
 use Rattle.rules_forms.specs.Shapes.{row_bytes_of}
 use Rattle.file_sizes.proofs.Sizes.{some_rows, few_rows}
 use Rattle.file_load.proofs.Rows.{here_bytes}
-use Rattle.file_load.proofs.Judging.{Judging, judging_start, judging_end, judging_bad, judging_next}
-use Rattle.file_load.proofs.Judging.{room_left, here_length, few_blocks}
+use Rattle.file_load.proofs.Judging.{Judging, judging_start, judging_end, judging_bad, judging_next, room_left, here_length, few_blocks}
 use Rattle.file_load.proofs.judge_blocks.Statement.{statement}
 use Rattle.file_load.proofs.judge_blocks.Tie as tie
 
@@ -35,13 +34,13 @@ in_loop c = (counted c).before.before
 abbrev behind : tie.After-last_of-last invariant_loop decreases_loop → tie.After-rows_here-m invariant_loop decreases_loop
 behind c = c.before.before.before.before
 
-no_row_requires : tie.Need-no_row-last-requires invariant_loop decreases_loop
+no_row_requires : tie.Need-none-last-requires invariant_loop decreases_loop
 no_row_requires c κs = tt
 
 loop_holds : tie.Need-loop-left-init invariant_loop decreases_loop
 loop_holds c =
     let s = c.before.before in
-    rw c.no_row-last.ensures (judging_start s.args.form s.args.file.now s.args.count s.args.plain s.requires.0 s.requires.1)
+    rw c.none-last.ensures (judging_start s.args.form s.args.file.now s.args.count s.args.plain s.requires.0 s.requires.1)
 
 -- there is one block more, a whole one
 room : (c : tie.In-loop-left invariant_loop decreases_loop) → c.before.loop-left.at + 512 ≤ length (start c).args.file.now

@@ -36,7 +36,7 @@ returns_2 c =
 row_before_requires : tie.Need-row_before-requires
 row_before_requires c κs = search rules
 
-row_stands_requires : tie.Need-row_stands-requires
+row_stands_requires : tie.Need-fits_behind-requires
 row_stands_requires c κs = (omega (arith, (at_size c).before.before.if-r-ne-EOF.false), length_table)
 
 returns_3 : tie.Need-returns
@@ -47,7 +47,7 @@ returns_3 c =
     let r = k.before.before in
     let a = r.before.before.args in
     let q = as_row r.row_of-r.result in
-    c.row_stands.ensures ∙ ap (λ (z : Row). row_fits q && fits_after z q) b.row_before.ensures
+    c.fits_behind.ensures ∙ ap (λ (z : Row). row_fits q && fits_after z q) b.row_before.ensures
     ∙ closes_fit (row_words_of a.form a.file.now) a.i q r.row_of-r.ensures a.size k.if-r-ne-EOF.false f.if-r-size.false
 
 pub last_closes_spec : {M : Type 1} → statement M

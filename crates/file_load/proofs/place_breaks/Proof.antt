@@ -35,7 +35,7 @@ sub_row_of c = search rules
 row_of_requires : tie.Need-row_of-r-requires
 row_of_requires c κs = search rules
 
-place_behind_requires : tie.Need-place_behind-requires
+place_behind_requires : tie.Need-is_before-requires
 place_behind_requires c κs = search rules
 
 returns_4 : tie.Need-returns
@@ -44,7 +44,7 @@ returns_4 c =
     let f = z.before.before in
     let a = f.before.before.before.args in
     let e = sym f.place_fits.ensures ∙ not-false f.place_fits.result z.before.if-not-place_fits.false-raw in
-    rw (c.place_behind.ensures, c.before.row_of-r.ensures)
+    rw (c.is_before.ensures, c.before.row_of-r.ensures)
     (sym (breaks_last (row_words_of a.form a.file.now) a.size a.count a.p f.before.if-size-offset.false e z.if-count-eq0.false))
 
 pub place_breaks_spec : {M : Type 1} → statement M

@@ -6,13 +6,13 @@ use borrow.Author.Rules.{rules}
 use Rattle.file_load.proofs.row_before.Statement.{statement}
 use Rattle.file_load.proofs.row_before.Tie as tie
 
-no_row_requires : tie.Need-no_row-requires
+no_row_requires : tie.Need-none-requires
 no_row_requires c κs = search rules
 
 returns : tie.Need-returns-then-i-eq0
 returns c =
     let a = c.before.before.before.args in
-    c.no_row.ensures ∙ sym (before_first (row_words_of a.form a.file.now) a.i c.before.if-i-eq0.true)
+    c.none.ensures ∙ sym (before_first (row_words_of a.form a.file.now) a.i c.before.if-i-eq0.true)
 
 sub_row_of : tie.Need-overflow_sub-i
 sub_row_of c = search rules

@@ -54,14 +54,14 @@ enum_told c = search rules
 enum_known_why : tie.Need-enum_known-why
 enum_known_why c = search rules
 
-row_at_requires : tie.Need-row_at-row-requires
+row_at_requires : tie.Need-at-row-requires
 row_at_requires c κs =
     let w = c in
     let s = start (stopping w) in
     let a = s.args in
     refused_in a.text.now a.rows.now a.count _ (roomy s.requires) w.in-Refused.why w.in-Refused.r (stopped w)
 
-row_place_requires : tie.Need-row_place-requires
+row_place_requires : tie.Need-place-requires
 row_place_requires c κs = search rules
 
 found_told_requires : tie.Need-found_told-requires
@@ -76,11 +76,11 @@ returns c =
 returns_2 : tie.Need-returns-in-Refused
 unfolding place_of_row
 returns_2 c =
-    let r = c.before.before.row_at-row in
+    let r = c.before.before.at-row in
     let w = c.before.before.before in
     let s = start (stopping w) in
     read_no s.args.rows.now (whole s) w.in-Refused.why w.in-Refused.r _ _ (stopped w)
-    (c.before.row_place.ensures ∙ ap row_place r.ensures)
+    (c.before.place.ensures ∙ ap row_place r.ensures)
     (c.found_told.ensures ∙ ap (λ (x : Row). found_told w.in-Refused.why x.kind) r.ensures)
 
 pub pass_spec : {M : Type 1} → statement M

@@ -1,12 +1,10 @@
 -- `slots::held` meets its contract: at each key by computing, and at any other number no word stands.
-use mathlib.Core.Path.{◌≡◌, refl, sym, ◌∙◌}
-use mathlib.Core.Bool.{false}
+use mathlib.Core.Path.{◌≡◌, sym, ◌∙◌}
 use mathlib.Core.List.{List, [], ◌∷◌}
 use Prim.Native.Nat.{ℕ}
 use borrow.Author.Tests.{ne_eqb}
 use borrow.Author.Rules.{rules}
-use Rattle.rules.specs.Kinds.{Identifier, reserved}
-use Rattle.scan_words.specs.declared.words.Held.{Held}
+use Rattle.rules.specs.Kinds.{reserved}
 use Rattle.scan_words.specs.Words.{packed_of, held_at}
 use Rattle.scan_words.specs.Slots.{held_in}
 use Rattle.scan_words.proofs.Telling.{taken, empty, empty_slot}

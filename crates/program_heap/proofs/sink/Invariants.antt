@@ -1,0 +1,9 @@
+-- the free place is one of the heap
+use Rattle.std.proofs.Common.{◌<◌, ◌-◌, length}
+use Rattle.program_heap.proofs.sink.Given as goal
+
+abbrev pub invariant-loop-at : goal.invariant-loop-at
+invariant-loop-at l = l.at < length l.heap
+
+abbrev pub decreases-loop-at : goal.decreases-loop-at
+decreases-loop-at l = length l.heap - l.at

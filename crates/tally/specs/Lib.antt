@@ -1,2 +1,0 @@
--- What is told of a tally.
-pub mod Told

@@ -1,0 +1,2 @@
+-- Lists of so many counts, one by one.
+pub mod Each
