@@ -12,7 +12,7 @@ use Rattle.rules.specs.declared.Reason.TheVariants as reason
 use Rattle.rules.specs.Text.{place, start_place}
 use Rattle.rules.specs.Refusals.{outer_number, lexical_number, syntax_number, first_told, second_told}
 use Rattle.rules.specs.Calls.{spelling_judged}
-use Rattle.refusals.specs.Back.{is_lexical, lexical_of}
+use Rattle.rules.specs.Back.{is_lexical, lexical_of}
 
 -- number, place, two words told, count, length
 abbrev pub words : ℕ → Cursor → ℕ → ℕ → ℕ → ℕ → List ℕ

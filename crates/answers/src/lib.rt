@@ -1,24 +1,20 @@
 // What the calls tell, in eight words of one layout (specs/Layout.antt, include/spoonharbor.h), and the table that such words tell.
 ghost use Rattle.std.specs.Prelude.{◌≡◌};
-ghost use Rattle.answers.specs.Layout.{words, nowhere, syntax_words, told_words, outer_words, asked_words, restart_words, parsed_words, is_ending, length_of, table_of};
+ghost use Rattle.answers.specs.Layout.{words, nowhere, syntax_words, told_words, outer_words, asked_words, restart_words, parsed_words, is_ending, length_of, ending_of, table_of};
 
-use refusals::{
-    first_told, is_lexical, lexical_number, lexical_of, outer_number, second_told, syntax_number,
-};
+use refusals::{first_told, lexical_number, outer_number, second_told, syntax_number};
 use rules::{
-    Column, Cursor, Halt, Line, Offset, Outer, Parsed, Reason, Syntax, Table, Told,
+    Column, Cursor, Ending, Halt, Lexical, Line, Offset, Outer, Parsed, Reason, Syntax, Table, Told,
 };
 
 // ---- numbers
 
 // Whether a number is that of an ending: 0, or a lexical refusal's.
+#[tactic(auto, unfolding(crate::specs::Layout::is_ending))]
 fn is_ending(number: u32) -> bool
     ensures { result ≡ is_ending number }
 {
-    if number == 0 {
-        return true;
-    }
-    is_lexical(number)
+    number == 0 || Lexical::try_from(number).is_ok()
 }
 
 // ---- answers into eight words
@@ -145,38 +141,42 @@ pub fn put_restart(answer: &mut [u32; 8], told: Result<Cursor, Outer>)
 }
 
 // The length that eight words tell, and one that no text has where their first is no ending.
+#[tactic(auto, unfolding(crate::specs::Layout::length_of))]
 fn length_of(told: &[u32; 8]) -> u32
     ensures { result ≡ length_of told.now }
 {
     if is_ending(told[0]) {
-        return told[7];
+        told[7]
+    } else {
+        u32::MAX
     }
-    4294967295
+}
+
+// The ending that eight words tell. Where their first is none's, what is told here stands beside a length that no text has.
+#[tactic(auto, using(refusals::proofs::Back::number_else))]
+fn ending_of(told: &[u32; 8]) -> Ending
+    ensures { result ≡ ending_of told.now }
+{
+    if told[0] == 0 {
+        return None;
+    }
+    Some(Halt {
+        why: Lexical::try_from(told[0]).unwrap_or(Lexical::NoRowBegins),
+        at: Cursor {
+            offset: Offset(told[1]),
+            line: Line(told[2]),
+            column: Column(told[3]),
+        },
+    })
 }
 
 // The table that eight words tell.
 pub fn table_of(told: &[u32; 8]) -> Table
     ensures { result ≡ table_of told.now }
 {
-    let number = told[0];
-    let length = length_of(told);
-    if number == 0 {
-        return Table {
-            count: told[6],
-            length,
-            ending: None,
-        };
-    }
     Table {
         count: told[6],
-        length,
-        ending: Some(Halt {
-            why: lexical_of(number),
-            at: Cursor {
-                offset: Offset(told[1]),
-                line: Line(told[2]),
-                column: Column(told[3]),
-            },
-        }),
+        length: length_of(told),
+        ending: ending_of(told),
     }
 }

@@ -1,6 +1,6 @@
 -- What the parts of the edit call ask and give: an edit whose numbers are sensible, what is seen of its window, and what is written
 -- behind the kept rows.
-use Rattle.std.specs.Prelude.{◌≡◌, Bool, true, false, cond, not, Option, Some, None, List, map, ℕ, ◌+◌, ◌*◌, ◌≤◌, ◌<◌, length, take, drop, leb, ◌&&◌, ◌^◌, eqb, Err}
+use Rattle.std.specs.Prelude.{◌≡◌, Bool, true, false, cond, not, ◌&&◌, Option, Some, None, List, map, ℕ, ◌+◌, ◌*◌, ◌^◌, ◌≤◌, ◌<◌, length, take, drop, eqb, leb, Err}
 use Rattle.rules.specs.declared.Cursor.{Cursor}
 use Rattle.rules.specs.Outcomes.{Ending, Told, unread}
 use Rattle.rules.specs.declared.Table.{Table}

@@ -14,10 +14,9 @@ ghost use Rattle.file_load.specs.Judged.{Framed, last_of, plain_rows, blocks_jud
 
 use file_blocks::{column_of, is_sound, row_in, rows_stand, take_words, word_at};
 use file_sizes::{block_rows, length_for, row_bytes, rows_here};
-use refusals::{is_lexical, lexical_of};
 use rows::shape;
 use rows::shape::Row;
-use rules::{Column, Cursor, Ending, Halt, Line, Offset, Outer, Table, kind, limit, row};
+use rules::{Column, Cursor, Ending, Halt, Lexical, Line, Offset, Outer, Table, kind, limit, row};
 use rules_files::{Fault, form};
 use rules_forms::{Form, short};
 
@@ -39,16 +38,14 @@ const COLUMN_AT: usize = LINE_AT + form::WORD;
 // ---- block 0
 
 // The ending of a lexical refusal's number, at a place.
+#[tactic(auto, unfolding(rules_files::specs::Files::read_refused))]
 fn read_refused(number: u32, p: Cursor) -> Option<Ending>
     ensures { result ≡ read_refused number p }
 {
-    if is_lexical(number) {
-        return Some(Some(Halt {
-            why: lexical_of(number),
-            at: p,
-        }));
+    match Lexical::try_from(number) {
+        Ok(why) => Some(Some(Halt { why, at: p })),
+        Err(_) => None,
     }
-    None
 }
 
 // The ending of a number and a place: none has number 0, and then the place is zero.

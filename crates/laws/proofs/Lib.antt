@@ -12,5 +12,5 @@ pub mod Rows
 pub mod Calls
 pub mod Spelled
 pub mod Tight
-pub mod Chains
 pub mod Outcomes
+pub mod Chains

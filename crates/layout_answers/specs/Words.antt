@@ -1,10 +1,9 @@
 -- What a laying out tells, in the eight words of every answer: 0 and how many bytes are written, or 3 or 4 at the start.
-use Rattle.std.specs.Prelude.{List, ℕ}
+use Rattle.std.specs.Prelude.{List, ℕ, Result, Ok, Err}
 use Rattle.rules.specs.Text.{start_place}
 use Rattle.answers.specs.Layout.{words, nowhere}
 use Rattle.rules_layout.specs.declared.Unlaid.{Unlaid}
 use Rattle.rules_layout.specs.declared.Unlaid.TheVariants.{NotItsTree, NoRoom}
-use Rattle.std.specs.Prelude.{Result, Ok, Err}
 
 abbrev pub unlaid_number : Unlaid → ℕ
 unlaid_number NotItsTree = 3

@@ -12,8 +12,7 @@ use Rattle.rules.specs.Tree.{Tok, bits_in, Tree, none, num, var, star, group, fi
 use Rattle.rules.specs.Nodes.{NodeVariable, NodeNumber, NodeDereference, NodeCall, node, fact_node, missing, width, size, place_of, node_words}
 use Rattle.rules.specs.Parse
 use Rattle.rules.specs.Parse.{ok, no, pick, tok_at}
-use Rattle.theory_grammar.proofs.Laws.{words_none, words_num, words_var, words_star, words_group, words_field, words_call}
-use Rattle.theory_grammar.proofs.Laws.{words_bin, words_one, words_more}
+use Rattle.theory_grammar.proofs.Laws.{words_none, words_num, words_var, words_star, words_group, words_field, words_call, words_bin, words_one, words_more}
 use Rattle.parse_nodes.specs.Post.{kind_word, Tells, state_at, variable_at, counted_at, Met, Stands}
 use Rattle.parse_nodes.specs.declared.At.{At}
 use Rattle.parse_nodes.specs.declared.Refusal.{Refusal}

@@ -11,8 +11,7 @@ use native.Mathlib.Omega.{arith}
 use lib.Seq.{sets}
 use borrow.Author.Tests.{eqb-true, ne_eqb}
 use Rattle.rules.specs.Kinds.{KeywordKey, KeywordValue}
-use Rattle.rules.specs.Tree.{Tree, is_variable, is_sum, hangs, count, map_decl, limit, typed, map_type, map_type_number, max_bits}
-use Rattle.rules.specs.Tree.{type_of, typed_by, limit_of}
+use Rattle.rules.specs.Tree.{Tree, is_variable, is_sum, hangs, count, map_decl, limit, typed, map_type, map_type_number, max_bits, type_of, typed_by, limit_of}
 use Rattle.rules.specs.Nodes.{width, size, place_of, fact_node, node_words}
 use Rattle.rules.specs.Parse.{Out, ok}
 use Rattle.theory_grammar.proofs.Laws.{words_map}

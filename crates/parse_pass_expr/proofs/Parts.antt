@@ -6,9 +6,7 @@ use Prim.Native.Nat.{ℕ, suc, ◌+◌}
 use Rattle.rules.specs.Kinds.{LParen, RParen, Dot, Comma, Star, Identifier, Number}
 use Rattle.rules.specs.Tree.{Tok, Tree, bin, yield, is_variable}
 use Rattle.rules.specs.Parse.{is_add, is_shift, is_mul, kind_at}
-use Rattle.rules.specs.Grammar.{Nt, Add, Shift, Mul, Unary, Basic, Args, Is}
-use Rattle.rules.specs.Grammar.{i_num, i_var, i_group, i_field, i_bare, i_call, i_one, i_more}
-use Rattle.rules.specs.Grammar.{i_prim, i_star, i_unary, i_mul, i_lone, i_shift, i_up, i_add}
+use Rattle.rules.specs.Grammar.{Nt, Add, Shift, Mul, Unary, Basic, Args, Is, i_num, i_var, i_group, i_field, i_bare, i_call, i_one, i_more, i_prim, i_star, i_unary, i_mul, i_lone, i_shift, i_up, i_add}
 use Rattle.theory_grammar.proofs.Leads.{add_mark, shift_mark, mul_mark}
 use Rattle.theory_grammar.proofs.Runs.{is_mark, row, name_row, value_row, ◌▸◌}
 use Rattle.parse_pass_expr.specs.Seen.{Read}

@@ -6,12 +6,10 @@ use Prim.Native.Nat.{ℕ, suc, ◌+◌, ◌≤◌, ◌<◌}
 use Rattle.std.specs.Prelude.{Option, Some, None, MatchOption, ◌≢◌}
 use native.Mathlib.Omega.{arith}
 use lib.Dec.{eqb}
-use Rattle.rules.specs.Kinds.{KeywordUnit, KeywordReturn, KeywordIf, KeywordElse, KeywordGuard, Identifier, StringLiteral, Eof}
-use Rattle.rules.specs.Kinds.{LBrace, RBrace, LParen, RParen, Semicolon, Equals}
+use Rattle.rules.specs.Kinds.{KeywordUnit, KeywordReturn, KeywordIf, KeywordElse, KeywordGuard, Identifier, StringLiteral, Eof, LBrace, RBrace, LParen, RParen, Semicolon, Equals}
 use Rattle.rules.specs.Tree.{Tok, sign, name, spelling_of, Tree, none, seq, yield}
 use Rattle.rules.specs.Parse.{is_assign, is_declaring, is_text, tok_at}
-use Rattle.rules.specs.Grammar.{Nt, Add, Stmt, Stmts, Item, Items, Decl, Is}
-use Rattle.rules.specs.Grammar.{i_decl, i_ret, i_plain, i_assign, i_if, i_if_else, i_stmt, i_text, i_unit}
+use Rattle.rules.specs.Grammar.{Nt, Add, Stmt, Stmts, Item, Items, Decl, Is, i_decl, i_ret, i_plain, i_assign, i_if, i_if_else, i_stmt, i_text, i_unit}
 use Rattle.theory_grammar.proofs.Leads.{assign_mark, declaring_mark, text_mark}
 use Rattle.theory_grammar.proofs.Runs.{Run, is_mark, run_none, row, name_row, string_row, ◌▸◌}
 use Rattle.parse_nodes.specs.Post.{Tells}

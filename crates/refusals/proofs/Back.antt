@@ -1,14 +1,14 @@
 -- Each lexical refusal is read back from its number, and each number of one is that of the refusal read from it.
 use Prim.Native.Nat.{ℕ, zero, suc, ◌+◌, ◌-◌, ◌≤◌}
 use native.Mathlib.Omega.{arith}
-use mathlib.Core.Bool.{true, false, and-eq-true_iff}
-use mathlib.Core.Path.{◌≡◌, refl}
+use mathlib.Core.Bool.{true, false, true≢false, and-eq-true_iff}
+use mathlib.Core.Path.{◌≡◌, refl, sym, ◌∙◌}
 use lib.Dec.{eqb, leb}
-use borrow.Author.Tests.{leb-true}
+use borrow.Author.Tests.{leb-true, ne_eqb}
 use Rattle.rules.specs.declared.Lexical.{Lexical}
 use Rattle.rules.specs.declared.Lexical.TheVariants.{NoRowBegins, LoneSign, NoHexDigit, OpenComment, OpenString, BadEscape, NumberTooLarge}
 use Rattle.rules.specs.Refusals.{lexical_number}
-use Rattle.refusals.specs.Back.{is_lexical, lexical_of}
+use Rattle.rules.specs.Back.{is_lexical, lexical_of}
 
 -- The refusal read from a refusal's number is that refusal.
 pub number_back : (why : Lexical) → lexical_of (lexical_number why) ≡ why
@@ -20,6 +20,18 @@ number_back BadEscape = refl
 number_back NumberTooLarge = refl
 number_back LoneSign = refl
 number_back NoHexDigit = refl
+
+-- A number of none is read as the first.
+pub number_else : (number : ℕ) → is_lexical number ≡ false → lexical_of number ≡ NoRowBegins
+unfolding lexical_of
+number_else number h =
+    rw (
+      ne_eqb number 12 (λ e. no e refl), ne_eqb number 13 (λ e. no e refl), ne_eqb number 14 (λ e. no e refl), ne_eqb number 15 (λ e. no e refl),
+      ne_eqb number 16 (λ e. no e refl), ne_eqb number 17 (λ e. no e refl),
+    )
+  where
+    no : {k : ℕ} → number ≡ k → is_lexical k ≡ true → ⊥
+    no e q = true≢false (sym q ∙ rw e at h)
 
 -- Its number is one of 11 to 17.
 pub number_lexical : (why : Lexical) → is_lexical (lexical_number why) ≡ true

@@ -1,7 +1,6 @@
-// The number of each refusal, and what it tells besides; and the lexical refusal that has a number.
+// The number of each refusal, and what it tells besides.
 ghost use Rattle.std.specs.Prelude.{◌≡◌, ◌/◌, ◌%◌, ◌^◌};
 ghost use Rattle.rules.specs.Refusals.{outer_number, lexical_number, syntax_number, reason_number, first_told, second_told, found_told};
-ghost use Rattle.refusals.specs.Back.{is_lexical, lexical_of};
 
 use rules::{Lexical, Outer, Reason, Syntax, fits, limit};
 
@@ -9,55 +8,14 @@ use rules::{Lexical, Outer, Reason, Syntax, fits, limit};
 pub fn outer_number(why: Outer) -> u32
     ensures { result ≡ outer_number why }
 {
-    match why {
-        Outer::TextTooLong => 1,
-        Outer::BadByte => 2,
-        Outer::NotWellFormed => 3,
-        Outer::NoRowRoom => 4,
-        Outer::NoNodeRoom => 5,
-        Outer::EditNotSensible => 6,
-        Outer::WindowShort => 7,
-    }
+    why as u32
 }
 
 // The number of a lexical refusal, 11 to 17.
-pub fn lexical_number(why: Lexical) -> u32
-    ensures { result ≡ lexical_number why }
+pub fn lexical_number(lexical: Lexical) -> u32
+    ensures { result ≡ lexical_number lexical }
 {
-    match why {
-        Lexical::NoRowBegins => 11,
-        Lexical::OpenComment => 12,
-        Lexical::OpenString => 13,
-        Lexical::BadEscape => 14,
-        Lexical::NumberTooLarge => 15,
-        Lexical::LoneSign => 16,
-        Lexical::NoHexDigit => 17,
-    }
-}
-
-// Whether a number is that of a lexical refusal.
-pub fn is_lexical(number: u32) -> bool
-    ensures { result ≡ is_lexical number }
-{
-    if number < 11 {
-        return false;
-    }
-    number <= 17
-}
-
-// The lexical refusal of a number.
-pub fn lexical_of(number: u32) -> Lexical
-    ensures { result ≡ lexical_of number }
-{
-    match number {
-        12 => Lexical::OpenComment,
-        13 => Lexical::OpenString,
-        14 => Lexical::BadEscape,
-        15 => Lexical::NumberTooLarge,
-        16 => Lexical::LoneSign,
-        17 => Lexical::NoHexDigit,
-        _ => Lexical::NoRowBegins,
-    }
+    lexical as u32
 }
 
 // The number of a refusal of the grammar or of a check, 21 to 32.
@@ -115,12 +73,7 @@ pub fn first_told(why: Syntax) -> u32
         Syntax::NotMapField => low(fits::MAP_FIELDS),
         Syntax::NotType => low(fits::TYPES),
         Syntax::NotEventType => low(fits::EVENT_TYPES),
-        Syntax::MapTypeUnknown => 0,
-        Syntax::MaxNegative => 0,
-        Syntax::OutOfRange => 0,
-        Syntax::ShiftCount => 0,
-        Syntax::CallOnOther => 0,
-        Syntax::TooDeep => 0,
+        _ => 0,
     }
 }
 
@@ -134,13 +87,7 @@ pub fn second_told(why: Syntax) -> u32
         Syntax::NotMapField => high(fits::MAP_FIELDS),
         Syntax::NotType => high(fits::TYPES),
         Syntax::NotEventType => high(fits::EVENT_TYPES),
-        Syntax::MapLacks(_) => 0,
-        Syntax::MapTypeUnknown => 0,
-        Syntax::MaxNegative => 0,
-        Syntax::OutOfRange => 0,
-        Syntax::ShiftCount => 0,
-        Syntax::CallOnOther => 0,
-        Syntax::TooDeep => 0,
+        _ => 0,
     }
 }
 
@@ -150,16 +97,6 @@ pub fn found_told(why: Syntax, kind: u32) -> u32
 {
     match why {
         Syntax::Wanted(_, _) => kind,
-        Syntax::NotTopLevel => 0,
-        Syntax::NotMapField => 0,
-        Syntax::NotType => 0,
-        Syntax::NotEventType => 0,
-        Syntax::MapLacks(_) => 0,
-        Syntax::MapTypeUnknown => 0,
-        Syntax::MaxNegative => 0,
-        Syntax::OutOfRange => 0,
-        Syntax::ShiftCount => 0,
-        Syntax::CallOnOther => 0,
-        Syntax::TooDeep => 0,
+        _ => 0,
     }
 }

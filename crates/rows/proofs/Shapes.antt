@@ -5,8 +5,7 @@ use native.Mathlib.Decide.{ℕ_discrete, dec_le}
 use borrow.Author.Tests.{lt-leb, not-true}
 use Rattle.rules.specs.Text.{within}
 use Rattle.rules.specs.Kinds.{Number, Eof, is_made}
-use Rattle.rules.specs.Rows.{Row, row_in, row_place, length_fits, spans_fit, value_fits, value_bits, place_fits, lines_fit}
-use Rattle.rules.specs.Rows.{row_fits, follows, gap_fits, is_eof}
+use Rattle.rules.specs.Rows.{Row, row_in, row_place, length_fits, spans_fit, value_fits, value_bits, place_fits, lines_fit, row_fits, follows, gap_fits, is_eof}
 use Rattle.rows.specs.Shape.{LengthTable, fits_after, stands_on}
 use Rattle.laws.proofs.Tests.{false_by, both_true, same_bool}
 use Rattle.rows.proofs.Inside.{sound, plain_kind}

@@ -4,6 +4,7 @@ pub mod Text
 pub mod Kinds
 pub mod Fits
 pub mod Refusals
+pub mod Back
 pub mod Rows
 pub mod Lex
 pub mod Scan

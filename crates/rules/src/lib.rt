@@ -10,6 +10,7 @@ pub mod row;
 ghost use Rattle.std.specs.Prelude.{◌≡◌};
 ghost use Rattle.rules.specs.declared.Reason.TheVariants as reason;
 ghost use Rattle.rules.specs.Outcomes.{unread, unparsed};
+ghost use Rattle.rules.specs.Back.{lexical_from};
 ghost use Rattle.rules.specs.Text.{start_place, moved, along, Roomy};
 
 // Line, column and offset are three counters and never stand in for one another.
@@ -77,16 +78,40 @@ impl Cursor {
     }
 }
 
-// Why a text cannot be read on.
+// Why a text cannot be read on, refusals 11 to 17.
 #[derive(Clone, Copy)]
 pub enum Lexical {
-    NoRowBegins,
-    LoneSign,
-    NoHexDigit,
-    OpenComment,
-    OpenString,
-    BadEscape,
-    NumberTooLarge,
+    NoRowBegins = 11,
+    OpenComment = 12,
+    OpenString = 13,
+    BadEscape = 14,
+    NumberTooLarge = 15,
+    LoneSign = 16,
+    NoHexDigit = 17,
+}
+
+// A number that is no lexical refusal's.
+#[derive(Clone, Copy)]
+pub struct NotLexical(pub u32);
+
+impl TryFrom<u32> for Lexical {
+    type Error = NotLexical;
+
+    ghost try_from_gives = { λ number got. got ≡ lexical_from number };
+
+    #[tactic(auto, unfolding(crate::specs::Back::lexical_of))]
+    fn try_from(number: u32) -> Result<Lexical, NotLexical> {
+        match number {
+            11 => Ok(Lexical::NoRowBegins),
+            12 => Ok(Lexical::OpenComment),
+            13 => Ok(Lexical::OpenString),
+            14 => Ok(Lexical::BadEscape),
+            15 => Ok(Lexical::NumberTooLarge),
+            16 => Ok(Lexical::LoneSign),
+            17 => Ok(Lexical::NoHexDigit),
+            _ => Err(NotLexical(number)),
+        }
+    }
 }
 
 // Why a text cannot be read on, and where.
@@ -110,13 +135,13 @@ pub struct Table {
 // Refusals 1 to 7: what is wrong with what a call was lent, or lacks.
 #[derive(Clone, Copy)]
 pub enum Outer {
-    TextTooLong,
-    BadByte,
-    NotWellFormed,
-    NoRowRoom,
-    NoNodeRoom,
-    EditNotSensible,
-    WindowShort,
+    TextTooLong = 1,
+    BadByte = 2,
+    NotWellFormed = 3,
+    NoRowRoom = 4,
+    NoNodeRoom = 5,
+    EditNotSensible = 6,
+    WindowShort = 7,
 }
 
 // Why a call has not what it asks for, and where.

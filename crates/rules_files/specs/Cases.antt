@@ -9,7 +9,7 @@ use Rattle.rules.specs.Text.{place}
 use Rattle.rules.specs.Kinds
 use Rattle.rules.specs.Rows
 use Rattle.rules.specs.Scan
-use Rattle.refusals.specs.Back
+use Rattle.rules.specs.Back
 use Rattle.rules_files.specs.declared.Fault.TheVariants.{Outer, TooManyRows, BadBlock, WrongLength, NoTable, OtherForm}
 use Rattle.rules_files.specs.Bytes
 use Rattle.rules_files.specs.Bytes.{little}

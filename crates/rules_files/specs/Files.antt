@@ -8,7 +8,7 @@ use Rattle.rules.specs.Text.{place}
 use Rattle.rules.specs.Rows.{words_per_row, well_formed}
 use Rattle.rules.specs.Scan.{room_of}
 use Rattle.rules.specs.Refusals.{outer_number, lexical_number}
-use Rattle.refusals.specs.Back.{is_lexical, lexical_of}
+use Rattle.rules.specs.Back.{is_lexical, lexical_of}
 use Rattle.rules_files.specs.declared.Fault.{Fault}
 use Rattle.rules_files.specs.declared.Fault.TheVariants.{Outer, TooManyRows, BadBlock, WrongLength, NoTable, OtherForm}
 use Rattle.rules_files.specs.Bytes.{number_at, bytes_of, words_in, word_bytes}

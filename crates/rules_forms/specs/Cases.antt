@@ -10,7 +10,7 @@ use Rattle.rules.specs.Text
 use Rattle.rules.specs.Text.{bytes, place}
 use Rattle.rules.specs.Kinds
 use Rattle.rules.specs.Rows
-use Rattle.refusals.specs.Back
+use Rattle.rules.specs.Back
 use Rattle.rules_files.specs.declared.Fault.{Fault}
 use Rattle.rules_files.specs.declared.Fault.TheVariants.{Outer, BadBlock, WrongLength, NoTable, OtherForm}
 use Rattle.rules_files.specs.Bytes

@@ -1,6 +1,6 @@
 -- Worked cases: the layouts of small texts byte by byte, and what the call tells and leaves where an easy misreading would do another
 -- thing. Each table is under one theorem that the checker computes.
-use Rattle.std.specs.Prelude.{◌≡◌, refl, List, [], ◌∷◌, ◌++◌, map, ℕ, length, set, replicate, None}
+use Rattle.std.specs.Prelude.{◌≡◌, refl, List, [], ◌∷◌, ◌++◌, map, ℕ, length, set, replicate, None, Result, Ok, Err}
 use Rattle.rules.specs.declared.Table.{Table}
 use Rattle.rules.specs.Text
 use Rattle.rules.specs.Text.{bytes}
@@ -19,7 +19,6 @@ use Rattle.rules.specs.Parse
 use Rattle.rules.specs.Parse.{Out, ok, no}
 use Rattle.rules.specs.Calls
 use Rattle.rules_decimal.specs.Decimal
-use Rattle.std.specs.Prelude.{Result, Ok, Err}
 use Rattle.rules_layout.specs.declared.Unlaid.{Unlaid}
 use Rattle.rules_layout.specs.declared.Unlaid.TheVariants.{NotItsTree, NoRoom}
 use Rattle.rules_layout.specs.Rows as Written

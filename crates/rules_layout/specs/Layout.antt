@@ -1,6 +1,6 @@
 -- "Lay out a probe", the call: what it tells, and what it leaves in the lent room. Lent are a text, rows and their table, nodes and their
 -- count, and a room of bytes.
-use Rattle.std.specs.Prelude.{Bool, true, false, cond, ◌&&◌, List, [], ◌++◌, ℕ, length, take, drop, eqb, leb, ◌*◌, Ok, Err, None, Some}
+use Rattle.std.specs.Prelude.{Bool, true, false, cond, ◌&&◌, List, [], ◌++◌, ℕ, length, take, drop, eqb, leb, ◌*◌, Ok, Err, None, Some, Result}
 use Rattle.rules.specs.Outcomes.{Ending}
 use Rattle.rules.specs.declared.Table.{Table}
 use Rattle.rules.specs.Text.{most_bytes, text_judged}
@@ -13,7 +13,6 @@ use Rattle.rules.specs.Parse.{Out, ok, no, parse}
 use Rattle.rules.specs.Calls.{tokens}
 use Rattle.rules_layout.specs.declared.Unlaid.{Unlaid}
 use Rattle.rules_layout.specs.declared.Unlaid.TheVariants.{NotItsTree, NoRoom}
-use Rattle.std.specs.Prelude.{Result, Ok, Err}
 use Rattle.rules_layout.specs.Bytes.{layout}
 
 -- ---- "the lent text's tree"

@@ -3,8 +3,8 @@
 use Rattle.std.specs.Prelude.{◌≡◌, refl, List, [], ◌∷◌, ◌++◌, map, ℕ, ◌+◌, length, replicate}
 use Rattle.rules.specs.declared.Table.{Table}
 use Rattle.rules.specs.declared.Cursor.{Cursor}
-use Rattle.rules.specs.declared.Outer.TheVariants.{BadByte, NoNodeRoom, NotWellFormed}
-use Rattle.rules.specs.declared.Syntax.TheVariants.{NotTopLevel, NotMapField, Wanted}
+use Rattle.rules.specs.declared.Outer.TheVariants.{BadByte, NoNodeRoom}
+use Rattle.rules.specs.declared.Syntax.TheVariants.{NotTopLevel, NotMapField}
 use Rattle.rules.specs.declared.Reason.TheVariants as reason
 use Rattle.rules.specs.Text
 use Rattle.rules.specs.Text.{bytes, place, start_place}

@@ -15,7 +15,7 @@ use Rattle.std.specs.declared.option.Option.TheVariants.{None, Some}
 use Rattle.rules.specs.declared.Table.{Table}
 use Rattle.rules.specs.Rows.{well_formed, words_per_row}
 use Rattle.rules.specs.Refusals.{lexical_number}
-use Rattle.refusals.specs.Back.{is_lexical, lexical_of}
+use Rattle.rules.specs.Back.{is_lexical, lexical_of}
 use Rattle.refusals.proofs.Back.{number_back, number_lexical, reason_again}
 use Rattle.rules_files.specs.declared.Fault.TheVariants.{BadBlock, WrongLength, OtherForm}
 use Rattle.rules_files.specs.Bytes.{words_in}

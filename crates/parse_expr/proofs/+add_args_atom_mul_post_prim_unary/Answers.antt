@@ -10,8 +10,7 @@ use Rattle.rules.specs.Tree.{spelling_of, star, group, field, none}
 use Rattle.rules.specs.Parse
 use Rattle.rules.specs.Parse.{ok, is_mul, tok_at, kind_at, whole, operand}
 use Rattle.theory_grammar.proofs.Laws.{here}
-use Rattle.theory_grammar.proofs.Cases.{then_ok, then_no, inner_none, inner_whole, inner_operand, atom_paren, atom_else, prim_is, unary_star, unary_else}
-use Rattle.theory_grammar.proofs.Cases.{post_nameless, post_field, post_bare, post_args}
+use Rattle.theory_grammar.proofs.Cases.{then_ok, then_no, inner_none, inner_whole, inner_operand, atom_paren, atom_else, prim_is, unary_star, unary_else, post_nameless, post_field, post_bare, post_args}
 use Rattle.parse_nodes.specs.Post.{refusal, state_at}
 use Rattle.parse_nodes.specs.Fitting.{retold_at}
 use Rattle.parse_nodes.specs.declared.At.{At}
@@ -22,10 +21,8 @@ use Rattle.parse_nodes.proofs.Fitting.{end_met, end_unmet}
 use Rattle.parse_expr.proofs.Trees.{group_at, stands_star, stands_group, stands_field, stands_bare, stands_call, met_called}
 use Rattle.parse_expr.proofs.Given.{came_fit, add_came, mul_came, unary_came, atom_came, args_came, was_refused}
 use Rattle.parse_expr.proofs.Lone.{met_lone, met_leaf, no_leaf}
-use Rattle.parse_expr.proofs.Ladder.{next_room, further, joined_row, joins, joins_here, mul_here}
-use Rattle.parse_expr.proofs.Ladder.{level_fit, level_done, factors_fail, factors_read, sums_fit, sums_done, terms_fail, terms_read}
-use Rattle.parse_expr.proofs.Lists.{dotted_start, dotted_fit, dotted_done, dotted_fails, dotted_on, dotted_again, grouped}
-use Rattle.parse_expr.proofs.Lists.{args_deep, args_refused, argued_start, argued_fit, argued_done, argued_fails, argued_again}
+use Rattle.parse_expr.proofs.Ladder.{next_room, further, joined_row, joins, joins_here, mul_here, level_fit, level_done, factors_fail, factors_read, sums_fit, sums_done, terms_fail, terms_read}
+use Rattle.parse_expr.proofs.Lists.{dotted_start, dotted_fit, dotted_done, dotted_fails, dotted_on, dotted_again, grouped, args_deep, args_refused, argued_start, argued_fit, argued_done, argued_fails, argued_again}
 use Rattle.parse_expr.proofs.+add_args_atom_mul_post_prim_unary.Goals as goal
 
 -- ---- `add`: operands behind shifts, and from the first sign on behind signs alone

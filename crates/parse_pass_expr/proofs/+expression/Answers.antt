@@ -3,8 +3,7 @@ use Prim.Native.Nat.{suc}
 use Rattle.std.proofs.Common.{arith, ◌≡◌, sym, ap, ◌∙◌}
 use mathlib.Core.Bool.{true≢false}
 use Rattle.rules.specs.Parse.{is_add, is_shift, is_mul}
-use Rattle.parse_pass_expr.proofs.Passes.{with_fields, seen_number, seen_variable, seen_alone, seen_field, seen_bare, seen_call}
-use Rattle.parse_pass_expr.proofs.Passes.{seen_group, seen_star, sees_prim}
+use Rattle.parse_pass_expr.proofs.Passes.{with_fields, seen_number, seen_variable, seen_alone, seen_field, seen_bare, seen_call, seen_group, seen_star, sees_prim}
 use Rattle.parse_pass_expr.proofs.Ladder.{is_comma, turn_seen, turn_again, products, lists, level, level_whole, level_again}
 use Rattle.parse_pass_expr.proofs.+expression.Goals as goal
 

@@ -15,8 +15,8 @@ placed {q} {r} e o w =
 cut : (t : List ℕ) {q r : Row} → q ≡ r → take (q.end - q.start) (drop q.start t) ≡ take (r.end - r.start) (drop r.start t)
 cut t e = ap (λ (x : Row). take (x.end - x.start) (drop x.start t)) e
 
-pub row_at-r-requires : goal.row_at-r-requires
-row_at-r-requires c =
+pub at-r-requires : goal.at-r-requires
+at-r-requires c =
     let a = c.args in
     (told a.text.now a.rows.now a.table a.row (sym c.spelling_judge.ensures ∙ c.in-Ok.is)).lent
 
@@ -24,24 +24,24 @@ pub slice_bounds-result-count : goal.slice_bounds-result-count
 slice_bounds-result-count c =
     let a = c.args in
     let f = told a.text.now a.rows.now a.table a.row (sym c.spelling_judge.ensures ∙ c.in-Ok.is) in
-    (placed c.row_at-r.ensures f.ordered f.within).0
+    (placed c.at-r.ensures f.ordered f.within).0
 
 pub slice_bounds-result-start : goal.slice_bounds-result-start
 slice_bounds-result-start c =
     let a = c.args in
     let f = told a.text.now a.rows.now a.table a.row (sym c.spelling_judge.ensures ∙ c.in-Ok.is) in
-    (placed c.row_at-r.ensures f.ordered f.within).0
+    (placed c.at-r.ensures f.ordered f.within).0
 
 pub slice_bounds-result-end : goal.slice_bounds-result-end
 slice_bounds-result-end c =
     let a = c.args in
     let f = told a.text.now a.rows.now a.table a.row (sym c.spelling_judge.ensures ∙ c.in-Ok.is) in
-    (placed c.row_at-r.ensures f.ordered f.within).1
+    (placed c.at-r.ensures f.ordered f.within).1
 
 pub returns-in-Ok : goal.returns-in-Ok
 returns-in-Ok c =
     let a = c.args in
-    cut a.text.now c.row_at-r.ensures ∙ sym (part_fine a.text.now a.rows.now a.table a.row (sym c.spelling_judge.ensures ∙ c.in-Ok.is))
+    cut a.text.now c.at-r.ensures ∙ sym (part_fine a.text.now a.rows.now a.table a.row (sym c.spelling_judge.ensures ∙ c.in-Ok.is))
 
 pub returns-in-Err : goal.returns-in-Err
 returns-in-Err c =

@@ -21,7 +21,7 @@ pub told-requires : goal.told-requires
 told-requires c =
     let t = c.args.text.now in
     let short = (fine_text t (sym c.judge_text.ensures ∙ c.in_ok-judge_text.was)).0 in
-    (omega arith, rw (c.walk.ensures.0, c.start.ensures) (count_fits _ _ t short))
+    (omega arith, rw (c.walk.ensures.0, c.start.ensures) (count_fits _ _ t short), rw (c.walk.ensures.0, c.start.ensures, walk_told _ _ t) tt)
 
 pub returns : goal.returns
 unfolding room_of

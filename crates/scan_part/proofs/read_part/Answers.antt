@@ -1,5 +1,5 @@
 -- Each way through a turn is one of the laws of `Going`.
-use Rattle.std.proofs.Common.{◌≡◌, ◌-◌, ◌<◌, length, refl, sym, ◌∙◌, arith}
+use Rattle.std.proofs.Common.{◌≡◌, ◌+◌, ◌-◌, ◌<◌, ◌≤◌, ℕ, length, refl, sym, ◌∙◌, arith}
 use Rattle.rules.specs.Outcomes.{Ending}
 use Rattle.rules.specs.Text.{is_blank}
 use Rattle.rules.specs.Kinds.{signs, kind_in, same_bytes}
@@ -10,8 +10,7 @@ use Rattle.scan_words.proofs.Tables.{right, all_right}
 use Rattle.scan_reader.specs.Brief.{End}
 use Rattle.scan_stop.specs.declared.Stop.TheVariants as stop
 use Rattle.scan_part.specs.declared.Next.TheVariants.{Over}
-use Rattle.scan_part.proofs.Parts.{begun_ahead, going_start, blanks_more, blanks_none, going_blanks}
-use Rattle.scan_part.proofs.Parts.{going_full, last, going_last, going_over, passable, going_comment, going_row, going_less}
+use Rattle.scan_part.proofs.Parts.{begun_ahead, going_start, blanks_more, blanks_none, going_blanks, going_full, last, going_last, going_over, passable, going_comment, going_row, going_less}
 use Rattle.scan_part.proofs.read_part.Goals as goal
 use Rattle.scan_part.proofs.read_part.Goals.{then-told-lt-BLANK, else-told-lt-BLANK}
 

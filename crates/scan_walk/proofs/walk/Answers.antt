@@ -8,9 +8,7 @@ use Rattle.scan_words.specs.Class.{class_of, mark_of}
 use Rattle.scan_words.proofs.Tables.{right, all_right}
 use Rattle.scan_reader.specs.Brief.{End}
 use Rattle.scan_meet.specs.Meeting.{Passed}
-use Rattle.scan_walk.proofs.Walks.{walking_start, at_offset, ahead, blanks_more, blanks_none, walking_blanks}
-use Rattle.scan_walk.proofs.Walks.{tells, walking_found, walking_met, last, walking_last, passable}
-use Rattle.scan_walk.proofs.Walks.{walking_comment, walking_row, walking_less}
+use Rattle.scan_walk.proofs.Walks.{walking_start, at_offset, ahead, blanks_more, blanks_none, walking_blanks, tells, walking_found, walking_met, last, walking_last, passable, walking_comment, walking_row, walking_less}
 use Rattle.scan_walk.proofs.walk.Goals as goal
 use Rattle.scan_walk.proofs.walk.Goals.{then-told-lt-BLANK, else-told-lt-BLANK}
 

@@ -1,2 +1,0 @@
--- Refusals by their numbers.
-pub mod Back
