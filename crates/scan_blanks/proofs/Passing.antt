@@ -1,11 +1,11 @@
 -- Laws of spots that are moved over what was told: over bytes of a line, and over bytes of which the last alone may be a newline.
-use mathlib.Core.Path.{◌≡◌, refl, sym, ap, ◌∙◌}
+use mathlib.Core.Path.{◌≡◌, sym, ap, ◌∙◌}
 use mathlib.Core.List.{List}
-use Prim.Native.Nat.{ℕ, ◌+◌, ◌-◌, ◌≤◌, ◌<◌}
+use Prim.Native.Nat.{ℕ, ◌+◌, ◌-◌, ◌≤◌}
 use native.Mathlib.Omega.{arith}
 use lib.ListN.{length, take, drop, get_or, length-drop}
 use lib.Seq.{length-take-le}
-use Rattle.rules.specs.Text.{front, not_newline, moved, over, along, Roomy}
+use Rattle.rules.specs.Text.{front, not_newline, moved, along, Roomy}
 use Rattle.laws.proofs.Places.{over_front, roomy_less, roomy_over}
 use Rattle.scan_reader.specs.declared.Spot.{Spot}
 use Rattle.scan_reader.specs.Read.{onward, Ahead}

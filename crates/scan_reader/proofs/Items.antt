@@ -17,9 +17,9 @@ use Rattle.laws.specs.Tests.{all_below}
 use Rattle.laws.proofs.Tests.{both_true, below}
 use Rattle.scan_words.specs.Class as class
 use Rattle.scan_words.specs.Class.{class_of, Classes}
-use Rattle.scan_words.proofs.Marks.{class_test, class_byte, one_sign, Alone, alone}
+use Rattle.scan_words.proofs.Marks.{class_test, class_byte, one_sign, alone}
 use Rattle.scan_reader.specs.declared.Brief.{Brief}
-use Rattle.scan_reader.specs.Brief.{Blank, End, Unknown, Rare, refusal_code, told, settled}
+use Rattle.scan_reader.specs.Brief.{Blank, End, Rare, refusal_code, told, settled}
 use Rattle.scan_reader.proofs.Settled.{nothing, settled_inside}
 use Rattle.scan_reader.proofs.Signs.{byte_here, single_decided}
 

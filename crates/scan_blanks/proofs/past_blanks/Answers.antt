@@ -1,7 +1,6 @@
 -- Each turn passes at least one blank, and where the loop stops no blank is left.
-use Rattle.std.proofs.Common.{◌≡◌, sym, ◌∙◌, ◌+◌, ◌-◌, length, arith}
+use Rattle.std.proofs.Common.{sym, ◌∙◌, ◌-◌, length, arith}
 use Rattle.laws.proofs.Places.{roomy_less}
-use Rattle.scan_blanks.specs.Blanks.{Blanked}
 use Rattle.scan_blanks.proofs.Blanks.{blanked_start, blanked_then, blanked_end, blanked_off, blanked_on}
 use Rattle.scan_blanks.proofs.past_blanks.Goals as goal
 

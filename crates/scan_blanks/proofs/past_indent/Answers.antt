@@ -1,7 +1,6 @@
 -- Each turn passes four bytes, each of them a blank and no newline by a test of the number that the code holds them against.
-use Rattle.std.proofs.Common.{rules, ◌≡◌, refl, sym, ap, ◌∙◌, ◌+◌, ◌-◌, ◌≤◌, drop, take, length, arith}
+use Rattle.std.proofs.Common.{rules, refl, sym, ◌∙◌, ◌-◌, length, arith}
 use Rattle.std.specs.Slice.Iter.{chunks_exact_rest}
-use Rattle.std.proofs.lemmas.List.{length-take, length-drop}
 use Rattle.rules.specs.Text.{is_blank}
 use Rattle.laws.proofs.Places.{roomy_less}
 use Rattle.laws.proofs.Chains.{rest_of, block_is}

@@ -2,8 +2,7 @@
 use Rattle.std.proofs.Common.{◌≡◌, sym, ap, ◌∙◌, [], ◌∷◌, ℕ, get_or}
 use Rattle.rules.specs.Kinds.{Eof, signs, kind_in}
 use Rattle.scan_reader.specs.Brief.{refusal_code}
-use Rattle.scan_reader.specs.declared.Brief.{Brief}
-use Rattle.scan_reader.proofs.Signs.{two_at, sign_unknown, sign_two, sign_lone, sign_one}
+use Rattle.scan_reader.proofs.Signs.{sign_unknown, sign_two, sign_lone, sign_one}
 use Rattle.scan_reader.proofs.pieces.sign.Goals as goal
 
 -- the kind of the byte b and one that was read

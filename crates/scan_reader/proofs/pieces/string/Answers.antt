@@ -1,11 +1,11 @@
 -- By what the bytes behind the opening quote come to.
-use Rattle.std.proofs.Common.{◌≡◌, sym, ap, ◌∙◌, Ok, Err, ℕ, ◌+◌, ◌≤◌, length, arith}
+use Rattle.std.proofs.Common.{◌≡◌, sym, ap, ◌∙◌, Ok, Err, ◌+◌, ◌≤◌, length, arith}
 use Rattle.scan_runs.specs.declared.Unclosed.{Unclosed}
 use Rattle.scan_runs.specs.declared.Unclosed.TheVariants.{Open, Escape}
 use Rattle.scan_runs.specs.Leaf.{Quoted}
 use Rattle.scan_runs.proofs.Quotes.{reach_of}
 use Rattle.scan_reader.specs.Brief.{refusal_code}
-use Rattle.scan_reader.proofs.Strings.{quoted_at, string_from, string_inside, string_closed, string_unknown, string_open, string_escape}
+use Rattle.scan_reader.proofs.Strings.{string_from, string_inside, string_closed, string_unknown, string_open, string_escape}
 use Rattle.scan_reader.proofs.pieces.string.Goals as goal
 
 failed : {r q : Quoted} {u v : Unclosed} → r ≡ q → r ≡ Err u → u ≡ v → q ≡ Err v
