@@ -180,9 +180,7 @@ fn atom(
         return Err(Refusal::new(Syntax::TooDeep, row));
     }
     let t = add(rows, count, nodes, row + 1, node, left - 1)?;
-    if parse_nodes::kind_at(rows, count, t.row) != RPAREN {
-        return Err(Refusal::new(parse_nodes::unended(rows, count, t, fits::RPAREN), t.row));
-    }
+    parse_nodes::want_end(rows, count, t, RPAREN, fits::RPAREN)?;
     Ok(At {
         variable: t.variable,
         ..At::new(t.row + 1, t.node, t.place)
@@ -227,12 +225,7 @@ fn post(rows: &[u32], count: u32, nodes: &mut [u32], s: At, left: usize) -> Resu
         return call_end(nodes, s, s.node, 0, open + 1 + 1);
     }
     let a = args(rows, count, nodes, open, s.node, left)?;
-    if parse_nodes::kind_at(rows, count, a.row) != RPAREN {
-        return Err(Refusal::new(
-            parse_nodes::unended(rows, count, a, fits::ARGUMENT_ENDS),
-            a.row,
-        ));
-    }
+    parse_nodes::want_end(rows, count, a, RPAREN, fits::ARGUMENT_ENDS)?;
     call_end(nodes, s, a.node, a.things, a.row + 1)
 }
 

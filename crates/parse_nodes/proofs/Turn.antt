@@ -6,7 +6,7 @@ use Prim.Native.Nat.{ℕ, zero, suc, ◌+◌, ◌*◌, ◌≤◌, ◌<◌}
 use native.Mathlib.Omega.{arith}
 use lib.ListN.{length}
 use lib.Seq.{length-sets}
-use Rattle.std.specs.Prelude.{Result, Ok, Err, MatchResult, IsErrAnd}
+use Rattle.std.specs.Prelude.{Result, Ok, Err}
 use Rattle.rules.specs.declared.Syntax.{Syntax}
 use Rattle.rules.specs.Tree.{Tok, Tree, count}
 use Rattle.rules.specs.Nodes.{width, size, place_of, tree_words}
@@ -107,20 +107,6 @@ met_told o i n why x p m m' e q = subst (λ (y : Syntax). Met o i n m m' (refuse
 -- the same of another answer that is equal
 pub met_as : (o o' : Out) (i n : ℕ) (m m' : List ℕ) (r : Result At Refusal) → o ≡ o' → Met o' i n m m' r → Met o i n m m' r
 met_as o o' i n m m' r e h = subst (λ (x : Out). Met x i n m m' r) (sym e) h
-
--- ---- a call's answer, whose refusal is told otherwise
-
-module _ (P : Refusal → Refusal → Type 0) where
-  pub mapped_ok : (r r' : Result At Refusal) (s : At) → MatchResult r (λ y. r' ≡ Ok y) (λ e. IsErrAnd r' (P e)) → r' ≡ Ok s → r ≡ Ok s
-  mapped_ok (Ok a) r' s h q = sym h ∙ q
-  mapped_ok (Err e) (Ok b) s h q = absurd h
-  mapped_ok (Err e) (Err y) s h q = let z : ◌≡◌ {A = ℕ} 0 1 = cc q in absurd (omega arith)
-
-  pub mapped_err : (r r' : Result At Refusal) (x : Refusal) (told : Refusal → Refusal) → MatchResult r (λ y. r' ≡ Ok y) (λ e. IsErrAnd r' (P e)) → r' ≡ Err x
-      → ((e y : Refusal) → P e y → y ≡ told e) → (e : Refusal) × (r ≡ Err e) × (x ≡ told e)
-  mapped_err (Ok a) r' x told h q k = let z : ◌≡◌ {A = ℕ} 0 1 = cc (h, q) in absurd (omega arith)
-  mapped_err (Err e) (Ok b) x told h q k = absurd h
-  mapped_err (Err e) (Err y) x told h q k = let z : y ≡ x = cc q in (e, refl, sym z ∙ k e y h)
 
 -- ---- a loop
 

@@ -112,7 +112,7 @@ impl Refusal {
 }
 
 // The words of a node.
-#[derive(Clone, Copy)]
+#[derive(Clone, Copy, Default)]
 pub struct Words {
     pub kind: u32,
     pub place: u32,
@@ -125,6 +125,8 @@ pub struct Words {
 }
 
 // The kind of row i of a table of so many rows, and Eof past the last.
+// Stays: a kind is a number, since rows are words that C lends; and Eof is no None, since kind_word, which the contracts cite, says so.
+#[tactic(auto, unfolding(crate::specs::Post::kind_word))]
 pub fn kind_at(rows: &[u32], count: u32, i: u32) -> u32
     requires { count * 8 ≤ length rows.now }
     ensures { result ≡ kind_word rows.now count i }
@@ -173,6 +175,7 @@ fn store_part(nodes: &mut [u32], at: usize, w: Words)
 }
 
 // A node's words from an index on, where there is room for all.
+// Stays: a twin of store_part. With tested words alone a parse of 9,000 rows of statements takes 104 us where it takes 82.
 fn store_whole(nodes: &mut [u32], at: usize, w: Words)
     requires { at + 8 ≤ length nodes.old }
     ensures { nodes.new
@@ -192,6 +195,7 @@ fn store_whole(nodes: &mut [u32], at: usize, w: Words)
 }
 
 // Node n, as far as there is room.
+#[tactic(auto, using(theory_grammar::proofs::Laws::sets_out))]
 pub fn store(nodes: &mut [u32], n: u32, w: Words)
     requires { n ≤ most_rows }
     ensures { nodes.new
@@ -212,6 +216,7 @@ pub fn store(nodes: &mut [u32], n: u32, w: Words)
 }
 
 // Node n with no facts; `name` is a row, or MISSING.
+// Stays: MISSING is no None, since it is the word that C reads in a node.
 pub fn close(nodes: &mut [u32], n: u32, kind: u32, place: u32, name: u32, children: u32)
     requires { n ≤ most_rows }
     ensures { nodes.new ≡ sets nodes.old (8 * n) (node_words (node kind place name children)) }
@@ -224,10 +229,7 @@ pub fn close(nodes: &mut [u32], n: u32, kind: u32, place: u32, name: u32, childr
             place,
             name,
             children,
-            fact0: 0,
-            fact1: 0,
-            fact2: 0,
-            fact3: 0,
+            ..Words::default()
         },
     );
 }
@@ -259,11 +261,9 @@ pub fn number(nodes: &mut [u32], row: u32, n: u32, low: u32, high: u32) -> At
             kind: node_kind::NUMBER,
             place: row,
             name: MISSING,
-            children: 0,
             fact0: low,
             fact1: high,
-            fact2: 0,
-            fact3: 0,
+            ..Words::default()
         },
     );
     At::new(row + 1, n + 1, row)
@@ -317,13 +317,11 @@ fn kind_before(rows: &[u32], count: u32, row: u32, back: u32) -> u32
     requires { count * 8 ≤ length rows.now }
     ensures { result ≡ kind_word rows.now count (row - back) }
 {
-    if row < back {
-        return kind_at(rows, count, 0);
-    }
-    kind_at(rows, count, row - back)
+    kind_at(rows, count, row.saturating_sub(back))
 }
 
 // Whether the row in front of one is a name behind a dot.
+#[tactic(auto, unfolding(crate::specs::Fitting::dotted_words))]
 fn is_dotted(rows: &[u32], count: u32, row: u32) -> bool
     requires { count * 8 ≤ length rows.now }
     ensures { result ≡ dotted_words rows.now count row }
@@ -334,29 +332,40 @@ fn is_dotted(rows: &[u32], count: u32, row: u32) -> bool
 }
 
 // What goes on with the expression or arguments that s stands behind.
+#[tactic(auto, unfolding(crate::specs::Fitting::onward_words))]
 fn onward(rows: &[u32], count: u32, s: At) -> u64
     requires { count * 8 ≤ length rows.now }
     ensures { result ≡ onward_words rows.now count s.summed s.row }
 {
-    let dotted = is_dotted(rows, count, s.row);
-    if s.summed {
-        if dotted {
-            return fits::ONS + fits::LPAREN;
-        }
-        return fits::ONS;
-    }
-    if dotted {
-        return fits::ONS + fits::SHIFTS + fits::LPAREN;
-    }
-    fits::ONS + fits::SHIFTS
+    let shifts = if s.summed { 0 } else { fits::SHIFTS };
+    let call = if is_dotted(rows, count, s.row) {
+        fits::LPAREN
+    } else {
+        0
+    };
+    fits::ONS + shifts + call
 }
 
 // 21 behind an expression or arguments, which any of a set would have ended.
+#[tactic(auto, using(crate::proofs::Fitting::onward_low))]
 pub fn unended(rows: &[u32], count: u32, s: At, ends: u64) -> Syntax
     requires { (count * 8 ≤ length rows.now) × (ends < 2 ^ 53) }
     ensures { result ≡ wrong (onward_words rows.now count s.summed s.row + ends) }
 {
     wrong(onward(rows, count, s) + ends)
+}
+
+// That the expression or arguments that s stands behind end at a row of a kind, or else 21, where any of a set would have ended them.
+pub fn want_end(rows: &[u32], count: u32, s: At, kind: u32, ends: u64) -> Result<(), Refusal>
+    requires { (count * 8 ≤ length rows.now) × (ends < 2 ^ 53) }
+    ensures ok { OnOk result (kind_word rows.now count s.row ≡ kind) }
+    ensures err { IfErr result (λ e. (kind_word rows.now count s.row ≢ kind)
+        × (e ≡ refusal (wrong (onward_words rows.now count s.summed s.row + ends)) s.row)) }
+{
+    if kind_at(rows, count, s.row) != kind {
+        return Err(Refusal::new(unended(rows, count, s, ends), s.row));
+    }
+    Ok(())
 }
 
 // The header of the declaration whose word is at the row, a name and `{`: the state at the first thing in its braces.

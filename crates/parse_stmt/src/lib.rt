@@ -81,9 +81,7 @@ fn declare(
     let sign = name + 1;
     parse_nodes::want(rows, count, sign, EQUALS)?;
     let t = parse_expr::add(rows, count, nodes, sign + 1, node, left)?;
-    if parse_nodes::kind_at(rows, count, t.row) != SEMICOLON {
-        return Err(Refusal::new(parse_nodes::unended(rows, count, t, fits::SEMICOLON), t.row));
-    }
+    parse_nodes::want_end(rows, count, t, SEMICOLON, fits::SEMICOLON)?;
     let kind = decl_node(parse_nodes::kind_at(rows, count, row));
     Ok(named_end(nodes, t, kind, name))
 }
@@ -103,9 +101,7 @@ fn give(
 {
     let place = row + 1;
     let t = parse_expr::add(rows, count, nodes, place, node, left)?;
-    if parse_nodes::kind_at(rows, count, t.row) != SEMICOLON {
-        return Err(Refusal::new(parse_nodes::unended(rows, count, t, fits::SEMICOLON), t.row));
-    }
+    parse_nodes::want_end(rows, count, t, SEMICOLON, fits::SEMICOLON)?;
     Ok(t.ended(nodes, node_kind::RETURN, place, 1))
 }
 
@@ -116,9 +112,7 @@ fn assigned(rows: &[u32], count: u32, nodes: &mut [u32], t: At, left: usize) -> 
 {
     let kind = assign_node(parse_nodes::kind_at(rows, count, t.row));
     let u = parse_expr::add(rows, count, nodes, t.row + 1, t.node, left)?;
-    if parse_nodes::kind_at(rows, count, u.row) != SEMICOLON {
-        return Err(Refusal::new(parse_nodes::unended(rows, count, u, fits::SEMICOLON), u.row));
-    }
+    parse_nodes::want_end(rows, count, u, SEMICOLON, fits::SEMICOLON)?;
     Ok(u.ended(nodes, kind, t.place, 2))
 }
 
@@ -136,16 +130,10 @@ fn effect(
         nodes.new result }
 {
     let t = parse_expr::add(rows, count, nodes, row, node, left)?;
-    let k = parse_nodes::kind_at(rows, count, t.row);
-    if is_assign(k) {
+    if is_assign(parse_nodes::kind_at(rows, count, t.row)) {
         return assigned(rows, count, nodes, t, left);
     }
-    if k != SEMICOLON {
-        return Err(Refusal::new(
-            parse_nodes::unended(rows, count, t, fits::EFFECT_ENDS),
-            t.row,
-        ));
-    }
+    parse_nodes::want_end(rows, count, t, SEMICOLON, fits::EFFECT_ENDS)?;
     Ok(t.ended(nodes, node_kind::EXPRESSION, t.place, 1))
 }
 

@@ -16,7 +16,8 @@ use Rattle.parse_nodes.specs.Post.{refusal, state_at}
 use Rattle.parse_nodes.specs.Fitting.{retold_at}
 use Rattle.parse_nodes.specs.declared.At.{At}
 use Rattle.parse_nodes.proofs.Rows.{tells_some, tells_kind, word_here}
-use Rattle.parse_nodes.proofs.Turn.{met_ok, met_no, met_as, mapped_ok, mapped_err}
+use Rattle.parse_nodes.proofs.Turn.{met_ok, met_no, met_as}
+use Rattle.parse_nodes.proofs.Errs.{mapped_ok, mapped_err}
 use Rattle.parse_nodes.proofs.Fitting.{end_met, end_unmet}
 use Rattle.parse_expr.proofs.Trees.{group_at, stands_star, stands_group, stands_field, stands_bare, stands_call, met_called}
 use Rattle.parse_expr.proofs.Given.{came_fit, add_came, mul_came, unary_came, atom_came, args_came, was_refused}
@@ -210,16 +211,17 @@ atom-returns-then-left-eq0 t c = λ ts tl.
     rw c.new-then-left-eq0.ensures (met_no _ a.row a.node TooDeep a.row a.nodes.now a.nodes.now
     (atom_paren ts (Parse.inner ts a.left) a.row k ∙ then_no _ _ TooDeep a.row (inner_none ts whole a.row a.left c.if-left-eq0.true)))
 
-pub atom-returns-then-kind_at-ne-RPAREN : goal.atom-returns-then-kind_at-ne-RPAREN
-atom-returns-then-kind_at-ne-RPAREN t c = λ ts tl.
+pub atom-returns-in_err-want_end : goal.atom-returns-in_err-want_end
+atom-returns-in_err-want_end t c = λ ts tl.
     let a = c.args in
     let u : At = c.in_ok-t.t in
     let k = sym (c.kind_at-k.ensures ∙ tells_kind ts _ _ tl a.row) ∙ c.if-k-ne-LPAREN.false in
     let w = add_came (c.add.ensures ts tl) c.in_ok-t.was in
-    rw (c.new-then-kind_at-ne-RPAREN.ensures, c.unended.ensures) (met_no _ a.row a.node _ u.row a.nodes.now c.add.new.nodes
+    let e = c.in_err-want_end.ensures.err in
+    let p = err_from_is_err_and c.from_residual-in_err-want_end.result c.from_residual-in_err-want_end.ensures.1 in
+    rw (p.1, p.2, e.1) (met_no _ a.row a.node _ u.row a.nodes.now c.add.new.nodes
     (grouped ts a.left a.row w.tree u.row k c.if-left-eq0.false w.is
-    ∙ end_unmet ts a.rows.now a.count tl _ RParen w.tree _ u.row u.summed w.stands.summed
-    (λ e. c.if-kind_at-ne-RPAREN.true (c.kind_at.ensures ∙ e))))
+    ∙ end_unmet ts a.rows.now a.count tl _ RParen w.tree _ u.row u.summed w.stands.summed e.0))
 
 pub atom-returns : goal.atom-returns
 atom-returns t c = λ ts tl.
@@ -229,7 +231,7 @@ atom-returns t c = λ ts tl.
     let w = add_came (c.add.ensures ts tl) c.in_ok-t.was in
     rw c.new-2.ensures (met_ok _ a.row a.node (group w.tree) a.nodes.now c.add.new.nodes (group_at u)
     (grouped ts a.left a.row w.tree u.row k c.if-left-eq0.false w.is
-    ∙ end_met ts a.rows.now a.count tl _ RParen w.tree _ u.row (sym c.kind_at.ensures ∙ c.if-kind_at-ne-RPAREN.false))
+    ∙ end_met ts a.rows.now a.count tl _ RParen w.tree _ u.row c.in_ok-want_end.ensures.ok)
     (stands_group a.row a.node a.nodes.now c.add.new.nodes u w.tree (group_at u) w.stands refl))
 
 pub atom-overflow_add-t : goal.atom-overflow_add-t
@@ -298,14 +300,14 @@ pub args-returns-in_err-first : goal.args-returns-in_err-first
 args-returns-in_err-first t c = λ ts tl.
     let a = c.args in
     let p = err_from_is_err_and c.from_residual.result c.from_residual.ensures.1 in
-    let m = mapped_err _ c.add.result c.map_err.result c.in_err-first.field-0.0 (λ e. refusal (retold_at first_arguments (a.row + 1) e.why e.row) e.row)
+    let m = mapped_err _ c.add.result c.map_err.result (λ e. refusal (retold_at first_arguments (a.row + 1) e.why e.row) e.row)
     c.map_err.ensures.cases c.in_err-first.was (λ e y h. search rules) in
     rw (p.1, p.2, m.2) (args_refused ts a.left a.row a.node a.nodes.now {x = m.0} c.add.new.nodes c.if-left-eq0.false (c.add.ensures ts tl) m.1)
 
 pub args-loop-nodes-init : goal.args-loop-nodes-init
 args-loop-nodes-init t c = λ ts tl.
     argued_start c.if-left-eq0.false
-    (add_came (c.add.ensures ts tl) (mapped_ok _ c.add.result c.map_err.result c.in_ok-first.first c.map_err.ensures.cases c.in_ok-first.was))
+    (add_came (c.add.ensures ts tl) (mapped_ok _ c.add.result c.map_err.result c.map_err.ensures.cases c.in_ok-first.was))
     c.counted-s.ensures
 
 pub args-overflow_add-s : goal.args-overflow_add-s
@@ -407,8 +409,8 @@ post-returns-in_err-a t c = λ ts tl i n u m₀ st.
     (λ e. c.if-kind_at-eq-RPAREN.false (c.kind_at-2.ensures ∙ tells_kind ts _ _ tl (s.row + 1 + 1 + 1) ∙ e)) ∙ then_no _ _ e.why e.row
     (was_refused (s.row + 1 + 1 + 1) s.node a.nodes.now c.args-2.new.nodes (c.args-2.ensures ts tl) c.in_err-a.was)))
 
-pub post-returns-then-kind_at-ne-RPAREN : goal.post-returns-then-kind_at-ne-RPAREN
-post-returns-then-kind_at-ne-RPAREN t c = λ ts tl i n u m₀ st.
+pub post-returns-in_err-want_end : goal.post-returns-in_err-want_end
+post-returns-in_err-want_end t c = λ ts tl i n u m₀ st.
     let a = c.args in
     let s : At = a.s in
     let name = sym (tells_kind ts _ _ tl (s.row + 1)) ∙ c.in_ok-want.ensures.ok in
@@ -416,11 +418,12 @@ post-returns-then-kind_at-ne-RPAREN t c = λ ts tl i n u m₀ st.
     let o : ℕ = s.row + 1 + 1 in
     let x : At = c.in_ok-a.a in
     let v = args_came a.left o (here ts o LParen paren refl) (c.args-2.ensures ts tl) c.in_ok-a.was in
-    rw (c.new.ensures, c.unended.ensures) (met_no _ i n _ x.row m₀ c.args-2.new.nodes
+    let e = c.in_err-want_end.ensures.err in
+    let p = err_from_is_err_and c.from_residual-in_err-want_end.result c.from_residual-in_err-want_end.ensures.1 in
+    rw (p.1, p.2, e.1) (met_no _ i n _ x.row m₀ c.args-2.new.nodes
     (post_args ts (Parse.inner ts a.left) u s.row name paren
     (λ e. c.if-kind_at-eq-RPAREN.false (c.kind_at-2.ensures ∙ tells_kind ts _ _ tl (s.row + 1 + 1 + 1) ∙ e)) ∙ then_ok _ _ v.tree x.row v.is
-    ∙ end_unmet ts a.rows.now a.count tl _ RParen v.tree _ x.row x.summed v.stands.summed
-    (λ e. c.if-kind_at-ne-RPAREN.true (c.kind_at-3.ensures ∙ e))))
+    ∙ end_unmet ts a.rows.now a.count tl _ RParen v.tree _ x.row x.summed v.stands.summed e.0))
 
 pub post-overflow_add-a : goal.post-overflow_add-a
 post-overflow_add-a t c =
@@ -450,6 +453,6 @@ post-returns t c = λ ts tl i n u m₀ st.
     let m₂ : List ℕ = c.args-2.new.nodes in
     rw (post_args ts (Parse.inner ts a.left) u s.row name paren
     (λ e. c.if-kind_at-eq-RPAREN.false (c.kind_at-2.ensures ∙ tells_kind ts _ _ tl (s.row + 1 + 1 + 1) ∙ e)) ∙ then_ok _ _ v.tree x.row v.is
-    ∙ end_met ts a.rows.now a.count tl _ RParen v.tree _ x.row (sym c.kind_at-3.ensures ∙ c.if-kind_at-ne-RPAREN.false))
+    ∙ end_met ts a.rows.now a.count tl _ RParen v.tree _ x.row c.in_ok-want_end.ensures.ok)
     (met_called ts i n u w v.tree m₀ a.nodes.now m₂ r.new.nodes s x.node x.things (x.row + 1) r.result st
     (λ q. stands_call i n m₀ a.nodes.now s u x m₂ v.tree (state_at (x.row + 1) (x.node + 1) s.place) r.new.nodes w st v.stands refl q) r.ensures)

@@ -17,7 +17,8 @@ use Rattle.parse_nodes.specs.Post.{kind_word, state_at, refusal}
 use Rattle.parse_nodes.specs.Fitting.{retold_at}
 use Rattle.parse_nodes.specs.declared.At.{At}
 use Rattle.parse_nodes.proofs.Rows.{tells_some, tells_kind, word_here, word_test}
-use Rattle.parse_nodes.proofs.Turn.{Any, refused, met_ok, met_no, met_as, mapped_ok, mapped_err}
+use Rattle.parse_nodes.proofs.Turn.{Any, refused, met_ok, met_no, met_as}
+use Rattle.parse_nodes.proofs.Errs.{mapped_ok, mapped_err}
 use Rattle.parse_nodes.proofs.Steps.{mem_over, list_start, list_ends, list_fails, list_again}
 use Rattle.parse_stmt.specs.Bodies.{body_node, else_at}
 use Rattle.parse_stmt.proofs.Trees.{bodied, body_refused, body_ok, body_no, guarded, stands_guard, stands_otherwise}
@@ -188,7 +189,7 @@ body-returns-in_err-t t c = λ ts tl.
     let a = c.args in
     let s : At = c.loop-s.s in
     let p = err_from_is_err_and c.from_residual.result c.from_residual.ensures.1 in
-    let m = mapped_err _ c.stmt.result c.map_err.result c.in_err-t.field-0.0
+    let m = mapped_err _ c.stmt.result c.map_err.result
     (λ e. refusal (retold_at (body_things + cond s.hanging (only KeywordElse) 0) s.row e.why e.row) e.row)
     c.map_err.ensures.cases c.in_err-t.was (λ e y h. search rules) in
     let q = list_fails Any ts RBrace body_things (statement ts a.left) (listing ts a.left a.row) (a.row + 1) a.node a.nodes.now s c.loop-s.nodes
@@ -209,7 +210,7 @@ body-loop-s-smaller t c =
     let s : At = c.loop-s.s in
     let l = tells_some a.rows.now a.count in
     let v = statement_came _ a.left s.row s.node c.loop-s.nodes c.stmt.new.nodes c.stmt.result c.in_ok-t.t (c.stmt.ensures _ l)
-    (mapped_ok _ c.stmt.result c.map_err.result c.in_ok-t.t c.map_err.ensures.cases c.in_ok-t.was) in
+    (mapped_ok _ c.stmt.result c.map_err.result c.map_err.ensures.cases c.in_ok-t.was) in
     let r = ap (λ (x : At). x.row) c.counted-s.ensures in
     omega (arith, r, v.inside, v.stands.rows, is_wide v.known.is, l.long)
 
@@ -218,7 +219,7 @@ body-loop-s-preserved t c = λ ts tl.
     let a = c.args in
     let s : At = c.loop-s.s in
     let v = statement_came ts a.left s.row s.node c.loop-s.nodes c.stmt.new.nodes c.stmt.result c.in_ok-t.t (c.stmt.ensures ts tl)
-    (mapped_ok _ c.stmt.result c.map_err.result c.in_ok-t.t c.map_err.ensures.cases c.in_ok-t.was) in
+    (mapped_ok _ c.stmt.result c.map_err.result c.map_err.ensures.cases c.in_ok-t.was) in
     list_again Any ts RBrace body_things (statement ts a.left) _ (a.row + 1) a.node a.nodes.now s c.loop-s.nodes (c.loop-s.invariant ts tl)
     (λ e. c.loop-s-test.true (c.kind_at.ensures ∙ tells_kind ts _ _ tl s.row ∙ e)) Any _ c.in_ok-t.t c.stmt.new.nodes c.counted-s.result
     v (omega (arith, v.stands.rows, is_wide v.known.is)) c.counted-s.ensures tt

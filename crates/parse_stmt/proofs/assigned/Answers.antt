@@ -18,13 +18,15 @@ returns-in_err-u c = λ ts tl i n e m₀ st.
     rw (p.1, p.2) (met_no _ _ _ c.in_err-u.field-0.0.why c.in_err-u.field-0.0.row _ _
     (assign_is ts a.left (Parse.body ts a.left) e a.t.row ∙ expr_refused ts _ _ _ _ _ _ _ (c.add.ensures ts tl) c.in_err-u.was _))
 
-pub returns-then-kind_at-ne-SEMICOLON : goal.returns-then-kind_at-ne-SEMICOLON
-returns-then-kind_at-ne-SEMICOLON c = λ ts tl i n e m₀ st.
+pub returns-in_err-want_end : goal.returns-in_err-want_end
+returns-in_err-want_end c = λ ts tl i n e m₀ st.
     let a = c.args in
     let v = expr_came (c.add.ensures ts tl) c.in_ok-u.was in
-    rw (c.new.ensures, c.unended.ensures) (met_no _ _ _ _ _ _ _
+    let w = c.in_err-want_end.ensures.err in
+    let p = err_from_is_err_and c.from_residual-in_err-want_end.result c.from_residual-in_err-want_end.ensures.1 in
+    rw (p.1, p.2, w.1) (met_no _ _ _ _ _ _ _
     (assign_is ts a.left (Parse.body ts a.left) e a.t.row
-    ∙ expr_open tl _ v (λ (x : Tree). assign (kind_at ts a.t.row) e x) (λ f. c.if-kind_at-ne-SEMICOLON.true (c.kind_at-2.ensures ∙ f))))
+    ∙ expr_open tl _ v (λ (x : Tree). assign (kind_at ts a.t.row) e x) w.0))
 
 pub ended-requires : goal.ended-requires
 ended-requires c =
@@ -41,7 +43,7 @@ returns c = λ ts tl i n e m₀ st.
     let k = c.assign_node-kind.ensures ∙ ap assign_node (c.kind_at.ensures ∙ tells_kind ts _ _ tl a.t.row) in
     met_ok _ _ _ (f v.tree) _ _ _
     (assign_is ts a.left (Parse.body ts a.left) e a.t.row
-    ∙ expr_ends tl _ v f (sym c.kind_at-2.ensures ∙ c.if-kind_at-ne-SEMICOLON.false)
+    ∙ expr_ends tl _ v f c.in_ok-want_end.ensures.ok
     ∙ ap (λ (y : ℕ). ok (f v.tree) y) (sym (ap (λ (y : At). y.row) r.0)))
     (stands_assign i n m₀ a.nodes.now a.t e c.in_ok-u.u c.add.new.nodes v.tree c.ended.result
     c.ended.new.nodes (kind_at ts a.t.row) st v.stands r.0 (rw (← k) r.1))

@@ -51,14 +51,16 @@ returns-in_err-t c = λ ts tl.
     ∙ want_met ts a.rows.now a.count tl (a.row + 1 + 1) _ refl Equals (value ts a.left a.row) c.in_ok-want-2.ensures.ok
     ∙ expr_refused ts _ _ _ _ _ _ _ (c.add.ensures ts tl) c.in_err-t.was _))
 
-pub returns-then-kind_at-ne-SEMICOLON : goal.returns-then-kind_at-ne-SEMICOLON
-returns-then-kind_at-ne-SEMICOLON c = λ ts tl.
+pub returns-in_err-want_end : goal.returns-in_err-want_end
+returns-in_err-want_end c = λ ts tl.
     let a = c.args in
     let v = expr_came (c.add.ensures ts tl) c.in_ok-t.was in
-    rw (c.new.ensures, c.unended.ensures) (met_no _ _ _ _ _ _ _
+    let w = c.in_err-want_end.ensures.err in
+    let p = err_from_is_err_and c.from_residual-in_err-want_end.result c.from_residual-in_err-want_end.ensures.1 in
+    rw (p.1, p.2, w.1) (met_no _ _ _ _ _ _ _
     (declaring_is ts a.left (Parse.body ts a.left) a.row ∙ named_met ts a.rows.now a.count tl (a.row + 1) _ refl _ c.in_ok-want.ensures.ok
     ∙ want_met ts a.rows.now a.count tl (a.row + 1 + 1) _ refl Equals (value ts a.left a.row) c.in_ok-want-2.ensures.ok
-    ∙ expr_open tl _ v (declared ts a.row) (λ e. c.if-kind_at-ne-SEMICOLON.true (c.kind_at.ensures ∙ e))))
+    ∙ expr_open tl _ v (declared ts a.row) w.0))
 
 pub named_end-requires : goal.named_end-requires
 named_end-requires c =
@@ -71,11 +73,11 @@ returns c = λ ts tl.
     let a = c.args in
     let v = expr_came (c.add.ensures ts tl) c.in_ok-t.was in
     let r = c.named_end.ensures in
-    let k = c.decl_node-kind.ensures ∙ ap decl_node (c.kind_at-2.ensures ∙ tells_kind ts _ _ tl a.row) in
+    let k = c.decl_node-kind.ensures ∙ ap decl_node (c.kind_at.ensures ∙ tells_kind ts _ _ tl a.row) in
     met_ok _ _ _ (declared ts a.row v.tree) _ _ _
     (declaring_is ts a.left (Parse.body ts a.left) a.row ∙ named_met ts a.rows.now a.count tl (a.row + 1) _ refl _ c.in_ok-want.ensures.ok
     ∙ want_met ts a.rows.now a.count tl (a.row + 1 + 1) _ refl Equals (value ts a.left a.row) c.in_ok-want-2.ensures.ok
-    ∙ expr_ends tl _ v (declared ts a.row) (sym c.kind_at.ensures ∙ c.if-kind_at-ne-SEMICOLON.false)
+    ∙ expr_ends tl _ v (declared ts a.row) c.in_ok-want_end.ensures.ok
     ∙ ap (λ (y : ℕ). ok (declared ts a.row v.tree) y) (sym (ap (λ (y : At). y.row) r.0)))
     (stands_decl a.row a.node a.nodes.now c.add.new.nodes c.in_ok-t.t v.tree c.named_end.result
     c.named_end.new.nodes (kind_at ts a.row) (spelling_of (tok_at ts (a.row + 1))) v.stands r.0 (rw (← k) r.1))

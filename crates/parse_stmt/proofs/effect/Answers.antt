@@ -25,7 +25,7 @@ assigned-requires c =
     let a = c.args in
     let w = expr_came (c.add.ensures _ (tells_some a.rows.now a.count)) c.in_ok-t.was in
     let h = word_test a.rows.now a.count c.in_ok-t.t.row is_assign refl
-    (ap is_assign (sym c.kind_at-k.ensures) ∙ sym c.is_assign.ensures ∙ c.if-is_assign.true) in
+    (ap is_assign (sym c.kind_at.ensures) ∙ sym c.is_assign.ensures ∙ c.if-is_assign.true) in
     omega (arith, h, w.stands, w.few, c.requires)
 
 pub returns-then-is_assign : goal.returns-then-is_assign
@@ -33,22 +33,24 @@ returns-then-is_assign c = λ ts tl.
     let a = c.args in
     let j : ℕ = c.in_ok-t.t.row in
     let v = expr_came (c.add.ensures ts tl) c.in_ok-t.was in
-    let b = ap is_assign (sym (c.kind_at-k.ensures ∙ tells_kind ts _ _ tl j)) ∙ sym c.is_assign.ensures ∙ c.if-is_assign.true in
+    let b = ap is_assign (sym (c.kind_at.ensures ∙ tells_kind ts _ _ tl j)) ∙ sym c.is_assign.ensures ∙ c.if-is_assign.true in
     met_as _ _ _ _ _ _ _
     (expression_is ts a.left (Parse.body ts a.left) a.row ∙ then_ok _ _ v.tree j v.is
     ∙ ap (λ (x : Bool). Parse.assign_by ts a.left (Parse.body ts a.left) x v.tree j) b)
     (c.assigned.ensures ts tl a.row a.node v.tree a.nodes.now v.stands)
 
-pub returns-then-k-ne-SEMICOLON : goal.returns-then-k-ne-SEMICOLON
-returns-then-k-ne-SEMICOLON c = λ ts tl.
+pub returns-in_err-want_end : goal.returns-in_err-want_end
+returns-in_err-want_end c = λ ts tl.
     let a = c.args in
     let u : At = c.in_ok-t.t in
     let v = expr_came (c.add.ensures ts tl) c.in_ok-t.was in
-    let b = ap is_assign (sym (c.kind_at-k.ensures ∙ tells_kind ts _ _ tl u.row)) ∙ sym c.is_assign.ensures ∙ c.if-is_assign.false in
-    rw (c.new.ensures, c.unended.ensures) (met_no _ _ _ _ _ _ _
+    let b = ap is_assign (sym (c.kind_at.ensures ∙ tells_kind ts _ _ tl u.row)) ∙ sym c.is_assign.ensures ∙ c.if-is_assign.false in
+    let w = c.in_err-want_end.ensures.err in
+    let p = err_from_is_err_and c.from_residual-in_err-want_end.result c.from_residual-in_err-want_end.ensures.1 in
+    rw (p.1, p.2, w.1) (met_no _ _ _ _ _ _ _
     (expression_is ts a.left (Parse.body ts a.left) a.row ∙ then_ok _ _ v.tree u.row v.is
     ∙ assign_no ts a.left (Parse.body ts a.left) v.tree u.row b
-    ∙ end_unmet ts a.rows.now a.count tl _ Semicolon v.tree _ u.row u.summed v.stands.summed (λ e. c.if-k-ne-SEMICOLON.true (c.kind_at-k.ensures ∙ e))))
+    ∙ end_unmet ts a.rows.now a.count tl _ Semicolon v.tree _ u.row u.summed v.stands.summed w.0))
 
 pub ended-requires : goal.ended-requires
 ended-requires c =
@@ -62,10 +64,10 @@ returns c = λ ts tl.
     let u : At = c.in_ok-t.t in
     let v = expr_came (c.add.ensures ts tl) c.in_ok-t.was in
     let r = c.ended.ensures in
-    let b = ap is_assign (sym (c.kind_at-k.ensures ∙ tells_kind ts _ _ tl u.row)) ∙ sym c.is_assign.ensures ∙ c.if-is_assign.false in
+    let b = ap is_assign (sym (c.kind_at.ensures ∙ tells_kind ts _ _ tl u.row)) ∙ sym c.is_assign.ensures ∙ c.if-is_assign.false in
     met_ok _ _ _ (plain v.tree) _ _ _
     (expression_is ts a.left (Parse.body ts a.left) a.row ∙ then_ok _ _ v.tree u.row v.is
     ∙ assign_no ts a.left (Parse.body ts a.left) v.tree u.row b
-    ∙ end_met ts a.rows.now a.count tl _ Semicolon v.tree _ u.row (sym c.kind_at-k.ensures ∙ c.if-k-ne-SEMICOLON.false)
+    ∙ end_met ts a.rows.now a.count tl _ Semicolon v.tree _ u.row c.in_ok-want_end.ensures.ok
     ∙ ap (λ (y : ℕ). ok (plain v.tree) y) (sym (ap (λ (y : At). y.row) r.0)))
     (stands_plain a.row a.node a.nodes.now c.add.new.nodes u v.tree c.ended.result c.ended.new.nodes v.stands r.0 r.1)

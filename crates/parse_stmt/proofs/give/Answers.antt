@@ -18,13 +18,15 @@ returns-in_err-t c = λ ts tl.
     rw (p.1, p.2) (met_no _ _ _ c.in_err-t.field-0.0.why c.in_err-t.field-0.0.row _ _
     (returning_is ts a.left (Parse.body ts a.left) a.row ∙ expr_refused ts _ _ _ _ _ _ _ (c.add.ensures ts tl) c.in_err-t.was _))
 
-pub returns-then-kind_at-ne-SEMICOLON : goal.returns-then-kind_at-ne-SEMICOLON
-returns-then-kind_at-ne-SEMICOLON c = λ ts tl.
+pub returns-in_err-want_end : goal.returns-in_err-want_end
+returns-in_err-want_end c = λ ts tl.
     let a = c.args in
     let v = expr_came (c.add.ensures ts tl) c.in_ok-t.was in
-    rw (c.new.ensures, c.unended.ensures) (met_no _ _ _ _ _ _ _
+    let w = c.in_err-want_end.ensures.err in
+    let p = err_from_is_err_and c.from_residual-in_err-want_end.result c.from_residual-in_err-want_end.ensures.1 in
+    rw (p.1, p.2, w.1) (met_no _ _ _ _ _ _ _
     (returning_is ts a.left (Parse.body ts a.left) a.row
-    ∙ expr_open tl _ v (λ e. ret e) (λ e. c.if-kind_at-ne-SEMICOLON.true (c.kind_at.ensures ∙ e))))
+    ∙ expr_open tl _ v (λ e. ret e) w.0))
 
 pub ended-requires : goal.ended-requires
 ended-requires c =
@@ -39,6 +41,6 @@ returns c = λ ts tl.
     let r = c.ended.ensures in
     met_ok _ _ _ (ret v.tree) _ _ _
     (returning_is ts a.left (Parse.body ts a.left) a.row
-    ∙ expr_ends tl _ v (λ e. ret e) (sym c.kind_at.ensures ∙ c.if-kind_at-ne-SEMICOLON.false)
+    ∙ expr_ends tl _ v (λ e. ret e) c.in_ok-want_end.ensures.ok
     ∙ ap (λ (y : ℕ). ok (ret v.tree) y) (sym (ap (λ (y : At). y.row) r.0)))
     (stands_ret a.row a.node a.nodes.now c.add.new.nodes c.in_ok-t.t v.tree c.ended.result c.ended.new.nodes v.stands r.0 r.1)
