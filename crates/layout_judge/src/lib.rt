@@ -58,6 +58,7 @@ pub fn is_scan(text: &[u8], rows: &[u32], table: Table, scratch: &mut [u32; SCRA
 }
 
 // Whether nodes are those that a parse of the table gives. They are left in the scratch.
+// Stays text, rows and table one by one: parse takes them so, and a struct of them would be no plainer, as it would be taken apart here.
 pub fn is_parse(
     text: &[u8],
     rows: &[u32],
