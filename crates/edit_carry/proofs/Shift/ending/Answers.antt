@@ -5,6 +5,6 @@ pub returns-in-None : goal.returns-in-None
 unfolding carry_ending
 returns-in-None c = rw c.in-None.is
 
-pub returns-in-Refused : goal.returns-in-Refused
+pub returns-in-Some : goal.returns-in-Some
 unfolding carry_ending
-returns-in-Refused c = rw (c.in-Refused.is, c.place.ensures)
+returns-in-Some c = rw (c.in-Some.is, c.place.ensures)
