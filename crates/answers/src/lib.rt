@@ -5,9 +5,7 @@ ghost use Rattle.answers.specs.Layout.{words, nowhere, syntax_words, told_words,
 use refusals::{
     first_told, is_lexical, lexical_number, lexical_of, outer_number, second_told, syntax_number,
 };
-use rules::{
-    Column, Cursor, Halt, Line, Offset, Outer, Parsed, Reason, Syntax, Table, Told,
-};
+use rules::{Column, Cursor, Halt, Line, Offset, Outer, Parsed, Reason, Syntax, Table, Told};
 
 // ---- numbers
 
