@@ -88,13 +88,7 @@ fn follow(
 }
 
 // The rows behind the kept ones: those of the window, and from a meeting on the old rows, moved. None where there is no room for all.
-fn fill_tail(
-    old: &[u32],
-    job: Job,
-    window: &[u8],
-    whole: bool,
-    tail: &mut [u32],
-) -> Option<Rest>
+fn fill_tail(old: &[u32], job: Job, window: &[u8], whole: bool, tail: &mut [u32]) -> Option<Rest>
     requires { Showing old.now job window.now whole }
     ensures { (result
         ≡ tail_told (room_of tail.old) (job_rows old.now job window.now whole)

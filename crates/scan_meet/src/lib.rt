@@ -54,13 +54,7 @@ fn starts(old: &[u32], count: usize, i: usize, target: u64) -> bool
 }
 
 // The old rows up to a spot, of which `row` are passed: the row that meets there, or as an error how many are passed now.
-pub fn find(
-    old: &[u32],
-    olds: Olds,
-    row: usize,
-    text: &[u8],
-    here: Spot,
-) -> Result<usize, usize>
+pub fn find(old: &[u32], olds: Olds, row: usize, text: &[u8], here: Spot) -> Result<usize, usize>
     requires { ((olds.count * 8 ≤ length old.now) × (row ≤ olds.count))
         × (Rising old.now olds.count × Passed old.now olds.least olds.b row here.cursor.offset.0) }
     ensures { Finds old.now olds.count olds.least olds.b row here.cursor.offset.0

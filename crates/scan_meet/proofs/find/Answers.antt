@@ -11,10 +11,10 @@ pub returns-then-offset-olds : goal.returns-then-offset-olds
 returns-then-offset-olds c =
     let a = c.args in
     elim c.then-offset-olds.branch [
-      then-offset-olds-via-then-offset-olds w ↦
+      | then-offset-olds-via-then-offset-olds w ↦
           finds_early a.old.now a.olds.count a.olds.least a.olds.b a.row a.here.cursor.offset.0 (drop a.here.at a.text.now) c.requires.1.1 c.requires.0.1
           (omega (arith, w.if-offset-olds.true, c.from-offset.ensures))
-    | then-offset-olds-via-else-offset-olds+then-text-here w ↦
+      | then-offset-olds-via-else-offset-olds+then-text-here w ↦
           finds_late a.old.now a.olds.count a.olds.least a.olds.b a.row a.here.cursor.offset.0 (drop a.here.at a.text.now) c.requires.1.1 c.requires.0.1
           (omega (arith, w.if-text-here.true, length-drop a.here.at a.text.now))
     ]
@@ -27,10 +27,10 @@ returns-then-gap_opens c =
     let late : a.olds.least ≤ a.here.cursor.offset.0 = omega (arith, c.if-offset-olds.false, c.from-offset.ensures) in
     let some : 0 < length (drop a.here.at a.text.now) = omega (arith, c.if-text-here.false, length-drop a.here.at a.text.now) in
     elim c.then-gap_opens.branch [
-      then-gap_opens-via-then-gap_opens w ↦
+      | then-gap_opens-via-then-gap_opens w ↦
           finds_gap a.old.now a.olds.count a.olds.least a.olds.b a.row a.here.cursor.offset.0 (drop a.here.at a.text.now) c.requires.1.1
           late some r s (sym c.gap_opens.ensures ∙ w.if-gap_opens.true)
-    | then-gap_opens-via-else-gap_opens+then-not-starts w ↦
+      | then-gap_opens-via-else-gap_opens+then-not-starts w ↦
           finds_no_row a.old.now a.olds.count a.olds.least a.olds.b a.row a.here.cursor.offset.0 (drop a.here.at a.text.now) c.requires.1.1
           late some r s (sym c.gap_opens.ensures ∙ w.if-gap_opens.false) c.requires.1.0
           (rw (c.from-offset.ensures, c.from.ensures) at (sym w.starts.ensures ∙ w.if-not-starts.true))

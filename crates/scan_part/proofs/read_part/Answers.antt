@@ -49,7 +49,7 @@ returns-then-told-ge-END c =
     let b = c.brief-told.result in
     let left : c.loop-count.count < c.args.most = omega (arith, c.loop-count-test.true) in
     let over : (e : Ending) → c.finish-last.result.stop ≡ stop.Over e → Over c.ending.result ≡ Over e =
-        λ e q. let o = sym c.ending.ensures ∙ q in cc in
+    λ e q. let o = sym c.ending.ensures ∙ q in cc in
     going_last g none b c.brief-told.ensures c.if-told-ge-END.true left c.requires.1
     c.finish-last.result c.finish-last.new.rows c.finish-last.ensures (Over c.ending.result) over
 
@@ -92,10 +92,10 @@ loop-count-preserved c =
     let left : c.loop-count.count < c.args.most = omega (arith, c.loop-count-test.true) in
     let next = c.behind-here.result in
     elim c.if-told-lt-BLANK.branch [
-      then-told-lt-BLANK w ↦
+      | then-told-lt-BLANK w ↦
           rw (w.rows-is ∙ w.put_behind.ensures, w.count-is, w.comments-is)
           (going_row g none b c.brief-told.ensures next c.behind-here.ensures w.if-told-lt-BLANK.true left)
-    | else-told-lt-BLANK w ↦
+      | else-told-lt-BLANK w ↦
           rw (w.rows-is, w.count-is, w.comments-is)
           (going_comment g none b c.brief-told.ensures next c.behind-here.ensures w.if-told-lt-BLANK.false lt left)
     ]

@@ -16,7 +16,7 @@ loop-i-preserved c =
     let e : (eqb (get_or t i 0) 42 && eqb (get_or t (i + 1) 0) 47) ≡ false =
     elim c.else-text-i-eq42.branch [
       | else-text-i-eq42-via-then-text-i-eq42+else-peek-eq47 w ↦
-        rw w.if-text-i-eq42.true (ne_eqb _ 47 (λ q. w.if-peek-eq47.false (w.peek.ensures ∙ q)))
+          rw w.if-text-i-eq42.true (ne_eqb _ 47 (λ q. w.if-peek-eq47.false (w.peek.ensures ∙ q)))
       | else-text-i-eq42-via-else-text-i-eq42 w ↦ rw (ne_eqb _ _ w.if-text-i-eq42.false)
     ] in
     omega (arith, body_on t i c.loop-i-test.true e, c.loop-i.invariant)

@@ -25,12 +25,12 @@ loop-bytes-preserved c =
       rest = b.1;
       from = omega (arith, v.from);
       line
-      = omega (
-        arith,
-        n,
-        f,
-        ap (λ (l : List ℕ). front not_newline l) b.0,
-        front_part not_newline 16 (drop i t),
-        line_same t c.args.at i v.from v.line,
-      );
+          = omega (
+            arith,
+            n,
+            f,
+            ap (λ (l : List ℕ). front not_newline l) b.0,
+            front_part not_newline 16 (drop i t),
+            line_same t c.args.at i v.from v.line,
+          );
     }

@@ -23,14 +23,14 @@ loop-i-preserved c =
     let i = c.loop-i.i in
     record {
       same
-      = elim c.if-escaped.branch [
-        | then-escaped+else-not-escapes w ↦
-          rw w.escaped-is (sym (quoted_escape t i c.loop-i-test.true (sym w.escapes.ensures ∙ w.if-not-escapes.false))
-          ∙ rw w.if-escaped.true at c.loop-i.invariant.same)
-        | else-escaped+in_default w ↦
-          rw w.escaped-is (sym (quoted_on t i c.loop-i-test.true (λ e. omega arith) (λ e. omega arith))
-          ∙ rw w.if-escaped.false at c.loop-i.invariant.same)
-      ];
+          = elim c.if-escaped.branch [
+            | then-escaped+else-not-escapes w ↦
+                rw w.escaped-is (sym (quoted_escape t i c.loop-i-test.true (sym w.escapes.ensures ∙ w.if-not-escapes.false))
+                ∙ rw w.if-escaped.true at c.loop-i.invariant.same)
+            | else-escaped+in_default w ↦
+                rw w.escaped-is (sym (quoted_on t i c.loop-i-test.true (λ e. omega arith) (λ e. omega arith))
+                ∙ rw w.if-escaped.false at c.loop-i.invariant.same)
+          ];
       behind = λ e. omega arith;
     }
 

@@ -108,10 +108,10 @@ loop-met-preserved c =
     let lt : b.kind < End = omega (arith, c.if-told-ge-END.false) in
     let next = c.behind-here.result in
     elim c.if-told-lt-BLANK.branch [
-      then-told-lt-BLANK w ↦
+      | then-told-lt-BLANK w ↦
           rw (w.rows-is ∙ w.put_behind.ensures, w.count-is, w.comments-is)
           (walking_row g off none b c.brief-told.ensures next c.behind-here.ensures w.if-told-lt-BLANK.true)
-    | else-told-lt-BLANK w ↦
+      | else-told-lt-BLANK w ↦
           rw (w.rows-is, w.count-is, w.comments-is)
           (walking_comment g off none b c.brief-told.ensures next c.behind-here.ensures w.if-told-lt-BLANK.false lt)
     ]

@@ -9,6 +9,6 @@ returns c =
     let o = c.args.self.from in
     let p = c.args.self.to in
     elim c.if-q-self.branch [
-      then-q-self w ↦ rw (c.moved.ensures, c.moved-2.ensures, w.column-is, w.moved-column.ensures) (carry_on o p c.args.q w.if-q-self.true)
-    | else-q-self w ↦ rw (c.moved.ensures, c.moved-2.ensures, w.column-is) (carry_off o p c.args.q w.if-q-self.false)
+      | then-q-self w ↦ rw (c.moved.ensures, c.moved-2.ensures, w.column-is, w.moved-column.ensures) (carry_on o p c.args.q w.if-q-self.true)
+      | else-q-self w ↦ rw (c.moved.ensures, c.moved-2.ensures, w.column-is) (carry_off o p c.args.q w.if-q-self.false)
     ]

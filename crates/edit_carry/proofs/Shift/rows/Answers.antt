@@ -18,9 +18,9 @@ loop-i-preserved c =
     let ws = drop (8 * a.first) a.old.now in
     let lent = take (length c.loop-i.new - i * 8) (drop (i * 8) c.loop-i.new) in
     let moved : as_row c.row-carried.result ≡ recounted_at a.comments f ws i =
-        c.row-carried.ensures
-        ∙ recounted_row a.comments a.self.from a.self.to ws i (as_row c.at-r.result) (c.at-r.ensures ∙ sym (row_from a.old.now a.first i))
-        c.count_of.result c.count_of.ensures.first c.count_of.ensures.other in
+    c.row-carried.ensures
+    ∙ recounted_row a.comments a.self.from a.self.to ws i (as_row c.at-r.result) (c.at-r.ensures ∙ sym (row_from a.old.now a.first i))
+    c.count_of.result c.count_of.ensures.first c.count_of.ensures.other in
     carried_step a.comments f ws a.new.now i (omega arith) c.loop-i.new c.put.new.words c.loop-i.invariant
     (c.put.ensures ∙ ap (λ (z : Row). row_words z ++ drop 8 lent) moved)
 
