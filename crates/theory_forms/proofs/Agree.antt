@@ -12,7 +12,7 @@ use Rattle.laws.proofs.Tests.{both_true, true_both}
 use Rattle.laws.proofs.Places.{place_eq}
 use Rattle.laws.proofs.Rows.{front_words}
 use Rattle.rules.specs.declared.Cursor.{Cursor}
-use Rattle.rules.specs.Outcomes.{Ending}
+use Rattle.rules.specs.Outcomes.{Ending, halt}
 use Rattle.std.specs.declared.option.Option.TheVariants.{None, Some}
 use Rattle.rules.specs.Text.{line_at, column_at, place_at}
 use Rattle.rules.specs.Rows.{row_in, rows_in, row_words, row_place, every, words_per_row}
