@@ -1,4 +1,5 @@
 // The numbers that stand among a node's facts, and the fields that a map may lack.
+// Stays numbers: they are words of nodes in memory that C lends and reads, and include/spoonharbor.h names them.
 ghost use Rattle.std.specs.Prelude.{◌≡◌};
 ghost use Rattle.rules.specs.Names.{facts};
 

@@ -1,4 +1,5 @@
 // The kinds of nodes.
+// Stays numbers: nodes are words in memory that C lends and reads, any word may stand there, and include/spoonharbor.h names these.
 ghost use Rattle.std.specs.Prelude.{◌≡◌};
 ghost use Rattle.rules.specs.Nodes.{node_kinds};
 
