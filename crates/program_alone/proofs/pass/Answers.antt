@@ -33,7 +33,6 @@ returns-in-Err c =
     let x = c.in-Err.e in
     let o : Out = reading_of a.text.now a.rows.now a.count in
     let f = c.program_passed.ensures _ (names_told a.text.now a.rows.now a.count) (tokens_proper a.text.now (rows_in a.count a.rows.now)) in
-    rw c.new.ensures
-    (read_no a.rows.now o x.why x.row _ _ (stopped o _ _ f c.in-Err.is)
+    read_no a.rows.now o x.why x.row _ _ (stopped o _ _ f c.in-Err.is)
     (c.place.ensures ∙ ap row_place c.at-row.ensures)
-    (c.found_told-found.ensures ∙ ap (λ (y : Row). found_told x.why y.kind) c.at-row.ensures))
+    (c.found_told-found.ensures ∙ ap (λ (y : Row). found_told x.why y.kind) c.at-row.ensures)
