@@ -26,8 +26,12 @@ pub number_else : (number : ℕ) → is_lexical number ≡ false → lexical_of 
 unfolding lexical_of
 number_else number h =
     rw (
-      ne_eqb number 12 (λ e. no e refl), ne_eqb number 13 (λ e. no e refl), ne_eqb number 14 (λ e. no e refl), ne_eqb number 15 (λ e. no e refl),
-      ne_eqb number 16 (λ e. no e refl), ne_eqb number 17 (λ e. no e refl),
+      ne_eqb number 12 (λ e. no e refl),
+      ne_eqb number 13 (λ e. no e refl),
+      ne_eqb number 14 (λ e. no e refl),
+      ne_eqb number 15 (λ e. no e refl),
+      ne_eqb number 16 (λ e. no e refl),
+      ne_eqb number 17 (λ e. no e refl),
     )
   where
     no : {k : ℕ} → number ≡ k → is_lexical k ≡ true → ⊥

@@ -15,16 +15,16 @@ place_from-here-requires c = agreeing_counts c.requires c.loop-i.invariant c.loo
 pub returns-then-not-same_line : goal.returns-then-not-same_line
 returns-then-not-same_line c =
     let same =
-        c.same_line.ensures
-        ∙ row_same c.args.text.now (as_row c.row_of-r.result) c.place.result c.place_from-here.result c.place.ensures c.place_from-here.ensures
+    c.same_line.ensures
+    ∙ row_same c.args.text.now (as_row c.row_of-r.result) c.place.result c.place_from-here.result c.place.ensures c.place_from-here.ensures
     in
     agreeing_not c.requires c.loop-i.invariant c.loop-i-test.true (as_row c.row_of-r.result) c.row_of-r.ensures (sym same ∙ c.if-not-same_line.true)
 
 pub loop-i-preserved : goal.loop-i-preserved
 loop-i-preserved c =
     let same =
-        c.same_line.ensures
-        ∙ row_same c.args.text.now (as_row c.row_of-r.result) c.place.result c.place_from-here.result c.place.ensures c.place_from-here.ensures
+    c.same_line.ensures
+    ∙ row_same c.args.text.now (as_row c.row_of-r.result) c.place.result c.place_from-here.result c.place.ensures c.place_from-here.ensures
     in
     agreeing_next c.requires c.loop-i.invariant c.loop-i-test.true (as_row c.row_of-r.result) c.row_of-r.ensures
     c.place_from-here.result c.place_from-here.ensures (sym same ∙ c.if-not-same_line.false)
