@@ -25,7 +25,6 @@ use Rattle.rules_files.specs.declared.Fault.TheVariants.{Outer, TooManyRows, Bad
 use Rattle.rules.specs.declared.Outer.TheVariants.{NotWellFormed, NoRowRoom}
 use Rattle.rules_files.specs.Blocks.{file_length, block_bytes}
 use Rattle.rules_files.specs.Files.{most_rows, row_bytes, form_number, said_at, said, ending_said, read_ending, ending_in, count_said, length_said, form_said, row_words_in, rows_told, load_told, load_leaves, store_told, store_leaves, encode}
-use Rattle.rules_files.specs.declared.EndingRead.TheVariants.{Ends}
 use Rattle.rules_files.specs.Bytes.{bytes_of}
 use Rattle.laws.specs.Bounds.{none, some, Bytes, Words}
 use Rattle.laws.proofs.Rows.{row_take}

@@ -21,7 +21,6 @@ use Rattle.rules_files.specs.declared.Fault.TheVariants.{BadBlock, WrongLength, 
 use Rattle.rules_files.specs.Bytes.{words_in}
 use Rattle.rules_files.specs.Blocks.{content_of, sound, blocks_for, file_length, block_bytes}
 use Rattle.rules_files.specs.Files.{most_rows, row_bytes, form_number, said_at, ending_said, read_refused, read_ending, ending_in, count_said, length_said, form_said, row_words_in, sound_in, read_told, blocks_told, said_told, load_told, said_bytes}
-use Rattle.rules_files.specs.declared.EndingRead.TheVariants.{Ends, Nothing}
 use Rattle.theory_files.specs.Whole.{Fits, Whole, sound_of, whole_told}
 use Rattle.theory_files.proofs.Whole.{content_said, said_kept}
 use Rattle.theory_files.proofs.Told.{told_whole, whole_told_lem, read_of}
