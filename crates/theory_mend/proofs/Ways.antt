@@ -6,7 +6,7 @@ use Prim.Native.Nat.{ℕ, ◌≤◌, ◌<◌}
 use borrow.Author.Tests.{lt-ltb, le-ltb}
 use Rattle.rules.specs.declared.Cursor.{Cursor}
 use Rattle.rules.specs.Outcomes.{unfit}
-use Rattle.std.specs.declared.result.Result.TheVariants.{Ok, Err}
+use Rattle.std.specs.Prelude.{Ok, Err}
 use Rattle.rules.specs.declared.Outer.{Outer}
 use Rattle.rules.specs.declared.Outer.TheVariants.{NoRowRoom}
 use Rattle.rules.specs.Text.{start_place, text_judged}
@@ -14,7 +14,6 @@ use Rattle.rules_files.specs.declared.Fault.TheVariants as fault
 use Rattle.rules_files.specs.Files.{most_rows}
 use Rattle.rules_forms.specs.Forms.{is_form}
 use Rattle.rules_mend.specs.Mend.{fresh_table, fresh_file, too_small, fresh_told, mend_told}
-use Rattle.std.specs.Prelude.{Err}
 
 module _ (text : List ℕ) (form : ℕ) (memory : List ℕ) (n : ℕ) (list : List ℕ) where
   -- 44, whatever the text
@@ -24,8 +23,8 @@ module _ (text : List ℕ) (form : ℕ) (memory : List ℕ) (n : ℕ) (list : Li
 
   module _ (known : is_form form ≡ true) where
     -- 1 and 2
-    pub told_text : (e : Unfit) → text_judged text ≡ Err e
-        → mend_told text form memory n list ≡ Err (record { why = fault.Outer e.why; at = e.at })
+    pub told_text : (why : Outer) (p : Cursor) → text_judged text ≡ Err (unfit why p)
+        → mend_told text form memory n list ≡ Err (record { why = fault.Outer why; at = p })
     unfolding mend_told
     told_text why p e = rw (mend_told, known, e)
 
