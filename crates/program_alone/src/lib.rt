@@ -34,12 +34,12 @@ pub fn read(text: &[u8], rows: &[u32], table: Table) -> Result<(), Unparsed>
     ensures { result ≡ alone_told text.now rows.now table }
 {
     rows::judge(text, rows, table)?;
-    if let Some(e) = table.ending {
-        return Err(Unparsed {
+    match table.ending {
+        Some(e) => Err(Unparsed {
             why: Reason::Lexical(e.why),
             at: e.at,
             found: 0,
-        });
+        }),
+        None => pass(text, rows, table.count),
     }
-    pass(text, rows, table.count)
 }

@@ -52,7 +52,7 @@ fn edit_compared(rt: &impl Print, sample: &mut Reader<'_>, tally: &mut Tally) ->
     let edit = change::edit_read(sample)?;
     let size = change::edited(&mut bytes, before, edit, sample.part(b'N')?);
     let text = first(&bytes, size);
-    scan::scan(text, &mut rows);
+    let _ = scan::scan(text, &mut rows);
     tally.next_item();
     restart_compared(rt, sample, tally, &old, table, edit.a)?;
     change::rows_read(sample, &mut rows)?;

@@ -21,7 +21,7 @@ pass-requires c =
     let a = c.args in
     table_ended a.text.now a.rows.now a.table (sym c.judge.ensures ∙ c.in_ok-judge.was) c.in-None.is
 
-pub returns : goal.returns
-returns c =
+pub returns-in-None : goal.returns-in-None
+returns-in-None c =
     let a = c.args in
     c.pass.ensures ∙ told_read a.text.now a.rows.now a.table (sym c.judge.ensures ∙ c.in_ok-judge.was) c.in-None.is
