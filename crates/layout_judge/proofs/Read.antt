@@ -55,7 +55,7 @@ module _ (t ws : List ℕ) (tbl : Table) where
   parse_given m n e = by (judged t ws tbl) e
     where
       by : (v : Judged)
-          → elim v [ Ok _ ↦ ending_told t ws tbl tbl.ending (node_room m) | Err e ↦ Err (unparsed (reason.Outer e.why) e.at 0) ]
+          → elim v as (λ _. Parsed) [ Ok _ ↦ ending_told t ws tbl tbl.ending (node_room m) | Err e ↦ Err (unparsed (reason.Outer e.why) e.at 0) ]
           ≡ Ok n
           → Given (reading t ws tbl) m (elim v [ Ok _ ↦ ending_leaves t ws tbl tbl.ending m | Err e ↦ m ]) n
       by (Ok _) e = ending_given m n tbl.ending e

@@ -87,7 +87,7 @@ module _ (t ws : List ℕ) (tbl : Table) (m : List ℕ) (n : ℕ) where
   parse_few e l = by (judged t ws tbl) e l
     where
       by : (v : Judged)
-          → elim v [ Ok _ ↦ ending_told t ws tbl tbl.ending (node_room m) | Err e ↦ Err (unparsed (reason.Outer e.why) e.at 0) ]
+          → elim v as (λ _. Parsed) [ Ok _ ↦ ending_told t ws tbl tbl.ending (node_room m) | Err e ↦ Err (unparsed (reason.Outer e.why) e.at 0) ]
           ≡ Ok n
           → length {A = ℕ} (elim v [ Ok _ ↦ ending_leaves t ws tbl tbl.ending m | Err e ↦ m ]) ≡ length m
           → n * 8 ≤ length m
