@@ -1,4 +1,6 @@
 // The sample as it is read: decimal numbers, letters and `?`, with blanks and newlines between, and stretches of bytes as they are.
+ghost use Rattle.std.specs.Prelude.{◌≤◌, IfOk};
+
 use rules::limit;
 
 // The sample cannot be read on.
@@ -96,7 +98,9 @@ impl<'a> Reader<'a> {
     }
 
     // The next number, which must be at most so much.
-    pub fn bounded(&mut self, most: usize) -> Result<usize, Lost> {
+    pub fn bounded(&mut self, most: usize) -> Result<usize, Lost>
+        ensures { IfOk result (λ n. n ≤ most) }
+    {
         let n = self.number()? as usize;
         if most < n {
             return Err(Lost);

@@ -13,6 +13,7 @@ use Rattle.std.specs.declared.option.Option.TheVariants.{None, Some}
 use Rattle.rules.specs.declared.Lexical.{Lexical}
 use Rattle.rules.specs.declared.Cursor.{Cursor}
 use Rattle.rules.specs.declared.Lexical.TheVariants as lexical
+use Rattle.rules.specs.declared.Outer.{Outer}
 use Rattle.rules.specs.declared.Outer.TheVariants as outer
 use Rattle.rules.specs.declared.Table.{Table}
 use Rattle.std.specs.declared.result.Result.TheVariants.{Ok, Err}
@@ -77,13 +78,16 @@ no_number (Ok t) h e = by t.ending e
         case lexical.OpenString p f = omega arith
         case lexical.BadEscape p f = omega arith
         case lexical.NumberTooLarge p f = omega arith
-no_number (Err (unread outer.TextTooLong p k)) h e = omega arith
-no_number (Err (unread outer.BadByte p k)) h e = omega arith
-no_number (Err (unread outer.NotWellFormed p k)) h e = omega arith
-no_number (Err (unread outer.NoRowRoom p k)) h e = omega arith
-no_number (Err (unread outer.NoNodeRoom p k)) h e = omega arith
-no_number (Err (unread outer.EditNotSensible p k)) h e = omega arith
-no_number (Err (unread outer.WindowShort p k)) h e = h.never p k refl
+no_number (Err x) h e = by x.why x.at x.rows h e
+  where
+    by : (why : Outer) (p : Cursor) (k : ℕ) → NotSeven (Err (unread why p k)) → get_or (told_words (Err (unread why p k))) 0 0 ≡ 7 → ⊥
+    by outer.TextTooLong p k h e = omega arith
+    by outer.BadByte p k h e = omega arith
+    by outer.NotWellFormed p k h e = omega arith
+    by outer.NoRowRoom p k h e = omega arith
+    by outer.NoNodeRoom p k h e = omega arith
+    by outer.EditNotSensible p k h e = omega arith
+    by outer.WindowShort p k h e = h.never p k refl
 
 -- ---- the call's own contract: `Post` is what it promises of the arguments x, the answer r and the lent memory at exit e
 
