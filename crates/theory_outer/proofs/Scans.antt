@@ -34,7 +34,7 @@ use Rattle.theory_edits.proofs.WellFormed.{scanned_rows, scanned_well_formed}
 use Rattle.answers.specs.Layout.{words, ending_words, told_words, is_ending, table_of, nowhere}
 use Rattle.answers.proofs.Table.{no_table}
 use Rattle.theory_outer.specs.Calls.{ScanCall, WellFormedCall, SpellingCall}
-use Rattle.theory_outer.specs.Said.{Part, Spells, spells, beyond, unread}
+use Rattle.theory_outer.specs.Said.{Part, Spells, spells, beyond, unread as told_unread}
 use Rattle.theory_outer.proofs.Calls.{scan_says, well_says, spelling_says}
 use Rattle.theory_outer.proofs.Lent.{scan_lends, lent_words, lent_is, lent_scanned, lent_valid}
 
@@ -221,4 +221,4 @@ spelled {text} {rows} {table} {k} {answer} s = by (judged text rows (table_of ta
         = spelling_says s ∙ rw (spelling_judged, e, x, start_word rows k, end_word rows k) in
         spells e (ltb-true _ _ x) (record { told = t; part = rw t })
     by (Ok _) e false x = beyond e (ltb-false _ _ x) (spelling_says s ∙ rw (spelling_judged, e, x))
-    by (Err refusal) e x f = unread refusal.why refusal.at e (spelling_says s ∙ rw (spelling_judged, e))
+    by (Err refusal) e x f = told_unread refusal.why refusal.at e (spelling_says s ∙ rw (spelling_judged, e))
