@@ -18,6 +18,19 @@ use rules_forms::{Apart, Form, short};
 // The most words that the rows of one block have.
 const PART_WORDS: usize = short::ROWS * row::WORDS;
 
+// The bytes of a file, into the first lent ones.
+fn copy(from: &[u8], to: &mut [u8])
+    requires { length from.now ≤ length to.old }
+    ensures { to.new ≡ from.now ++ drop (length from.now) to.old }
+{
+    // Stays a while loop: copy_from_slice calls C's memmove, and the archive calls memcpy and memset alone (include/spoonharbor.h).
+    let mut i = 0;
+    while i < from.len() {
+        to[i] = from[i];
+        i += 1;
+    }
+}
+
 // The blocks of a file's rows in a form, behind block 0; the place of the last row is told.
 fn put_blocks(form: Form, text: &[u8], file: &[u8], table: Table, moved: &mut [u8]) -> Cursor
     requires { Agrees text.now file.now table × (file_length (row_bytes_of form) table.count ≤ length moved.old) }
@@ -51,7 +64,7 @@ fn put_moved(form: Form, text: &[u8], file: &[u8], table: Table, moved: &mut [u8
         (file_length (row_bytes_of form) table.count) moved.old }
 {
     if number(form) == number(form_of(file)) {
-        moved[..file.len()].copy_from_slice(file);
+        copy(file, moved);
         return;
     }
     let last = put_blocks(form, text, file, table, moved);

@@ -17,37 +17,29 @@ const LAST_KIND: u32 = fact::PROGRAM_UNKNOWN;
 
 const LAST_METHOD: u32 = 15;
 
-// The program kind of a section's text: that of the first section that it fits. Bytes are compared where they stand.
+// The program kind of a section's text: the first section that it fits, so the last is asked first. Bytes are compared where they stand.
+// Stays comparisons from the last to the first: as a chain of `starts_with` it takes 88 bytes of stack, and may take 64 (compare/tests/stack.rs).
 pub fn section_kind(text: &[u8]) -> u32
     ensures { result ≡ from_section text.now }
 {
-    if text == b"xdp".as_slice() {
-        fact::PROGRAM_XDP
-    } else if text == b"classifier".as_slice() {
-        fact::PROGRAM_TC
-    } else if text.starts_with(b"tc") {
-        fact::PROGRAM_TC
-    } else if text.starts_with(b"sk_") {
-        fact::PROGRAM_SOCKET
-    } else if text.starts_with(b"cgroup/") {
-        fact::PROGRAM_CGROUP
-    } else if text.starts_with(b"kprobe/") {
-        fact::PROGRAM_KPROBE
-    } else if text.starts_with(b"kretprobe/") {
-        fact::PROGRAM_KPROBE
-    } else if text.starts_with(b"tracepoint/") {
-        fact::PROGRAM_TRACEPOINT
-    } else if text.starts_with(b"raw_tracepoint/") {
-        fact::PROGRAM_RAW_TRACEPOINT
-    } else if text.starts_with(b"fentry/") {
-        fact::PROGRAM_FENTRY
-    } else if text.starts_with(b"fexit/") {
-        fact::PROGRAM_FEXIT
-    } else if text.starts_with(b"lsm/") {
-        fact::PROGRAM_LSM
-    } else {
-        fact::PROGRAM_UNKNOWN
-    }
+    let lsm = names::begun(text, b"lsm/", fact::PROGRAM_LSM, fact::PROGRAM_UNKNOWN);
+    let fexit = names::begun(text, b"fexit/", fact::PROGRAM_FEXIT, lsm);
+    let fentry = names::begun(text, b"fentry/", fact::PROGRAM_FENTRY, fexit);
+    let raw = names::begun(
+        text,
+        b"raw_tracepoint/",
+        fact::PROGRAM_RAW_TRACEPOINT,
+        fentry,
+    );
+    let tracepoint = names::begun(text, b"tracepoint/", fact::PROGRAM_TRACEPOINT, raw);
+    let kretprobe = names::begun(text, b"kretprobe/", fact::PROGRAM_KPROBE, tracepoint);
+    let kprobe = names::begun(text, b"kprobe/", fact::PROGRAM_KPROBE, kretprobe);
+    let cgroup = names::begun(text, b"cgroup/", fact::PROGRAM_CGROUP, kprobe);
+    let socket = names::begun(text, b"sk_", fact::PROGRAM_SOCKET, cgroup);
+    let tc = names::begun(text, b"tc", fact::PROGRAM_TC, socket);
+    let classifier = names::spelt(text, b"classifier", fact::PROGRAM_TC, tc);
+    let tc_whole = names::spelt(text, b"tc", fact::PROGRAM_TC, classifier);
+    names::spelt(text, b"xdp", fact::PROGRAM_XDP, tc_whole)
 }
 
 // Whether a kind allows a method: 1 or 0.

@@ -18,26 +18,12 @@ use Rattle.file_move.proofs.put_moved.Goals as goal
 pub form_of-requires : goal.form_of-requires
 form_of-requires c = (known c.args.file.now c.args.table c.requires.0.holds).long
 
-pub slice_bounds-copy_from_slice-end : goal.slice_bounds-copy_from_slice-end
-slice_bounds-copy_from_slice-end c =
+pub copy-requires : goal.copy-requires
+copy-requires c =
     let a = c.args in
     let same = sym c.number.ensures ∙ c.if-number.true ∙ c.number-2.ensures ∙ ap number_of c.form_of.ensures in
     let long = own_size a.file.now a.table c.requires.0.holds a.form same in
     omega (arith, long, c.requires.1)
-
-pub slice_bounds-copy_from_slice-end-then-number : goal.slice_bounds-copy_from_slice-end-then-number
-slice_bounds-copy_from_slice-end-then-number c =
-    let a = c.args in
-    let same = sym c.number.ensures ∙ c.if-number.true ∙ c.number-2.ensures ∙ ap number_of c.form_of.ensures in
-    let long = own_size a.file.now a.table c.requires.0.holds a.form same in
-    sym (length-take-le (length a.file.now) a.moved.now (omega (arith, long, c.requires.1)))
-
-pub copy_from_slice-requires : goal.copy_from_slice-requires
-copy_from_slice-requires c =
-    let a = c.args in
-    let same = sym c.number.ensures ∙ c.if-number.true ∙ c.number-2.ensures ∙ ap number_of c.form_of.ensures in
-    let long = own_size a.file.now a.table c.requires.0.holds a.form same in
-    length-take-le (length a.file.now) a.moved.now (omega (arith, long, c.requires.1))
 
 pub returns-then-number : goal.returns-then-number
 returns-then-number c =
@@ -46,7 +32,7 @@ returns-then-number c =
     let long = own_size a.file.now a.table c.requires.0.holds a.form same in
     let bytes = below_from 256 a.file.now (λ i. (c.type_inv.file i).fits) in
     let own = own_bytes a.file.now a.table c.requires.0.holds a.form same a.text.now bytes in
-    rw (c.copy_from_slice.ensures.after, own, long)
+    rw (c.copy.ensures, own, long)
 
 pub slice_bounds-put_said-end : goal.slice_bounds-put_said-end
 slice_bounds-put_said-end c = omega (arith, c.requires.1, some_length c.args.form c.args.table.count, c.put_blocks-last.auto.moved)

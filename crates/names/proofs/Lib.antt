@@ -1,0 +1,2 @@
+-- What the proofs of this crate use: a text that is too short for a spelling.
+pub mod Spellings
