@@ -28,10 +28,11 @@ fn gap_opens(text: &[u8], at: usize) -> bool
     if b != b'/' {
         return is_blank(b);
     }
-    match text.get(at + 1) {
-        Some(&c) => (c == b'/') | (c == b'*'),
-        None => false,
+    if at + 1 == text.len() {
+        return false;
     }
+    let c = text[at + 1];
+    (c == b'/') | (c == b'*')
 }
 
 // The first row from `row` on that starts at an offset or behind it.
