@@ -98,8 +98,12 @@ pub fn line_end(text: &[u8], at: usize) -> usize
     ensures { result ≡ at + front not_newline (drop at text.now) }
 {
     let from = past_blocks(text, at);
-    let more = text[from..].iter().take_while(|b| **b != b'\n').count();
-    from + more
+    for i in from..text.len() {
+        if text[i] == b'\n' {
+            return i;
+        }
+    }
+    text.len()
 }
 
 // Where a comment's body ends: at its two closing bytes, or with the bytes.
