@@ -26,7 +26,11 @@ pub fn word(words: &[u32], i: u32, k: usize) -> u32
     requires { k ≤ 7 }
     ensures { result ≡ word_of words.now i k }
 {
-    words.get(i as usize * 8 + k).copied().unwrap_or(0)
+    let at = i as usize * 8 + k;
+    if words.len() <= at {
+        return 0;
+    }
+    words[at]
 }
 
 // A byte in front of a place.
