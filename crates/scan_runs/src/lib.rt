@@ -228,21 +228,24 @@ pub fn read_quoted(text: &[u8], at: usize) -> Result<usize, Unclosed>
     requires { at ≤ length text.now }
     ensures { result ≡ quoted_from false at (drop at text.now) }
 {
-    let mut escaped = false;
-    for i in at..text.len() {
-        let b = text[i];
-        if escaped {
-            if !escapes(b) {
-                return Err(Unclosed::Escape(i - 1));
+    // Stays a while loop: behind a backslash a turn steps over two bytes, and a for has no such step.
+    let mut i = at;
+    while i < text.len() {
+        match text[i] {
+            b'"' => return Ok(i),
+            b'\n' => return Err(Unclosed::Open(i)),
+            b'\\' => {
+                let next = i + 1;
+                if text.len() <= next {
+                    return Err(Unclosed::Open(next));
+                }
+                if !escapes(text[next]) {
+                    return Err(Unclosed::Escape(i));
+                }
+                i = next + 1;
             }
-            escaped = false;
-        } else {
-            match b {
-                b'"' => return Ok(i),
-                b'\n' => return Err(Unclosed::Open(i)),
-                _ => escaped = b == b'\\',
-            }
+            _ => i += 1,
         }
     }
-    Err(Unclosed::Open(text.len()))
+    Err(Unclosed::Open(i))
 }
