@@ -124,23 +124,16 @@ const UPPER: u8 = b'A' - 10;
 
 const LOWER: u8 = b'a' - 10;
 
-// What a byte is worth as a hex digit, if it is one.
-fn digit_of(b: u8) -> Option<u8>
-    ensures { MatchOption result (digit_of b ≡ 16) (λ d. (d ≡ digit_of b) × (d < 16)) }
+// What a byte is worth as a digit in hex or in decimal, if it is one: where the base is known, its own ranges alone are tested.
+fn digit_of(b: u8, hex: bool) -> Option<u8>
+    ensures { MatchOption result (base_of hex ≤ digit_of b) (λ d. (d ≡ digit_of b) × (d < base_of hex)) }
 {
     match b {
         b'0'..=b'9' => Some(b - b'0'),
-        b'A'..=b'F' => Some(b - UPPER),
-        b'a'..=b'f' => Some(b - LOWER),
+        b'A'..=b'F' if hex => Some(b - UPPER),
+        b'a'..=b'f' if hex => Some(b - LOWER),
         _ => None,
     }
-}
-
-// The base of hex digits or of decimal ones.
-fn base_of(hex: bool) -> u8
-    ensures { result ≡ base_of hex }
-{
-    if hex { 16 } else { 10 }
 }
 
 // The largest numbers that one digit more, in hex or in decimal, may leave within the limit.
@@ -182,12 +175,11 @@ fn digits_in(text: &[u8], at: usize, hex: bool) -> Digits
     requires { at ≤ length text.now }
     ensures { result ≡ digits_of hex at (drop at text.now) }
 {
-    let base = base_of(hex);
     let mut value: u64 = 0;
     for i in at..text.len() {
-        match digit_of(text[i]) {
-            Some(digit) if digit < base => value = longer(value, digit, hex),
-            _ => return Digits { end: i, value },
+        match digit_of(text[i], hex) {
+            Some(digit) => value = longer(value, digit, hex),
+            None => return Digits { end: i, value },
         }
     }
     Digits {
