@@ -174,7 +174,7 @@ fn named(word: &[u8], spelling: &[u8], number: u32, behind: Option<u32>) -> Opti
 }
 
 // A map type's number, 1 to 5. Bytes are compared where they stand.
-// Stays comparisons from the last to the first: with a `return` behind each, the spellings are written to the stack on Arm.
+// Stays comparisons from the last to the first: with a `return` behind each, spellings were written to the stack on Arm (docs/DECISIONS.md).
 fn type_number(word: &[u8]) -> Option<u32>
     ensures { result ≡ told (map_type_number word.now) }
 {
