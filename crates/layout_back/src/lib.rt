@@ -21,6 +21,7 @@ pub struct Source<'a> {
 }
 
 // Word k of the i-th eight words, or 0 past the last.
+// Stays a test and a read: `get` gives a byte with a pointer, and the module for browsers is made for pointers of another size.
 #[tactic(auto, unfolding(crate::specs::Words::word_of))]
 pub fn word(words: &[u32], i: u32, k: usize) -> u32
     requires { k ≤ 7 }

@@ -20,6 +20,7 @@ pub struct Olds {
 }
 
 // Whether a gap goes on at an index: a blank, or the first two bytes of a comment.
+// Stays a test and a read: `get` gives a byte with a pointer, and the module for browsers is made for pointers of another size.
 fn gap_opens(text: &[u8], at: usize) -> bool
     requires { at < length text.now }
     ensures { result ≡ opens (drop at text.now) }
