@@ -5,13 +5,10 @@
 # may be done: what a pointer's size could change is not in the module, and this program stops where it is. That is:
 # - memory is bytes, at places that are written out (`getelementptr i8`), so a pointer in memory has eight bytes to
 #   itself and now fills four of them; nothing but a load or a store of a pointer looks at them;
-# - a variable that is a pointer (`alloca ptr`) keeps eight bytes, of which a pointer fills four; it is loaded and stored
-#   as a pointer, never as a number, and what copies or clears it as a whole takes all eight;
-# - no number becomes a pointer, and a pointer a number only where it is said how far two places lie apart (`ptrtoaddr`);
+# - a variable that is a pointer (`alloca ptr`) is loaded and stored as a pointer, and never as eight bytes;
+# - no pointer becomes a number and no number a pointer;
 # - a structure has two members, which are whole numbers of at most 64 bits: both stand where they stood, as for both
-#   kinds of pointers a number stands at a multiple of its own size. Or it is a pointer in front of a number of 64 bits,
-#   which stands eight bytes on for both kinds. Or it is a byte in front of a pointer: the seven bytes between are written
-#   out, so that the pointer stands eight bytes on here too. None has a name, is packed, or has a pointer in another place;
+#   kinds of pointers a number stands at a multiple of its own size. None has a name, is packed, or has a pointer in it;
 # - nothing is called outside of the module;
 # - lengths and places are numbers of 64 bits, as they were; an address is below 2^32, and so is what is added to it.
 
@@ -39,32 +36,23 @@ function fail(what) {
     rest = $0
     while (at = index(rest, "{ ")) {
         rest = substr(rest, at)
-        if (rest !~ /^\{ i(8|16|32|64), i(8|16|32|64) \}|^\{ (ptr, i64|i8, ptr) \}/) fail("has a structure")
+        if (rest !~ /^\{ i(8|16|32|64), i(8|16|32|64) \}/) fail("has a structure")
         rest = substr(rest, 2)
     }
 }
 
-# A byte in front of a pointer, which is handed over, loaded whole and taken apart, and nothing else.
-/\{ i8, ptr \}/ {
-    if ($0 ~ / = extractvalue \{ i8, ptr \} [^,]+, 1$/) sub(/, 1$/, ", 2")
-    else if ($0 !~ / = extractvalue \{ i8, ptr \} [^,]+, 0$| = load \{|^  ret | = call |^define /) fail("has a structure")
-    gsub(/\{ i8, ptr \}/, "{ i8, [7 x i8], ptr }")
-}
-
-# Where something lies is told by half as many bits, and zeros fill the number up: `ptrtoint` does, at any width.
-/ = ptrtoaddr / {
-    if ($0 !~ /^  %[A-Za-z0-9_.]+ = ptrtoaddr ptr %[A-Za-z0-9_.]+ to i64$/) fail("turns a pointer into something")
-    sub(/ptrtoaddr/, "ptrtoint")
-}
-
-# A variable that is a pointer keeps its eight bytes. No line that names one loads or stores anything but a pointer there.
-/ = alloca ptr, align 8$/ { pointers[$1]; sub(/ alloca ptr,/, " alloca [8 x i8],"); print; next }
+# A variable that is a pointer, and every line that names one.
+/ = alloca ptr, / { pointers[$1]; print; next }
 {
-    if (match($0, /(load|store) [^%]*[^,]*, ptr %[A-Za-z0-9_.]+, align/)) {
-        name = $0
-        sub(/, align.*$/, "", name)
-        sub(/^.*, ptr /, "", name)
-        if (name in pointers && $0 !~ /= load ptr, |^  store ptr /) fail("looks at a pointer's bytes")
+    rest = $0
+    while (match(rest, /%[A-Za-z0-9_.]+/)) {
+        name = substr(rest, RSTART, RLENGTH)
+        rest = substr(rest, RSTART + RLENGTH)
+        if (!(name in pointers)) continue
+        is_loaded = $0 ~ /^  %[A-Za-z0-9_.]+ = load ptr, ptr %[A-Za-z0-9_.]+, align 8/
+        is_stored = $0 ~ /^  store ptr [^ ]+, ptr %[A-Za-z0-9_.]+, align 8/
+        if (!is_loaded && !is_stored) fail("looks at a pointer's bytes")
+        if (is_stored && index($0, "store ptr " name ",")) fail("tells where a pointer stands")
     }
     print
 }

@@ -2,9 +2,11 @@
 ghost use Rattle.std.specs.Prelude.{◌≡◌};
 ghost use Rattle.answers.specs.Layout.{words, nowhere, syntax_words, told_words, outer_words, asked_words, restart_words, parsed_words, is_ending, length_of, ending_of, table_of};
 
-use refusals::{first_told, lexical_number, outer_number, second_told, syntax_number};
+use refusals::{
+    first_told, is_lexical, lexical_number, lexical_of, outer_number, second_told, syntax_number,
+};
 use rules::{
-    Column, Cursor, Ending, Halt, Lexical, Line, Offset, Outer, Parsed, Reason, Syntax, Table, Told,
+    Column, Cursor, Ending, Halt, Line, Offset, Outer, Parsed, Reason, Syntax, Table, Told,
 };
 
 // ---- numbers
@@ -14,7 +16,7 @@ use rules::{
 fn is_ending(number: u32) -> bool
     ensures { result ≡ is_ending number }
 {
-    number == 0 || Lexical::try_from(number).is_ok()
+    number == 0 || is_lexical(number)
 }
 
 // ---- answers into eight words
@@ -153,7 +155,6 @@ fn length_of(told: &[u32; 8]) -> u32
 }
 
 // The ending that eight words tell. Where their first is none's, what is told here stands beside a length that no text has.
-#[tactic(auto, using(refusals::proofs::Back::number_else))]
 fn ending_of(told: &[u32; 8]) -> Ending
     ensures { result ≡ ending_of told.now }
 {
@@ -161,7 +162,7 @@ fn ending_of(told: &[u32; 8]) -> Ending
         return None;
     }
     Some(Halt {
-        why: Lexical::try_from(told[0]).unwrap_or(Lexical::NoRowBegins),
+        why: lexical_of(told[0]),
         at: Cursor {
             offset: Offset(told[1]),
             line: Line(told[2]),

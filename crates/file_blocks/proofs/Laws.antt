@@ -6,7 +6,7 @@ use Prim.Native.Nat.{ℕ, zero, suc, ◌+◌, ◌-◌, ◌*◌, ◌/◌, ◌≤�
 use native.Mathlib.Numerals.{add-one}
 use native.Mathlib.Omega.{arith}
 use lib.ListN.{length, take, drop, get_or, set, replicate, length-append, length-take, length-drop, length-replicate, take-append-drop, drop_of_length-le}
-use lib.Seq.{take-suc, drop-cons, drop-drop, set_at, take_at, drop_at, length-take-le, drop-append-add}
+use lib.Seq.{take-suc, take_all, drop-cons, drop-drop, set_at, take_at, drop_at, length-take-le, drop-append-add, paste}
 use lib.Dec.{eqb}
 use borrow.Rule.Slice.PartMut.{put_mid}
 use borrow.Author.Tests.{eq-eqb}
@@ -66,6 +66,10 @@ word_bytes_are x =
 pub half_bytes_are : (x : ℕ) → take 2 (to_le_bytes w32 x) ≡ little 2 x
 unfolding little
 half_bytes_are x = refl
+
+-- a number's bytes, when all of them are stored
+pub stored : (s v : List ℕ) (at n x : ℕ) → v ≡ little n x → paste s at v n ≡ (take at s ++ little n x) ++ drop (at + n) s
+stored s v at n x e = rw (e, take_all n (little n x) (omega (arith, little_length n x)))
 
 -- a part of a list that was written
 pub part_put : (s v : List ℕ) (a b : ℕ) → a ≤ b → put_mid a (b - a) s v ≡ (take a s ++ v) ++ drop b s

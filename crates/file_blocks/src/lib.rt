@@ -39,7 +39,9 @@ fn put_half(bytes: &mut [u8], at: usize, x: u32)
     requires { at + 2 ≤ length bytes.old }
     ensures { bytes.new ≡ (take at bytes.old ++ little 2 x) ++ drop (at + 2) bytes.old }
 {
-    bytes[at..at + 2].copy_from_slice(&x.to_le_bytes()[..2]);
+    for (k, byte) in x.to_le_bytes()[..2].iter().enumerate() {
+        bytes[at + k] = *byte;
+    }
 }
 
 // A number into four bytes.
@@ -47,7 +49,9 @@ pub fn put_word(bytes: &mut [u8], at: usize, x: u32)
     requires { at + 4 ≤ length bytes.old }
     ensures { bytes.new ≡ (take at bytes.old ++ little 4 x) ++ drop (at + 4) bytes.old }
 {
-    bytes[at..at + form::WORD].copy_from_slice(&x.to_le_bytes());
+    for (k, byte) in x.to_le_bytes().iter().enumerate() {
+        bytes[at + k] = *byte;
+    }
 }
 
 // ---- whether a block is sound

@@ -39,7 +39,9 @@ fn write_block(memory: &mut [u8], k: u32, fresh: &[u8])
         ≡ take (block_bytes * k) memory.old ++ (fresh.now ++ drop (block_bytes * k + block_bytes) memory.old) }
 {
     let at = form::BLOCK * (k as usize);
-    memory[at..at + form::BLOCK].copy_from_slice(fresh);
+    for i in 0..form::BLOCK {
+        memory[at + i] = fresh[i];
+    }
 }
 
 // Block k of memory, whatever of it is file: it is written if the bytes that stand there differ, and left alone if they

@@ -130,7 +130,7 @@ fn twice(text: &[u8], rows: &[u32], count: u32, nodes: &mut [u32]) -> Parsed
     match program_passed(text, rows, count, &mut nodes[..0]) {
         Ok(_) => written(text, rows, count, nodes),
         Err(e) => {
-            let row = Row::at(rows, e.row);
+            let row = Row::at(rows, e.row as usize);
             Err(Unparsed {
                 why: Reason::Syntax(e.why),
                 at: row.place(),

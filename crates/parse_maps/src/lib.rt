@@ -1,8 +1,8 @@
 // Maps: fields repeat freely, the last holds; after `}` the required ones are asked for.
 #![tactic(auto)]
 
-ghost use Rattle.std.specs.Prelude.{◌≡◌, true, ◌+◌, ◌*◌, ◌≤◌, length};
-ghost use Rattle.rules.specs.Kinds.{KeywordType, KeywordMax};
+ghost use Rattle.std.specs.Prelude.{◌≡◌, true, cond, ◌+◌, ◌*◌, ◌≤◌, length, Some};
+ghost use Rattle.rules.specs.Kinds.{KeywordType, KeywordMax, same_bytes};
 ghost use Rattle.rules.specs.Tree.{map_type_number, shift_bits};
 ghost use Rattle.rules.specs.Parse.{is_typed};
 ghost use Rattle.parse_nodes.specs.Post.{Asks, AsksOpen, most_rows};
@@ -163,26 +163,26 @@ fn typed_field(rows: &[u32], count: u32, f: Facts, kind: u32) -> Result<Facts, R
     })
 }
 
+// A number where a word is a spelling, and else what those behind it found.
+fn named(word: &[u8], spelling: &[u8], number: u32, behind: Option<u32>) -> Option<u32>
+    ensures { result ≡ cond (same_bytes spelling.now word.now) (Some number) behind }
+{
+    if check::same(word, spelling) {
+        return Some(number);
+    }
+    behind
+}
+
 // A map type's number, 1 to 5. Bytes are compared where they stand.
+// Stays comparisons from the last to the first: with a `return` behind each, spellings were written to the stack on Arm (docs/DECISIONS.md).
 fn type_number(word: &[u8]) -> Option<u32>
     ensures { result ≡ told (map_type_number word.now) }
 {
-    if check::same(word, b"hash") {
-        return Some(fact::MAP_HASH);
-    }
-    if check::same(word, b"array") {
-        return Some(fact::MAP_ARRAY);
-    }
-    if check::same(word, b"ringbuf") {
-        return Some(fact::MAP_RINGBUF);
-    }
-    if check::same(word, b"lru_hash") {
-        return Some(fact::MAP_LRU_HASH);
-    }
-    if check::same(word, b"prog_array") {
-        return Some(fact::MAP_PROG_ARRAY);
-    }
-    None
+    let prog_array = named(word, b"prog_array", fact::MAP_PROG_ARRAY, None);
+    let lru_hash = named(word, b"lru_hash", fact::MAP_LRU_HASH, prog_array);
+    let ringbuf = named(word, b"ringbuf", fact::MAP_RINGBUF, lru_hash);
+    let array = named(word, b"array", fact::MAP_ARRAY, ringbuf);
+    named(word, b"hash", fact::MAP_HASH, array)
 }
 
 // The facts with `type` at their row. The rows' spellings lie inside the text.

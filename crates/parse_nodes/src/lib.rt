@@ -78,30 +78,28 @@ impl At {
     }
 }
 
-// Why nothing was read, and the row where. That row is as wide as the last two fields of a state, so that a state and a refusal are passed
-// on by the same moves.
+// Why nothing was read, and the row where. It has four words where a state has five, so that an answer, one or the other, has 24 bytes.
 #[derive(Clone, Copy)]
 pub struct Refusal {
     pub why: Syntax,
-    pub row: usize,
+    pub row: u32,
 }
+
+const _: () = prove!(size_of::<Result<At, Refusal>>() == 24);
 
 impl Refusal {
     // The refusal at a row.
     pub fn new(why: Syntax, row: u32) -> Refusal
         ensures { result ≡ refusal why row }
     {
-        Refusal {
-            why,
-            row: row as usize,
-        }
+        Refusal { why, row }
     }
 
     // The same, with the set that is told where the first row itself is refused with 21.
     pub fn instead(self, first: u32, set: u64) -> Refusal
         ensures { result ≡ refusal (retold_at set first self.why self.row) self.row }
     {
-        if self.row != first as usize {
+        if self.row != first {
             return self;
         }
         Refusal {

@@ -18,7 +18,7 @@ fn pass(text: &[u8], rows: &[u32], count: u32) -> Result<(), Unparsed>
     match parse::program_passed(text, rows, count, &mut none[..0]) {
         Ok(_) => Ok(()),
         Err(e) => {
-            let row = Row::at(rows, e.row);
+            let row = Row::at(rows, e.row as usize);
             let found = refusals::found_told(e.why, row.kind);
             Err(Unparsed {
                 why: Reason::Syntax(e.why),

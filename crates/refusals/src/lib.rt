@@ -1,6 +1,7 @@
-// The number of each refusal, and what it tells besides.
+// The number of each refusal, and what it tells besides; and the lexical refusal that has a number.
 ghost use Rattle.std.specs.Prelude.{◌≡◌, ◌/◌, ◌%◌, ◌^◌};
 ghost use Rattle.rules.specs.Refusals.{outer_number, lexical_number, syntax_number, reason_number, first_told, second_told, found_told};
+ghost use Rattle.rules.specs.Back.{is_lexical, lexical_of};
 
 use rules::{Lexical, Outer, Reason, Syntax, fits, limit};
 
@@ -16,6 +17,21 @@ pub fn lexical_number(lexical: Lexical) -> u32
     ensures { result ≡ lexical_number lexical }
 {
     lexical as u32
+}
+
+// Whether a number is that of a lexical refusal.
+pub fn is_lexical(number: u32) -> bool
+    ensures { result ≡ is_lexical number }
+{
+    Lexical::try_from(number).is_ok()
+}
+
+// The lexical refusal of a number; of any other number, that no row begins.
+#[tactic(auto, using(crate::proofs::Back::number_else))]
+pub fn lexical_of(number: u32) -> Lexical
+    ensures { result ≡ lexical_of number }
+{
+    Lexical::try_from(number).unwrap_or(Lexical::NoRowBegins)
 }
 
 // The number of a refusal of the grammar or of a check, 21 to 32.

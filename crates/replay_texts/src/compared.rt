@@ -37,8 +37,8 @@ pub fn compared(
 
 // The eight words of row or node i of so many, or none.
 pub fn part(list: &[u32], count: usize, i: usize) -> &[u32] {
-    if i < count {
-        list.chunks_exact(row::WORDS).nth(i).unwrap_or(&[])
+    if i < count.min(list.len() / row::WORDS) {
+        &list[i * row::WORDS..(i + 1) * row::WORDS]
     } else {
         &[]
     }

@@ -75,11 +75,13 @@ fn tails(text: &[u8], from: usize, n: usize) -> usize
     requires { (from ≤ length text.now) × (n ≤ 2) }
     ensures { result ≡ min n (front is_tail (drop from text.now)) }
 {
-    text[from..]
-        .iter()
-        .take(n)
-        .take_while(|b| is_tail(**b))
-        .count()
+    let left = text.len() - from;
+    for k in 0..n {
+        if left <= k || !is_tail(text[from + k]) {
+            return k;
+        }
+    }
+    n
 }
 
 // How many bytes from an index on lie in the line of n bytes that the one there begins.

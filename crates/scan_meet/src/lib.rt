@@ -20,6 +20,7 @@ pub struct Olds {
 }
 
 // Whether a gap goes on at an index: a blank, or the first two bytes of a comment.
+// Stays a test and a read: `get` gives a byte with a pointer, and the module for browsers is made for pointers of another size.
 fn gap_opens(text: &[u8], at: usize) -> bool
     requires { at < length text.now }
     ensures { result ≡ opens (drop at text.now) }
@@ -28,10 +29,11 @@ fn gap_opens(text: &[u8], at: usize) -> bool
     if b != b'/' {
         return is_blank(b);
     }
-    match text.get(at + 1) {
-        Some(&c) => (c == b'/') | (c == b'*'),
-        None => false,
+    if at + 1 == text.len() {
+        return false;
     }
+    let c = text[at + 1];
+    (c == b'/') | (c == b'*')
 }
 
 // The first row from `row` on that starts at an offset or behind it.

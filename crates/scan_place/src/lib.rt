@@ -43,9 +43,13 @@ fn low_end(text: &[u8], from: usize) -> usize
     requires { from ≤ length text.now }
     ensures { Passed text.now from result }
 {
-    let i = low_blocks(text, from);
-    let low = text[i..].iter().take_while(|b| **b < FIRST_HIGH).count();
-    i + low
+    let behind = low_blocks(text, from);
+    for i in behind..text.len() {
+        if FIRST_HIGH <= text[i] {
+            return i;
+        }
+    }
+    text.len()
 }
 
 // How long a text's longest valid beginning is.

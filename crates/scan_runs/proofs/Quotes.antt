@@ -47,6 +47,14 @@ module _ (t : List ℕ) (i : ℕ) (h : i < length t) where
       by true = refl
       by false = refl
 
+  pub quoted_slash : get_or t i 0 ≡ 92 → quoted_from false i (drop i t) ≡ quoted_from true (i + 1) (drop (i + 1) t)
+  unfolding quoted_from
+  quoted_slash e = rw (drop-cons t i 0 h, add-one i, e)
+
+  -- a backslash behind which the text ends
+  pub quoted_cut : get_or t i 0 ≡ 92 → length t ≤ i + 1 → quoted_from false i (drop i t) ≡ Err (Open (i + 1))
+  quoted_cut e k = quoted_slash e ∙ quoted_end true t (i + 1) k
+
   -- the byte behind a backslash
   pub quoted_escape : is_escape (get_or t i 0) ≡ true → quoted_from true i (drop i t) ≡ quoted_from false (i + 1) (drop (i + 1) t)
   unfolding quoted_from

@@ -154,3 +154,7 @@ module _ (hex : Bool) (t : List ℕ) (i₀ v i : ℕ) (r : Counted hex t i₀ v 
 pub base_most : (hex : Bool) → base_of hex ≤ 16
 base_most true = omega arith
 base_most false = omega arith
+
+pub base_least : (hex : Bool) → 10 ≤ base_of hex
+base_least true = omega arith
+base_least false = omega arith

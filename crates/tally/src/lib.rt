@@ -28,8 +28,8 @@ pub fn tally(nodes: &[u32], count: u32) -> Result<Tally, NotNodes>
             return Err(NotNodes);
         }
         match kind {
-            node_kind::UNIT => t = with_unit(t, fact),
-            node_kind::MAP => t = with_map(t, fact, nodes[at + node::FACT3]),
+            node_kind::UNIT => with_unit(&mut t, fact),
+            node_kind::MAP => with_map(&mut t, fact, nodes[at + node::FACT3]),
             _ => {
                 t.events += events_in(kind);
                 t.statements += statements_in(kind);

@@ -64,22 +64,20 @@ pub fn nothing() -> Tally
 
 // A unit more, with the methods that its kind allows.
 #[tactic(auto, unfolding(crate::specs::Steps::with_unit))]
-pub fn with_unit(mut t: Tally, kind: u32) -> Tally
-    requires { UnitFits t kind }
-    ensures { result ≡ with_unit t kind }
+pub fn with_unit(t: &mut Tally, kind: u32)
+    requires { UnitFits t.old kind }
+    ensures { t.new ≡ with_unit t.old kind }
 {
     t.units[kind as usize] += 1;
     t.methods += methods_in(kind);
-    t
 }
 
 // A map more, with its max.
 #[tactic(auto, unfolding(crate::specs::Steps::with_map))]
-pub fn with_map(mut t: Tally, kind: u32, max: u32) -> Tally
-    requires { MapFits t kind max }
-    ensures { result ≡ with_map t kind max }
+pub fn with_map(t: &mut Tally, kind: u32, max: u32)
+    requires { MapFits t.old kind max }
+    ensures { t.new ≡ with_map t.old kind max }
 {
     t.maps[(kind - fact::MAP_HASH) as usize] += 1;
     t.max += u64::from(max);
-    t
 }

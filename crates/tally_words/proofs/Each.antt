@@ -1,7 +1,8 @@
 -- Lists of eleven and of five counts, one by one, and twenty words that are written in three parts.
-use Rattle.std.proofs.Common.{◌≡◌, ℕ, suc, ◌+◌, ◌<◌, ◌≤◌, List, [], ◌∷◌, ◌++◌, length, get_or, drop, ap, ◌∙◌, arith, length-drop, drop-cons}
+use Rattle.std.proofs.Common.{◌≡◌, ℕ, suc, ◌+◌, ◌<◌, List, [], ◌∷◌, ◌++◌, append_assoc, length, get_or, take, drop, ap, ◌∙◌, arith, drop-cons}
+use Rattle.std.proofs.Math.ListN.{set}
+use Rattle.std.proofs.Math.Seq.{paste, take-paste, length-paste, take_all, sets-eq}
 use Rattle.std.proofs.lemmas.List.{drop_all}
-use borrow.Rule.Slice.PartMut.{put_mid, post_of}
 use Rattle.rules_tally.specs.Calls.{each}
 
 abbrev pub eleven : List ℕ → List ℕ
@@ -32,9 +33,15 @@ module _ (a b : List ℕ) where
   same_five e h = is_five a e ∙ rw (h 0 (omega arith), h 1 (omega arith), h 2 (omega arith), h 3 (omega arith), h 4 (omega arith))
 
 -- the units, the maps and the last four are written into twenty words
-pub written : (a b ws : List ℕ) (e s m k : ℕ) → length ws ≡ 20
-    → put_mid 16 4 (put_mid 11 5 (eleven a ++ post_of 0 11 ws) (five b)) (e ∷ s ∷ m ∷ k ∷ [])
-    ≡ eleven a ++ (five b ++ (e ∷ s ∷ m ∷ k ∷ []))
-written a b ws e s m k p =
-    let n : length (drop 5 (drop 11 ws)) ≤ 4 = omega (arith, length-drop 5 (drop 11 ws), length-drop 11 ws) in
-    ap (λ (x : List ℕ). eleven a ++ (five b ++ (e ∷ s ∷ m ∷ k ∷ x))) (drop_all 4 (drop 5 (drop 11 ws)) n)
+module _ (a b ws : List ℕ) (la : length a ≡ 11) (lb : length b ≡ 5) (lw : length ws ≡ 20) where
+  pub written : (e s m k : ℕ) → set (set (set (set (paste (paste ws 0 a 11) 11 b 5) 16 e) 17 s) 18 m) 19 k
+      ≡ eleven a ++ (five b ++ (e ∷ s ∷ m ∷ k ∷ []))
+  written e s m k =
+      let w : List ℕ = paste ws 0 a 11 in
+      let v : List ℕ = paste w 11 b 5 in
+      let lw' : length w ≡ 20 = length-paste ws 0 a 11 (omega arith) (omega arith) ∙ lw in
+      let lv : length v ≡ 20 = length-paste w 11 b 5 (omega arith) (omega arith) ∙ lw' in
+      let tw : take 11 w ≡ eleven a = take-paste ws 0 a 11 (omega arith) (omega arith) ∙ take_all 11 a (omega arith) ∙ is_eleven a la in
+      let tv : take 16 v ≡ eleven a ++ five b
+      = take-paste w 11 b 5 (omega arith) (omega arith) ∙ rw (tw, take_all 5 b (omega arith)) (ap (λ (l : List ℕ). eleven a ++ l) (is_five b lb)) in
+      sets-eq (e ∷ s ∷ m ∷ k ∷ []) v 16 (omega arith) ∙ rw (tv, drop_all 20 v (omega arith)) (append_assoc (eleven a) (five b) (e ∷ s ∷ m ∷ k ∷ []))

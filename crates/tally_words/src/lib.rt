@@ -32,7 +32,14 @@ pub fn tally_of(words: &[u64; 20]) -> Tally
 pub fn put_tally(words: &mut [u64; 20], t: Tally)
     ensures { words.new ≡ tally_words t }
 {
-    words[..MAPS].copy_from_slice(&t.units);
-    words[MAPS..EVENTS].copy_from_slice(&t.maps);
-    words[EVENTS..].copy_from_slice(&[t.events, t.statements, t.max, t.methods]);
+    for (k, count) in t.units.iter().enumerate() {
+        words[k] = *count;
+    }
+    for (k, count) in t.maps.iter().enumerate() {
+        words[MAPS + k] = *count;
+    }
+    words[EVENTS] = t.events;
+    words[EVENTS + 1] = t.statements;
+    words[EVENTS + 2] = t.max;
+    words[EVENTS + 3] = t.methods;
 }

@@ -1,22 +1,25 @@
--- The chain counts the tails among the first n bytes.
-use Rattle.std.proofs.Common.{rules, ◌∙◌, drop}
-use borrow.Author.Tests.{tests}
-use Rattle.std.proofs.lemmas.Iterator.{YieldsList-from_slice, YieldsList-from_take}
-use Rattle.std.proofs.lemmas.Iterator.Consumers.{YieldsList-at}
-use Rattle.rules.specs.Text.{is_tail}
-use Rattle.laws.proofs.Chains.{rest_of, front_take, counted}
+-- The text's end, a byte that is no tail, and a tail.
+use Rattle.std.proofs.Common.{◌≡◌, sym, ◌∙◌, ◌+◌, drop, arith}
+use Rattle.std.proofs.Math.Seq.{drop-drop}
+use Rattle.rules.specs.Text.{front, is_tail}
+use Rattle.laws.proofs.Fronts.{front_drop, front_more, front_off, front_end}
 use Rattle.scan_chars.proofs.tails.Goals as goal
+use Rattle.scan_chars.proofs.tails.Goals.{then-left-k-via-then-left-k, then-left-k-via-else-left-k+then-not-is_tail}
 
-pub returns : goal.returns
-returns c =
+pub returns-then-left-k : goal.returns-then-left-k
+returns-then-left-k c =
     let t = c.args.text.now in
-    let s = drop c.args.from t in
-    counted c.take_while.result is_tail _ c.count.ensures.ran
-    (YieldsList-at c.take_while.ensures.source
-    (YieldsList-from_take c.args.n
-    (YieldsList-at c.take.ensures.source (YieldsList-from_slice s (c.iter.ensures.rest ∙ rest_of t c.args.from)))
-    c.take.ensures.count))
-    c.take_while.ensures.closure
-    c.take_while.ensures.done
-    (λ x r q k. search (rules, tests))
-    ∙ front_take is_tail c.args.n s
+    let from = c.args.from in
+    let k = c.loop-k.k in
+    let e : front is_tail (drop (from + k) t) ≡ 0 =
+    elim c.then-left-k.branch [
+      | then-left-k-via-then-left-k w ↦ front_end is_tail t (from + k) (omega (arith, w.if-left-k.true))
+      | then-left-k-via-else-left-k+then-not-is_tail w ↦
+          front_off is_tail t (from + k) (omega (arith, w.if-left-k.false)) (sym w.is_tail.ensures ∙ w.if-not-is_tail.true)
+    ] in
+    omega (arith, rw (drop-drop k from t) at (front_drop is_tail k (drop from t) c.loop-k.invariant))
+
+pub loop-k-preserved : goal.loop-k-preserved
+loop-k-preserved c =
+    front_more is_tail c.args.text.now c.args.from c.loop-k.k c.loop-k.invariant (omega (arith, c.if-left-k.false))
+    (sym c.is_tail.ensures ∙ c.if-not-is_tail.false)

@@ -1,20 +1,14 @@
--- The chain counts the bytes below 128 behind the blocks.
-use Rattle.std.proofs.Common.{rules, ◌∙◌, drop, nat_lt, ℕ}
-use borrow.Author.Tests.{tests}
-use Rattle.std.proofs.lemmas.Iterator.{YieldsList-from_slice}
-use Rattle.std.proofs.lemmas.Iterator.Consumers.{YieldsList-at}
-use Rattle.laws.proofs.Chains.{rest_of, counted}
-use Rattle.scan_place.proofs.Passed.{passed_on, passed_front}
+-- A byte below 128 is passed, and the end.
+use Rattle.std.proofs.Common.{◌≡◌, length, arith}
+use Rattle.scan_place.proofs.Passed.{passed_on, passed_low}
 use Rattle.scan_place.proofs.low_end.Goals as goal
+
+pub loop-i-preserved : goal.loop-i-preserved
+loop-i-preserved c =
+    let t = c.args.text.now in
+    passed_on t c.loop-i.invariant (passed_low t c.loop-i.i c.loop-i-test.true c.if-text-i-ge-FIRST_HIGH.false)
 
 pub returns : goal.returns
 returns c =
-    let t = c.args.text.now in
-    let i = c.low_blocks-i.result in
-    let n
-    = counted c.take_while.result (λ (b : ℕ). nat_lt b 128) _ c.count-low.ensures.ran
-    (YieldsList-at c.take_while.ensures.source (YieldsList-from_slice (drop i t) (c.iter.ensures.rest ∙ rest_of t i)))
-    c.take_while.ensures.closure
-    c.take_while.ensures.done
-    (λ x r q k. search (rules, tests)) in
-    rw n (passed_on t c.low_blocks-i.ensures (passed_front t i c.low_blocks-i.ensures.inside))
+    let e : c.loop-i.i ≡ length c.args.text.now = omega (arith, c.loop-i.invariant.inside, c.loop-i-test.false) in
+    rw (← e) c.loop-i.invariant

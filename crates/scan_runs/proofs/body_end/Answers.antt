@@ -7,7 +7,7 @@ use Rattle.scan_runs.proofs.body_end.Goals.{else-text-i-eq42-via-then-text-i-eq4
 
 pub returns-then-peek-eq47 : goal.returns-then-peek-eq47
 returns-then-peek-eq47 c =
-    omega (arith, body_stop c.args.text.now c.loop-i.i c.loop-i-test.true c.if-text-i-eq42.true (sym c.peek.ensures ∙ c.if-peek-eq47.true), c.loop-i.invariant)
+    omega (arith, body_stop c.args.text.now c.loop-i.i c.loop-i-test.true c.if-text-i-eq42.true (sym c.peek.ensures ∙ c.if-peek-eq47.true), c.loop-i.invariant.same)
 
 pub loop-i-preserved : goal.loop-i-preserved
 loop-i-preserved c =
@@ -19,7 +19,7 @@ loop-i-preserved c =
           rw w.if-text-i-eq42.true (ne_eqb _ 47 (λ q. w.if-peek-eq47.false (w.peek.ensures ∙ q)))
       | else-text-i-eq42-via-else-text-i-eq42 w ↦ rw (ne_eqb _ _ w.if-text-i-eq42.false)
     ] in
-    omega (arith, body_on t i c.loop-i-test.true e, c.loop-i.invariant)
+    record { inside = omega arith; same = omega (arith, body_on t i c.loop-i-test.true e, c.loop-i.invariant.same) }
 
 pub returns : goal.returns
-returns c = omega (arith, body_end c.args.text.now c.loop-i.i c.loop-i-test.false, c.loop-i.invariant)
+returns c = omega (arith, body_end c.args.text.now c.loop-i.i c.loop-i-test.false, c.loop-i.invariant.same)

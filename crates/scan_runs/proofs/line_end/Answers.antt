@@ -1,30 +1,38 @@
--- The chain counts what is left of the line behind the blocks.
-use Rattle.std.proofs.Common.{rules, ap, ◌∙◌, ℕ, ◌+◌, drop}
-use borrow.Author.Tests.{tests}
-use Rattle.std.proofs.lemmas.Iterator.{YieldsList-from_slice}
-use Rattle.std.proofs.lemmas.Iterator.Consumers.{YieldsList-at}
+-- The blocks, a newline, any other byte, and the end.
+use Rattle.std.proofs.Common.{arith}
+use borrow.Author.Tests.{eq-eqb, ne_eqb}
 use Rattle.rules.specs.Text.{not_newline}
-use Rattle.laws.proofs.Chains.{rest_of, counted}
+use Rattle.laws.proofs.Fronts.{front_on, front_off, front_end}
 use Rattle.scan_runs.proofs.Lines.{line_same, line_inside}
 use Rattle.scan_runs.proofs.line_end.Goals as goal
 
-pub slice_bounds-iter-count : goal.slice_bounds-iter-count
-slice_bounds-iter-count c =
-    line_inside c.args.text.now c.args.at c.past_blocks-from.result c.past_blocks-from.ensures.0 c.past_blocks-from.ensures.1 c.requires
+pub loop-i-init : goal.loop-i-init
+loop-i-init c =
+    let t = c.args.text.now in
+    let p = c.past_blocks-from.ensures in
+    record {
+      inside = line_inside t c.args.at c.past_blocks-from.result p.0 p.1 c.requires;
+      line = line_same t c.args.at c.past_blocks-from.result p.0 p.1;
+    }
 
-pub slice_bounds-iter-start : goal.slice_bounds-iter-start
-slice_bounds-iter-start c =
-    line_inside c.args.text.now c.args.at c.past_blocks-from.result c.past_blocks-from.ensures.0 c.past_blocks-from.ensures.1 c.requires
+pub returns-then-text-i-eq10 : goal.returns-then-text-i-eq10
+returns-then-text-i-eq10 c =
+    omega (
+      arith,
+      front_off not_newline c.args.text.now c.loop-i.i c.loop-i-test.true (rw (eq-eqb _ _ c.if-text-i-eq10.true)),
+      c.loop-i.invariant.line,
+    )
+
+pub loop-i-preserved : goal.loop-i-preserved
+loop-i-preserved c =
+    let on = front_on not_newline c.args.text.now c.loop-i.i c.loop-i-test.true (rw (ne_eqb _ _ c.if-text-i-eq10.false)) in
+    record { inside = omega arith; line = omega (arith, on, c.loop-i.invariant.line) }
 
 pub returns : goal.returns
 returns c =
-    let t = c.args.text.now in
-    let i = c.past_blocks-from.result in
-    let p = c.past_blocks-from.ensures in
-    ap (λ (n : ℕ). i + n)
-    (counted c.take_while.result not_newline _ c.count-more.ensures.ran
-    (YieldsList-at c.take_while.ensures.source (YieldsList-from_slice (drop i t) (c.iter.ensures.rest ∙ rest_of t i)))
-    c.take_while.ensures.closure
-    c.take_while.ensures.done
-    (λ x r q k. search (rules, tests)))
-    ∙ line_same t c.args.at i p.0 p.1
+    omega (
+      arith,
+      front_end not_newline c.args.text.now c.loop-i.i c.loop-i-test.false,
+      c.loop-i.invariant.inside,
+      c.loop-i.invariant.line,
+    )

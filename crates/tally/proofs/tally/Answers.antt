@@ -36,16 +36,16 @@ returns-then-not-is_countable c =
     let no = uncountable i n ws (omega arith) (rw (kind_word ws i, fact_word ws i) not) in
     rw (le-leb n most_nodes few, le-leb (8 * n) (length ws) lent, no)
 
-pub with_unit-t-requires : goal.with_unit-t-requires
-with_unit-t-requires c =
+pub with_unit-requires : goal.with_unit-requires
+with_unit-requires c =
     let ws = c.args.nodes.now in
     let i = c.loop-i.i in
     let ok : is_countable (get_or ws (i * 8 + 0) 0) (get_or ws (i * 8 + 4) 0) ≡ true = cc in
     unit_fits ws c.args.count i _ c.loop-i.invariant (omega arith) ok (omega (arith, c.if-count-gt-MOST_NODES.false)) (λ j. omega (arith, c.type_inv.nodes j))
     c.in-25.is
 
-pub with_map-t-requires : goal.with_map-t-requires
-with_map-t-requires c =
+pub with_map-requires : goal.with_map-requires
+with_map-requires c =
     let ws = c.args.nodes.now in
     let i = c.loop-i.i in
     let ok : is_countable (get_or ws (i * 8 + 0) 0) (get_or ws (i * 8 + 4) 0) ≡ true = cc in
@@ -89,8 +89,8 @@ loop-i-preserved c =
     let more : i < n = omega arith in
     let g = c.loop-i.invariant in
     elim c.match-kind.branch [
-      | in-25 w ↦ rw (w.t-is, w.with_unit-t.ensures) (going_unit ws n i _ g more ok w.in-25.is)
-      | in-28 w ↦ rw (w.t-is, w.with_map-t.ensures) (going_map ws n i _ g more ok w.in-28.is)
+      | in-25 w ↦ rw (w.t-is, w.with_unit.ensures) (going_unit ws n i _ g more ok w.in-25.is)
+      | in-28 w ↦ rw (w.t-is, w.with_map.ensures) (going_map ws n i _ g more ok w.in-28.is)
       | in_default w ↦
           let no_unit : get_or ws (i * 8 + 0) 0 ≡ NodeUnit → ⊥ = λ e. omega (arith, e) in
           let no_map : get_or ws (i * 8 + 0) 0 ≡ NodeMap → ⊥ = λ e. omega (arith, e) in
