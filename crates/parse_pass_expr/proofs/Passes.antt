@@ -172,3 +172,26 @@ module _ {ws : List ℕ} {n i d : ℕ} (l : Looks ws n i d) where
     inside = s.inside;
     read = λ ts tl. Parts.star z (told_kind ws i tl l.inside e) (s.read ts tl);
   }
+
+-- ---- stars
+
+-- From row i up to row at stars alone: what is told behind them, with at most e constructs open, is told of them too, with at most d.
+pub record Stars (d e : ℕ) (ws : List ℕ) (n i at : ℕ) : Type 0 where
+  pub less : e ≤ d
+  pub inside : at < n
+  pub told : (o : Option ℕ) → Sees Unary e ws n at o → Sees Unary d ws n i o
+
+module _ {ws : List ℕ} {n i d : ℕ} where
+  -- the row behind them may be asked for
+  pub stars_look : {e j : ℕ} → Looks ws n i d → Stars d e ws n i j → Looks ws n j e
+  stars_look l s = looks_less (looks_at l s.inside) s.less
+
+  -- one more, at row j
+  pub stars_more : {e u j : ℕ} → Looks ws n i d → Stars d e ws n i j → suc u ≡ e → kind_in ws j ≡ Star → Stars d u ws n i (j + 1)
+  stars_more {j = j} l s z f =
+      let here = stars_look l s in
+      record {
+        less = omega (arith, s.less);
+        inside = (behind here (j + 1) refl f refl).inside;
+        told = λ o t. s.told o (seen_star here o z f t);
+      }

@@ -14,7 +14,7 @@ pub const END: u32 = 67;
 
 pub const UNKNOWN: u32 = 68;
 
-// Refusals, from here on, in the order of `rules::Lexical`.
+// Refusals, from here on; their order is not that of the refusals' numbers.
 pub const REFUSED: u32 = 69;
 
 pub const NO_ROW_BEGINS: u32 = REFUSED;

@@ -3,7 +3,7 @@ use Prim.Native.Nat.{suc}
 use Rattle.std.proofs.Common.{arith, ◌≡◌, sym, ap, ◌∙◌}
 use mathlib.Core.Bool.{true≢false}
 use Rattle.rules.specs.Parse.{is_add, is_shift, is_mul}
-use Rattle.parse_pass_expr.proofs.Passes.{with_fields, seen_number, seen_variable, seen_alone, seen_field, seen_bare, seen_call, seen_group, seen_star, sees_prim}
+use Rattle.parse_pass_expr.proofs.Passes.{with_fields, seen_number, seen_variable, seen_alone, seen_field, seen_bare, seen_call, seen_group, sees_prim, stars_look, stars_more}
 use Rattle.parse_pass_expr.proofs.Ladder.{is_comma, turn_seen, turn_again, products, lists, level, level_whole, level_again}
 use Rattle.parse_pass_expr.proofs.+expression.Goals as goal
 
@@ -45,20 +45,24 @@ group-returns t c =
     c.in_ok-behind.ensures.1)
     c.fields.ensures
 
+pub operand-loop-rest-preserved : goal.operand-loop-rest-preserved
+operand-loop-rest-preserved t c =
+    let z : suc c.in_ok-rest.rest ≡ c.loop-rest.rest = omega (arith, c.in_ok-rest.ensures) in
+    stars_more c.requires c.loop-rest.invariant z (sym c.kind.ensures ∙ c.loop-rest-test.true)
+
 pub operand-returns-in-48 : goal.operand-returns-in-48
-operand-returns-in-48 t c = sees_prim _ _ _ _ _ c.variable.ensures
+operand-returns-in-48 t c = c.loop-rest.invariant.told _ (sees_prim _ _ _ _ _ c.variable.ensures)
 
 pub operand-returns-in-50 : goal.operand-returns-in-50
 operand-returns-in-50 t c =
-    sees_prim _ _ _ _ _ (with_fields _ (seen_number c.requires (sym c.kind.ensures ∙ c.in-50.is)) c.fields.ensures)
-
-pub operand-returns-in_ok-checked_sub-in-43 : goal.operand-returns-in_ok-checked_sub-in-43
-operand-returns-in_ok-checked_sub-in-43 t c =
-    let z : suc c.in_ok-checked_sub-in-43.field-0 ≡ c.args.left = omega (arith, c.in_ok-checked_sub-in-43.ensures) in
-    seen_star c.requires _ z (sym c.kind.ensures ∙ c.in-43.is) c.operand.ensures
+    c.loop-rest.invariant.told _
+    (sees_prim _ _ _ _ _
+    (with_fields _
+    (seen_number (stars_look c.requires c.loop-rest.invariant) (sym c.kind-2.ensures ∙ c.in-50.is))
+    c.fields.ensures))
 
 pub operand-returns-in_default : goal.operand-returns-in_default
-operand-returns-in_default t c = sees_prim _ _ _ _ _ c.group.ensures
+operand-returns-in_default t c = c.loop-rest.invariant.told _ (sees_prim _ _ _ _ _ c.group.ensures)
 
 -- ---- product
 

@@ -3,6 +3,7 @@ use Prim.Native.Nat.{ℕ, ◌+◌, ◌*◌, ◌-◌}
 use Rattle.rules.specs.Grammar.{Mul, Args}
 use Rattle.rules.specs.Parse.{is_mul}
 use Rattle.parse_pass_expr.proofs.Ladder.{Turn, level_of, op_of, is_comma}
+use Rattle.parse_pass_expr.proofs.Passes.{Stars}
 use Rattle.parse_pass_expr.proofs.+expression.Given as goal
 
 -- six ranks
@@ -49,3 +50,11 @@ invariant-product-loop-end l = Turn Mul is_mul l.left l.rows l.count l.row l.at
 
 abbrev pub decreases-product-loop-end : goal.decreases-product-loop-end
 decreases-product-loop-end l = l.count - l.at
+
+-- ---- the stars of an operand: each has opened one construct more
+
+abbrev pub invariant-operand-loop-rest : goal.invariant-operand-loop-rest
+invariant-operand-loop-rest l = Stars l.left l.rest l.rows l.count l.row l.at
+
+abbrev pub decreases-operand-loop-rest : goal.decreases-operand-loop-rest
+decreases-operand-loop-rest l = l.rest
