@@ -175,7 +175,8 @@ module _ {ws : List ℕ} {n i d : ℕ} (l : Looks ws n i d) where
 
 -- ---- stars
 
--- From row i up to row at stars alone: what is told behind them, with at most e constructs open, is told of them too, with at most d.
+-- What is told from row at on, with at most e constructs open, is told from row i on too, with at most d. So it is where stars stand
+-- between the two, each of which opens one construct.
 pub record Stars (d e : ℕ) (ws : List ℕ) (n i at : ℕ) : Type 0 where
   pub less : e ≤ d
   pub inside : at < n
